@@ -1,0 +1,16 @@
+pub mod FaultLaws
+pub mod ListLaws
+pub mod NameLaws
+pub mod ResolveLaws
+pub mod WalkLaws
+pub mod CycleLaws
+pub mod GraphLaws
+pub mod CycleFaults
+pub mod ScopeSteps
+pub mod TableLaws
+pub mod BuildLaws
+pub mod Sizes
+pub mod ShortModels
+pub mod ScopeLaws
+pub mod RangeLaws
+pub mod AncestryLaws

@@ -1,0 +1,33 @@
+use Rattle.std.proofs.Common.{◌≡◌, [], sym, subst, ap, ◌∙◌}
+use Rattle.std.specs.List.{flat_map}
+use Rattle.class_table.specs.Faults.{pointed, item_faults}
+use Rattle.class_table.specs.Names.{space, classes, roots}
+use Rattle.class_table.specs.Outline.{class_of, variable_of}
+use Rattle.class_table.specs.Tables.{IsTable}
+use Rattle.std.proofs.Common.{map}
+use Rattle.class_table.proofs.BuildLaws.{numbered, items_stand, made_few, roots_few, values_few, no_stand}
+use Rattle.class_table.proofs.class_table.ClassTable.of_names.Goals as goal
+
+pub resolve_items-requires : goal.resolve_items-requires
+resolve_items-requires c = record { numbered = numbered c.args.items.now c.args.names.entries c.args.decls.now c.requires.names c.requires.decls }
+
+pub returns-in-Err-clause-fault : goal.returns-in-Err-clause-fault
+returns-in-Err-clause-fault c = items_stand c.args.items.now c.args.names.entries c.args.decls.now c.in-Err.fault c.requires.names c.requires.decls c.in-Err.ensures.fault
+
+pub invariant_of-result : goal.invariant_of-result
+invariant_of-result c =
+    let items = c.args.items.now in
+    let classes_are : c.in-Ok.parts.classes.items ≡ map (class_of (space items)) (classes items) = c.in-Ok.ensures.classes ∙ ap (λ n. map (class_of n) (classes items)) c.requires.names in
+    record {
+      table = subst (λ cs. IsTable cs c.in-Ok-check_classes.family.counts.items c.in-Ok-check_classes.family.order.items) c.deref.ensures.value c.in-Ok-check_classes.ensures.table;
+      classes = made_few items c.in-Ok.parts.classes.items classes_are c.requires.small;
+      roots = roots_few items c.in-Ok.parts.roots.items (c.in-Ok.ensures.roots ∙ ap (λ n. map (variable_of n) (roots items)) c.requires.names) c.requires.small;
+      values = values_few items c.in-Ok.parts.enumerations.items c.in-Ok.ensures.enumerations c.requires.small;
+    }
+
+pub returns-clause-right : goal.returns-clause-right
+returns-clause-right c =
+    let items = c.args.items.now in
+    let within : flat_map (item_faults (space items) (classes items)) items ≡ [] =
+    sym (ap (λ n. flat_map (item_faults n (pointed c.args.decls.now)) items) c.requires.names ∙ ap (λ ds. flat_map (item_faults (space items) ds) items) c.requires.decls) ∙ c.in-Ok.ensures.right in
+    no_stand items c.requires.new within c.in-Ok-check_classes.ensures.right

@@ -1,0 +1,11 @@
+pub mod Same
+pub mod Names
+pub mod Ancestry
+pub mod Outline
+pub mod Faults
+pub mod Walk
+pub mod Steps
+pub mod Cycles
+pub mod Graphs
+pub mod Scopes
+pub mod Tables

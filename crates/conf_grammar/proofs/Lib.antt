@@ -1,0 +1,9 @@
+pub mod Homes
+pub mod Complete
+pub mod Lines
+pub mod Steps
+pub mod Again
+pub mod Whole
+pub mod Exact
+pub mod Leading
+pub mod Turning

@@ -1,0 +1,15 @@
+use Rattle.std.proofs.Common.{rules, arith, ◌≡◌}
+use Rattle.conf_parse.proofs.Items.{value_next, values_other, push_some}
+use Rattle.conf_parse.proofs.item.enum_decl.Goals as goal
+
+pub values-preserved : goal.values-preserved
+values-preserved c =
+    let e : c.in_ok-of-3.field-0 ≡ c.in-Ok-named-2.found.0.now = search rules in
+    record {
+      some = push_some c.values.values.items c.push-in-Some.new.self.items (record { name = c.in_ok-of-3.field-0; at = c.in-Ok-named-2.found.1 }) c.in_ok-push-2.ensures.items;
+      leads = value_next c.in_ok-of.field-0 c.values.values.items c.push-in-Some.new.self.items (record { name = c.in_ok-of-3.field-0; at = c.in-Ok-named-2.found.1 }) c.in-Ok-named-2.found.0.now c.in-Ok-named-2.found.1 c.args.tokens.now c.values.rest.now c.in-Some.further.now c.in-Ok-named-2.found.2.now c.values.invariant.some c.values.invariant.leads c.in-Some.ensures c.in-Ok-named-2.ensures e c.in_ok-push-2.ensures.items;
+      shorter = search (rules, arith);
+    }
+
+pub returns-in_default-after_mark-clause-read : goal.returns-in_default-after_mark-clause-read
+returns-in_default-after_mark-clause-read c = values_other c.in_ok-of.field-0 c.values.values.items c.args.tokens.now c.values.rest.now c.values.invariant.some c.values.invariant.leads c.in_default.ensures c.in_default-after_mark.ensures

@@ -1,0 +1,18 @@
+use Rattle.std.proofs.Common.{◌≡◌, ◌≤◌, length}
+use Rattle.conf_syntax.specs.Places.{bare}
+use Rattle.conf_syntax.specs.Plain.{nesting}
+use Rattle.conf_syntax.specs.Views.{program_of}
+use Rattle.conf_grammar.specs.Machine.{start, reading}
+use Rattle.conf_parse.specs.Turnings.{program_at}
+use Rattle.conf_parse.proofs.item.items.Given as goal
+
+-- the items so far lead to the rest
+abbrev pub invariant-loop-rest : goal.invariant-loop-rest
+invariant-loop-rest l =
+    record {
+      leads : reading (bare l.tokens) 200 start ≡ reading (bare l.rest) 200 (program_at (program_of l.list.items));
+      nested : nesting (program_of l.list.items) ≤ 200;
+    }
+
+abbrev pub decreases-loop-rest : goal.decreases-loop-rest
+decreases-loop-rest l = length l.rest

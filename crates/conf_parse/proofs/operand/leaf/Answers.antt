@@ -1,0 +1,14 @@
+use Rattle.std.proofs.Common.{arith}
+use Rattle.conf_syntax.specs.Views.{tree_of}
+use Rattle.conf_parse.proofs.Parts.{leaf_wrong, leaf_part}
+use Rattle.conf_parse.proofs.Placing.{leaf_reads}
+use Rattle.conf_parse.proofs.operand.leaf.Goals as goal
+
+pub returns-then-least-level-clause-read : goal.returns-then-least-level-clause-read
+returns-then-least-level-clause-read c = leaf_wrong c.args.least c.args.room c.args.tokens.now c.args.token.now c.args.after.now c.args.level c.requires.tokens c.requires.begin c.requires.level (omega arith)
+
+pub returns-clause-read : goal.returns-clause-read
+returns-clause-read c = leaf_part c.args.least c.args.room c.args.tokens.now c.args.token.now c.args.after.now (tree_of c.args.node) c.args.level c.requires.tokens c.requires.begin c.requires.tree c.requires.level (omega arith) c.requires.room
+
+pub returns-clause-places : goal.returns-clause-places
+returns-clause-places c = leaf_reads c.args.tokens.now c.args.token.now c.args.after.now c.args.node c.args.token.now.token c.requires.tokens c.requires.tree

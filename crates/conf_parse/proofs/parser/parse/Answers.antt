@@ -1,0 +1,8 @@
+use Rattle.conf_parse.proofs.OnePlace.{syntax_exact, deep_exact}
+use Rattle.conf_parse.proofs.parser.parse.Goals as goal
+
+pub returns-clause-syntax : goal.returns-clause-syntax
+returns-clause-syntax c = syntax_exact c.args.tokens.now c.args.end c.read.result c.read.ensures.plain c.read.ensures.refusal
+
+pub returns-clause-too_deep : goal.returns-clause-too_deep
+returns-clause-too_deep c = deep_exact c.args.tokens.now c.args.end c.read.result c.read.ensures.plain c.read.ensures.refusal

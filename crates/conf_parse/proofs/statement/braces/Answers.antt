@@ -1,0 +1,11 @@
+use Rattle.std.proofs.Common.{arith}
+use Rattle.conf_parse.proofs.Wheres.{braces_more, braces_nest}
+use Rattle.conf_parse.proofs.statement.braces.Goals as goal
+
+pub constraints-preserved : goal.constraints-preserved
+constraints-preserved c =
+    record {
+      leads = braces_more c.args.tokens.now c.constraints.rest.now c.constraints.list.items c.constraints.invariant.leads c.constraints.invariant.nested c.in-Ok.found.1.now c.push.new.self.items c.in-Ok.found.0.tree c.in_default.ensures c.in-Ok.ensures.read c.in_ok-push.ensures.items;
+      nested = braces_nest c.constraints.list.items c.push.new.self.items c.in-Ok.found.0.tree c.in-Ok.found.0.nest c.constraints.invariant.nested c.in_ok-push.ensures.items c.in-Ok.ensures.nest c.in-Ok.ensures.nested;
+      shorter = (let a = c.constraints.invariant.shorter in let b = c.in-Ok.ensures.shorter in omega arith);
+    }

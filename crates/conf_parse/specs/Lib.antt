@@ -1,0 +1,10 @@
+pub mod Cursor
+pub mod Marks
+pub mod Means
+pub mod Parts
+pub mod Readers
+pub mod Reads
+pub mod Refusals
+pub mod Runs
+pub mod Tokens
+pub mod Turnings

@@ -1,0 +1,20 @@
+-- What it means that a model is that of some tokens: its tokens, its grammar, its nesting and its places.
+use Rattle.std.specs.Prelude.{◌≡◌, ◌≤◌, ℕ, true, List, [], ◌∷◌}
+use Rattle.conf_syntax.specs.declared.token.Placed.{Placed}
+use Rattle.conf_syntax.specs.declared.tree.Program.{Program}
+use Rattle.conf_syntax.specs.Trees.{program_tokens, program_fits, nesting}
+use Rattle.conf_syntax.specs.Places.{bare}
+
+-- how deep an expression may be
+abbrev pub depth_limit : ℕ
+depth_limit = 200
+
+pub record IsProgramOf (tokens : List Placed) (p : Program) : Type 0 where
+  pub tokens_are : bare tokens ≡ program_tokens p
+  pub fits : program_fits p ≡ true
+  pub nested : nesting p ≤ depth_limit
+
+-- the place of the first token, or of the text's end where there is none
+abbrev pub place_of : List Placed → ℕ → ℕ
+place_of [] end = end
+place_of (x ∷ xs) end = x.at

@@ -1,0 +1,20 @@
+use Rattle.std.proofs.Common.{◌≡◌, ◌∙◌, sym, subst, rules, length}
+use Rattle.confsolve_run.proofs.TextLaws.{syntax_without, nesting_without, syntax_with, nesting_with}
+use Rattle.confsolve_run.proofs.model.model_of.Goals as goal
+
+pub returns-in-Err-clause-syntax : goal.returns-in-Err-clause-syntax
+returns-in-Err-clause-syntax c = syntax_without c.args.text.now c.in-Err.e c.in-Err.ensures.only c.in-Err.ensures.bad_byte
+
+pub returns-in-Err-clause-nesting : goal.returns-in-Err-clause-nesting
+returns-in-Err-clause-nesting c = nesting_without c.args.text.now c.in-Err.e c.in-Err.ensures.only
+
+pub returns-clause-syntax : goal.returns-clause-syntax
+returns-clause-syntax c =
+    syntax_with c.args.text.now c.deref.result.now c.tree_of.result (λ tokens spelled. c.deref.ensures.value ∙ c.in-Ok.ensures.only tokens spelled) c.in-Ok.ensures.bad_byte c.tree_of.ensures.syntax
+
+pub returns-clause-literal : goal.returns-clause-literal
+returns-clause-literal c = λ at stuck. absurd (c.in-Ok.ensures.too_large at stuck)
+
+pub returns-clause-nesting : goal.returns-clause-nesting
+returns-clause-nesting c =
+    nesting_with c.args.text.now c.deref.result.now c.tree_of.result (λ tokens spelled. c.deref.ensures.value ∙ c.in-Ok.ensures.only tokens spelled) c.tree_of.ensures.nesting

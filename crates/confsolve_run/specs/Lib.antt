@@ -1,0 +1,6 @@
+pub mod Answer
+pub mod Refusal
+pub mod Refusing
+pub mod Request
+pub mod Status
+pub mod TextErrors

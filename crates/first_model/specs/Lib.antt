@@ -1,0 +1,4 @@
+pub mod Bounds
+pub mod Digits
+pub mod Line
+pub mod Meaning

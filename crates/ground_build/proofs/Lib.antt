@@ -1,0 +1,9 @@
+pub mod Appended
+pub mod Kept
+pub mod Extended
+pub mod Determined
+pub mod NewDefinitions
+pub mod Means
+pub mod Sums
+pub mod Steps
+pub mod Calls

@@ -1,0 +1,5 @@
+pub mod VarLists
+pub mod SingleValues
+pub mod Weights
+pub mod Products
+pub mod Ends

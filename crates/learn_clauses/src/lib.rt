@@ -1,0 +1,13 @@
+//! Clauses by number, and how one was derived from others.
+//!
+//! - `chain`: a derivation by resolution, a first clause and steps.
+//! - `clauses`: the list of clauses in the order in which they were made.
+#![tactic(auto)]
+
+mod chain;
+mod clauses;
+#[cfg(test)]
+mod tests;
+
+pub use chain::{Chain, ChainSteps};
+pub use clauses::Clauses;

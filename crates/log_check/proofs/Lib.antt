@@ -1,0 +1,10 @@
+pub mod Justified
+pub mod Bounds
+pub mod Steps
+pub mod ChainSteps
+pub mod BoundSteps
+pub mod Points
+pub mod Fronts
+pub mod Problems
+pub mod Feeding
+pub mod SingleGoal

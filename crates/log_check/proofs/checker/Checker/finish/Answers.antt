@@ -1,0 +1,9 @@
+use Rattle.log_check.specs.Progress.{made_of}
+use Rattle.log_check.proofs.Fronts.{verdict_sound}
+use Rattle.log_check.proofs.checker.Checker.finish.Goals as goal
+
+pub returns-clause-sound : goal.returns-clause-sound
+returns-clause-sound c =
+    let progress = c.args.self.intake.progress in
+    let right = c.requires.ready.right c.in_default.is in
+    verdict_sound c.args.self.ground.now (made_of progress) progress.derived.closed c.into_verdict.result right.sound right.closed c.into_verdict.ensures

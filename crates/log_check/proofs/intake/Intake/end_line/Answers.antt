@@ -1,0 +1,13 @@
+use Rattle.std.proofs.Common.{◌∷◌, ◌++◌, [], ℕ, List, refl, subst}
+use Rattle.proof_log.specs.Spelling.{Spells}
+use Rattle.log_check.specs.Progress.{made_of}
+use Rattle.log_check.proofs.Feeding.{fed_line}
+use Rattle.log_check.proofs.intake.Intake.end_line.Goals as goal
+
+pub returns-clause-taken : goal.returns-clause-taken
+returns-clause-taken c bytes h =
+    let said = c.if-not-branch.false in (
+      h.0 ++ c.in-Ok.line ∷ [],
+      fed_line c.args.g.now bytes h.0 (made_of c.args.self.now.progress) (made_of c.step.new.self) c.args.self.now.rest.items c.clear.new.self.items c.args.self.now.count _ c.in-Ok.line c.in_ok-step.field-0 h.1
+          (subst (λ (z : List ℕ). Spells z c.in-Ok.line) c.as_slice.ensures.value c.in-Ok.ensures.ok) c.in_ok-step.ensures.asked said (c.in_ok-step.ensures.made said) c.clear.ensures.items refl,
+    )

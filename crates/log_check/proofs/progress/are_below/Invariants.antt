@@ -1,0 +1,7 @@
+use Rattle.std.proofs.Common.{◌≡◌, drop}
+use Rattle.ground_form.specs.Meaning.{clause_vars}
+use Rattle.proof_log.specs.Acceptance.{vars_below}
+use Rattle.log_check.proofs.progress.are_below.Given as goal
+
+abbrev pub invariant-loop-l : goal.invariant-loop-l
+invariant-loop-l l = vars_below l.count (clause_vars (drop l.l-index l.literals)) ≡ vars_below l.count (clause_vars l.literals)

@@ -1,0 +1,42 @@
+//! The clauses that the lines so far made, and whether one of them is empty.
+ghost use Rattle.std.specs.Prelude.{◌≡◌, ◌++◌, [], ◌∷◌, false, OnOk};
+ghost use Rattle.proof_log.specs.Acceptance.{has_empty};
+
+use learn_clauses::Clauses;
+use signed_clause::Clause;
+use std::alloc::{AllocError, Global};
+
+/// The clauses that were made.
+#[derive(Drop)]
+pub struct Derived {
+    /// They, by number.
+    pub clauses: Clauses,
+    /// Whether one of them is empty.
+    pub closed: bool,
+}
+
+impl Derived {
+    /// None yet.
+    pub fn new(alloc: Global) -> Self
+        ensures clauses { result.clauses ≡ [] }
+        ensures closed { result.closed ≡ false }
+    {
+        Derived {
+            clauses: Clauses::new(alloc),
+            closed: false,
+        }
+    }
+
+    /// Adds a clause.
+    #[tactic(auto, using(crate::proofs::BoundSteps::has_empty_more))]
+    pub fn push(&mut self, c: Clause) -> Result<(), AllocError>
+        requires { self.old.closed ≡ has_empty self.old.clauses }
+        ensures clauses { OnOk result (self.new.clauses ≡ self.old.clauses ++ c ∷ []) }
+        ensures closed { OnOk result (self.new.closed ≡ has_empty self.new.clauses) }
+    {
+        let empty = c.is_empty();
+        self.clauses.push(c)?;
+        self.closed = self.closed || empty;
+        Ok(())
+    }
+}

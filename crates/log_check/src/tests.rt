@@ -1,0 +1,188 @@
+//! What no clause says: that the calls succeed, and what the examples of logs come to.
+ghost use Rattle.std.specs.Prelude.{◌+◌, ◌<◌, IfOk, length};
+ghost use Rattle.ground_form.specs.WellMade.{IsWellMade};
+
+use crate::{CheckError, Checker, VerdictKind, check};
+use ground_form::{Con, Cons, Domains, Goals, Ground, GroundGoal, Terms};
+use proof_log::{Line, LineError, read_line};
+use signed_clause::IntSet;
+use std::alloc::{AllocError, Global};
+
+/// One variable of 1..3 that is to be at least 2, and as small as can be.
+fn at_least_two(alloc: Global) -> Result<Ground, AllocError>
+    ensures { IfOk result (λ g. IsWellMade g) }
+{
+    let domains = Domains::of(vec![in alloc; IntSet::range(alloc, 1, 3)]?);
+    let terms = Terms::of(vec![in alloc; (-1i64, 0u32)]?);
+    let cons = Cons::of(vec![in alloc; Con::LinLe { terms, bound: -2 }]?);
+    let goals = Goals::of(vec![in alloc; GroundGoal { var: 0, max: false }]?);
+    Ok(Ground {
+        domains,
+        search: 1,
+        cons,
+        goals,
+    })
+}
+
+/// Two variables of 0..1, the first to be as great as can be, and then the second.
+fn two_goals(alloc: Global) -> Result<Ground, AllocError>
+    ensures { IfOk result (λ g. IsWellMade g) }
+{
+    let first = IntSet::range(alloc, 0, 1);
+    let second = IntSet::range(alloc, 0, 1);
+    let domains = Domains::of(vec![in alloc; first, second]?);
+    let cons = Cons::of(Vec::new(alloc));
+    let goals = Goals::of(vec![in alloc;
+        GroundGoal { var: 0, max: true },
+        GroundGoal { var: 1, max: true },
+    ]?);
+    Ok(Ground {
+        domains,
+        search: 2,
+        cons,
+        goals,
+    })
+}
+
+/// The lines of a text, separated by semicolons.
+fn lines_of(alloc: Global, text: &str) -> Result<Vec<Line>, LineError> {
+    let mut lines = Vec::new(alloc);
+    for line in text.split(';') {
+        if !line.is_empty() {
+            lines.push(read_line(alloc, line.as_bytes())?)?;
+        }
+    }
+    Ok(lines)
+}
+
+/// What the checker says of lines: the kind of verdict and the value of the first variable, or the
+/// line that is refused.
+fn answer_to(alloc: Global, g: &Ground, text: &str) -> Result<(VerdictKind, Option<i64>), u64>
+    requires { IsWellMade g.now }
+{
+    let Ok(lines) = lines_of(alloc, text) else {
+        return Err(0);
+    };
+    match check(alloc, g, lines.as_slice()) {
+        Ok(verdict) => Ok((
+            verdict.kind(),
+            verdict.values().and_then(|a| a.first().copied()),
+        )),
+        Err(CheckError::Rejected(n)) => Err(n),
+        Err(CheckError::Memory) => Err(0),
+    }
+}
+
+#[test]
+fn logs_of_one_goal(rt: HostRuntime) -> Result<(), AllocError> {
+    let alloc = rt.alloc();
+    let g = at_least_two(alloc)?;
+    for (text, answer) in [
+        (
+            "axiom 0 0:2..3;decide 0 2;found 2;bound 2;chain 1 0:0 =",
+            Ok((VerdictKind::Best, Some(2))),
+        ),
+        (
+            "axiom 0 0:2..3;decide 0 2;found 2;bound 2",
+            Ok((VerdictKind::Open, Some(2))),
+        ),
+        ("", Ok((VerdictKind::Open, None))),
+        (
+            "axiom 0 0:2..3;decide 0 2;found 2;bound 3;chain 1 0:0 =",
+            Err(4),
+        ),
+        (
+            "axiom 0 0:3;decide 0 2;found 2;bound 2;chain 1 0:0 =",
+            Err(1),
+        ),
+        (
+            "axiom 0 0:2..3;decide 0 2;found 2;bound 2;chain 1 0:0 = 0:1",
+            Err(5),
+        ),
+        (
+            "axiom 0 0:2..3;decide 0 2;found 2;bound 2;chain 1 0:0 =;use 0",
+            Err(6),
+        ),
+        ("found 1", Err(1)),
+        ("found 3;found 3", Err(2)),
+        ("found 3;bound 2", Err(2)),
+        ("bound 3", Err(1)),
+        ("use 0", Err(1)),
+        ("axiom 0 0:2..3;chain 0 0:0 =", Err(2)),
+        ("axiom 0 0:2..3;chain 1 0:0 =", Err(2)),
+        ("axiom 1 0:2..3", Err(1)),
+        ("empty 0", Err(1)),
+    ] {
+        assert_eq!(rt; answer_to(alloc, &g, text), answer, "{text}");
+    }
+    Ok(())
+}
+
+#[test]
+fn logs_of_two_goals(rt: HostRuntime) -> Result<(), AllocError> {
+    let alloc = rt.alloc();
+    let g = two_goals(alloc)?;
+    for (text, answer) in [
+        (
+            "found 1 0;bound 1 0;found 1 1;bound 1 1",
+            Ok((VerdictKind::Best, Some(1))),
+        ),
+        ("found 1 0;found 0 1", Err(2)),
+        ("found 1 0;bound 1", Err(2)),
+        ("found 0 1;bound 0 1", Ok((VerdictKind::Open, Some(0)))),
+        (
+            "found 0 1;bound 0 1;found 1 0;bound 1 0;found 1 1;bound 1 1",
+            Ok((VerdictKind::Best, Some(1))),
+        ),
+        (
+            "found 1 0;bound 1 0;chain 0 0:0 = 0:1;chain 1 1:1 = 1:1",
+            Ok((VerdictKind::Open, Some(1))),
+        ),
+    ] {
+        assert_eq!(rt; answer_to(alloc, &g, text), answer, "{text}");
+    }
+    Ok(())
+}
+
+/// What the checker says of a text that comes in two pieces.
+fn answer_in_two(
+    alloc: Global,
+    g: &Ground,
+    first: &[u8],
+    second: &[u8],
+) -> Result<VerdictKind, CheckError>
+    requires well_made { IsWellMade g.now }
+    requires few { length first.now + length second.now < 1000 }
+{
+    let mut checker = Checker::new(alloc, g);
+    checker.feed(first)?;
+    checker.feed(second)?;
+    let verdict = checker.finish()?;
+    Ok(verdict.kind())
+}
+
+#[test]
+fn a_text_in_pieces(rt: HostRuntime) -> Result<(), AllocError> {
+    let alloc = rt.alloc();
+    let g = at_least_two(alloc)?;
+    let text = b"axiom 0 0:2..3\ndecide 0 2\nfound 2\nbound 2\nchain 1 0:0 =\n";
+    let mut line = 1u64;
+    for cut in 0..56usize {
+        let cut_off = if cut == 0 || text[cut - 1] == b'\n' {
+            Ok(VerdictKind::Open)
+        } else {
+            Err(CheckError::Rejected(line))
+        };
+        assert_eq!(rt;
+            answer_in_two(alloc, &g, &text[..cut], b""),
+            cut_off,
+            "{cut}"
+        );
+        let whole = answer_in_two(alloc, &g, &text[..cut], &text[cut..]);
+        assert_eq!(rt; whole, Ok(VerdictKind::Best), "{cut}");
+        if text[cut] == b'\n' {
+            line = line.saturating_add(1);
+        }
+    }
+    Ok(())
+}

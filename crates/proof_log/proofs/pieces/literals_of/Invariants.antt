@@ -1,0 +1,15 @@
+use Rattle.std.proofs.Common.{◌≡◌, ◌++◌, length, map, true}
+use Rattle.std.specs.List.{AllByRecursion}
+use Rattle.proof_log.specs.Spelling.{behind, literal_text, IsLiteral}
+use Rattle.proof_log.specs.Parts.{heads}
+use Rattle.proof_log.proofs.pieces.literals_of.Given as goal
+
+abbrev pub invariant-loop-text : goal.invariant-loop-text
+invariant-loop-text l = record {
+  heads : heads 32 l.left ≡ true;
+  right : AllByRecursion IsLiteral l.out.items;
+  text : behind 32 (map literal_text l.out.items) ++ l.left ≡ l.texts;
+}
+
+abbrev pub decreases-loop-text : goal.decreases-loop-text
+decreases-loop-text l = length l.left

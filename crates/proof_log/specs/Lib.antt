@@ -1,0 +1,5 @@
+pub mod Spelling
+pub mod Parts
+pub mod Words
+pub mod Acceptance
+pub mod Rounds

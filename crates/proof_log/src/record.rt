@@ -1,0 +1,178 @@
+//! The record of a search: ground problems and the lines that speak of them.
+//!
+//! A record has a present round, a ground problem and lines, and the rounds that were closed
+//! before. Contracts see it as a `Journal`. Whatever runs out of memory leaves it as it was.
+ghost use Rattle.std.specs.Prelude.{◌≡◌, ◌++◌, [], ◌∷◌, Some, None, IfOk, OnOk, OnErr, IsSome, IfSome, IfNone};
+ghost use Rattle.proof_log.specs.Spelling as spelling;
+ghost use Rattle.proof_log.specs.Rounds.{closed};
+
+use crate::line::Line;
+use crate::values::Indexes;
+use crate::writing;
+use ground_form::Ground;
+use std::alloc::{AllocError, Global};
+use std::marker::Model;
+use std::mem;
+
+/// Lines of a log, in order.
+#[derive(Drop)]
+pub struct Lines {
+    items: Vec<Line>,
+}
+
+impl Model for Lines {
+    ghost use Rattle.std.specs.Prelude.{List};
+    ghost use Rattle.proof_log.specs.declared.line.Line.{Line};
+
+    ghost Value = { List Line };
+
+    ghost view = { λ l. l.items.items };
+}
+
+impl Lines {
+    /// These lines.
+    pub fn of(items: Vec<Line>) -> Self
+        ensures { result ≡ items.items }
+    {
+        Lines { items }
+    }
+
+    /// They, in order.
+    pub fn items(&self) -> &[Line]
+        ensures { result.now ≡ self.now }
+    {
+        self.items.as_slice()
+    }
+
+    /// They as a vector again, without memory.
+    pub fn into_items(self) -> Vec<Line>
+        ensures { result.items ≡ self }
+    {
+        self.items
+    }
+}
+
+/// A closed round.
+#[derive(Drop)]
+pub struct Round {
+    /// The ground problem.
+    pub ground: Ground,
+    /// The lines.
+    pub lines: Lines,
+    /// The parts of a model that the round is about, where it is about some.
+    pub part: Indexes,
+}
+
+/// The record of a search.
+#[derive(Drop)]
+pub struct Record {
+    alloc: Global,
+    ground: Option<Ground>,
+    lines: Vec<Line>,
+    rounds: Vec<Round>,
+}
+
+impl Model for Record {
+    ghost use Rattle.proof_log.specs.Rounds.{Journal};
+
+    ghost Value = { Journal };
+
+    ghost view = { λ r. record { ground = r.ground; lines = r.lines.items; rounds = r.rounds.items } };
+}
+
+impl Record {
+    /// An empty record. It takes no memory until something is kept.
+    pub fn new(alloc: Global) -> Self
+        ensures ground { result.ground ≡ None }
+        ensures lines { result.lines ≡ [] }
+        ensures rounds { result.rounds ≡ [] }
+    {
+        Record {
+            alloc,
+            ground: None,
+            lines: Vec::new(alloc),
+            rounds: Vec::new(alloc),
+        }
+    }
+
+    /// Adds a line to the present round. After want of memory the record is as before.
+    pub fn push(&mut self, line: Line) -> Result<(), AllocError>
+        ensures ok { OnOk result (self.new.lines ≡ self.old.lines ++ line ∷ []) }
+        ensures err { OnErr result (self.new.lines ≡ self.old.lines) }
+        ensures ground { self.new.ground ≡ self.old.ground }
+        ensures rounds { self.new.rounds ≡ self.old.rounds }
+    {
+        self.lines.push(line)?;
+        Ok(())
+    }
+
+    /// Keeps the ground problem of the present round. It takes no memory.
+    pub fn keep(&mut self, g: Ground)
+        ensures ground { self.new.ground ≡ Some g }
+        ensures lines { self.new.lines ≡ self.old.lines }
+        ensures rounds { self.new.rounds ≡ self.old.rounds }
+    {
+        self.ground = Some(g);
+    }
+
+    /// The lines of the present round, in order.
+    pub fn lines(&self) -> &[Line]
+        ensures { result.now ≡ self.now.lines }
+    {
+        self.lines.as_slice()
+    }
+
+    /// The ground problem of the present round, where one was kept.
+    pub fn ground(&self) -> Option<&Ground>
+        ensures some { IfSome result (λ g. self.now.ground ≡ Some g.now) }
+        ensures none { IfNone result (self.now.ground ≡ None) }
+    {
+        self.ground.as_ref()
+    }
+
+    /// The closed rounds, in order.
+    pub fn rounds(&self) -> &[Round]
+        ensures { result.now ≡ self.now.rounds }
+    {
+        self.rounds.as_slice()
+    }
+
+    /// The text of the present round's lines, each ended by one LF.
+    pub fn text(&self) -> Result<Vec<u8>, AllocError>
+        ensures { IfOk result (λ text. text.items ≡ spelling.lines_text self.now.lines) }
+    {
+        writing::lines_text(self.alloc, self.lines())
+    }
+
+    /// Closes the present round, which has a ground problem, and begins an empty one. After want of
+    /// memory the record is as before.
+    pub fn close_round(&mut self) -> Result<(), AllocError>
+        requires { IsSome self.old.ground }
+        ensures ok { OnOk result (self.new ≡ closed self.old.ground self.old []) }
+        ensures err { OnErr result (self.new ≡ self.old) }
+    {
+        self.close_part(Vec::new(self.alloc))
+    }
+
+    /// The same, with the parts of a model that the round is about.
+    pub fn close_part(&mut self, part: Vec<u32>) -> Result<(), AllocError>
+        requires { IsSome self.old.ground }
+        ensures ok { OnOk result (self.new ≡ closed self.old.ground self.old part.items) }
+        ensures err { OnErr result (self.new ≡ self.old) }
+    {
+        self.rounds.reserve(1)?;
+        let Some(ground) = self.ground.take() else {
+            unreachable!()
+        };
+        let lines = mem::replace(&mut self.lines, Vec::new(self.alloc));
+        let round = Round {
+            ground,
+            lines: Lines::of(lines),
+            part: Indexes::of(part),
+        };
+        match self.rounds.push(round) {
+            Ok(()) => Ok(()),
+            Err(_) => unreachable!(),
+        }
+    }
+}

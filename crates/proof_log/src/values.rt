@@ -1,0 +1,87 @@
+//! The small lists that lines and rounds hold, seen by contracts as plain lists.
+ghost use Rattle.std.specs.Prelude.{◌≡◌, IfOk};
+
+use std::alloc::AllocError;
+use std::marker::Model;
+
+/// Values, one for each variable or for each goal.
+#[derive(Drop)]
+pub struct Values {
+    items: Vec<i64>,
+}
+
+impl Model for Values {
+    ghost use Rattle.std.specs.Prelude.{ℤ, List};
+
+    ghost Value = { List ℤ };
+
+    ghost view = { λ l. l.items.items };
+}
+
+impl Values {
+    /// These values.
+    pub fn of(items: Vec<i64>) -> Self
+        ensures { result ≡ items.items }
+    {
+        Values { items }
+    }
+
+    /// They, in order.
+    pub fn items(&self) -> &[i64]
+        ensures { result.now ≡ self.now }
+    {
+        self.items.as_slice()
+    }
+
+    /// The same values again.
+    pub fn copy(&self) -> Result<Self, AllocError>
+        ensures { IfOk result (λ l. l ≡ self.now) }
+    {
+        let items = self.items.as_slice().to_vec(*self.items.allocator())?;
+        Ok(Values { items })
+    }
+
+    /// They as a vector again, without memory.
+    pub fn into_items(self) -> Vec<i64>
+        ensures { result.items ≡ self }
+    {
+        self.items
+    }
+}
+
+/// Indexes of parts of a model.
+#[derive(Drop)]
+pub struct Indexes {
+    items: Vec<u32>,
+}
+
+impl Model for Indexes {
+    ghost use Rattle.std.specs.Prelude.{ℕ, List};
+
+    ghost Value = { List ℕ };
+
+    ghost view = { λ l. l.items.items };
+}
+
+impl Indexes {
+    /// These indexes.
+    pub fn of(items: Vec<u32>) -> Self
+        ensures { result ≡ items.items }
+    {
+        Indexes { items }
+    }
+
+    /// They, in order.
+    pub fn items(&self) -> &[u32]
+        ensures { result.now ≡ self.now }
+    {
+        self.items.as_slice()
+    }
+
+    /// They as a vector again, without memory.
+    pub fn into_items(self) -> Vec<u32>
+        ensures { result.items ≡ self }
+    {
+        self.items
+    }
+}

@@ -1,0 +1,16 @@
+pub mod EndLaws
+pub mod SumLaws
+pub mod FlagLaws
+pub mod DiffLaws
+pub mod PackLaws
+pub mod RefutedLaws
+pub mod SetLaws
+pub mod SumSteps
+pub mod PackSteps
+pub mod NamedVars
+pub mod QuietLaws
+pub mod Halving
+pub mod Leaps
+pub mod CutLaws
+pub mod Covering
+pub mod CrowdLaws

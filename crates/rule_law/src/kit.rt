@@ -1,0 +1,202 @@
+//! `Kit`, propagators for every kind of constraint.
+//!
+//! A kit is made of propagators that its caller boxes, and refuses a list that leaves a kind without one. It asks the first
+//! member that handles a constraint's kind.
+ghost use Rattle.std.specs.Prelude.{◌≡◌, ◌<◌, ◌↔◌, Bool, true, List, IfOk, IfErr, IfSome, IfNone, IsOk, false, length, map, slice_get, slice_index_or};
+ghost use Rattle.ground_form.specs.declared.kind.Kind.{Kind};
+ghost use Rattle.ground_form.specs.Kinds as kinds;
+ghost use Rattle.ground_form.specs.WellMade.{IsWellMade};
+ghost use Rattle.rule_law.specs.Answers.{AreBoxesWithin, IsAnswer};
+ghost use Rattle.rule_law.specs.Cover.{rank, covers, CoversAll, IsLeastMissing};
+
+use crate::propagator::Propagator;
+use ground_form::{Ground, Kind, kind_of};
+use signed_clause::{Clause, IntSet};
+use std::alloc::AllocError;
+
+/// Whether the propagator handles the kind.
+fn does_handle(p: &Box<dyn Propagator>, kind: Kind) -> bool
+    ensures { result ≡ handled p.now kind }
+{
+    p.handles(kind)
+}
+
+/// Whether some member handles the kind.
+fn is_covered(list: &[Box<dyn Propagator>], kind: Kind) -> bool
+    ensures { result ≡ covers (map (λ p. handled p) list.now) kind }
+{
+    for p in list {
+        if does_handle(p, kind) {
+            return true;
+        }
+    }
+    false
+}
+
+/// Lets the propagator forget what it cached.
+fn begin_one(p: &mut Box<dyn Propagator>)
+    ensures { handled p.new ≡ handled p.old }
+{
+    p.begin();
+}
+
+/// Lets every member forget what it cached.
+fn begin_all(list: &mut [Box<dyn Propagator>])
+    ensures { map (λ p. handled p) list.new ≡ map (λ p. handled p) list.old }
+{
+    let mut i = 0;
+    while i < list.len() {
+        begin_one(&mut list[i]);
+        i += 1;
+    }
+}
+
+/// Which member is the first that handles the kind, where one does.
+fn first_for(list: &[Box<dyn Propagator>], kind: Kind) -> Option<usize>
+    ensures within { IfSome result (λ i. i < length list.now) }
+    ensures handles { IfSome result (λ i. (d : _) → handled (slice_index_or list.now i d) kind ≡ true) }
+    ensures none { IfNone result (covers (map (λ p. handled p) list.now) kind ≡ false) }
+{
+    let mut i = 0;
+    while i < list.len() {
+        if does_handle(&list[i], kind) {
+            return Some(i);
+        }
+        i += 1;
+    }
+    None
+}
+
+/// What the propagator answers.
+fn prune_one(
+    p: &mut Box<dyn Propagator>,
+    g: &Ground,
+    k: u32,
+    boxes: &[IntSet],
+) -> Result<Option<Clause>, AllocError>
+    requires well_made { IsWellMade g.now }
+    requires con { k < length g.now.cons }
+    requires handled { IfSome (slice_get g.now.cons k) (λ con. handled p.old (kinds.kind_of con) ≡ true) }
+    requires boxes { AreBoxesWithin g.now.domains boxes.now }
+    ensures answer { IfOk result (λ answer. IfSome (slice_get g.now.cons k) (λ con. IsAnswer con g.now.domains boxes.now answer)) }
+    ensures handled { handled p.new ≡ handled p.old }
+{
+    p.prune(g, k, boxes)
+}
+
+/// What the member at the place answers.
+fn prune_at(
+    list: &mut [Box<dyn Propagator>],
+    place: usize,
+    g: &Ground,
+    k: u32,
+    boxes: &[IntSet],
+) -> Result<Option<Clause>, AllocError>
+    requires place { place < length list.old }
+    requires well_made { IsWellMade g.now }
+    requires con { k < length g.now.cons }
+    requires handled { IfSome (slice_get g.now.cons k) (λ con. (d : _) → handled (slice_index_or list.old place d) (kinds.kind_of con) ≡ true) }
+    requires boxes { AreBoxesWithin g.now.domains boxes.now }
+    ensures answer { IfOk result (λ answer. IfSome (slice_get g.now.cons k) (λ con. IsAnswer con g.now.domains boxes.now answer)) }
+    ensures handled { map (λ p. handled p) list.new ≡ map (λ p. handled p) list.old }
+{
+    prune_one(&mut list[place], g, k, boxes)
+}
+
+/// The kind with the number.
+fn nth_kind(n: usize) -> Kind
+    requires { n < 11 }
+    ensures { rank result ≡ n }
+{
+    match n {
+        0 => Kind::LinLe,
+        1 => Kind::LinDef,
+        2 => Kind::ReifLe,
+        3 => Kind::AndDef,
+        4 => Kind::MemberDef,
+        5 => Kind::EqDef,
+        6 => Kind::ElementDef,
+        7 => Kind::CondDef,
+        8 => Kind::ClauseCon,
+        9 => Kind::AllDiff,
+        _ => Kind::Pack,
+    }
+}
+
+/// The least kind that no member handles.
+fn first_missing(list: &[Box<dyn Propagator>]) -> Option<Kind>
+    ensures some { IfSome result (λ kind. IsLeastMissing (map (λ p. handled p) list.now) kind) }
+    ensures none { IfNone result (CoversAll (map (λ p. handled p) list.now)) }
+{
+    for n in 0..11 {
+        let kind = nth_kind(n);
+        if !is_covered(list, kind) {
+            return Some(kind);
+        }
+    }
+    None
+}
+
+/// A list of propagators leaves a kind without one.
+#[derive(Drop)]
+pub struct MissingKind {
+    /// The least such kind.
+    pub kind: Kind,
+    /// The list, unchanged.
+    pub list: Vec<Box<dyn Propagator>>,
+}
+
+/// Propagators of which each kind has one.
+#[derive(Drop)]
+pub struct Kit {
+    list: Vec<Box<dyn Propagator>>,
+}
+
+impl Kit {
+    /// The kit of these members. It takes no memory.
+    ///
+    /// # Errors
+    /// `MissingKind`, with the list, exactly where no member handles some kind; it names the least such kind.
+    pub fn new(list: Vec<Box<dyn Propagator>>) -> Result<Kit, MissingKind>
+        ensures ok { IfOk result (λ kit. kit.list ≡ list) }
+        ensures complete { IfOk result (λ kit. CoversAll (map (λ p. handled p) list.items)) }
+        ensures missing { IfErr result (λ e. IsLeastMissing (map (λ p. handled p) list.items) e.kind) }
+        ensures list { IfErr result (λ e. e.list ≡ list) }
+    {
+        match first_missing(list.as_slice()) {
+            Some(kind) => Err(MissingKind { kind, list }),
+            None => Ok(Kit { list }),
+        }
+    }
+
+    /// Lets every member forget what it cached.
+    pub fn begin(&mut self)
+        ensures { map (λ p. handled p) self.new.list.items ≡ map (λ p. handled p) self.old.list.items }
+    {
+        begin_all(self.list.as_mut_slice());
+    }
+
+    /// A clause that constraint `k` justifies and that is unit or false in the boxes; None where the constraint is quiet.
+    ///
+    /// # Errors
+    /// Want of memory.
+    pub fn prune(
+        &mut self,
+        g: &Ground,
+        k: u32,
+        boxes: &[IntSet],
+    ) -> Result<Option<Clause>, AllocError>
+        requires complete { CoversAll (map (λ p. handled p) self.old.list.items) }
+        requires well_made { IsWellMade g.now }
+        requires con { k < length g.now.cons }
+        requires boxes { AreBoxesWithin g.now.domains boxes.now }
+        ensures answer { IfOk result (λ answer. IfSome (slice_get g.now.cons k) (λ con. IsAnswer con g.now.domains boxes.now answer)) }
+        ensures complete { CoversAll (map (λ p. handled p) self.new.list.items) }
+    {
+        let kind = kind_of(&g.cons.items()[k as usize]);
+        match first_for(self.list.as_slice(), kind) {
+            Some(place) => prune_at(self.list.as_mut_slice(), place, g, k, boxes),
+            None => unreachable!(),
+        }
+    }
+}

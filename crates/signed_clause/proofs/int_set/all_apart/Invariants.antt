@@ -1,0 +1,9 @@
+use Rattle.std.proofs.Common.{◌≡◌, ◌+◌, ◌-◌, drop, length}
+use Rattle.signed_clause.specs.SetAlgebra.{meet}
+use Rattle.signed_clause.proofs.int_set.all_apart.Given as goal
+
+abbrev pub invariant-loop-i : goal.invariant-loop-i
+invariant-loop-i l = meet (drop l.i l.a) (drop l.j l.b) ≡ meet l.a l.b
+
+abbrev pub decreases-loop-i : goal.decreases-loop-i
+decreases-loop-i l = (length l.a + length l.b) - (l.i + l.j)

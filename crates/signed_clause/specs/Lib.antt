@@ -1,0 +1,4 @@
+pub mod Ranges
+pub mod SetAlgebra
+pub mod Union
+pub mod Clauses

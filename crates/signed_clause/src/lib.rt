@@ -1,0 +1,18 @@
+//! Finite sets of integers, and signed clauses over them.
+//!
+//! - `int_set`: a set of values of 64 bits, kept as ranges.
+//! - `range`: what two single ranges say of one another.
+//! - `clause`: disjunctions of literals, each a variable and a set.
+//! - `resolution`: the resolvent of two clauses.
+#![tactic(auto)]
+
+mod clause;
+mod int_set;
+mod range;
+mod resolution;
+#[cfg(test)]
+mod tests;
+
+pub use clause::{Clause, NotAClause};
+pub use int_set::IntSet;
+pub use resolution::{push_copy, push_rest, resolve};
