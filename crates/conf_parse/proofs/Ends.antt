@@ -1,21 +1,26 @@
 -- What reading means.
-use Rattle.std.proofs.Common.{◌≡◌, ◌≤◌, ◌-◌, ℕ, zero, suc, List, [], ◌∷◌, ◌++◌, refl, sym, ◌∙◌, ap, subst, arith, length, take, drop, length-append, length-drop, take-append-drop, ◌⊎◌, inl, inr}
+use Rattle.std.proofs.Common.{◌≡◌, ◌≤◌, ◌-◌, ℕ, zero, suc, List, [], ◌∷◌, ◌++◌, refl, sym, ◌∙◌, ap, subst, arith, length, take, drop, length-append, length-drop, take-append-drop, ◌⊎◌, inl, inr, Result, Ok, Err, IfOk, MatchResult}
 use Rattle.std.proofs.lemmas.List.{take_all}
 use Rattle.std.proofs.Math.Seq.{take-append_seam, drop-append_seam}
 use Rattle.conf_syntax.specs.declared.token.Placed.{Placed}
 use Rattle.conf_syntax.specs.declared.token.Token.{Token}
 use Rattle.conf_syntax.specs.declared.tree.Program as tree
+use Rattle.conf_syntax.specs.AllPlaces.{program_places}
 use Rattle.conf_syntax.specs.Begun.{IsProgramIn, IsBegunIn, IsRefused, IsTooDeep}
-use Rattle.conf_syntax.specs.Models.{IsProgramOf, place_of}
+use Rattle.conf_syntax.specs.Models.{IsTreeOf, IsProgramOf, place_of}
 use Rattle.conf_syntax.specs.Places.{bare, first_at}
 use Rattle.conf_syntax.specs.Plain.{Program}
+use Rattle.conf_syntax.specs.Standing.{ProgramStands}
 use Rattle.conf_syntax.specs.Views.{program_of}
 use Rattle.conf_syntax.proofs.Declared.{nesting_is, all_tokens, all_fit}
 use Rattle.conf_syntax.proofs.Fitting.{all_good}
+use Rattle.conf_syntax.proofs.LocatedItems.{same_places}
 use Rattle.conf_grammar.specs.Fronts.{IsReading}
 use Rattle.conf_grammar.specs.Leads.{limit, WholeAt, WrongAt, DeepAt, shown}
 use Rattle.conf_grammar.specs.Machine.{Outcome, Whole, Wrong, Deep, reading, start}
 use Rattle.conf_grammar.proofs.Exact.{all_right, whole_read, one_program}
+use Rattle.conf_parse.specs.declared.parser.ParseError.{ParseError}
+use Rattle.conf_parse.specs.declared.parser.ParseError.TheVariants.{Memory}
 use Rattle.conf_parse.specs.declared.stop.Stop.TheVariants as stop
 use Rattle.conf_parse.specs.Cursor.{Splits}
 use Rattle.conf_parse.specs.Means.{IsSyntax, IsDeep}
@@ -25,14 +30,17 @@ use Rattle.conf_parse.proofs.Parts.{bare_length}
 pub plain_right : (tokens : List Token) (p : Program) → reading tokens limit start ≡ Whole p → IsProgramIn limit tokens p
 plain_right tokens p e = subst (λ (x : Outcome). IsReading limit tokens x) e (all_right tokens limit)
 
-pub program_right : (tokens : List Placed) (p : tree.Program) → reading (bare tokens) limit start ≡ Whole (program_of p.items) → IsProgramOf tokens p
-program_right tokens p e =
+tree_right : (tokens : List Placed) (p : tree.Program) → reading (bare tokens) limit start ≡ Whole (program_of p.items) → IsTreeOf tokens p
+tree_right tokens p e =
     let r = plain_right (bare tokens) (program_of p.items) e in
     record {
       tokens_are = r.2 ∙ all_tokens p.items r.0;
       fits = all_fit p.items r.0;
       nested = (let n = r.1 in omega (arith, nesting_is p.items r.0));
     }
+
+pub program_right : (tokens : List Placed) (p : tree.Program) → reading (bare tokens) limit start ≡ Whole (program_of p.items) → ProgramStands tokens p → IsProgramOf tokens p
+program_right tokens p e h = record { tree = tree_right tokens p e; places = h }
 
 pub program_only : (tokens : List Token) (p q : Program) → reading tokens limit start ≡ Whole p → IsProgramIn limit tokens q → p ≡ q
 program_only tokens p q e h = let r = plain_right tokens p e in one_program p q r.0 h.0 (sym r.2 ∙ h.2)
@@ -48,19 +56,24 @@ deep_never tokens k q f h = let e : WholeAt ≡ DeepAt k = sym (ap shown (read_w
 
 -- the same for trees of the program
 
-pub plain_of : (tokens : List Placed) (p : tree.Program) → IsProgramOf tokens p → IsProgramIn limit (bare tokens) (program_of p.items)
+pub plain_of : (tokens : List Placed) (p : tree.Program) → IsTreeOf tokens p → IsProgramIn limit (bare tokens) (program_of p.items)
 plain_of tokens p i =
     let g = all_good p.items i.fits in
     (g, (let n = i.nested in omega (arith, nesting_is p.items g)), i.tokens_are ∙ sym (all_tokens p.items g))
 
-pub program_again : (tokens : List Placed) (p : Program) (q : tree.Program) → reading (bare tokens) limit start ≡ Whole p → IsProgramOf tokens q → p ≡ program_of q.items
+pub program_again : (tokens : List Placed) (p : Program) (q : tree.Program) → reading (bare tokens) limit start ≡ Whole p → IsTreeOf tokens q → p ≡ program_of q.items
 program_again tokens p q e i = program_only (bare tokens) p (program_of q.items) e (plain_of tokens q i)
 
-pub syntax_again : (tokens : List Placed) (k : ℕ) (q : tree.Program) → IsFault (bare tokens) (stop.Syntax k) → IsProgramOf tokens q → ⊥
+pub syntax_again : (tokens : List Placed) (k : ℕ) (q : tree.Program) → IsFault (bare tokens) (stop.Syntax k) → IsTreeOf tokens q → ⊥
 syntax_again tokens k q f i = syntax_never (bare tokens) k (program_of q.items) f (plain_of tokens q i)
 
-pub deep_again : (tokens : List Placed) (k : ℕ) (q : tree.Program) → IsFault (bare tokens) (stop.TooDeep k) → IsProgramOf tokens q → ⊥
+pub deep_again : (tokens : List Placed) (k : ℕ) (q : tree.Program) → IsFault (bare tokens) (stop.TooDeep k) → IsTreeOf tokens q → ⊥
 deep_again tokens k q f i = deep_never (bare tokens) k (program_of q.items) f (plain_of tokens q i)
+
+-- and with the places
+pub placed_again : (tokens : List Placed) (r : Result tree.Program ParseError) → IfOk r (IsProgramOf tokens) → ((p : tree.Program) → IsTreeOf tokens p → MatchResult r (λ q. program_of q.items ≡ program_of p.items) (λ e. e ≡ Memory)) → (p : tree.Program) → IsProgramOf tokens p → MatchResult r (λ q. program_places q ≡ program_places p) (λ e. e ≡ Memory)
+placed_again tokens (Ok q) ok again p h = same_places tokens q.items p.items (all_good q.items ok.tree.fits) (again p h.tree) ok.places h.places
+placed_again tokens (Err e) ok again p h = again p h.tree
 
 -- the place
 

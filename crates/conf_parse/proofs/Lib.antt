@@ -17,4 +17,6 @@ pub mod Rowed
 pub mod Rows
 pub mod Same
 pub mod Shapes
+pub mod Standing
+pub mod StandingItems
 pub mod Wheres

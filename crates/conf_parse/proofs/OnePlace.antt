@@ -1,12 +1,12 @@
 -- Tokens are refused at one place at most, for one reason, and not where they are those of a model.
-use Rattle.std.proofs.Common.{◌≡◌, ◌≤◌, ℕ, zero, suc, Result, Ok, Err, IfOk, IfErr, MatchResult, List, [], ◌∷◌, ◌++◌, refl, sym, ◌∙◌, ap, subst, append_assoc, append-nil}
+use Rattle.std.proofs.Common.{◌≡◌, ℕ, Result, Ok, Err, IfOk, IfErr, MatchResult, List, [], ◌∷◌, ◌++◌, refl, sym, ◌∙◌, ap, subst, append_assoc, append-nil}
 use Rattle.conf_syntax.specs.declared.token.Placed.{Placed}
 use Rattle.conf_syntax.specs.declared.token.Token.{Token}
 use Rattle.conf_syntax.specs.declared.tree.Program as tree
 use Rattle.conf_syntax.specs.Begun.{IsProgramIn, IsBegun, IsBegunIn, IsRefused, IsTooDeep}
 use Rattle.conf_syntax.specs.Models.{depth_limit, place_of}
 use Rattle.conf_syntax.specs.Places.{bare}
-use Rattle.conf_syntax.specs.Plain.{Program, IsProgram, program_tokens, nesting}
+use Rattle.conf_syntax.specs.Plain.{Program}
 use Rattle.conf_syntax.specs.Views.{program_of}
 use Rattle.conf_parse.specs.Means.{IsSyntax, IsDeep, Means, IsSameOrMemory}
 use Rattle.conf_parse.specs.declared.parser.ParseError.{ParseError}

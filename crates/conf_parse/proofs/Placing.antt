@@ -26,7 +26,7 @@ use Rattle.conf_parse.specs.Reads.{Reads, SignReads, QuantReads, ItemReads, Head
 pub drops : (m n : ℕ) (a b c : List Placed) → b ≡ drop m a → c ≡ drop n b → c ≡ drop (m + n) a
 drops m n a b c e f = f ∙ ap (λ (x : List Placed). drop n x) e ∙ drop-drop n m a
 
-same_drop : (m n : ℕ) (a b : List Placed) → m ≡ n → b ≡ drop m a → b ≡ drop n a
+pub same_drop : (m n : ℕ) (a b : List Placed) → m ≡ n → b ≡ drop m a → b ≡ drop n a
 same_drop m n a b e h = h ∙ ap (λ (x : ℕ). drop x a) e
 
 moved : (a b : List Placed) (i : ℕ) (e : node.Node) → a ≡ b → Stands a i e → Stands b i e

@@ -6,5 +6,6 @@ pub mod Readers
 pub mod Reads
 pub mod Refusals
 pub mod Runs
+pub mod Standing
 pub mod Tokens
 pub mod Turnings

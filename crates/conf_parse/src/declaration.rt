@@ -5,6 +5,7 @@ ghost use Rattle.conf_syntax.specs.Plain.{Named, Counted};
 ghost use Rattle.conf_syntax.specs.Views.{end_of, shape_of};
 ghost use Rattle.conf_grammar.specs.Leads.{Turns, IsNot, IsNotWord, home_low};
 ghost use Rattle.conf_parse.specs.Cursor.{Takes, Names};
+ghost use Rattle.conf_parse.specs.Standing.{VarReads, ShapeReads, LowReads, HighReads, CountReads, named_shape, counted_shape};
 ghost use Rattle.conf_parse.specs.Turnings.{TurnErrs, naming_low, shape_at, high_at, count_at, var_end, home_at, home_and, var_of};
 
 use crate::cursor::{after_key, after_mark, first_at, word_at};
@@ -16,7 +17,8 @@ use std::alloc::Global;
 
 /// The shape of a name, with `ref` or without.
 fn plain_shape(is_ref: bool, ident: Ident) -> Shape
-    ensures { shape_of result ≡ Named is_ref ident.name }
+    ensures made { result ≡ named_shape is_ref ident }
+    ensures tree { shape_of result ≡ Named is_ref ident.name }
 {
     if is_ref {
         Shape::Ref(ident)
@@ -27,7 +29,8 @@ fn plain_shape(is_ref: bool, ident: Ident) -> Shape
 
 /// The shape of a name with a count, with `ref` or without.
 fn counted_shape(is_ref: bool, ident: Ident, count: u32) -> Shape
-    ensures { shape_of result ≡ Counted is_ref ident.name count }
+    ensures made { result ≡ counted_shape is_ref ident count }
+    ensures tree { shape_of result ≡ Counted is_ref ident.name count }
 {
     if is_ref {
         Shape::RefSet(ident, count)
@@ -37,8 +40,9 @@ fn counted_shape(is_ref: bool, ident: Ident, count: u32) -> Shape
 }
 
 /// Reads what stands behind the name of a shape.
-#[tactic(auto, using(crate::proofs::Shapes::count_plain, crate::proofs::Shapes::count_many, crate::proofs::Shapes::count_miss, crate::proofs::Shapes::count_none))]
+#[tactic(auto, using(crate::proofs::Shapes::count_plain, crate::proofs::Shapes::count_many, crate::proofs::Shapes::count_miss, crate::proofs::Shapes::count_none, crate::proofs::Standing::plain_stands, crate::proofs::Standing::many_stands))]
 fn counted(is_ref: bool, ident: Ident, tokens: &[Placed]) -> Result<(Shape, &[Placed]), Stop>
+    ensures places { IfOk result (λ x. CountReads is_ref ident tokens.now x.0 x.1.now) }
     ensures read { MatchResult result (λ x. Turns naming_low (count_at is_ref ident.name) (bare tokens.now) (var_end (shape_of x.0)) (bare x.1.now)) (λ e. TurnErrs naming_low (count_at is_ref ident.name) (bare tokens.now) e) }
     ensures shorter { IfOk result (λ x. length x.1.now ≤ length tokens.now) }
 {
@@ -55,8 +59,9 @@ fn counted(is_ref: bool, ident: Ident, tokens: &[Placed]) -> Result<(Shape, &[Pl
 }
 
 /// Reads the high end of a range.
-#[tactic(auto, using(crate::proofs::Shapes::high_number, crate::proofs::Shapes::high_number_miss, crate::proofs::Shapes::high_minus, crate::proofs::Shapes::high_minus_miss, crate::proofs::Shapes::high_none))]
+#[tactic(auto, using(crate::proofs::Shapes::high_number, crate::proofs::Shapes::high_number_miss, crate::proofs::Shapes::high_minus, crate::proofs::Shapes::high_minus_miss, crate::proofs::Shapes::high_none, crate::proofs::Standing::high_stands, crate::proofs::Standing::high_minus_stands))]
 fn high_end(low: Bound, tokens: &[Placed]) -> Result<(Shape, &[Placed]), Stop>
+    ensures places { IfOk result (λ x. HighReads low tokens.now x.0 x.1.now) }
     ensures read { MatchResult result (λ x. Turns naming_low (high_at (end_of low)) (bare tokens.now) (var_end (shape_of x.0)) (bare x.1.now)) (λ e. TurnErrs naming_low (high_at (end_of low)) (bare tokens.now) e) }
     ensures shorter { IfOk result (λ x. length x.1.now ≤ length tokens.now) }
 {
@@ -88,12 +93,13 @@ fn high_end(low: Bound, tokens: &[Placed]) -> Result<(Shape, &[Placed]), Stop>
 }
 
 /// Reads the low end of a range and the points behind it; no other shape begins here.
-#[tactic(auto, using(crate::proofs::Shapes::low_number, crate::proofs::Shapes::low_number_miss, crate::proofs::Shapes::low_minus, crate::proofs::Shapes::low_minus_miss, crate::proofs::Shapes::low_none))]
+#[tactic(auto, using(crate::proofs::Shapes::low_number, crate::proofs::Shapes::low_number_miss, crate::proofs::Shapes::low_minus, crate::proofs::Shapes::low_minus_miss, crate::proofs::Shapes::low_none, crate::proofs::Standing::low_stands, crate::proofs::Standing::low_minus_stands))]
 fn low_end(tokens: &[Placed]) -> Result<(Bound, &[Placed]), Stop>
     requires word { IsNotWord (bare tokens.now) }
     requires int { IsNot (Token.Key Key.Int) (bare tokens.now) }
     requires bool { IsNot (Token.Key Key.Bool) (bare tokens.now) }
     requires ref_key { IsNot (Token.Key Key.Ref) (bare tokens.now) }
+    ensures places { IfOk result (λ x. LowReads tokens.now x.0 x.1.now) }
     ensures read { MatchResult result (λ x. Turns naming_low shape_at (bare tokens.now) (high_at (end_of x.0)) (bare x.1.now)) (λ e. TurnErrs naming_low shape_at (bare tokens.now) e) }
     ensures shorter { IfOk result (λ x. length x.1.now ≤ length tokens.now) }
 {
@@ -125,13 +131,14 @@ fn low_end(tokens: &[Placed]) -> Result<(Bound, &[Placed]), Stop>
 }
 
 /// Reads the shape behind `ref`.
-#[tactic(auto, using(crate::proofs::Shapes::ref_part, crate::proofs::Shapes::ref_error, crate::proofs::Shapes::ref_miss))]
+#[tactic(auto, using(crate::proofs::Shapes::ref_part, crate::proofs::Shapes::ref_error, crate::proofs::Shapes::ref_miss, crate::proofs::Standing::ref_stands))]
 fn referred<'a>(
     alloc: Global,
     tokens: &'a [Placed],
     after: &'a [Placed],
 ) -> Result<(Shape, &'a [Placed]), Stop>
     requires { Takes tokens.now (Token.Key Key.Ref) after.now }
+    ensures places { IfOk result (λ x. ShapeReads tokens.now x.0 x.1.now) }
     ensures read { MatchResult result (λ x. Turns naming_low shape_at (bare tokens.now) (var_end (shape_of x.0)) (bare x.1.now)) (λ e. TurnErrs naming_low shape_at (bare tokens.now) e) }
     ensures shorter { IfOk result (λ x. length x.1.now ≤ length tokens.now) }
 {
@@ -144,7 +151,7 @@ fn referred<'a>(
 }
 
 /// Reads the shape that begins with a name.
-#[tactic(auto, using(crate::proofs::Shapes::word_part, crate::proofs::Shapes::word_error))]
+#[tactic(auto, using(crate::proofs::Shapes::word_part, crate::proofs::Shapes::word_error, crate::proofs::Standing::word_stands))]
 fn worded<'a>(
     alloc: Global,
     tokens: &'a [Placed],
@@ -153,6 +160,7 @@ fn worded<'a>(
     after: &'a [Placed],
 ) -> Result<(Shape, &'a [Placed]), Stop>
     requires { Names tokens.now name.now place after.now }
+    ensures places { IfOk result (λ x. ShapeReads tokens.now x.0 x.1.now) }
     ensures read { MatchResult result (λ x. Turns naming_low shape_at (bare tokens.now) (var_end (shape_of x.0)) (bare x.1.now)) (λ e. TurnErrs naming_low shape_at (bare tokens.now) e) }
     ensures shorter { IfOk result (λ x. length x.1.now ≤ length tokens.now) }
 {
@@ -161,8 +169,9 @@ fn worded<'a>(
 }
 
 /// Reads a shape and its semicolon.
-#[tactic(auto, using(crate::proofs::Shapes::int_part, crate::proofs::Shapes::int_miss, crate::proofs::Shapes::bool_part, crate::proofs::Shapes::bool_miss, crate::proofs::Shapes::range_part, crate::proofs::Shapes::range_error))]
+#[tactic(auto, using(crate::proofs::Shapes::int_part, crate::proofs::Shapes::int_miss, crate::proofs::Shapes::bool_part, crate::proofs::Shapes::bool_miss, crate::proofs::Shapes::range_part, crate::proofs::Shapes::range_error, crate::proofs::Standing::int_stands, crate::proofs::Standing::bool_stands, crate::proofs::Standing::range_stands))]
 fn shape(alloc: Global, tokens: &[Placed]) -> Result<(Shape, &[Placed]), Stop>
+    ensures places { IfOk result (λ x. ShapeReads tokens.now x.0 x.1.now) }
     ensures read { MatchResult result (λ x. Turns naming_low shape_at (bare tokens.now) (var_end (shape_of x.0)) (bare x.1.now)) (λ e. TurnErrs naming_low shape_at (bare tokens.now) e) }
     ensures shorter { IfOk result (λ x. length x.1.now ≤ length tokens.now) }
 {
@@ -199,6 +208,7 @@ pub fn var_decl<'a>(
     after: &'a [Placed],
 ) -> Result<(VarDecl, &'a [Placed]), Stop>
     requires { Takes tokens.now (Token.Key Key.Var) after.now }
+    ensures places { IfOk result (λ x. VarReads tokens.now x.0 x.1.now) }
     ensures read { MatchResult result (λ x. Turns home_low home_at (bare tokens.now) (home_and (var_of x.0)) (bare x.1.now)) (λ e. TurnErrs home_low home_at (bare tokens.now) e) }
     ensures shorter { IfOk result (λ x. length x.1.now < length tokens.now) }
 {

@@ -3,10 +3,12 @@ ghost use Rattle.std.specs.Prelude.{◌≡◌, ◌≢◌, ◌≤◌, ◌<◌, le
 ghost use Rattle.conf_syntax.specs.Places.{bare};
 ghost use Rattle.conf_syntax.specs.Plain as plain;
 ghost use Rattle.conf_syntax.specs.Plain.{Enum, Class, NoMember, member_nest, members_nest, item_nest, nesting};
+ghost use Rattle.conf_syntax.specs.Standing.{InRow, ItemStands, item_size};
 ghost use Rattle.conf_syntax.specs.Views.{enum_of, members_from, member_of, parent_of, item_of, program_of};
 ghost use Rattle.conf_grammar.specs.Machine.{reading, start, Whole};
 ghost use Rattle.conf_grammar.specs.Leads.{Turns, home_low};
 ghost use Rattle.conf_parse.specs.Cursor.{Takes};
+ghost use Rattle.conf_parse.specs.Standing.{EnumReads, ParentReads, MemberReads, ClassBodyReads, ClassReads, TopLevelReads};
 ghost use Rattle.conf_parse.specs.Turnings.{TurnErrs, IsFault, home_at, home_and, program_at, program_and, class_at, in_class, IsNoMember};
 
 use crate::cursor::{after_key, after_mark};
@@ -28,6 +30,7 @@ fn enum_decl<'a>(
     after: &'a [Placed],
 ) -> Result<(EnumDecl, &'a [Placed]), Stop>
     requires { Takes tokens.now (Token.Key Key.Enum) after.now }
+    ensures places { IfOk result (λ x. EnumReads tokens.now x.0 x.1.now) }
     ensures read { MatchResult result (λ x. Turns nesting program_at (bare tokens.now) (program_and (enum_of x.0.name.name x.0.values)) (bare x.1.now)) (λ e. TurnErrs nesting program_at (bare tokens.now) e) }
     ensures shorter { IfOk result (λ x. length x.1.now < length tokens.now) }
 {
@@ -71,13 +74,14 @@ fn enum_decl<'a>(
 }
 
 /// Reads what may stand between a class's name and its first member.
-#[tactic(auto, using(crate::proofs::Items::parent_part, crate::proofs::Items::parent_miss, crate::proofs::Items::orphan_part, crate::proofs::Items::orphan_none))]
+#[tactic(auto, using(crate::proofs::Items::parent_part, crate::proofs::Items::parent_miss, crate::proofs::Items::orphan_part, crate::proofs::Items::orphan_none, crate::proofs::StandingItems::parent_stands, crate::proofs::StandingItems::orphan_stands))]
 fn parent<'a>(
     alloc: Global,
     is_abstract: bool,
     name: &Ident,
     tokens: &'a [Placed],
 ) -> Result<(Option<Ident>, &'a [Placed]), Stop>
+    ensures places { IfOk result (λ x. ParentReads tokens.now x.0 x.1.now) }
     ensures read { MatchResult result (λ x. Turns nesting (class_at is_abstract name.now.name) (bare tokens.now) (in_class is_abstract name.now.name (parent_of x.0) NoMember) (bare x.1.now)) (λ e. TurnErrs nesting (class_at is_abstract name.now.name) (bare tokens.now) e) }
     ensures shorter { IfOk result (λ x. length x.1.now < length tokens.now) }
 {
@@ -96,8 +100,9 @@ fn parent<'a>(
 }
 
 /// Reads a member, if one begins here.
-#[tactic(auto)]
+#[tactic(auto, using(crate::proofs::StandingItems::member_var, crate::proofs::StandingItems::member_where))]
 fn member(alloc: Global, tokens: &[Placed]) -> Result<Option<(Member, &[Placed])>, Stop>
+    ensures places { IfOk result (λ o. IfSome o (λ x. MemberReads tokens.now x.0 x.1.now)) }
     ensures read { MatchResult result (λ o. MatchOption o (IsNoMember (bare tokens.now)) (λ x. Turns home_low home_at (bare tokens.now) (home_and (member_of x.0)) (bare x.1.now))) (λ e. TurnErrs home_low home_at (bare tokens.now) e) }
     ensures nested { IfOk result (λ o. IfSome o (λ x. member_nest (member_of x.0) ≤ 200)) }
     ensures shorter { IfOk result (λ o. IfSome o (λ x. length x.1.now < length tokens.now)) }
@@ -120,13 +125,14 @@ fn member(alloc: Global, tokens: &[Placed]) -> Result<Option<(Member, &[Placed])
 }
 
 /// Reads a class from behind its name.
-#[tactic(auto, using(crate::proofs::Items::member_part, crate::proofs::Items::member_error, crate::proofs::Items::member_nests, crate::proofs::Items::members_none, crate::proofs::Items::member_none, crate::proofs::Items::class_end))]
+#[tactic(auto, using(crate::proofs::Items::member_part, crate::proofs::Items::member_error, crate::proofs::Items::member_nests, crate::proofs::Items::members_none, crate::proofs::Items::member_none, crate::proofs::Items::class_end, crate::proofs::StandingItems::members_begin))]
 fn class_body<'a>(
     alloc: Global,
     is_abstract: bool,
     name: Ident,
     tokens: &'a [Placed],
 ) -> Result<(ClassDecl, &'a [Placed]), Stop>
+    ensures places { IfOk result (λ x. ClassBodyReads is_abstract name tokens.now x.0 x.1.now) }
     ensures read { MatchResult result (λ x. Turns nesting (class_at is_abstract name.name) (bare tokens.now) (program_and (Class x.0.is_abstract x.0.name.name (parent_of x.0.parent) (members_from NoMember x.0.members))) (bare x.1.now)) (λ e. TurnErrs nesting (class_at is_abstract name.name) (bare tokens.now) e) }
     ensures nested { IfOk result (λ x. members_nest (members_from NoMember x.0.members) ≤ 200) }
     ensures shorter { IfOk result (λ x. length x.1.now < length tokens.now) }
@@ -161,13 +167,14 @@ fn class_body<'a>(
 }
 
 /// Reads the class behind `class`.
-#[tactic(auto, using(crate::proofs::Items::class_miss, crate::proofs::Items::class_named, crate::proofs::Items::class_part, crate::proofs::Items::class_error))]
+#[tactic(auto, using(crate::proofs::Items::class_miss, crate::proofs::Items::class_named, crate::proofs::Items::class_part, crate::proofs::Items::class_error, crate::proofs::StandingItems::plain_class))]
 fn class_decl<'a>(
     alloc: Global,
     tokens: &'a [Placed],
     after: &'a [Placed],
 ) -> Result<(ClassDecl, &'a [Placed]), Stop>
     requires { Takes tokens.now (Token.Key Key.Class) after.now }
+    ensures places { IfOk result (λ x. ClassReads tokens.now x.0 x.1.now) }
     ensures read { MatchResult result (λ x. Turns nesting program_at (bare tokens.now) (program_and (Class x.0.is_abstract x.0.name.name (parent_of x.0.parent) (members_from NoMember x.0.members))) (bare x.1.now)) (λ e. TurnErrs nesting program_at (bare tokens.now) e) }
     ensures nested { IfOk result (λ x. members_nest (members_from NoMember x.0.members) ≤ 200) }
     ensures shorter { IfOk result (λ x. length x.1.now < length tokens.now) }
@@ -181,13 +188,14 @@ fn class_decl<'a>(
 }
 
 /// Reads the class behind `abstract`.
-#[tactic(auto, using(crate::proofs::Items::abstract_miss, crate::proofs::Items::abstract_name_miss, crate::proofs::Items::abstract_named, crate::proofs::Items::class_part, crate::proofs::Items::class_error))]
+#[tactic(auto, using(crate::proofs::Items::abstract_miss, crate::proofs::Items::abstract_name_miss, crate::proofs::Items::abstract_named, crate::proofs::Items::class_part, crate::proofs::Items::class_error, crate::proofs::StandingItems::abstract_class))]
 fn abstract_decl<'a>(
     alloc: Global,
     tokens: &'a [Placed],
     after: &'a [Placed],
 ) -> Result<(ClassDecl, &'a [Placed]), Stop>
     requires { Takes tokens.now (Token.Key Key.Abstract) after.now }
+    ensures places { IfOk result (λ x. ClassReads tokens.now x.0 x.1.now) }
     ensures read { MatchResult result (λ x. Turns nesting program_at (bare tokens.now) (program_and (Class x.0.is_abstract x.0.name.name (parent_of x.0.parent) (members_from NoMember x.0.members))) (bare x.1.now)) (λ e. TurnErrs nesting program_at (bare tokens.now) e) }
     ensures nested { IfOk result (λ x. members_nest (members_from NoMember x.0.members) ≤ 200) }
     ensures shorter { IfOk result (λ x. length x.1.now < length tokens.now) }
@@ -205,9 +213,10 @@ fn abstract_decl<'a>(
 }
 
 /// Reads an item.
-#[tactic(auto, using(crate::proofs::Items::alone_part, crate::proofs::Items::alone_error, crate::proofs::Items::item_none))]
+#[tactic(auto, using(crate::proofs::Items::alone_part, crate::proofs::Items::alone_error, crate::proofs::Items::item_none, crate::proofs::StandingItems::item_enum, crate::proofs::StandingItems::item_class, crate::proofs::StandingItems::item_var, crate::proofs::StandingItems::item_where, crate::proofs::StandingItems::item_goal))]
 pub fn item(alloc: Global, tokens: &[Placed]) -> Result<(Item, &[Placed]), Stop>
     requires { length tokens.now ≢ 0 }
+    ensures places { IfOk result (λ x. TopLevelReads tokens.now x.0 x.1.now) }
     ensures read { MatchResult result (λ x. Turns nesting program_at (bare tokens.now) (program_and (item_of x.0)) (bare x.1.now)) (λ e. TurnErrs nesting program_at (bare tokens.now) e) }
     ensures nested { IfOk result (λ x. item_nest (item_of x.0) ≤ 200) }
     ensures shorter { IfOk result (λ x. length x.1.now < length tokens.now) }
@@ -258,9 +267,10 @@ pub fn item(alloc: Global, tokens: &[Placed]) -> Result<(Item, &[Placed]), Stop>
 }
 
 /// Reads the items of a model.
-#[tactic(auto, using(crate::proofs::Items::all_more, crate::proofs::Items::all_nest, crate::proofs::Items::all_start, crate::proofs::Items::none_nest, crate::proofs::Items::all_end, crate::proofs::Items::all_error))]
+#[tactic(auto, using(crate::proofs::Items::all_more, crate::proofs::Items::all_nest, crate::proofs::Items::all_start, crate::proofs::Items::none_nest, crate::proofs::Items::all_end, crate::proofs::Items::all_error, crate::proofs::Standing::row_begins))]
 pub fn items(alloc: Global, tokens: &[Placed]) -> Result<Vec<Item>, Stop>
-    ensures { MatchResult result (λ v. reading (bare tokens.now) 200 start ≡ Whole (program_of v.items)) (λ e. IsFault (bare tokens.now) e) }
+    ensures places { IfOk result (λ v. InRow ItemStands item_size tokens.now v.items) }
+    ensures read { MatchResult result (λ v. reading (bare tokens.now) 200 start ≡ Whole (program_of v.items)) (λ e. IsFault (bare tokens.now) e) }
 {
     let mut list = Vec::new(alloc);
     let mut rest = tokens;

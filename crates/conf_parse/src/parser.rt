@@ -2,8 +2,9 @@
 //!
 //! `parse` answers the one model that has these tokens, or the first place that no model has there.
 ghost use Rattle.std.specs.Prelude.{◌≡◌, ◌-◌, ◌≤◌, ℕ, length, drop, IfOk, IfErr, MatchResult};
+ghost use Rattle.conf_syntax.specs.AllPlaces.{program_places};
 ghost use Rattle.conf_syntax.specs.Begun.{IsProgramIn};
-ghost use Rattle.conf_syntax.specs.Models.{IsProgramOf, place_of};
+ghost use Rattle.conf_syntax.specs.Models.{IsTreeOf, IsProgramOf, place_of};
 ghost use Rattle.conf_syntax.specs.Places.{bare};
 ghost use Rattle.conf_syntax.specs.Plain as plain;
 ghost use Rattle.conf_syntax.specs.Views.{program_of};
@@ -56,7 +57,7 @@ fn read(alloc: Global, tokens: &[Placed], end: u32) -> Result<Program, ParseErro
     ensures plain { IfOk result (λ p. IsProgramIn 200 (bare tokens.now) (program_of p.items)) }
     ensures refusal { IfErr result (λ e. Means tokens.now end e) }
     ensures only { (p : plain.Program) → IsProgramIn 200 (bare tokens.now) p → MatchResult result (λ q. program_of q.items ≡ p) (λ e. e ≡ ParseError.Memory) }
-    ensures again { (p : Program) → IsProgramOf tokens.now p → MatchResult result (λ q. program_of q.items ≡ program_of p.items) (λ e. e ≡ ParseError.Memory) }
+    ensures again { (p : Program) → IsTreeOf tokens.now p → MatchResult result (λ q. program_of q.items ≡ program_of p.items) (λ e. e ≡ ParseError.Memory) }
 {
     match items(alloc, tokens) {
         Ok(list) => Ok(Program {
@@ -72,14 +73,18 @@ fn read(alloc: Global, tokens: &[Placed], end: u32) -> Result<Program, ParseErro
 ///
 /// The places of the tree and of the errors are counted in bytes from the beginning of the text.
 pub fn parse(alloc: Global, tokens: &[Placed], end: u32) -> Result<Program, ParseError>
-    // The model has these tokens, is one that the grammar has, and its expressions are at most 200 deep.
+    // The model has these tokens, is one that the grammar has, its expressions are at most 200 deep, and each of its places
+    // is that of its token.
     ensures ok { IfOk result (λ p. IsProgramOf tokens.now p) }
     // A refusal stands at the first token that no model has there.
     ensures refusal { IfErr result (λ e. Means tokens.now end e) }
     // The tokens of a model are read as that model, its places and pointers aside, unless memory runs out. Hence tokens are
     // those of at most one model.
     ensures only { (p : plain.Program) → IsProgramIn 200 (bare tokens.now) p → MatchResult result (λ q. program_of q.items ≡ p) (λ e. e ≡ ParseError.Memory) }
-    ensures again { (p : Program) → IsProgramOf tokens.now p → MatchResult result (λ q. program_of q.items ≡ program_of p.items) (λ e. e ≡ ParseError.Memory) }
+    ensures again { (p : Program) → IsTreeOf tokens.now p → MatchResult result (λ q. program_of q.items ≡ program_of p.items) (λ e. e ≡ ParseError.Memory) }
+    // Where the places are those of the tokens too, the model that is read has the same ones. Hence tokens are those of at
+    // most one model with its places.
+    ensures places { (p : Program) → IsProgramOf tokens.now p → MatchResult result (λ q. program_places q ≡ program_places p) (λ e. e ≡ ParseError.Memory) }
     // Where a refusal would stand at a place, it is answered, unless memory runs out.
     ensures syntax { (at : ℕ) → IsSyntax tokens.now end at → MatchResult result (λ p. ⊥) (IsSameOrMemory (ParseError.Syntax at)) }
     ensures too_deep { (at : ℕ) → IsDeep tokens.now end at → MatchResult result (λ p. ⊥) (IsSameOrMemory (ParseError.TooDeep at)) }

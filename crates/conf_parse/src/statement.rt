@@ -6,6 +6,7 @@ ghost use Rattle.conf_syntax.specs.Trees.{goal_key};
 ghost use Rattle.conf_syntax.specs.Views.{tree_of, where_of};
 ghost use Rattle.conf_grammar.specs.Leads.{ground_base, Turns, IsNot, home_low};
 ghost use Rattle.conf_parse.specs.Cursor.{Takes};
+ghost use Rattle.conf_parse.specs.Standing.{StatementReads, WhereReads, GoalReads};
 ghost use Rattle.conf_parse.specs.Turnings.{TurnErrs, need_at, ground_and, home_at, home_and, program_at, program_and};
 
 use crate::cursor::{after_mark, first_at};
@@ -15,8 +16,9 @@ use conf_syntax::{Exprs, GoalDecl, Key, Mark, Placed, Token, WhereDecl};
 use std::alloc::Global;
 
 /// Reads an expression and its semicolon.
-#[tactic(auto, using(crate::proofs::Wheres::expr_part, crate::proofs::Wheres::expr_open, crate::proofs::Wheres::expr_error))]
+#[tactic(auto, using(crate::proofs::Wheres::expr_part, crate::proofs::Wheres::expr_open, crate::proofs::Wheres::expr_error, crate::proofs::Standing::statement_stands))]
 fn statement(alloc: Global, tokens: &[Placed]) -> Result<(Part, &[Placed]), Stop>
+    ensures places { IfOk result (λ x. StatementReads tokens.now x.0.tree x.1.now) }
     ensures read { MatchResult result (λ x. Turns ground_base need_at (bare tokens.now) (ground_and (tree_of x.0.tree.node)) (bare x.1.now)) (λ e. TurnErrs ground_base need_at (bare tokens.now) e) }
     ensures nest { IfOk result (λ x. x.0.nest ≡ nest (tree_of x.0.tree.node)) }
     ensures nested { IfOk result (λ x. x.0.nest ≤ 200) }
@@ -33,7 +35,7 @@ fn statement(alloc: Global, tokens: &[Placed]) -> Result<(Part, &[Placed]), Stop
 }
 
 /// Reads the constraints in braces behind `where`.
-#[tactic(auto, using(crate::proofs::Wheres::braces_start, crate::proofs::Wheres::braces_more, crate::proofs::Wheres::braces_error, crate::proofs::Wheres::braces_end, crate::proofs::Wheres::braces_nest, crate::proofs::Wheres::braces_none))]
+#[tactic(auto, using(crate::proofs::Wheres::braces_start, crate::proofs::Wheres::braces_more, crate::proofs::Wheres::braces_error, crate::proofs::Wheres::braces_end, crate::proofs::Wheres::braces_nest, crate::proofs::Wheres::braces_none, crate::proofs::Standing::row_begins))]
 fn braces<'a>(
     alloc: Global,
     tokens: &'a [Placed],
@@ -42,6 +44,7 @@ fn braces<'a>(
 ) -> Result<(WhereDecl, &'a [Placed]), Stop>
     requires key { Takes tokens.now (Token.Key Key.Where) after.now }
     requires brace { Takes after.now (Token.Mark Mark.OpenBrace) inside.now }
+    ensures places { IfOk result (λ x. WhereReads tokens.now x.0 x.1.now) }
     ensures read { MatchResult result (λ x. Turns home_low home_at (bare tokens.now) (home_and (where_of x.0.braces x.0.list)) (bare x.1.now)) (λ e. TurnErrs home_low home_at (bare tokens.now) e) }
     ensures shorter { IfOk result (λ x. length x.1.now < length tokens.now) }
     ensures nested { IfOk result (λ x. member_nest (where_of x.0.braces x.0.list) ≤ 200) }
@@ -75,6 +78,7 @@ fn lone<'a>(
 ) -> Result<(WhereDecl, &'a [Placed]), Stop>
     requires key { Takes tokens.now (Token.Key Key.Where) after.now }
     requires brace { IsNot (Token.Mark Mark.OpenBrace) (bare after.now) }
+    ensures places { IfOk result (λ x. WhereReads tokens.now x.0 x.1.now) }
     ensures read { MatchResult result (λ x. Turns home_low home_at (bare tokens.now) (home_and (where_of x.0.braces x.0.list)) (bare x.1.now)) (λ e. TurnErrs home_low home_at (bare tokens.now) e) }
     ensures shorter { IfOk result (λ x. length x.1.now < length tokens.now) }
     ensures nested { IfOk result (λ x. member_nest (where_of x.0.braces x.0.list) ≤ 200) }
@@ -100,6 +104,7 @@ pub fn where_decl<'a>(
     after: &'a [Placed],
 ) -> Result<(WhereDecl, &'a [Placed]), Stop>
     requires key { Takes tokens.now (Token.Key Key.Where) after.now }
+    ensures places { IfOk result (λ x. WhereReads tokens.now x.0 x.1.now) }
     ensures read { MatchResult result (λ x. Turns home_low home_at (bare tokens.now) (home_and (where_of x.0.braces x.0.list)) (bare x.1.now)) (λ e. TurnErrs home_low home_at (bare tokens.now) e) }
     ensures shorter { IfOk result (λ x. length x.1.now < length tokens.now) }
     ensures nested { IfOk result (λ x. member_nest (where_of x.0.braces x.0.list) ≤ 200) }
@@ -111,7 +116,7 @@ pub fn where_decl<'a>(
 }
 
 /// Reads the goal behind `maximize` or `minimize`.
-#[tactic(auto, using(crate::proofs::Wheres::goal_part, crate::proofs::Wheres::goal_error))]
+#[tactic(auto, using(crate::proofs::Wheres::goal_part, crate::proofs::Wheres::goal_error, crate::proofs::StandingItems::goal_stands))]
 pub fn goal_decl<'a>(
     alloc: Global,
     max: bool,
@@ -119,6 +124,7 @@ pub fn goal_decl<'a>(
     after: &'a [Placed],
 ) -> Result<(GoalDecl, &'a [Placed]), Stop>
     requires key { Takes tokens.now (goal_key max) after.now }
+    ensures places { IfOk result (λ x. GoalReads tokens.now x.0 x.1.now) }
     ensures read { MatchResult result (λ x. Turns nesting program_at (bare tokens.now) (program_and (Goal x.0.max (tree_of x.0.expr.node))) (bare x.1.now)) (λ e. TurnErrs nesting program_at (bare tokens.now) e) }
     ensures shorter { IfOk result (λ x. length x.1.now < length tokens.now) }
     ensures nested { IfOk result (λ x. nest (tree_of x.0.expr.node) ≤ 200) }

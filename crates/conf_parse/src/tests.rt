@@ -1,6 +1,9 @@
 // Texts as rows of letters, one for each token; the token with number k stands at the place 2 * k.
 use crate::{ParseError, parse};
-use conf_syntax::{Key, Mark, Name, Placed, Token};
+use conf_syntax::{
+    ClassDecl, EnumDecl, Item, Key, Mark, Member, Name, Placed, Program, Shape, Token, VarDecl,
+    WhereDecl,
+};
 use std::alloc::{AllocError, Global};
 
 fn token(alloc: Global, letter: u8) -> Result<Token, AllocError> {
@@ -63,7 +66,7 @@ enum Outcome {
     Memory,
 }
 
-fn read(alloc: Global, text: &[u8]) -> Result<Outcome, AllocError> {
+fn parsed(alloc: Global, text: &[u8]) -> Result<Result<Program, ParseError>, AllocError> {
     let mut list = Vec::new(alloc);
     let mut at = 0_u32;
     for letter in text {
@@ -71,7 +74,11 @@ fn read(alloc: Global, text: &[u8]) -> Result<Outcome, AllocError> {
         list.push(Placed { token, at })?;
         at = at.saturating_add(2);
     }
-    Ok(match parse(alloc, &list, at) {
+    Ok(parse(alloc, &list, at))
+}
+
+fn read(alloc: Global, text: &[u8]) -> Result<Outcome, AllocError> {
+    Ok(match parsed(alloc, text)? {
         Ok(_) => Outcome::Model,
         Err(ParseError::Syntax(place)) => Outcome::Syntax(place),
         Err(ParseError::TooDeep(place)) => Outcome::TooDeep(place),
@@ -166,6 +173,102 @@ fn expressions_are_at_most_200_deep(rt: HostRuntime) -> Result<(), AllocError> {
         }
         text.extend_from_slice(behind.as_bytes())?;
         assert_eq!(rt; read(alloc, &text)?, wanted, "at {open} {behind}");
+    }
+    Ok(())
+}
+
+fn shape_places(shape: &Shape, places: &mut Vec<u32>) -> Result<(), AllocError> {
+    match shape {
+        Shape::Range(low, high) => {
+            places.push(low.at)?;
+            places.push(high.at)?;
+        }
+        Shape::Int | Shape::Bool => {}
+        Shape::Named(name) | Shape::Many(name, _) | Shape::Ref(name) | Shape::RefSet(name, _) => {
+            places.push(name.at)?;
+        }
+    }
+    Ok(())
+}
+
+fn var_places(decl: &VarDecl, places: &mut Vec<u32>) -> Result<(), AllocError> {
+    places.push(decl.name.at)?;
+    shape_places(&decl.shape, places)
+}
+
+fn where_places(decl: &WhereDecl, places: &mut Vec<u32>) -> Result<(), AllocError> {
+    places.push(decl.at)?;
+    for constraint in decl.list.items() {
+        places.push(constraint.at)?;
+    }
+    Ok(())
+}
+
+fn enum_places(decl: &EnumDecl, places: &mut Vec<u32>) -> Result<(), AllocError> {
+    places.push(decl.name.at)?;
+    for value in decl.values.items() {
+        places.push(value.at)?;
+    }
+    Ok(())
+}
+
+fn class_places(decl: &ClassDecl, places: &mut Vec<u32>) -> Result<(), AllocError> {
+    places.push(decl.name.at)?;
+    if let Some(parent) = &decl.parent {
+        places.push(parent.at)?;
+    }
+    for member in decl.members.items() {
+        match member {
+            Member::Var(decl) => var_places(decl, places)?,
+            Member::Where(decl) => where_places(decl, places)?,
+        }
+    }
+    Ok(())
+}
+
+// The places of a model's declarations, in the order of the text.
+fn places(alloc: Global, text: &[u8]) -> Result<Vec<u32>, AllocError> {
+    let mut places = Vec::new(alloc);
+    let Ok(program) = parsed(alloc, text)? else {
+        return Ok(places);
+    };
+    for item in program.items.items() {
+        match item {
+            Item::Enum(decl) => enum_places(decl, &mut places)?,
+            Item::Class(decl) => class_places(decl, &mut places)?,
+            Item::Var(decl) => var_places(decl, &mut places)?,
+            Item::Where(decl) => where_places(decl, &mut places)?,
+            Item::Goal(decl) => {
+                places.push(decl.at)?;
+                places.push(decl.expr.at)?;
+            }
+        }
+    }
+    Ok(places)
+}
+
+#[test]
+fn places_are_those_of_the_tokens(rt: HostRuntime) -> Result<(), AllocError> {
+    let alloc = rt.alloc();
+    for (text, wanted) in [
+        ("Ew{w,w}", &[2_u32, 6, 10] as &[u32]),
+        ("Cw{}CwXw{}", &[2, 10, 14]),
+        (
+            "ACwXw{Vwa-n:n;Ww;W{w;w;}}",
+            &[4, 8, 14, 18, 24, 28, 30, 34, 38, 42],
+        ),
+        (
+            "Vwaw;Vwaw[n];VwaRw;VwaRw[n];",
+            &[2, 6, 12, 16, 28, 34, 40, 46],
+        ),
+        ("VwaI;VwaB;Vwan:-n;", &[2, 12, 22, 26, 30]),
+        ("W{}Ww+n;Mw+n;mw.w;", &[0, 6, 10, 16, 20, 26, 28]),
+    ] {
+        assert_eq!(rt;
+            places(alloc, text.as_bytes())?.as_slice(),
+            wanted,
+            "at {text}"
+        );
     }
     Ok(())
 }

@@ -27,7 +27,7 @@ exprs_nest es [] = omega arith
 exprs_nest es (x ∷ xs) = omega (arith, exprs_nest (WithExpr es (tree_of x.node)) xs, nest_is x.node)
 
 -- what the grammar hasn't is not good
-never : IsGood no_tree → ⊥
+pub never : IsGood no_tree → ⊥
 never g = let e = g.1 in absurd (omega arith)
 
 where_nest : (b : Bool) (xs : List Expr) → IsMember (where_of b xs) → plain.member_nest (where_of b xs) ≡ trees.depth_of_all xs
@@ -40,7 +40,7 @@ member_nest : (m : members.Member) → IsMember (member_of m) → plain.member_n
 member_nest (member.Var v) g = refl
 member_nest (member.Where w) g = where_nest w.braces w.list g
 
-members_less : (ms : Members) (xs : List members.Member) → AreMembers (members_from ms xs) → AreMembers ms
+pub members_less : (ms : Members) (xs : List members.Member) → AreMembers (members_from ms xs) → AreMembers ms
 members_less ms [] g = g
 members_less ms (x ∷ xs) g = (members_less (WithMember ms (member_of x)) xs g).0
 
@@ -59,7 +59,7 @@ item_nest (item.Var v) g = refl
 item_nest (item.Where w) g = where_nest w.braces w.list g
 item_nest (item.Goal q) g = nest_is q.expr.node
 
-program_less : (p : Program) (xs : List items.Item) → IsProgram (program_from p xs) → IsProgram p
+pub program_less : (p : Program) (xs : List items.Item) → IsProgram (program_from p xs) → IsProgram p
 program_less p [] g = g
 program_less p (x ∷ xs) g = (program_less (With p (item_of x)) xs g).0
 
@@ -104,7 +104,7 @@ shape_tokens (shape.RefSet i n) = refl
 var_tokens : (w : List ℕ) (s : shapes.Shape) → plain.member_tokens (plain.Var w (shape_of s)) ≡ Key key.Var ∷ Word w ∷ Key key.As ∷ (trees.shape_tokens s ++ (Mark mark.Semicolon ∷ []))
 var_tokens w s = ap (λ (y : List Token). Key key.Var ∷ Word w ∷ Key key.As ∷ (y ++ (Mark mark.Semicolon ∷ []))) (shape_tokens s)
 
-member_tokens : (m : members.Member) → IsMember (member_of m) → plain.member_tokens (member_of m) ≡ trees.member_tokens m
+pub member_tokens : (m : members.Member) → IsMember (member_of m) → plain.member_tokens (member_of m) ≡ trees.member_tokens m
 member_tokens (member.Var v) g = var_tokens v.name.name v.shape
 member_tokens (member.Where w) g = where_tokens w.braces w.list g
 
@@ -130,7 +130,7 @@ parent_tokens (Some i) = refl
 class_row : (a : List Token) (k w : Token) (o ms : List Token) → (a ++ (k ∷ w ∷ (o ++ (Mark mark.OpenBrace ∷ [])))) ++ (ms ++ (Mark mark.CloseBrace ∷ [])) ≡ a ++ (k ∷ w ∷ (o ++ (Mark mark.OpenBrace ∷ (ms ++ (Mark mark.CloseBrace ∷ [])))))
 class_row a k w o ms = simp append_assoc
 
-item_tokens : (i : items.Item) → IsItem (item_of i) → plain.item_tokens (item_of i) ≡ trees.item_tokens i
+pub item_tokens : (i : items.Item) → IsItem (item_of i) → plain.item_tokens (item_of i) ≡ trees.item_tokens i
 item_tokens (item.Enum e) g = enum_tokens e.name.name e.values g
 item_tokens (item.Class c) g =
     class_row (trees.abstract_tokens c.is_abstract) (Key key.Class) (Word c.name.name) (plain.parent_tokens (parent_of c.parent)) (plain.members_tokens (members_from NoMember c.members))

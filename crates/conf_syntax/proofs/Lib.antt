@@ -1,3 +1,5 @@
 pub mod Tied
 pub mod Declared
 pub mod Fitting
+pub mod Located
+pub mod LocatedItems

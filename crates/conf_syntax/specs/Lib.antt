@@ -5,4 +5,6 @@ pub mod Plain
 pub mod Begun
 pub mod Views
 pub mod Places
+pub mod Standing
+pub mod AllPlaces
 pub mod Models

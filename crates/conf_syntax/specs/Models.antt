@@ -4,15 +4,21 @@ use Rattle.conf_syntax.specs.declared.token.Placed.{Placed}
 use Rattle.conf_syntax.specs.declared.tree.Program.{Program}
 use Rattle.conf_syntax.specs.Trees.{program_tokens, program_fits, nesting}
 use Rattle.conf_syntax.specs.Places.{bare}
+use Rattle.conf_syntax.specs.Standing.{ProgramStands}
 
 -- how deep an expression may be
 abbrev pub depth_limit : ℕ
 depth_limit = 200
 
-pub record IsProgramOf (tokens : List Placed) (p : Program) : Type 0 where
+-- the places aside
+pub record IsTreeOf (tokens : List Placed) (p : Program) : Type 0 where
   pub tokens_are : bare tokens ≡ program_tokens p
   pub fits : program_fits p ≡ true
   pub nested : nesting p ≤ depth_limit
+
+pub record IsProgramOf (tokens : List Placed) (p : Program) : Type 0 where
+  pub tree : IsTreeOf tokens p
+  pub places : ProgramStands tokens p
 
 -- the place of the first token, or of the text's end where there is none
 abbrev pub place_of : List Placed → ℕ → ℕ

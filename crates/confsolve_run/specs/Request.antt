@@ -18,7 +18,8 @@ request (command ∷ name ∷ []) =
     if bytes_eq (string_bytes command) (codes "solve") && not (starts_with nat_eq (string_bytes name) (codes "-")) then Some (string_bytes name) else None
 request words = None
 
--- the text is that of the model: it spells the tokens of its tree, which the grammar has and which doesn't nest too deeply
+-- the text is that of the model: it spells the tokens of its tree, which the grammar has, which doesn't nest too deeply and
+-- whose places are those of the tokens
 abbrev pub IsModelOf : List ℕ → Program → Type 0
 IsModelOf text p = (tokens : List Placed) × Spells text tokens × IsProgramOf tokens p
 

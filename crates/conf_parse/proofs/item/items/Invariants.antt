@@ -4,6 +4,7 @@ use Rattle.conf_syntax.specs.Plain.{nesting}
 use Rattle.conf_syntax.specs.Views.{program_of}
 use Rattle.conf_grammar.specs.Machine.{start, reading}
 use Rattle.conf_parse.specs.Turnings.{program_at}
+use Rattle.conf_parse.specs.Standing.{ItemsRead}
 use Rattle.conf_parse.proofs.item.items.Given as goal
 
 -- the items so far lead to the rest
@@ -12,6 +13,7 @@ invariant-loop-rest l =
     record {
       leads : reading (bare l.tokens) 200 start ≡ reading (bare l.rest) 200 (program_at (program_of l.list.items));
       nested : nesting (program_of l.list.items) ≤ 200;
+      places : ItemsRead l.tokens l.list.items l.rest;
     }
 
 abbrev pub decreases-loop-rest : goal.decreases-loop-rest

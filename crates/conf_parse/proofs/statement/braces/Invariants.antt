@@ -4,6 +4,7 @@ use Rattle.conf_syntax.specs.Plain.{NoExpr, exprs_nest}
 use Rattle.conf_syntax.specs.Views.{exprs_from}
 use Rattle.conf_grammar.specs.Leads.{Turns, home_low}
 use Rattle.conf_parse.specs.Turnings.{home_at, braces_at}
+use Rattle.conf_parse.specs.Standing.{StatementsRead}
 use Rattle.conf_parse.proofs.statement.braces.Given as goal
 
 -- the constraints so far lead to the rest
@@ -13,6 +14,7 @@ invariant-constraints l =
       leads : Turns home_low home_at (bare l.tokens) (braces_at (exprs_from NoExpr l.list.items)) (bare l.rest);
       nested : exprs_nest (exprs_from NoExpr l.list.items) ≤ 200;
       shorter : length l.rest < length l.tokens;
+      places : StatementsRead l.inside l.list.items l.rest;
     }
 
 abbrev pub decreases-constraints : goal.decreases-constraints

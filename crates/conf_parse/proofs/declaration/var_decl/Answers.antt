@@ -1,0 +1,5 @@
+use Rattle.conf_parse.proofs.Standing.{var_stands}
+use Rattle.conf_parse.proofs.declaration.var_decl.Goals as goal
+
+pub returns-clause-places : goal.returns-clause-places
+returns-clause-places c = var_stands c.in-Ok.found.0.now c.in_ok-name.name c.in-Ok.found.1 c.in-Ok-shape.found.0 c.args.tokens.now c.args.after.now c.in-Ok.found.2.now c.in-Ok-shape.found.1.now c.requires c.in-Ok.ensures c.in-Ok-shape.ensures.places
