@@ -1,5 +1,5 @@
 -- Derivation and attributes where each class has a rank above its parent's.
-use Rattle.std.proofs.Common.{◌≡◌, ℕ, zero, suc, ◌+◌, ◌<◌, ◌≤◌, Bool, true, false, ◌||◌, cond, List, [], ◌∷◌, ◌++◌, Option, None, Some, nat_eq, refl, ap, sym, ◌∙◌, subst, arith, ◌⊎◌, inl, inr, true≢false, eq-eqb, length}
+use Rattle.std.proofs.Common.{◌≡◌, ℕ, zero, suc, ◌+◌, ◌≤◌, Bool, true, false, ◌||◌, cond, List, [], ◌++◌, Option, None, Some, nat_eq, refl, ap, sym, ◌∙◌, subst, arith, ◌⊎◌, inl, inr, true≢false, eq-eqb}
 use Rattle.std.specs.Prelude.{Contains}
 use Rattle.std.specs.Option.{option_map_or}
 use Rattle.std.proofs.lemmas.Bool.{eqb-true}

@@ -1,8 +1,7 @@
 -- What each check says of the whole model.
-use Rattle.std.proofs.Common.{◌≡◌, ℕ, zero, suc, ◌+◌, ◌^◌, ◌<◌, ◌≤◌, Bool, true, false, cond, List, [], ◌∷◌, ◌++◌, Option, None, Some, length, map, refl, ap, sym, ◌∙◌, subst, arith, ◌⊎◌, inl, inr, Bor}
+use Rattle.std.proofs.Common.{◌≡◌, ℕ, zero, suc, ◌+◌, ◌^◌, ◌<◌, ◌≤◌, Bool, true, false, cond, List, [], ◌∷◌, ◌++◌, Option, None, Some, length, map, refl, ap, sym, ◌∙◌, subst, arith, Bor}
 use Rattle.std.specs.Prelude.{All, Contains, slice_get, slice_index}
 use Rattle.std.specs.List.{flat_map}
-use Rattle.std.specs.Map.{lookup}
 use Rattle.std.specs.Option.{option_map_or}
 use Rattle.conf_syntax.specs.declared.token.Ident.{Ident}
 use Rattle.conf_syntax.specs.declared.tree.ClassDecl.{ClassDecl}
@@ -18,15 +17,15 @@ use Rattle.class_table.specs.declared.table.Class.{Class}
 use Rattle.class_table.specs.declared.table.Enumeration.{Enumeration}
 use Rattle.class_table.specs.declared.table.Variable.{Variable}
 use Rattle.class_table.specs.declared.walk.State.{State}
-use Rattle.class_table.specs.Ancestry.{derives, derives_from_itself, attributes_within}
+use Rattle.class_table.specs.Ancestry.{derives_from_itself, attributes_within}
 use Rattle.class_table.specs.Cycles.{IsOnCycle, IsPlainCycle, IsOrdered, rank}
-use Rattle.class_table.specs.Faults.{Stands, name_repeated, within_item, attribute_repeated, derives_itself, contains_itself, HaveNoFault, IsSmall, IsNumbered, OnFault, item_faults, pointed, repeated, variable_ident, parent_of, own_of, attributes_of, class_count, IsParent, Holds, ContainsOne}
+use Rattle.class_table.specs.Faults.{Stands, name_repeated, within_item, attribute_repeated, derives_itself, contains_itself, HaveNoFault, IsSmall, IsNumbered, OnFault, item_faults, pointed, repeated, variable_ident, parent_of, attributes_of, class_count}
 use Rattle.class_table.specs.Graphs.{derivation, containment}
 use Rattle.class_table.specs.Names.{Space, space, space_from, means, same_name, classes, enumerations, roots, declared, own}
 use Rattle.class_table.specs.Outline.{class_of, parent_in, own_in, variable_of, attributes, parent_named, class_meant, enumeration_of, value_name}
 use Rattle.class_table.specs.Scopes.{Falls, HasParents, HasRanks, IsRepeated, Differ, attributes_at, own_at}
-use Rattle.class_table.specs.Steps.{StepsBy}
-use Rattle.class_table.specs.Tables.{IsTable, IsFew}
+use Rattle.class_table.specs.Tables.{IsTable, IsFew, all_differ, variable_name}
+use Rattle.class_table.proofs.DifferLaws.{differ_from}
 use Rattle.std.proofs.lemmas.List.Elements.{All-nil, All-cons}
 use Rattle.class_table.proofs.ListLaws.{contains_none}
 use Rattle.class_table.proofs.CycleFaults.{inherit_cycle, inherit_marked, inherit_falls, inherit_below, no_inherit, contain_cycle, contain_marked, no_contain}
@@ -35,7 +34,7 @@ use Rattle.class_table.proofs.GraphLaws.{parent_found}
 use Rattle.class_table.proofs.RangeLaws.{length_pointed}
 use Rattle.class_table.proofs.ScopeSteps.{map_append, length_map}
 
-contains_map : {X Y : Type 0} (f : X → Y) (xs : List X) (y : Y) → Contains (map f xs) y → (x : X) × (y ≡ f x) × Contains xs x
+pub contains_map : {X Y : Type 0} (f : X → Y) (xs : List X) (y : Y) → Contains (map f xs) y → (x : X) × (y ≡ f x) × Contains xs x
 contains_map f [] y c = absurd (omega (arith, c.1))
 contains_map f (x ∷ xs) y (zero, lt, e) = (x, sym e, (0, omega arith, refl))
 contains_map f (x ∷ xs) y (suc k, lt, e) =
@@ -47,7 +46,7 @@ contains_map f (x ∷ xs) y (suc k, lt, e) =
 pub names_stand : (items : List Item) (f : TableFault) → OnFault f (λ g. Contains (map (λ at. Duplicate at) (repeated (declared items) [])) g) → OnFault f (Stands items)
 names_stand items f h = on_fault f _ (Stands items) (λ g c. let m = contains_map (λ at. Duplicate at) (repeated (declared items) []) g c in subst (Stands items) (sym m.1) (name_repeated m.2)) h
 
-numbered_from : (items : List Item) (c e v : ℕ) (w : List ℕ) (k : ℕ) → means (space_from items c e v) w ≡ Some (meaning.Class k) → k < c + length (classes items)
+pub numbered_from : (items : List Item) (c e v : ℕ) (w : List ℕ) (k : ℕ) → means (space_from items c e v) w ≡ Some (meaning.Class k) → k < c + length (classes items)
 numbered_from [] c e v w k h = cc
 numbered_from (item.Class d ∷ is) c e v w k h = by (same_name w d.name.name) (λ g. numbered_from is (c + 1) e v w k g) h
   where
@@ -67,7 +66,7 @@ numbered_from (item.Var d ∷ is) c e v w k h = by (same_name w d.name.name) (λ
 numbered_from (item.Where d ∷ is) c e v w k h = numbered_from is c e v w k h
 numbered_from (item.Goal d ∷ is) c e v w k h = numbered_from is c e v w k h
 
-attributes_map : {X Y : Type 0} (up : ℕ → Option ℕ) (own : ℕ → List X) (own' : ℕ → List Y) (h : X → Y) → ((c : ℕ) → own' c ≡ map h (own c)) → (n k c : ℕ) → attributes_within up own' n k c ≡ map h (attributes_within up own n k c)
+pub attributes_map : {X Y : Type 0} (up : ℕ → Option ℕ) (own : ℕ → List X) (own' : ℕ → List Y) (h : X → Y) → ((c : ℕ) → own' c ≡ map h (own c)) → (n k c : ℕ) → attributes_within up own' n k c ≡ map h (attributes_within up own n k c)
 attributes_map up own own' h each n zero c = each c
 attributes_map up own own' h each n (suc k) c =
     ap (λ xs. xs ++ own' c) (front (derives_from_itself up n c) (up c) (λ q. attributes_map up own own' h each n k q))
@@ -79,12 +78,12 @@ attributes_map up own own' h each n (suc k) c =
     front false None more = refl
     front false (Some q) more = more q
 
-own_row : (names : Space) (ds : List ClassDecl) (c : ℕ) → own_in (map (class_of names) ds) c ≡ map (variable_of names) (own_at ds c)
+pub own_row : (names : Space) (ds : List ClassDecl) (c : ℕ) → own_in (map (class_of names) ds) c ≡ map (variable_of names) (own_at ds c)
 own_row names [] c = refl
 own_row names (d ∷ ds) zero = refl
 own_row names (d ∷ ds) (suc c) = own_row names ds c
 
-length_rows : (names : Space) (ds : List ClassDecl) → length (map (class_of names) ds) ≡ length ds
+pub length_rows : (names : Space) (ds : List ClassDecl) → length (map (class_of names) ds) ≡ length ds
 length_rows names [] = refl
 length_rows names (d ∷ ds) = ap suc (length_rows names ds)
 
@@ -178,14 +177,26 @@ module _ (items : List Item) where
         ∙ ap length (attributes_map (parent_in made) (own_at ds) (own_in made) (variable_of (space items)) each (length ds) (length ds) c)
         ∙ length_map (variable_of (space items)) (attributes_at made ds c)
 
-    pub is_table : (counts : List ℕ) → length counts ≡ length ds → ((c : ℕ) → c < length ds → slice_index counts c ≡ length (attributes_at made ds c)) → IsTable made counts order
-    is_table counts size count =
+    attribute_names : (c : ℕ) → map variable_name (attributes made c) ≡ map value_name (map variable_ident (attributes_at made ds c))
+    attribute_names c =
+        let each : (x : ℕ) → own_in made x ≡ map (variable_of (space items)) (own_at ds x) = λ x. ap (λ y. own_in y x) e3 ∙ own_row (space items) (classes items) x ∙ ap (λ y. map (variable_of (space items)) (own_at y x)) (sym e2) in
+        ap (λ n. map variable_name (attributes_within (parent_in made) (own_in made) n n c)) made_size
+        ∙ ap (map variable_name) (attributes_map (parent_in made) (own_at ds) (own_in made) (variable_of (space items)) each (length ds) (length ds) c)
+        ∙ same_names (attributes_at made ds c)
+      where
+        same_names : (vs : List VarDecl) → map variable_name (map (variable_of (space items)) vs) ≡ map value_name (map variable_ident vs)
+        same_names [] = refl
+        same_names (v ∷ vs) = ap (λ ws. v.name.name ∷ ws) (same_names vs)
+
+    pub is_table : (counts : List ℕ) → length counts ≡ length ds → ((c : ℕ) → c < length ds → slice_index counts c ≡ length (attributes_at made ds c)) → ((c : ℕ) → c < length ds → Differ made ds c) → IsTable made counts order
+    is_table counts size count differ =
         record {
           parents = made_parents;
           falls = subst (λ x. Falls (parent_in x) (rank order)) (sym e3) falls;
           below = λ c h. let b = below c (omega (arith, h, made_length)) in omega (arith, b, made_length);
           size = size ∙ sym made_size;
           counted = λ c h. count c (omega (arith, h, made_size)) ∙ sym (attribute_count c);
+          differ = λ c h. ap (λ ws. all_differ ws []) (attribute_names c) ∙ differ_from (map variable_ident (attributes_at made ds c)) [] (differ c (omega (arith, h, made_size)));
         }
 
     pub no_fault : ((c : ℕ) → c < length ds → Differ made ds c) → (states : List State) × IsOrdered (containment names ds) states → HaveNoFault items

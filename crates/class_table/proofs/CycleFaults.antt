@@ -1,6 +1,6 @@
 -- What the search for a cycle in the graphs of derivation and containment says of the model's faults.
-use Rattle.std.proofs.Common.{◌≡◌, ℕ, zero, suc, ◌+◌, ◌<◌, ◌≤◌, List, [], ◌∷◌, Option, None, Some, length, map, refl, ap, sym, ◌∙◌, subst, arith, ◌⊎◌, inl, inr, true}
-use Rattle.std.specs.Prelude.{Contains, slice_get}
+use Rattle.std.proofs.Common.{◌≡◌, ℕ, zero, suc, ◌+◌, ◌<◌, ◌≤◌, List, [], ◌∷◌, None, Some, length, map, refl, ap, sym, ◌∙◌, subst, arith, ◌⊎◌, inl, inr, true}
+use Rattle.std.specs.Prelude.{Contains}
 use Rattle.conf_syntax.specs.declared.tree.ClassDecl.{ClassDecl}
 use Rattle.conf_syntax.specs.declared.tree.Item.{Item}
 use Rattle.conf_syntax.specs.declared.tree.VarDecl.{VarDecl}
@@ -68,6 +68,11 @@ module _ (items : List Item) where
       let l = parent_leads items c d up in
       let on = leads_within (parent_edges (space items)) (classes items) c l.0 l.1 in
       subst (λ x. rank states x < rank states c) l.2 (o.falls c l.0 (omega (arith, on, length_edges (parent_edges (space items)) (classes items))) l.1)
+
+  pub contained_below : (states : List State) → IsOrdered C states → (c : ℕ) → c < class_count items → rank states c < class_count items
+  contained_below states o c lt =
+      let len = length_edges (class_edges (space items)) (classes items) in
+      let b = o.below c (omega (arith, lt, len)) in omega (arith, b, len)
 
   pub inherit_below : (states : List State) → IsOrdered D states → (c : ℕ) → c < class_count items → rank states c < class_count items
   inherit_below states o c lt =
@@ -158,6 +163,23 @@ module _ (items : List Item) where
         let a = contains_leads d e one in
         let b = all_lead m e c rest in
         (suc a.0 + b.0, steps_append (Leads C) (suc a.0) b.0 d e c a.1 b.1)
+
+    -- where the graph of containment has an order, it falls from each class to those of which its objects contain one
+    pub contained_falls : (states : List State) → IsOrdered C states → (c d : ℕ) → ContainsOne items c d → rank states d < rank states c
+    contained_falls states o c d one =
+        let l = contains_leads c d one in
+        let a = one_falls c l.1.0 l.1.1 in
+        let b = all_fall l.0 l.1.0 d l.1.2 in
+        omega arith
+      where
+        one_falls : (x y : ℕ) → Leads C x y → rank states y < rank states x
+        one_falls x y (k, lt, to) =
+            let on = leads_within (class_edges (space items)) (classes items) x k lt in
+            subst (λ z. rank states z < rank states x) to (o.falls x k (omega (arith, on, length_edges (class_edges (space items)) (classes items))) lt)
+
+        all_fall : (m x y : ℕ) → StepsBy (Leads C) m x y → rank states y ≤ rank states x
+        all_fall zero x y e = let f = ap (rank states) e in omega arith
+        all_fall (suc m) x y (z, l, rest) = let a = one_falls x z l in let q = all_fall m z y rest in omega arith
 
     -- where the graph of containment has an order, no attribute lies on a cycle
     pub no_contain : (states : List State) → IsOrdered C states → (b c d n at : ℕ) (v : VarDecl) → derives (parent_of items) (class_count items) c b ≡ true → Contains (own_of items b) v → Holds items v d at → StepsBy (ContainsOne items) n d c → ⊥

@@ -1,5 +1,5 @@
 -- Cycles that a walk closes, and the order of a walk that closes none.
-use Rattle.std.proofs.Common.{◌≡◌, ℕ, zero, suc, ◌+◌, ◌-◌, ◌<◌, ◌≤◌, List, [], ◌∷◌, ◌++◌, Option, None, Some, length, refl, ap, sym, ◌∙◌, subst, arith, length-append, ◌⊎◌, inl, inr}
+use Rattle.std.proofs.Common.{◌≡◌, ℕ, zero, suc, ◌+◌, ◌-◌, ◌<◌, ◌≤◌, List, [], ◌∷◌, ◌++◌, None, Some, length, refl, ap, sym, ◌∙◌, subst, arith, length-append, ◌⊎◌, inl, inr}
 use Rattle.std.proofs.Math.ListN.{set}
 use Rattle.std.proofs.lemmas.Bool.{cases_eq, cases_lt}
 use Rattle.std.specs.Prelude.{slice_index}
@@ -9,7 +9,7 @@ use Rattle.class_table.specs.declared.walk.Step.{Step}
 use Rattle.class_table.specs.declared.walk.Step.TheVariants.{Entered, Passed, Left, Closed}
 use Rattle.class_table.specs.Cycles.{Leads, PlainLeads, IsOnCycle, IsPlainCycle, left_at, rank, IsOrdered, NewStays, IsScanned}
 use Rattle.class_table.specs.Steps.{StepsBy}
-use Rattle.class_table.specs.Walk.{Graph, edges_at, edge_at, state_at, InRange, IsNew, IsOpen, IsDone, IsDoneBefore, LeadsBefore, IsRight, Links, IsWalk, Makes, Steps, StandsAt, Enters, HasEdge, looked_at}
+use Rattle.class_table.specs.Walk.{Graph, edges_at, edge_at, state_at, IsNew, IsOpen, IsDone, IsDoneBefore, IsRight, Links, IsWalk, Steps, StandsAt, Enters, HasEdge, looked_at}
 use Rattle.class_table.proofs.WalkLaws.{state_same, state_other, path_front, path_last, top_on}
 
 -- What was new

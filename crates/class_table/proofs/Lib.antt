@@ -14,3 +14,6 @@ pub mod ShortModels
 pub mod ScopeLaws
 pub mod RangeLaws
 pub mod AncestryLaws
+pub mod SoundLaws
+pub mod ClosedLaws
+pub mod DifferLaws

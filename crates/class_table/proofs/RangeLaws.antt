@@ -1,5 +1,5 @@
 -- The edges of the graphs lead to classes.
-use Rattle.std.proofs.Common.{◌≡◌, ℕ, zero, suc, ◌+◌, ◌<◌, List, [], ◌∷◌, ◌++◌, Option, None, Some, length, map, refl, ap, sym, ◌∙◌, subst, arith, ◌⊎◌, inl, inr, Bor}
+use Rattle.std.proofs.Common.{◌≡◌, ℕ, suc, ◌<◌, List, [], ◌∷◌, Option, None, Some, length, map, refl, ap, sym, ◌∙◌, subst, arith, ◌⊎◌, inl, inr, Bor}
 use Rattle.std.specs.Prelude.{Contains}
 use Rattle.std.specs.List.{flat_map}
 use Rattle.std.proofs.lemmas.List.Elements.{Contains-append_cases, Contains-get_or}

@@ -1,21 +1,16 @@
 -- Walks from classes down to those that derive from them.
-use Rattle.std.proofs.Common.{◌≡◌, ℕ, zero, suc, ◌+◌, ◌-◌, ◌<◌, ◌≤◌, List, [], ◌∷◌, ◌++◌, Option, None, Some, length, get_or, map, take, refl, ap, sym, ◌∙◌, subst, arith, ◌⊎◌, inl, inr, length-append, get_or-set_same, get_or-set_other, append_assoc, Bor}
+use Rattle.std.proofs.Common.{◌≡◌, ℕ, zero, suc, ◌+◌, ◌<◌, ◌≤◌, List, [], ◌∷◌, ◌++◌, None, Some, length, get_or, ap, sym, ◌∙◌, subst, arith, ◌⊎◌, inl, inr, length-append, get_or-set_same, get_or-set_other, Bor}
 use Rattle.std.proofs.Math.ListN.{set, length-set}
 use Rattle.std.proofs.lemmas.Bool.{cases_eq, cases_lt}
 use Rattle.std.proofs.lemmas.List.{get_or-append-add, get_or_append_left}
-use Rattle.std.specs.Prelude.{slice_get, slice_index, Contains}
-use Rattle.std.specs.List.{flat_map, list_any}
-use Rattle.std.specs.Option.{option_map_or}
 use Rattle.class_table.specs.declared.table.Class.{Class}
 use Rattle.class_table.specs.declared.walk.Edge.{Edge}
-use Rattle.class_table.specs.declared.walk.State.{State}
-use Rattle.class_table.specs.declared.walk.State.TheVariants.{New, Open, Done}
 use Rattle.class_table.specs.Cycles.{Leads}
 use Rattle.class_table.specs.Outline.{parent_in}
 use Rattle.conf_syntax.specs.declared.tree.ClassDecl.{ClassDecl}
 use Rattle.class_table.specs.Faults.{pointed}
 use Rattle.class_table.specs.Names.{own}
-use Rattle.class_table.specs.Scopes.{HasParents, IsChildren, child, own_at}
+use Rattle.class_table.specs.Scopes.{IsChildren, child, own_at}
 use Rattle.class_table.specs.Walk.{Graph, edges_at, edge_at, no_edge}
 
 pub parent_read : (cs : List Class) (c : ℕ) (k : Class) → c < length cs → k ≡ get_or cs c k → parent_in cs c ≡ k.parent

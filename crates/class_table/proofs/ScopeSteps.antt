@@ -1,11 +1,10 @@
 -- What a step of a walk down the classes keeps of the names in scope.
-use Rattle.std.proofs.Common.{◌≡◌, ℕ, zero, suc, ◌+◌, ◌-◌, ◌<◌, ◌≤◌, ◌^◌, Bool, true, false, cond, List, [], ◌∷◌, ◌++◌, Option, None, Some, length, get_or, map, take, refl, ap, sym, ◌∙◌, subst, arith, ◌⊎◌, inl, inr, length-append, append_assoc, append-nil}
+use Rattle.std.proofs.Common.{◌≡◌, ℕ, zero, suc, ◌+◌, ◌-◌, ◌<◌, ◌≤◌, ◌^◌, List, [], ◌∷◌, ◌++◌, Option, None, Some, length, map, take, refl, ap, sym, ◌∙◌, subst, arith, ◌⊎◌, inl, inr, length-append, append_assoc, append-nil}
 use Rattle.std.proofs.Math.ListN.{set, length-set}
-use Rattle.std.proofs.lemmas.Bool.{cases_eq, cases_lt}
+use Rattle.std.proofs.lemmas.Bool.{cases_eq}
 use Rattle.std.proofs.lemmas.List.{get_or-set_same, get_or-set_other}
-use Rattle.std.specs.Prelude.{slice_get, slice_index, Contains}
+use Rattle.std.specs.Prelude.{slice_index, Contains}
 use Rattle.std.specs.List.{flat_map, list_any}
-use Rattle.std.proofs.lemmas.List.Elements.{Contains-append_right}
 use Rattle.conf_syntax.specs.declared.token.Ident.{Ident}
 use Rattle.conf_syntax.specs.declared.tree.ClassDecl.{ClassDecl}
 use Rattle.conf_syntax.specs.declared.tree.VarDecl.{VarDecl}
@@ -17,10 +16,10 @@ use Rattle.class_table.specs.declared.walk.State.TheVariants.{New, Open, Done}
 use Rattle.class_table.specs.Faults.{repeated, again, variable_ident}
 use Rattle.class_table.specs.Names.{own, same_name}
 use Rattle.class_table.specs.Outline.{parent_in, value_name}
-use Rattle.class_table.specs.Scopes.{Falls, IsChildren, IsFamily, IsScope, IsRepeated, RootsReached, Differ, attributes_at, own_at, names_of, open_own, open_weight}
+use Rattle.class_table.specs.Scopes.{IsFamily, IsScope, IsRepeated, RootsReached, Differ, attributes_at, own_at, names_of, open_own, open_weight}
 use Rattle.class_table.specs.Walk.{Graph, edges_at, edge_at, state_at, IsNew, IsOpen, IsDone, IsDoneBefore, IsWalk, IsRight, fresh, Enters, Passes, Leaves, StandsAt, Links, looked_at}
 use Rattle.class_table.proofs.AncestryLaws.{attributes_next, at_top}
-use Rattle.class_table.proofs.WalkLaws.{state_same, state_other, path_front, path_last, new_no_open, top_open, top_on, fresh_at}
+use Rattle.class_table.proofs.WalkLaws.{state_other, path_front, path_last, new_no_open, top_open, top_on, fresh_at}
 use Rattle.class_table.proofs.CycleLaws.{looked}
 
 -- Names that stand before

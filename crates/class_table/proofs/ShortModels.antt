@@ -1,5 +1,5 @@
 -- Few tokens spell few declarations.
-use Rattle.std.proofs.Common.{Bool, true, false, Option, None, Some, ◌≡◌, ℕ, zero, suc, ◌+◌, ◌*◌, ◌<◌, ◌≤◌, List, [], ◌∷◌, ◌++◌, length, get_or, drop, refl, ap, arith, length-append}
+use Rattle.std.proofs.Common.{Bool, true, false, Option, None, Some, ◌≡◌, ℕ, ◌+◌, ◌*◌, ◌<◌, ◌≤◌, List, [], ◌∷◌, ◌++◌, length, get_or, drop, ap, arith, length-append}
 use Rattle.std.specs.List.{flat_map}
 use Rattle.conf_syntax.specs.declared.token.Ident.{Ident}
 use Rattle.conf_syntax.specs.declared.token.Key.TheVariants as key

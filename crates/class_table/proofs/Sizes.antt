@@ -1,11 +1,10 @@
 -- The tokens of a model outnumber its items, its attributes and the values of each of its enumerations.
-use Rattle.std.proofs.Common.{◌≡◌, ℕ, zero, suc, ◌+◌, ◌-◌, ◌^◌, ◌<◌, ◌≤◌, List, [], ◌∷◌, ◌++◌, length, refl, ap, sym, ◌∙◌, subst, arith, length-append}
+use Rattle.std.proofs.Common.{ℕ, zero, suc, ◌≤◌, List, [], ◌∷◌, ◌++◌, length, ap, arith, length-append}
 use Rattle.std.specs.Prelude.{Contains}
 use Rattle.std.specs.List.{flat_map}
 use Rattle.conf_syntax.specs.declared.token.Ident.{Ident}
 use Rattle.conf_syntax.specs.declared.token.Key.TheVariants as key
 use Rattle.conf_syntax.specs.declared.token.Mark.TheVariants as mark
-use Rattle.conf_syntax.specs.declared.token.Token.{Token}
 use Rattle.conf_syntax.specs.declared.token.Token.TheVariants.{Word, Key, Mark}
 use Rattle.conf_syntax.specs.declared.tree.ClassDecl.{ClassDecl}
 use Rattle.conf_syntax.specs.declared.tree.EnumDecl.{EnumDecl}
@@ -13,9 +12,9 @@ use Rattle.conf_syntax.specs.declared.tree.Item.{Item}
 use Rattle.conf_syntax.specs.declared.tree.Item.TheVariants as item
 use Rattle.conf_syntax.specs.declared.tree.Member.{Member}
 use Rattle.conf_syntax.specs.declared.tree.Member.TheVariants as member
-use Rattle.conf_syntax.specs.Trees.{item_tokens, member_tokens, class_tokens, enum_tokens, values_tokens, further_tokens, abstract_tokens, parent_tokens, var_tokens}
+use Rattle.conf_syntax.specs.Trees.{item_tokens, member_tokens, class_tokens, enum_tokens, values_tokens, further_tokens, abstract_tokens, parent_tokens}
 use Rattle.class_table.specs.Faults.{IsSmall}
-use Rattle.class_table.specs.Names.{classes, enumerations, own, item_class, item_enumeration, member_variable}
+use Rattle.class_table.specs.Names.{classes, enumerations, own, member_variable}
 
 append_le : {X : Type 0} (a b : List X) (n : ℕ) → n ≤ length b → n ≤ length (a ++ b)
 append_le a b n h = omega (arith, length-append a b)

@@ -1,14 +1,13 @@
 -- What a step of a walk keeps: a node is entered, an edge is passed, a node is left.
-use Rattle.std.proofs.Common.{◌≡◌, ◌≢◌, ℕ, zero, suc, ◌+◌, ◌-◌, ◌<◌, ◌≤◌, List, [], ◌∷◌, ◌++◌, length, get_or, refl, ap, sym, ◌∙◌, subst, arith, length-append, get_or-set_same, get_or-set_other, ◌⊎◌, inl, inr, true, false}
+use Rattle.std.proofs.Common.{◌≡◌, ℕ, zero, suc, ◌+◌, ◌-◌, ◌<◌, ◌≤◌, List, [], ◌∷◌, ◌++◌, length, get_or, refl, ap, sym, ◌∙◌, subst, arith, length-append, get_or-set_same, get_or-set_other, ◌⊎◌, inl, inr}
 use Rattle.std.proofs.Math.ListN.{set, length-set}
 use Rattle.std.proofs.lemmas.Bool.{cases_eq, cases_lt}
 use Rattle.std.proofs.lemmas.List.{get_or-append-add, get_or_append_left}
 use Rattle.std.specs.Prelude.{slice_index, map}
-use Rattle.class_table.specs.declared.walk.Edge.{Edge}
 use Rattle.class_table.specs.declared.walk.State.{State}
 use Rattle.class_table.specs.declared.walk.State.TheVariants.{New, Open, Done}
 use Rattle.class_table.specs.declared.walk.Step.TheVariants.{Entered, Passed, Left, Closed}
-use Rattle.class_table.specs.Walk.{Graph, edges_at, edge_at, state_at, InRange, IsNew, IsOpen, IsDone, IsDoneBefore, LeadsBefore, IsRight, Links, total, undone, weight, measure, IsWalk, fresh, Makes, Steps, StandsAt}
+use Rattle.class_table.specs.Walk.{Graph, edges_at, edge_at, state_at, InRange, IsNew, IsOpen, IsDone, IsDoneBefore, LeadsBefore, IsRight, Links, total, undone, weight, measure, IsWalk, fresh, Makes}
 
 -- one state is changed
 pub total_set : (f : State → ℕ) (ss : List State) (i : ℕ) (v : State) → i < length ss → total f (set ss i v) + f (state_at ss i) ≡ total f ss + f v

@@ -1,6 +1,6 @@
 -- Which class derives from which, and which attributes a class has: its parent's and then its own. A class is a number, `up`
 -- gives its parent, and `own` its own attributes. There are n classes, so an ancestor is at most n steps away.
-use Rattle.std.specs.Prelude.{ℕ, zero, suc, Bool, true, false, ◌||◌, cond, List, [], ◌++◌, Option, None, Some, nat_eq}
+use Rattle.std.specs.Prelude.{ℕ, zero, suc, Bool, false, ◌||◌, cond, List, [], ◌++◌, Option, nat_eq}
 use Rattle.std.specs.Option.{option_map_or}
 
 -- d is c, or an ancestor of c that at most n steps reach

@@ -1,5 +1,5 @@
 -- Cycles in a graph, and orders of graphs that have none.
-use Rattle.std.specs.Prelude.{◌≡◌, ℕ, zero, suc, ◌<◌, ◌≤◌, List, Option, None, Some, length, slice_index}
+use Rattle.std.specs.Prelude.{◌≡◌, ℕ, suc, ◌<◌, ◌≤◌, List, None, Some, length, slice_index}
 use Rattle.class_table.specs.declared.cycle.Outcome.{Outcome}
 use Rattle.class_table.specs.declared.cycle.Outcome.TheVariants.{Ordered, Cycle}
 use Rattle.class_table.specs.declared.walk.State.{State}

@@ -1,10 +1,9 @@
 -- Where each fault of a model's declarations stands.
-use Rattle.std.specs.Prelude.{◌≡◌, ℕ, zero, suc, ◌+◌, ◌-◌, ◌^◌, ◌<◌, Bool, true, false, cond, List, [], ◌∷◌, ◌++◌, Option, None, Some, length, map, slice_get, int_le, Contains}
+use Rattle.std.specs.Prelude.{◌≡◌, ℕ, suc, ◌-◌, ◌^◌, ◌<◌, Bool, true, false, List, [], ◌∷◌, ◌++◌, Option, None, Some, length, map, slice_get, int_le, Contains}
 use Rattle.std.specs.Borrow.{Bor}
 use Rattle.std.specs.List.{flat_map, list_any}
 use Rattle.std.specs.Option.{option_map_or}
 use Rattle.conf_syntax.specs.declared.token.Ident.{Ident}
-use Rattle.conf_syntax.specs.declared.tree.Bound.{Bound}
 use Rattle.conf_syntax.specs.declared.tree.ClassDecl.{ClassDecl}
 use Rattle.conf_syntax.specs.declared.tree.EnumDecl.{EnumDecl}
 use Rattle.conf_syntax.specs.declared.tree.Item.{Item}

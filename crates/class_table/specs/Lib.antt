@@ -9,3 +9,4 @@ pub mod Cycles
 pub mod Graphs
 pub mod Scopes
 pub mod Tables
+pub mod Sound

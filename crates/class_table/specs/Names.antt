@@ -1,9 +1,8 @@
 -- What a name means: classes, enumerations and top-level variables share one space of names, in which the first declaration of
 -- a name counts, and each kind is numbered from 0 in order of declaration.
-use Rattle.std.specs.Prelude.{ℕ, ◌+◌, Bool, true, false, List, [], ◌∷◌, ◌++◌, Option, None, Some, nat_eq, slice_get}
+use Rattle.std.specs.Prelude.{ℕ, ◌+◌, List, [], ◌∷◌, Option}
 use Rattle.std.specs.List.{flat_map}
 use Rattle.std.specs.Map.{lookup}
-use Rattle.std.specs.Option.{option_map_or}
 use Rattle.conf_syntax.specs.declared.token.Ident.{Ident}
 use Rattle.conf_syntax.specs.declared.tree.ClassDecl.{ClassDecl}
 use Rattle.conf_syntax.specs.declared.tree.EnumDecl.{EnumDecl}

@@ -1,6 +1,6 @@
 -- The outline of a model: its names, classes, enumerations and top-level variables, with shapes in which each name is resolved.
 -- A table is seen as its program's outline.
-use Rattle.std.specs.Prelude.{ℕ, ◌<◌, Bool, true, false, List, [], ◌∷◌, Option, None, Some, ℤ, pos, neg_ℤ, length, map, slice_get}
+use Rattle.std.specs.Prelude.{ℕ, Bool, true, false, List, [], Option, None, Some, ℤ, pos, neg_ℤ, length, map, slice_get}
 use Rattle.std.specs.Option.{option_map_or}
 use Rattle.conf_syntax.specs.declared.token.Ident.{Ident}
 use Rattle.conf_syntax.specs.declared.tree.Bound.{Bound}

@@ -1,5 +1,5 @@
 -- Walks along a graph: what holds of the states of nodes and of the path between two steps.
-use Rattle.std.specs.Prelude.{◌≡◌, ℕ, zero, suc, ◌+◌, ◌-◌, ◌<◌, ◌≤◌, Bool, List, [], ◌∷◌, ◌++◌, Option, None, Some, length, slice_index, slice_index_or, slice_set, map, ◌⊎◌}
+use Rattle.std.specs.Prelude.{◌≡◌, ℕ, zero, suc, ◌+◌, ◌-◌, ◌<◌, ◌≤◌, List, [], ◌∷◌, ◌++◌, None, length, slice_index, slice_index_or, slice_set, ◌⊎◌}
 use Rattle.class_table.specs.declared.walk.Edge.{Edge}
 use Rattle.class_table.specs.declared.walk.State.{State}
 use Rattle.class_table.specs.declared.walk.State.TheVariants.{New, Open, Done}

@@ -4,6 +4,7 @@ ghost use Rattle.class_table.specs.Names.{classes, space};
 ghost use Rattle.class_table.specs.Outline.{class_of};
 ghost use Rattle.class_table.specs.Faults.{OnFault, Stands, HaveNoFault, IsSmall, pointed};
 ghost use Rattle.class_table.specs.Tables.{IsTable};
+ghost use Rattle.class_table.specs.Sound.{HasNesting};
 
 use crate::attributes::count_attributes;
 use crate::cycles::{check_containment, check_derivation};
@@ -34,6 +35,7 @@ pub(crate) fn check_classes(
     requires small { IsSmall items.now }
     ensures table { IfOk result (λ family. IsTable made.now family.counts.items family.order.items) }
     ensures right { OnOk result (HaveNoFault items.now) }
+    ensures nesting { OnOk result (HasNesting made.now) }
     ensures fault { IfErr result (λ fault. OnFault fault (Stands items.now)) }
 {
     let order = match check_derivation(alloc, names, decls) {

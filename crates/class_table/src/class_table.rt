@@ -1,7 +1,7 @@
 //! The table of a model's classes, enumerations and top-level variables.
 //!
 //! `ClassTable::build` makes it. All other methods read it: none takes memory, and none searches a list by a name.
-ghost use Rattle.std.specs.Prelude.{◌≡◌, ◌<◌, ◌≤◌, ◌^◌, ℕ, List, [], None, Some, All, length, slice_get, slice_index_or, position, option_copied, IfSome, IfOk, IfErr, OnOk};
+ghost use Rattle.std.specs.Prelude.{◌≡◌, ◌<◌, ◌≤◌, ◌^◌, ℕ, List, [], None, Some, All, length, map, slice_get, slice_index_or, position, option_copied, IfSome, IfOk, IfErr, OnOk};
 ghost use Rattle.class_table.specs.declared.table.Variable.{Variable as AVariable};
 ghost use Rattle.class_table.specs.declared.table.Class.{Class as AClass};
 ghost use Rattle.class_table.specs.declared.table.Enumeration.{Enumeration as AnEnumeration};
@@ -13,13 +13,15 @@ ghost use Rattle.class_table.specs.Names.{means, space, classes, declared};
 ghost use Rattle.class_table.specs.Outline.{outline, parent_in, own_in, is_a, attributes, class_meant};
 ghost use Rattle.class_table.specs.Same.{same_name};
 ghost use Rattle.class_table.specs.Scopes.{HasParents};
-ghost use Rattle.class_table.specs.Tables.{enumeration_meant, root_meant, IsTable};
+ghost use Rattle.class_table.specs.Sound.{IsSound};
+ghost use Rattle.class_table.specs.Tables.{enumeration_meant, root_meant, IsTable, IsMeant, IsShapeOf, own_names, variable_name};
 
 use crate::build::check_classes;
 use crate::names::{Meaning, Space, names_of};
+use crate::own_names::own_names;
 use crate::parts::{class_decls, resolve_items};
 use crate::walk::State;
-use crate::{Class, Enumeration, Resolved, TableFault, Variable};
+use crate::{Class, Enumeration, Resolved, TableFault, Values, Variable};
 use conf_syntax::{ClassDecl, Item, Name, Program};
 use std::alloc::Global;
 use std::marker::Model;
@@ -31,6 +33,8 @@ pub struct ClassTable {
     classes: Vec<Class>,
     enumerations: Vec<Enumeration>,
     roots: Vec<Variable>,
+    /// The names of each class's own attributes, to be found by hash.
+    attribute_names: Vec<Values>,
     /// How many attributes each class has.
     counts: Vec<u32>,
     /// An order of the classes in which each stands behind its parent.
@@ -38,16 +42,17 @@ pub struct ClassTable {
 }
 
 impl Model for ClassTable {
-    ghost use Rattle.std.specs.Prelude.{All, length, ◌<◌, ◌^◌};
+    ghost use Rattle.std.specs.Prelude.{All, length, map, ◌≡◌, ◌<◌, ◌^◌};
     ghost use Rattle.class_table.specs.Outline.{Outline};
     ghost use Rattle.class_table.specs.Scopes.{HasParents};
-    ghost use Rattle.class_table.specs.Tables.{IsTable, IsFew};
+    ghost use Rattle.class_table.specs.Sound.{HasNesting};
+    ghost use Rattle.class_table.specs.Tables.{IsTable, IsFew, IsClosed, own_names};
 
     ghost Value = { Outline };
 
     ghost view = { λ t. record { names = t.names.entries; classes = t.classes.items; enumerations = t.enumerations.items; roots = t.roots.items } };
 
-    ghost invariant = { λ t. record { table : IsTable t.classes.items t.counts.items t.order.items; classes : length t.classes.items < 2 ^ 32; roots : length t.roots.items < 2 ^ 32; values : All IsFew t.enumerations.items } };
+    ghost invariant = { λ t. record { table : IsTable t.classes.items t.counts.items t.order.items; classes : length t.classes.items < 2 ^ 32; roots : length t.roots.items < 2 ^ 32; values : All IsFew t.enumerations.items; own_names : t.attribute_names.items ≡ map own_names t.classes.items; nesting : HasNesting t.classes.items; closed : IsClosed (record { names = t.names.entries; classes = t.classes.items; enumerations = t.enumerations.items; roots = t.roots.items }) } };
 }
 
 /// An attribute of a class, or a variable of the top level.
@@ -112,8 +117,10 @@ impl ClassTable {
             Ok(family) => family,
             Err(fault) => return Err(fault),
         };
+        let attribute_names = own_names(alloc, &parts.classes, &family.counts, &family.order)?;
         Ok(ClassTable {
             names,
+            attribute_names,
             classes: parts.classes,
             enumerations: parts.enumerations,
             roots: parts.roots,
@@ -122,9 +129,18 @@ impl ClassTable {
         })
     }
 
+    /// What this name means: a class, an enumeration or a top-level variable.
+    pub fn meaning(&self, name: &Name) -> Option<Meaning>
+        ensures meaning { result ≡ means self.now.names name.now }
+        ensures exists { IsMeant (length self.now.classes) (length self.now.enumerations) (length self.now.roots) result }
+    {
+        self.names.get(name).copied()
+    }
+
     /// The class of this name.
     pub fn class_of(&self, name: &Name) -> Option<u32>
         ensures class { result ≡ class_meant (means self.now.names name.now) }
+        ensures exists { IfSome result (λ c. c < length self.now.classes) }
     {
         match self.names.get(name).copied() {
             Some(Meaning::Class(class)) => Some(class),
@@ -135,6 +151,7 @@ impl ClassTable {
     /// The enumeration of this name.
     pub fn enumeration_of(&self, name: &Name) -> Option<u32>
         ensures enumeration { result ≡ enumeration_meant (means self.now.names name.now) }
+        ensures exists { IfSome result (λ e. e < length self.now.enumerations) }
     {
         match self.names.get(name).copied() {
             Some(Meaning::Enumeration(enumeration)) => Some(enumeration),
@@ -145,6 +162,7 @@ impl ClassTable {
     /// The top-level variable of this name.
     pub fn root_of(&self, name: &Name) -> Option<u32>
         ensures root { result ≡ root_meant (means self.now.names name.now) }
+        ensures exists { IfSome result (λ k. k < length self.now.roots) }
     {
         match self.names.get(name).copied() {
             Some(Meaning::Variable(root)) => Some(root),
@@ -188,6 +206,7 @@ impl ClassTable {
         requires root { k < length self.now.roots }
         ensures name { (d : AVariable) → result.name.now ≡ (slice_index_or self.now.roots k d).name }
         ensures shape { (d : AVariable) → result.shape ≡ (slice_index_or self.now.roots k d).shape }
+        ensures exists { IsShapeOf (length self.now.classes) (length self.now.enumerations) result.shape }
     {
         let root = &self.roots[k as usize];
         Attribute {
@@ -196,9 +215,11 @@ impl ClassTable {
         }
     }
 
-    /// How many classes there are.
+    /// How many classes there are. It also hands on what holds of every table: each class that is named is there, no class
+    /// derives from itself, and no object contains one of its own class.
     pub fn class_count(&self) -> u32
         ensures count { result ≡ length self.now.classes }
+        ensures sound { IsSound self.now }
     {
         self.classes.len() as u32
     }
@@ -218,12 +239,30 @@ impl ClassTable {
         requires attribute { k < length (attributes self.now.classes c) }
         ensures name { (d : AVariable) → result.name.now ≡ (slice_index_or (attributes self.now.classes c) k d).name }
         ensures shape { (d : AVariable) → result.shape ≡ (slice_index_or (attributes self.now.classes c) k d).shape }
+        ensures exists { IsShapeOf (length self.now.classes) (length self.now.enumerations) result.shape }
     {
         let attribute = attribute_at(&self.classes, &self.counts, &self.order, c, k);
         Attribute {
             name: &attribute.name,
             shape: attribute.shape,
         }
+    }
+
+    /// The number of the attribute of this name, an inherited one too. The cost is one look-up by hash for each class from `c`
+    /// up to the one that declares the attribute; where there is none, for each ancestor.
+    pub fn attribute_named(&self, c: u32, name: &Name) -> Option<u32>
+        requires class { c < length self.now.classes }
+        ensures number { result ≡ position (same_name name.now) (map variable_name (attributes self.now.classes c)) }
+        ensures exists { IfSome result (λ k. k < length (attributes self.now.classes c)) }
+    {
+        number_of(
+            &self.classes,
+            &self.attribute_names,
+            &self.counts,
+            &self.order,
+            c,
+            name,
+        )
     }
 
     /// How many values an enumeration has.
@@ -290,6 +329,35 @@ fn attribute_at<'a>(
         match parent_of(classes, at) {
             Some(parent) => at = parent,
             None => unreachable!(),
+        }
+    }
+}
+
+/// The number of a class's attribute, by its name.
+fn number_of(
+    classes: &[Class],
+    names: &[Values],
+    counts: &[u32],
+    order: &[State],
+    c: u32,
+    name: &Name,
+) -> Option<u32>
+    requires table { IsTable classes.now counts.now order.now }
+    requires names { names.now ≡ map own_names classes.now }
+    requires class { c < length classes.now }
+    ensures number { result ≡ position (same_name name.now) (map variable_name (attributes classes.now c)) }
+    ensures exists { IfSome result (λ k. k < length (attributes classes.now c)) }
+{
+    let mut at = c;
+    'up: loop {
+        let own = &names[at as usize];
+        if let Some(number) = own.number(name) {
+            let inherited = counts[at as usize] as usize - own.len();
+            return Some((inherited + number) as u32);
+        }
+        match parent_of(classes, at) {
+            Some(parent) => at = parent,
+            None => return None,
         }
     }
 }

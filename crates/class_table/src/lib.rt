@@ -13,6 +13,7 @@ mod cycles;
 mod fault;
 mod graphs;
 mod names;
+mod own_names;
 mod parts;
 mod resolve;
 mod table;
@@ -22,4 +23,5 @@ mod walk;
 
 pub use class_table::{Attribute, ClassTable};
 pub use fault::TableFault;
+pub use names::Meaning;
 pub use table::{Class, Enumeration, Resolved, Values, Variable, Variables};

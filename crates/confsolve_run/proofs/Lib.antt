@@ -1,2 +1,3 @@
 pub mod GivenTexts
+pub mod MeaningLaws
 pub mod TextLaws

@@ -1,14 +1,17 @@
 -- Errors of the lexer and the parser as errors of a text.
-use Rattle.std.proofs.Common.{◌≡◌, ◌⊎◌, inl, inr, ℕ, List, Result, Ok, Err, MatchResult, IfOk, IfErr, sym, ap, subst, ◌∙◌, length}
-use Rattle.conf_parse.specs.Means as parse
+use Rattle.std.proofs.Common.{◌≡◌, ◌≤◌, ◌⊎◌, inl, inr, ℕ, List, Result, Ok, Err, MatchResult, IfOk, sym, ap, subst, ◌∙◌, length, refl, suc, [], ◌∷◌}
+use native.Mathlib.Omega.{arith}
 use Rattle.conf_parse.specs.Means.{IsSyntax, IsDeep}
 use Rattle.conf_parse.specs.declared.lexer.LexError.{LexError}
 use Rattle.conf_parse.specs.declared.lexer.LexError.TheVariants as lex
 use Rattle.conf_parse.specs.declared.parser.ParseError.{ParseError}
 use Rattle.conf_parse.specs.declared.parser.ParseError.TheVariants as tree
-use Rattle.conf_syntax.specs.Spelling.{Spells, IsStuckAtByte, IsStuckAtNumber}
+use Rattle.conf_syntax.specs.Spelling.{Spells, IsStuckAtByte}
 use Rattle.conf_syntax.specs.declared.token.Placed.{Placed}
 use Rattle.conf_syntax.specs.declared.tree.Program.{Program}
+use Rattle.conf_syntax.specs.Models.{IsProgramOf}
+use Rattle.conf_syntax.specs.Places.{bare}
+use Rattle.conf_syntax.specs.Trees.{program_tokens}
 use Rattle.confsolve_run.specs.Refusal.{IsSyntaxAt, IsNestingAt}
 use Rattle.confsolve_run.specs.TextErrors.{IsSameOrMemory}
 use Rattle.confsolve_run.specs.declared.model.TextError.{TextError}
@@ -79,3 +82,13 @@ module _ (text : List ℕ) (found : List Placed) (r : Result Program TextError) 
 
   pub nesting_with : ((at : ℕ) → IsDeep found (length text) at → MatchResult r (λ _. ⊥) (IsSameOrMemory (Nesting at))) → (at : ℕ) → IsNestingAt text at → MatchResult r (λ _. ⊥) (IsSameOrMemory (Nesting at))
   nesting_with refuses at spelled = refuses at (subst (λ ts. IsDeep ts (length text) at) (sym (only spelled.0 spelled.1)) spelled.2)
+
+length-bare : (tokens : List Placed) → length (bare tokens) ≡ length tokens
+length-bare [] = refl
+length-bare (x ∷ xs) = ap suc (length-bare xs)
+
+-- a model has no more tokens than its text has bytes
+pub few_tokens : (tokens : List Placed) (text : List ℕ) (r : Result Program TextError) → length tokens ≤ length text → length text ≤ 1048576 → IfOk r (λ p. IsProgramOf tokens p) → IfOk r (λ p. length (program_tokens p) ≤ 1048576)
+few_tokens tokens text (Ok p) few short made =
+    subst (λ n. n ≤ 1048576) (sym (length-bare tokens) ∙ ap length made.tree.tokens_are) (omega (arith, few, short))
+few_tokens tokens text (Err e) few short made = tt

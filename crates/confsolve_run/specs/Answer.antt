@@ -5,6 +5,7 @@ use Rattle.desk_io.specs.Desk.{with_printed}
 use Rattle.desk_io.specs.Whole.{PrintsFront}
 use Rattle.first_model.specs.Line.{line}
 use Rattle.first_model.specs.Meaning.{variables, Satisfies, is_first}
+use Rattle.confsolve_run.specs.Meaning.{IsTyped}
 use Rattle.confsolve_run.specs.declared.status.Status.{Status}
 use Rattle.confsolve_run.specs.declared.status.Status.TheVariants as status
 
@@ -14,9 +15,9 @@ IsAnswer p status.Done text = (t : List ℤ) × Satisfies p.items t × (text ≡
 IsAnswer p status.NoneExists text = ((t : List ℤ) → Satisfies p.items t → ⊥) × (text ≡ codes "none exists\n")
 IsAnswer p status text = ⊥
 
--- the model is a first model, and the whole of an answer with this status was printed
+-- the model is typed and a first model, and the whole of an answer with this status was printed
 abbrev pub Prints : Status → Option (List ℕ) → Option (List ℕ) → Program → Type 0
-Prints status before now p = (text : List ℕ) × (is_first p.items ≡ true) × IsAnswer p status text × (now ≡ with_printed text before)
+Prints status before now p = (text : List ℕ) × IsTyped p × (is_first p.items ≡ true) × IsAnswer p status text × (now ≡ with_printed text before)
 
 -- a front of some answer was printed
 abbrev pub PrintsSome : Option (List ℕ) → Option (List ℕ) → Program → Type 0

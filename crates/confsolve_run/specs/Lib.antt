@@ -1,4 +1,5 @@
 pub mod Answer
+pub mod Meaning
 pub mod Refusal
 pub mod Refusing
 pub mod Request

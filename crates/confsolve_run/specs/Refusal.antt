@@ -1,11 +1,12 @@
 -- What a refusal says of a model's text.
-use Rattle.std.specs.Prelude.{ℕ, ◌≡◌, ◌⊎◌, false, List, Some, None, length}
+use Rattle.std.specs.Prelude.{ℕ, ◌≡◌, ◌⊎◌, false, List, Some, length}
 use Rattle.conf_parse.specs.Means.{IsSyntax, IsDeep}
 use Rattle.conf_syntax.specs.Spelling.{Spells, IsStuckAtByte, IsStuckAtNumber}
 use Rattle.conf_syntax.specs.declared.token.Placed.{Placed}
 use Rattle.conf_syntax.specs.declared.tree.Program.{Program}
 use Rattle.first_model.specs.Meaning.{is_first}
-use Rattle.confsolve_run.specs.Request.{IsModelOf}
+use Rattle.confsolve_run.specs.Meaning.{IsFaultOf, IsTyped}
+use Rattle.confsolve_run.specs.Request.{HasModel}
 use Rattle.confsolve_run.specs.declared.status.LimitKind.TheVariants as kind
 use Rattle.confsolve_run.specs.declared.status.Status.{Status}
 use Rattle.confsolve_run.specs.declared.status.Status.TheVariants as status
@@ -18,13 +19,21 @@ IsSyntaxAt text place = IsStuckAtByte text place ⊎ ((tokens : List Placed) × 
 abbrev pub IsNestingAt : List ℕ → ℕ → Type 0
 IsNestingAt text place = (tokens : List Placed) × Spells text tokens × IsDeep tokens (length text) place
 
--- the text is that of a model, which is no first model with few enough configurations
-abbrev pub IsNotBuilt : List ℕ → Type 0
-IsNotBuilt text = (p : Program) × IsModelOf text p × (is_first p.items ≡ false)
+-- what the status says of a model
+abbrev pub IsRefusedFor : Status → Program → Type 0
+IsRefusedFor (status.Meaning fault place) p = IsFaultOf p fault place
+-- it is typed, and no first model with few enough configurations
+IsRefusedFor status.NotBuilt p = IsTyped p × (is_first p.items ≡ false)
+IsRefusedFor status.Done p = Unit {0}
+IsRefusedFor status.NoneExists p = Unit {0}
+IsRefusedFor status.WriteFault p = Unit {0}
+IsRefusedFor status.Memory p = Unit {0}
+IsRefusedFor status p = ⊥
 
 abbrev pub IsRefusedAs : Status → List ℕ → Type 0
 IsRefusedAs (status.Syntax place) text = IsSyntaxAt text place
 IsRefusedAs (status.Limit kind.Literal (Some place)) text = IsStuckAtNumber text place
 IsRefusedAs (status.Limit kind.Nesting (Some place)) text = IsNestingAt text place
-IsRefusedAs status.NotBuilt text = IsNotBuilt text
+IsRefusedAs (status.Meaning fault place) text = HasModel text (IsRefusedFor (status.Meaning fault place))
+IsRefusedAs status.NotBuilt text = HasModel text (IsRefusedFor status.NotBuilt)
 IsRefusedAs status text = ⊥

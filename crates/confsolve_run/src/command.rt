@@ -1,41 +1,21 @@
-//! From words to what is printed.
+//! From words to what is printed: `run` reads the file that the words name, and hands its text on.
 ghost use Rattle.std.specs.Prelude.{◌≡◌, ◌↔◌, ◌⊎◌, ◌<◌, ◌≤◌, ℕ, List, None, Some, length, IsTrue, IfSome};
 ghost use Rattle.desk_io.specs.Desk.{Files};
 ghost use Rattle.desk_io.specs.Fault.{HasRisen};
 ghost use Rattle.confsolve_run.specs.Answer.{Prints, PrintsSome};
 ghost use Rattle.conf_syntax.specs.Spelling.{IsStuckAtNumber};
 ghost use Rattle.confsolve_run.specs.Refusal.{IsRefusedAs, IsSyntaxAt, IsNestingAt};
-ghost use Rattle.confsolve_run.specs.Refusing.{refusal_of};
 ghost use Rattle.confsolve_run.specs.Request.{request, model_limit, OfModel, OfText, IsGiven};
 ghost use Rattle.confsolve_run.specs.Status.{OnAnswer, OnRefusal, OnTooLong, OnText, IsOfLong, IsOfModel, IsUnlessFault};
 
-use crate::answer::answer_of;
-use crate::model::{TextError, model_of};
+use crate::answering::answer_text;
 use crate::request::request_of;
 use crate::status::{LimitKind, Status};
-use desk_io::{Desk, ReadError, WriteError, print_all, read_all};
+use desk_io::{Desk, ReadError, read_all};
 use std::alloc::Global;
 
 /// The greatest length of a model's text, in bytes.
 const MODEL_LIMIT: u64 = 1_048_576;
-
-/// The status of a text that gave no model.
-fn refusal_of(error: TextError) -> Status
-    ensures { result ≡ refusal_of error }
-{
-    match error {
-        TextError::Syntax(place) => Status::Syntax { place },
-        TextError::Literal(place) => Status::Limit {
-            kind: LimitKind::Literal,
-            place: Some(place),
-        },
-        TextError::Nesting(place) => Status::Limit {
-            kind: LimitKind::Nesting,
-            place: Some(place),
-        },
-        TextError::Memory => Status::Memory,
-    }
-}
 
 /// Runs the command that the words behind the program's name are.
 pub fn run<D: Desk>(alloc: Global, words: &[String], desk: &mut D) -> Status
@@ -81,18 +61,5 @@ pub fn run<D: Desk>(alloc: Global, words: &[String], desk: &mut D) -> Status
         }
         Err(ReadError::Memory) => return Status::Memory,
     };
-    let program = match model_of(alloc, &text) {
-        Ok(program) => program,
-        Err(error) => return refusal_of(error),
-    };
-    let answer = match answer_of(alloc, &program) {
-        Ok(Some(answer)) => answer,
-        Ok(None) => return Status::NotBuilt,
-        Err(_) => return Status::Memory,
-    };
-    match print_all(desk, answer.text.as_bytes()) {
-        Ok(()) => answer.status,
-        Err(WriteError::WriteFault) => Status::WriteFault,
-        Err(WriteError::Memory) => Status::Memory,
-    }
+    answer_text(alloc, desk, &text)
 }

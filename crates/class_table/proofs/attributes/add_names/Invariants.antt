@@ -1,4 +1,4 @@
-use Rattle.std.proofs.Common.{◌≡◌, ◌++◌, [], map, drop, take}
+use Rattle.std.proofs.Common.{◌≡◌, ◌++◌, map, drop}
 use Rattle.std.specs.List.{flat_map}
 use Rattle.class_table.specs.Names.{member_variable}
 use Rattle.class_table.specs.Faults.{repeated, variable_ident}

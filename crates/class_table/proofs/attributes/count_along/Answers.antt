@@ -1,4 +1,4 @@
-use Rattle.std.proofs.Common.{◌≡◌, ◌<◌, length, arith, sym, subst, ap, ◌∙◌, ℕ}
+use Rattle.std.proofs.Common.{◌≡◌, length, sym, ◌∙◌}
 use Rattle.class_table.specs.Faults.{pointed}
 use Rattle.class_table.proofs.RangeLaws.{length_pointed}
 use Rattle.class_table.proofs.ScopeSteps.{scope_begins, covered}

@@ -1,5 +1,4 @@
-use Rattle.std.proofs.Common.{◌≡◌, [], ℕ, length, map}
-use Rattle.std.specs.Prelude.{List}
+use Rattle.std.proofs.Common.{◌≡◌, [], ℕ, length}
 use Rattle.class_table.specs.Walk.{edges_at}
 use Rattle.class_table.proofs.attributes.no_children.Given as goal
 

@@ -1,12 +1,7 @@
-use Rattle.std.proofs.Common.{◌≡◌, ◌<◌, List, subst, sym, arith, length, ◌∙◌, ap, refl, ℕ}
-use Rattle.std.specs.Prelude.{Contains}
-use Rattle.class_table.specs.declared.fault.TableFault.{TableFault}
-use Rattle.class_table.specs.Faults.{pointed, repeated, variable_ident}
-use Rattle.class_table.specs.Scopes.{own_at, IsRepeated}
-use Rattle.class_table.specs.Walk.{IsWalk, Makes, IsNew, IsOpen, state_at}
-use Rattle.class_table.specs.declared.walk.State.TheVariants.{New}
-use Rattle.class_table.specs.declared.walk.Step.{Step}
-use Rattle.class_table.specs.declared.walk.Step.TheVariants.{Entered, Passed, Left, Closed}
+use Rattle.std.proofs.Common.{◌<◌, subst, sym, arith, length}
+use Rattle.class_table.specs.Faults.{pointed}
+use Rattle.class_table.specs.Scopes.{IsRepeated}
+use Rattle.class_table.specs.Walk.{Makes, IsNew}
 use Rattle.class_table.proofs.ScopeSteps.{scope_room, scope_enter, scope_pass, scope_leave, scope_repeated, never_closed, stands_above}
 use Rattle.class_table.proofs.FaultLaws.{on_fault}
 use Rattle.class_table.proofs.attributes.visit.Goals as goal

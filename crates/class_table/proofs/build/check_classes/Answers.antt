@@ -1,5 +1,6 @@
 use Rattle.class_table.specs.Faults.{pointed}
 use Rattle.class_table.proofs.BuildLaws.{numbered, decls_few, classes_few, derivation_marked, derivation_stand, made_parents, made_ranks, made_size, repeated_stand, containment_marked, containment_stand, is_table, no_fault}
+use Rattle.class_table.proofs.SoundLaws.{nesting}
 use Rattle.class_table.proofs.build.check_classes.Goals as goal
 
 pub check_derivation-requires-clause-numbered : goal.check_derivation-requires-clause-numbered
@@ -42,7 +43,10 @@ pub returns-in-Err-check_containment-clause-fault : goal.returns-in-Err-check_co
 returns-in-Err-check_containment-clause-fault c = containment_stand c.args.items.now c.args.names.now.entries (pointed c.args.decls.now) c.args.made.now c.in-Ok.order.items c.requires.names c.requires.decls c.requires.made c.in-Ok.ensures.ordered c.in-Err-check_containment.fault c.in-Err-check_containment.ensures.cycle
 
 pub returns-clause-table : goal.returns-clause-table
-returns-clause-table c = is_table c.args.items.now c.args.names.now.entries (pointed c.args.decls.now) c.args.made.now c.in-Ok.order.items c.requires.names c.requires.decls c.requires.made c.in-Ok.ensures.ordered c.in-Ok-count_attributes.counts.items c.in-Ok-count_attributes.ensures.size c.in-Ok-count_attributes.ensures.counts
+returns-clause-table c = is_table c.args.items.now c.args.names.now.entries (pointed c.args.decls.now) c.args.made.now c.in-Ok.order.items c.requires.names c.requires.decls c.requires.made c.in-Ok.ensures.ordered c.in-Ok-count_attributes.counts.items c.in-Ok-count_attributes.ensures.size c.in-Ok-count_attributes.ensures.counts c.in-Ok-count_attributes.ensures.differ
 
 pub returns-clause-right : goal.returns-clause-right
 returns-clause-right c = no_fault c.args.items.now c.args.names.now.entries (pointed c.args.decls.now) c.args.made.now c.in-Ok.order.items c.requires.names c.requires.decls c.requires.made c.in-Ok.ensures.ordered c.in-Ok-count_attributes.ensures.differ c.in_default.ensures.ordered
+
+pub returns-clause-nesting : goal.returns-clause-nesting
+returns-clause-nesting c = nesting c.args.items.now c.args.names.now.entries (pointed c.args.decls.now) c.args.made.now c.in-Ok.order.items c.requires.names c.requires.decls c.requires.made c.in-Ok.ensures.ordered c.in_default.ensures.ordered

@@ -1,6 +1,6 @@
-use Rattle.std.proofs.Common.{◌≡◌, ◌-◌, ◌<◌, ◌≤◌, length, get_or, arith, sym, ◌∙◌, ap, subst, ℕ, None}
+use Rattle.std.proofs.Common.{◌≡◌, ◌-◌, ◌<◌, ◌≤◌, length, get_or, arith, sym, ◌∙◌, ap}
 use Rattle.std.specs.Prelude.{slice_index_or}
-use Rattle.class_table.specs.Outline.{parent_in, own_in}
+use Rattle.class_table.specs.Outline.{own_in}
 use Rattle.class_table.proofs.TableLaws.{own_few, here, above, above_same, no_above, read_at}
 use Rattle.class_table.proofs.class_table.attribute_at.Goals as goal
 

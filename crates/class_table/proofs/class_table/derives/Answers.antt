@@ -1,4 +1,4 @@
-use Rattle.std.proofs.Common.{◌≡◌, ◌+◌, ◌-◌, ◌<◌, suc, length, arith, sym, ◌∙◌}
+use Rattle.std.proofs.Common.{◌≡◌, ◌+◌, ◌-◌, suc, length, arith, sym, ◌∙◌}
 use Rattle.class_table.specs.Outline.{parent_in}
 use Rattle.class_table.proofs.AncestryLaws.{derives_step}
 use Rattle.class_table.proofs.class_table.derives.Goals as goal

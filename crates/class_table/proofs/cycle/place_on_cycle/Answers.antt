@@ -1,4 +1,4 @@
-use Rattle.std.proofs.Common.{◌≡◌, ◌<◌, ◌+◌, ◌-◌, arith, subst, sym, length, rules, ap, Some, None, ◌∙◌, ℕ}
+use Rattle.std.proofs.Common.{◌≡◌, ◌<◌, ◌+◌, ◌-◌, arith, subst, sym, length, Some, None, ◌∙◌}
 use Rattle.std.specs.Prelude.{slice_index}
 use Rattle.std.proofs.lemmas.Grind.{common_steps}
 use Rattle.class_table.specs.Walk.{state_at, edge_at, looked_at}

@@ -1,5 +1,4 @@
-use Rattle.std.proofs.Common.{◌≡◌, ℕ}
-use Rattle.class_table.specs.Walk.{IsWalk, InRange, IsNew, state_at, measure}
+use Rattle.class_table.specs.Walk.{IsWalk, IsNew, state_at, measure}
 use Rattle.class_table.specs.Cycles.{NewStays}
 use Rattle.class_table.proofs.cycle.walk_from.Given as goal
 

@@ -1,6 +1,6 @@
-use Rattle.std.proofs.Common.{◌≡◌, ◌++◌, map, drop}
+use Rattle.std.proofs.Common.{◌≡◌, ◌++◌, drop}
 use Rattle.class_table.specs.Faults.{pointed}
-use Rattle.class_table.specs.Graphs.{class_edges, containment}
+use Rattle.class_table.specs.Graphs.{containment}
 use Rattle.class_table.proofs.graphs.containment.Given as goal
 
 -- with what is left the edges are those of all classes

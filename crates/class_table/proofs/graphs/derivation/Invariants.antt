@@ -1,6 +1,6 @@
-use Rattle.std.proofs.Common.{◌≡◌, ◌++◌, map, drop}
+use Rattle.std.proofs.Common.{◌≡◌, ◌++◌, drop}
 use Rattle.class_table.specs.Faults.{pointed}
-use Rattle.class_table.specs.Graphs.{parent_edges, derivation}
+use Rattle.class_table.specs.Graphs.{derivation}
 use Rattle.class_table.proofs.graphs.derivation.Given as goal
 
 -- with what is left the edges are those of all classes

@@ -1,7 +1,6 @@
-use Rattle.std.proofs.Common.{◌≡◌, ◌<◌, ◌+◌, ◌∷◌, List, drop, [], map, subst, sym, ◌∙◌, ap, arith, rules, length}
+use Rattle.std.proofs.Common.{◌≡◌, ◌<◌, ◌+◌, ◌∷◌, drop, [], map, subst, sym, ◌∙◌, ap, rules, length}
 use Rattle.std.specs.Prelude.{Contains}
 use Rattle.std.specs.Map.{keys_of}
-use Rattle.class_table.specs.declared.fault.TableFault.{TableFault}
 use Rattle.class_table.specs.declared.fault.TableFault.TheVariants.{Duplicate}
 use Rattle.class_table.specs.Names.{declared}
 use Rattle.class_table.specs.Faults.{repeated}

@@ -1,5 +1,5 @@
-use Rattle.std.proofs.Common.{◌≡◌, ◌∙◌, sym, subst, rules, length}
-use Rattle.confsolve_run.proofs.TextLaws.{syntax_without, nesting_without, syntax_with, nesting_with}
+use Rattle.std.proofs.Common.{◌≤◌, ◌∙◌, sym, subst, length}
+use Rattle.confsolve_run.proofs.TextLaws.{syntax_without, nesting_without, syntax_with, nesting_with, few_tokens}
 use Rattle.confsolve_run.proofs.model.model_of.Goals as goal
 
 pub returns-in-Err-clause-syntax : goal.returns-in-Err-clause-syntax
@@ -18,3 +18,7 @@ returns-clause-literal c = λ at stuck. absurd (c.in-Ok.ensures.too_large at stu
 pub returns-clause-nesting : goal.returns-clause-nesting
 returns-clause-nesting c =
     nesting_with c.args.text.now c.deref.result.now c.tree_of.result (λ tokens spelled. c.deref.ensures.value ∙ c.in-Ok.ensures.only tokens spelled) c.tree_of.ensures.nesting
+
+pub returns-clause-few : goal.returns-clause-few
+returns-clause-few c =
+    few_tokens c.deref.result.now c.args.text.now c.tree_of.result (subst (λ tokens. length tokens ≤ length c.args.text.now) (sym c.deref.ensures.value) c.in-Ok.ensures.few) c.requires c.tree_of.ensures.tree

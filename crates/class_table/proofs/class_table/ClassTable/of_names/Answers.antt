@@ -1,11 +1,13 @@
-use Rattle.std.proofs.Common.{◌≡◌, [], sym, subst, ap, ◌∙◌}
+use Rattle.std.proofs.Common.{◌≡◌, [], sym, subst, ap, ◌∙◌, rules}
 use Rattle.std.specs.List.{flat_map}
 use Rattle.class_table.specs.Faults.{pointed, item_faults}
 use Rattle.class_table.specs.Names.{space, classes, roots}
 use Rattle.class_table.specs.Outline.{class_of, variable_of}
 use Rattle.class_table.specs.Tables.{IsTable}
 use Rattle.std.proofs.Common.{map}
+use Rattle.class_table.specs.Sound.{HasNesting}
 use Rattle.class_table.proofs.BuildLaws.{numbered, items_stand, made_few, roots_few, values_few, no_stand}
+use Rattle.class_table.proofs.ClosedLaws.{closed_parts}
 use Rattle.class_table.proofs.class_table.ClassTable.of_names.Goals as goal
 
 pub resolve_items-requires : goal.resolve_items-requires
@@ -18,11 +20,15 @@ pub invariant_of-result : goal.invariant_of-result
 invariant_of-result c =
     let items = c.args.items.now in
     let classes_are : c.in-Ok.parts.classes.items ≡ map (class_of (space items)) (classes items) = c.in-Ok.ensures.classes ∙ ap (λ n. map (class_of n) (classes items)) c.requires.names in
+    let table : IsTable c.in-Ok.parts.classes.items c.in-Ok-check_classes.family.counts.items c.in-Ok-check_classes.family.order.items = subst (λ cs. IsTable cs c.in-Ok-check_classes.family.counts.items c.in-Ok-check_classes.family.order.items) c.deref.ensures.value c.in-Ok-check_classes.ensures.table in
     record {
-      table = subst (λ cs. IsTable cs c.in-Ok-check_classes.family.counts.items c.in-Ok-check_classes.family.order.items) c.deref.ensures.value c.in-Ok-check_classes.ensures.table;
+      table = table;
       classes = made_few items c.in-Ok.parts.classes.items classes_are c.requires.small;
       roots = roots_few items c.in-Ok.parts.roots.items (c.in-Ok.ensures.roots ∙ ap (λ n. map (variable_of n) (roots items)) c.requires.names) c.requires.small;
       values = values_few items c.in-Ok.parts.enumerations.items c.in-Ok.ensures.enumerations c.requires.small;
+      own_names = search rules;
+      closed = closed_parts items c.args.names.entries c.in-Ok.parts.classes.items c.in-Ok.parts.enumerations.items c.in-Ok.parts.roots.items c.requires.names classes_are c.in-Ok.ensures.enumerations (c.in-Ok.ensures.roots ∙ ap (λ n. map (variable_of n) (roots items)) c.requires.names);
+      nesting = subst HasNesting c.deref.ensures.value c.in-Ok-check_classes.ensures.nesting;
     }
 
 pub returns-clause-right : goal.returns-clause-right

@@ -1,6 +1,6 @@
-use Rattle.std.proofs.Common.{◌≡◌, ◌<◌, ◌-◌, ℕ, suc, List, arith, refl, sym, subst, length, take, ◌∙◌, ap, ◌⊎◌, inl, inr}
-use Rattle.class_table.specs.Walk.{state_at, edge_at}
-use Rattle.class_table.specs.declared.walk.State.TheVariants.{New, Open, Done}
+use Rattle.std.proofs.Common.{◌≡◌, ◌<◌, ◌-◌, suc, arith, refl, sym, subst, length, take, ◌∙◌, ap, inl, inr}
+use Rattle.class_table.specs.Walk.{state_at}
+use Rattle.class_table.specs.declared.walk.State.TheVariants.{Open}
 use Rattle.class_table.proofs.WalkLaws.{makes_left, makes_entered, makes_passed, makes_closed, open_suc, never_new, never_done, some_undone, target_on, top_open}
 use Rattle.class_table.proofs.walk.Walk.step.Goals as goal
 

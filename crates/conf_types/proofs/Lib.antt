@@ -1,0 +1,4 @@
+pub mod ScopeLaws
+pub mod ReadingLaws
+pub mod CheckLaws
+pub mod ProgramLaws

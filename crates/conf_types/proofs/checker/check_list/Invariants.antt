@@ -1,0 +1,16 @@
+use Rattle.std.proofs.Common.{◌≡◌, ◌≤◌, ◌++◌, map, drop}
+use Rattle.std.specs.List.{flat_map}
+use Rattle.conf_syntax.specs.Trees.{depth_of_all}
+use Rattle.conf_types.specs.Programs.{constraint_view, resolved_constraint, constraint_faults, stated}
+use Rattle.conf_types.proofs.checker.check_list.Given as goal
+
+-- with what is left the constraints and faults are those of all
+abbrev pub invariant-loop-expr : goal.invariant-loop-expr
+invariant-loop-expr l =
+    let left = map (stated l.class) (drop l.expr-index l.list) in
+    let all = map (stated l.class) l.list in
+    record {
+      constraints : map constraint_view l.found.items ++ map (resolved_constraint l.table) left ≡ map constraint_view l.fn.found.items ++ map (resolved_constraint l.table) all;
+      right : flat_map (constraint_faults l.table) left ≡ flat_map (constraint_faults l.table) all;
+      depth : depth_of_all (drop l.expr-index l.list) ≤ 200;
+    }

@@ -1,0 +1,16 @@
+use Rattle.std.proofs.Common.{◌≡◌, ◌≤◌, ◌++◌, Some, map, drop}
+use Rattle.std.specs.List.{flat_map}
+use Rattle.conf_syntax.specs.Trees.{depth_of_members}
+use Rattle.conf_types.specs.Programs.{constraint_view, resolved_constraint, constraint_faults, stated, member_exprs}
+use Rattle.conf_types.proofs.checker.check_members.Given as goal
+
+-- with what is left the constraints and faults are those of all members
+abbrev pub invariant-loop-member : goal.invariant-loop-member
+invariant-loop-member l =
+    let left = map (stated (Some l.class)) (flat_map member_exprs (drop l.member-index l.members)) in
+    let all = map (stated (Some l.class)) (flat_map member_exprs l.members) in
+    record {
+      constraints : map constraint_view l.found.items ++ map (resolved_constraint l.table) left ≡ map constraint_view l.fn.found.items ++ map (resolved_constraint l.table) all;
+      right : flat_map (constraint_faults l.table) left ≡ flat_map (constraint_faults l.table) all;
+      depth : depth_of_members (drop l.member-index l.members) ≤ 200;
+    }

@@ -1,0 +1,6 @@
+pub mod Types
+pub mod Trees
+pub mod Scopes
+pub mod Readings
+pub mod Programs
+pub mod Checked

@@ -1,0 +1,119 @@
+-- The constraints and objectives of a model, and the faults that stand in them.
+use Rattle.std.specs.Prelude.{ℕ, ◌+◌, Bool, List, [], ◌∷◌, ◌++◌, Option, None, Some, map}
+use Rattle.std.specs.List.{flat_map}
+use Rattle.class_table.specs.Outline.{Outline}
+use Rattle.conf_syntax.specs.declared.tree.Expr.{Expr}
+use Rattle.conf_syntax.specs.declared.tree.GoalDecl.{GoalDecl}
+use Rattle.conf_syntax.specs.declared.tree.Item.{Item}
+use Rattle.conf_syntax.specs.declared.tree.Item.TheVariants as item
+use Rattle.conf_syntax.specs.declared.tree.Member.{Member}
+use Rattle.conf_syntax.specs.declared.tree.Member.TheVariants as member
+use Rattle.conf_types.specs.declared.fault.TypeFault.{TypeFault}
+use Rattle.conf_types.specs.declared.fault.TypeFault.TheVariants.{Unknown, WrongType, NonLinear, Shadow, Memory}
+use Rattle.conf_types.specs.declared.tree.Constraint.{Constraint}
+use Rattle.conf_types.specs.declared.tree.Goal.{Goal}
+use Rattle.conf_types.specs.declared.types.Need.TheVariants as need
+use Rattle.conf_types.specs.Readings.{Reading, read, needed}
+use Rattle.conf_types.specs.Scopes.{Scope}
+use Rattle.conf_types.specs.Trees.{Tree, tree_of}
+
+-- a constraint as it is stated: the class for whose objects, or none at the top level, and its expression
+pub record Stated : Type 0 where
+  pub class : Option ℕ
+  pub expr : Expr
+
+abbrev pub stated : Option ℕ → Expr → Stated
+stated c e = record { class = c; expr = e }
+
+abbrev pub member_exprs : Member → List Expr
+member_exprs (member.Var v) = []
+member_exprs (member.Where w) = w.list
+
+-- the constraints of an item, in order of place; a class has the number c
+abbrev pub item_constraints : Item → ℕ → List Stated
+item_constraints (item.Class d) c = map (stated (Some c)) (flat_map member_exprs d.members)
+item_constraints (item.Where w) c = map (stated None) w.list
+item_constraints (item.Enum d) c = []
+item_constraints (item.Var v) c = []
+item_constraints (item.Goal g) c = []
+
+-- the number of the next class, behind an item
+abbrev pub next_class : Item → ℕ → ℕ
+next_class (item.Class d) c = c + 1
+next_class (item.Where w) c = c
+next_class (item.Enum d) c = c
+next_class (item.Var v) c = c
+next_class (item.Goal g) c = c
+
+-- the constraints of the items; the next class has the number c
+abbrev pub constraints_from : List Item → ℕ → List Stated
+constraints_from [] c = []
+constraints_from (i ∷ is) c = item_constraints i c ++ constraints_from is (next_class i c)
+
+-- the constraints of a model, in order of place
+abbrev pub constraints : List Item → List Stated
+constraints items = constraints_from items 0
+
+abbrev pub item_goal : Item → List GoalDecl
+item_goal (item.Goal g) = g ∷ []
+item_goal (item.Class d) = []
+item_goal (item.Where w) = []
+item_goal (item.Enum d) = []
+item_goal (item.Var v) = []
+
+-- the objectives, in order of place
+abbrev pub goals : List Item → List GoalDecl
+goals items = flat_map item_goal items
+
+-- no quantifier stands round an expression
+abbrev pub outside : Option ℕ → Scope
+outside c = record { class = c; locals = [] }
+
+abbrev pub constraint_reading : Outline → Stated → Reading
+constraint_reading o k = read o (outside k.class) k.expr
+
+abbrev pub goal_reading : Outline → GoalDecl → Reading
+goal_reading o g = read o (outside None) g.expr
+
+-- a constraint is Bool, an objective Int
+abbrev pub constraint_faults : Outline → Stated → List TypeFault
+constraint_faults o k = needed need.Truth (constraint_reading o k)
+
+abbrev pub goal_faults : Outline → GoalDecl → List TypeFault
+goal_faults o g = needed need.Int (goal_reading o g)
+
+-- the faults that stand in the expressions of a model
+abbrev pub faults : Outline → List Item → List TypeFault
+faults o items = flat_map (constraint_faults o) (constraints items) ++ flat_map (goal_faults o) (goals items)
+
+-- Resolved constraints and objectives, without pointers
+
+pub record ResolvedConstraint : Type 0 where
+  pub class : Option ℕ
+  pub place : ℕ
+  pub tree : Tree
+
+pub record ResolvedGoal : Type 0 where
+  pub max : Bool
+  pub tree : Tree
+
+-- the place is that of the expression's first token
+abbrev pub resolved_constraint : Outline → Stated → ResolvedConstraint
+resolved_constraint o k = record { class = k.class; place = (constraint_reading o k).first; tree = (constraint_reading o k).tree }
+
+abbrev pub resolved_goal : Outline → GoalDecl → ResolvedGoal
+resolved_goal o g = record { max = g.max; tree = (goal_reading o g).tree }
+
+abbrev pub constraint_view : Constraint → ResolvedConstraint
+constraint_view k = record { class = k.class; place = k.place; tree = tree_of k.expr }
+
+abbrev pub goal_view : Goal → ResolvedGoal
+goal_view g = record { max = g.max; tree = tree_of g.expr }
+
+-- P holds of a fault that is told; want of memory has no cause
+abbrev pub OnFault : TypeFault → (TypeFault → Type 0) → Type 0
+OnFault (Unknown at) P = P (Unknown at)
+OnFault (WrongType at) P = P (WrongType at)
+OnFault (NonLinear at) P = P (NonLinear at)
+OnFault (Shadow at) P = P (Shadow at)
+OnFault Memory P = Unit {0}

@@ -1,0 +1,300 @@
+-- The types of expressions, the faults that stand in them, and what they are resolved to: one definition for each kind of
+-- expression. An expression has a type where each of its parts has one and what is needed is met; the faults of a kind stand
+-- beside those of its parts, whether or not these have a type.
+use Rattle.std.specs.Prelude.{ℕ, ◌+◌, Bool, true, false, ◌&&◌, cond, List, [], ◌∷◌, ◌++◌, Option, None, Some, position, slice_index_or}
+use Rattle.class_table.specs.Outline.{Outline}
+use Rattle.class_table.specs.Same.{same_name}
+use Rattle.conf_syntax.specs.declared.token.Ident.{Ident}
+use Rattle.conf_syntax.specs.declared.tree.Expr.{Expr}
+use Rattle.conf_syntax.specs.declared.tree.Node as node
+use Rattle.conf_syntax.specs.declared.tree.Op.{Op}
+use Rattle.conf_syntax.specs.declared.tree.Quant as quant
+use Rattle.conf_syntax.specs.declared.tree.QuantKind.{QuantKind}
+use Rattle.conf_types.specs.declared.fault.TypeFault.{TypeFault}
+use Rattle.conf_types.specs.declared.fault.TypeFault.TheVariants.{Unknown, WrongType, NonLinear, Shadow}
+use Rattle.conf_types.specs.declared.scope.Found.{Found}
+use Rattle.conf_types.specs.declared.types.ExprType.{ExprType}
+use Rattle.conf_types.specs.declared.types.ExprType.TheVariants.{Int, Truth, Choice, Object, Objects, Class}
+use Rattle.conf_types.specs.declared.types.Need.{Need}
+use Rattle.conf_types.specs.declared.types.Need.TheVariants as need
+use Rattle.conf_types.specs.Scopes.{Scope, within, Sense, ALocal, AnOwn, ARoot, AnEnumeration, AClass, Nothing, attribute_named, sense}
+use Rattle.conf_types.specs.Trees.{Tree, Filter, Bodies, NoFilter, Where, NoBody, Body}
+use Rattle.conf_types.specs.Trees as tree
+use Rattle.conf_types.specs.Types.{shape_type, meets, left_need, right_need, takes, result_of, keeps_literal, is_linear, is_in, body_need, quant_result}
+
+-- what is told of an expression where it stands: its type, if it has one; all faults that stand in it; what it is resolved to;
+-- the place of its first token; whether it is built of literals
+pub record Reading : Type 0 where
+  pub type : Option ExprType
+  pub faults : List TypeFault
+  pub tree : Tree
+  pub first : ℕ
+  pub literal : Bool
+
+-- Needs
+
+-- the expression has a type, and it is the one that is needed
+abbrev pub has : Need → Option ExprType → Bool
+has n None = false
+has n (Some t) = meets n t
+
+abbrev pub wrong_unless : Bool → ℕ → List TypeFault
+wrong_unless true at = []
+wrong_unless false at = WrongType at ∷ []
+
+-- an expression that has a type which isn't the needed one is wrong at its first token
+abbrev pub needs : Need → Option ExprType → ℕ → List TypeFault
+needs n None at = []
+needs n (Some t) at = wrong_unless (meets n t) at
+
+abbrev pub needed : Need → Reading → List TypeFault
+needed n r = r.faults ++ needs n r.type r.first
+
+abbrev pub typed_if : Bool → ExprType → Option ExprType
+typed_if true t = Some t
+typed_if false t = None
+
+-- Leaves
+
+abbrev pub number_reading : ℕ → ℕ → Reading
+number_reading at n = record { type = Some Int; faults = []; tree = tree.Number at n; first = at; literal = true }
+
+abbrev pub truth_reading : ℕ → Bool → Reading
+truth_reading at b = record { type = Some Truth; faults = []; tree = tree.Truth at b; first = at; literal = false }
+
+-- `this` stands in a class
+abbrev pub this_reading : ℕ → Option ℕ → Reading
+this_reading at (Some c) = record { type = Some (Object c); faults = []; tree = tree.This at; first = at; literal = false }
+this_reading at None = record { type = None; faults = Unknown at ∷ []; tree = tree.Missing at; first = at; literal = false }
+
+abbrev pub object_of : Option ℕ → Option ExprType
+object_of None = None
+object_of (Some c) = Some (Object c)
+
+-- a word that means nothing where it stands
+abbrev pub unknown_reading : ℕ → Reading
+unknown_reading at = record { type = None; faults = Unknown at ∷ []; tree = tree.Missing at; first = at; literal = false }
+
+-- a word: a variable or an attribute. An enumeration and a class mean nothing here
+abbrev pub word_reading : ℕ → Sense → Reading
+word_reading at (ALocal k c) = record { type = object_of c; faults = []; tree = tree.Local at k; first = at; literal = false }
+word_reading at (AnOwn k s) = record { type = Some (shape_type s); faults = []; tree = tree.Own at k s; first = at; literal = false }
+word_reading at (ARoot k s) = record { type = Some (shape_type s); faults = []; tree = tree.Root at k s; first = at; literal = false }
+word_reading at (AnEnumeration e) = unknown_reading at
+word_reading at (AClass c) = unknown_reading at
+word_reading at Nothing = unknown_reading at
+
+-- a class behind `in`, as the whole of what stands there; all else is read as elsewhere
+abbrev pub over_reading : ℕ → Sense → Reading → Reading
+over_reading at (AClass c) r = record { type = Some (Class c); faults = []; tree = tree.Class at c; first = at; literal = false }
+over_reading at (ALocal k c) r = r
+over_reading at (AnOwn k s) r = r
+over_reading at (ARoot k s) r = r
+over_reading at (AnEnumeration e) r = r
+over_reading at Nothing r = r
+
+-- Parentheses, `-` and `not`
+
+abbrev pub paren_reading : ℕ → Reading → Reading
+paren_reading at r = record { type = r.type; faults = r.faults; tree = tree.Paren at r.tree; first = at; literal = r.literal }
+
+abbrev pub minus_reading : ℕ → Reading → Reading
+minus_reading at r = record {
+  type = typed_if (has need.Int r.type) Int;
+  faults = needed need.Int r;
+  tree = tree.Minus at r.tree;
+  first = at;
+  literal = r.literal;
+}
+
+abbrev pub not_reading : ℕ → Reading → Reading
+not_reading at r = record {
+  type = typed_if (has need.Truth r.type) Truth;
+  faults = needed need.Truth r;
+  tree = tree.Not at r.tree;
+  first = at;
+  literal = false;
+}
+
+-- Names behind a dot
+
+-- the values of an enumeration, in order of declaration
+abbrev pub values_of : Outline → ℕ → List (List ℕ)
+values_of o e = (slice_index_or o.enumerations e (record { name = []; values = [] })).values
+
+-- `E.v`, with the number of v among the values of enumeration e
+abbrev pub value_reading : ℕ → ℕ → Ident → Option ℕ → Reading
+value_reading at e i (Some k) = record { type = Some (Choice e); faults = []; tree = tree.Value at e k; first = at; literal = false }
+value_reading at e i None = record { type = None; faults = Unknown i.at ∷ []; tree = tree.Missing at; first = at; literal = false }
+
+-- `x.a`, with the attribute a of the class of x
+abbrev pub found_reading : ℕ → Reading → Ident → Option Found → Reading
+found_reading at r i (Some f) = record { type = Some (shape_type f.shape); faults = r.faults; tree = tree.Dot at r.tree f.number f.shape; first = r.first; literal = false }
+found_reading at r i None = record { type = None; faults = r.faults ++ Unknown i.at ∷ []; tree = tree.Missing at; first = r.first; literal = false }
+
+-- x is no object: it is wrong, and so is the name behind it
+abbrev pub wrong_reading : ℕ → Reading → Ident → Reading
+wrong_reading at r i = record { type = None; faults = r.faults ++ WrongType r.first ∷ Unknown i.at ∷ []; tree = tree.Missing at; first = r.first; literal = false }
+
+abbrev pub attribute_reading : Outline → ℕ → Reading → Ident → Option ExprType → Reading
+attribute_reading o at r i (Some (Object c)) = found_reading at r i (attribute_named o c i.name)
+attribute_reading o at r i (Some Int) = wrong_reading at r i
+attribute_reading o at r i (Some Truth) = wrong_reading at r i
+attribute_reading o at r i (Some (Choice e)) = wrong_reading at r i
+attribute_reading o at r i (Some (Objects c)) = wrong_reading at r i
+attribute_reading o at r i (Some (Class c)) = wrong_reading at r i
+attribute_reading o at r i None = record { type = None; faults = r.faults; tree = tree.Missing at; first = r.first; literal = false }
+
+-- an enumeration stands before a dot as a word alone
+abbrev pub dot_reading : Outline → ℕ → Sense → Reading → Ident → Reading
+dot_reading o at (AnEnumeration e) r i = value_reading at e i (position (same_name i.name) (values_of o e))
+dot_reading o at (ALocal k c) r i = attribute_reading o at r i r.type
+dot_reading o at (AnOwn k s) r i = attribute_reading o at r i r.type
+dot_reading o at (ARoot k s) r i = attribute_reading o at r i r.type
+dot_reading o at (AClass c) r i = attribute_reading o at r i r.type
+dot_reading o at Nothing r i = attribute_reading o at r i r.type
+
+-- Operators
+
+-- both sides have a type, and the operator takes the pair
+abbrev pub takes_both : Op → Option ExprType → Option ExprType → Bool
+takes_both o (Some a) (Some b) = takes o a b
+takes_both o (Some a) None = false
+takes_both o None b = false
+
+-- a comparison whose sides both have a type and aren't a pair that it takes is wrong at its first token
+abbrev pub mismatch : Op → Option ExprType → Option ExprType → ℕ → List TypeFault
+mismatch o (Some a) (Some b) at = wrong_unless (takes o a b) at
+mismatch o (Some a) None at = []
+mismatch o None b at = []
+
+abbrev pub nonlinear_unless : Bool → ℕ → List TypeFault
+nonlinear_unless true at = []
+nonlinear_unless false at = NonLinear at ∷ []
+
+-- `at` is the operator's place
+abbrev pub pair_reading : ℕ → Op → Reading → Reading → Reading
+pair_reading at o l r = record {
+  type = typed_if (has (left_need o) l.type && (has (right_need o) r.type && (takes_both o l.type r.type && is_linear o l.literal r.literal))) (result_of o);
+  faults = needed (left_need o) l ++ (needed (right_need o) r ++ (mismatch o l.type r.type l.first ++ nonlinear_unless (is_linear o l.literal r.literal) at));
+  tree = tree.Pair at o l.tree r.tree;
+  first = l.first;
+  literal = keeps_literal o && (l.literal && r.literal);
+}
+
+-- what stands to the right of an operator
+abbrev pub right_reading : Op → ℕ → Sense → Reading → Reading
+right_reading o at x r = cond (is_in o) (over_reading at x r) r
+
+-- Quantifiers
+
+-- the class of a quantifier's variable, where it stands over a list or a class
+abbrev pub list_class : Option ExprType → Option ℕ
+list_class (Some (Objects c)) = Some c
+list_class (Some (Class c)) = Some c
+list_class (Some Int) = None
+list_class (Some Truth) = None
+list_class (Some (Choice e)) = None
+list_class (Some (Object c)) = None
+list_class None = None
+
+-- a quantifier's variable must have a name that means nothing yet
+abbrev pub shadow : ℕ → Sense → List TypeFault
+shadow at Nothing = []
+shadow at (ALocal k c) = Shadow at ∷ []
+shadow at (AnOwn k s) = Shadow at ∷ []
+shadow at (ARoot k s) = Shadow at ∷ []
+shadow at (AnEnumeration e) = Shadow at ∷ []
+shadow at (AClass c) = Shadow at ∷ []
+
+abbrev pub filter_faults : Option Reading → List TypeFault
+filter_faults None = []
+filter_faults (Some r) = needed need.Truth r
+
+abbrev pub filter_holds : Option Reading → Bool
+filter_holds None = true
+filter_holds (Some r) = has need.Truth r.type
+
+abbrev pub filter_tree : Option Reading → Filter
+filter_tree None = NoFilter
+filter_tree (Some r) = Where r.tree
+
+-- the bodies from number n on
+abbrev pub bodies_faults : QuantKind → List Reading → ℕ → List TypeFault
+bodies_faults k [] n = []
+bodies_faults k (r ∷ rs) n = needed (body_need k n) r ++ bodies_faults k rs (n + 1)
+
+abbrev pub bodies_hold : QuantKind → List Reading → ℕ → Bool
+bodies_hold k [] n = true
+bodies_hold k (r ∷ rs) n = has (body_need k n) r.type && bodies_hold k rs (n + 1)
+
+abbrev pub bodies_tree : List Reading → Bodies
+bodies_tree [] = NoBody
+bodies_tree (r ∷ rs) = Body r.tree (bodies_tree rs)
+
+-- a quantifier, with what its variable's name means outside
+abbrev pub quantifier_reading : ℕ → QuantKind → ℕ → Sense → Reading → Option Reading → List Reading → Reading
+quantifier_reading at k name_at outside over filter bodies = record {
+  type = typed_if (has need.List over.type && (filter_holds filter && bodies_hold k bodies 0)) (quant_result k);
+  faults = shadow name_at outside ++ (needed need.List over ++ (filter_faults filter ++ bodies_faults k bodies 0));
+  tree = tree.Quant at k over.tree (filter_tree filter) (bodies_tree bodies);
+  first = at;
+  literal = false;
+}
+
+-- Expressions
+
+-- what the whole expression means, where it is a word alone
+abbrev pub alone : Outline → node.Node → Scope → Sense
+alone o (node.Named w) s = sense o s w
+alone o (node.Number n) s = Nothing
+alone o (node.Truth b) s = Nothing
+alone o node.This s = Nothing
+alone o (node.Paren' p at e) s = Nothing
+alone o (node.Dot' p at e i) s = Nothing
+alone o (node.Minus' p at e) s = Nothing
+alone o (node.Not' p at e) s = Nothing
+alone o (node.Pair' op p at l q at' r) s = Nothing
+alone o (node.Quant' p q) s = Nothing
+
+abbrev mutual
+  pub reading : Outline → node.Node → ℕ → Scope → Reading
+  reading o (node.Number n) at s = number_reading at n
+  reading o (node.Truth b) at s = truth_reading at b
+  reading o node.This at s = this_reading at s.class
+  reading o (node.Named w) at s = word_reading at (sense o s w)
+  reading o (node.Paren' p i e) at s = paren_reading at (reading o e i s)
+  reading o (node.Dot' p i e name) at s = dot_reading o at (alone o e s) (reading o e i s) name
+  reading o (node.Minus' p i e) at s = minus_reading at (reading o e i s)
+  reading o (node.Not' p i e) at s = not_reading at (reading o e i s)
+  reading o (node.Pair' op p i l q j r) at s = pair_reading at op (reading o l i s) (right_reading op j (alone o r s) (reading o r j s))
+  reading o (node.Quant' p q) at s = quant_reading o q at s
+
+  pub quant_reading : Outline → quant.Quant → ℕ → Scope → Reading
+  quant_reading o (quant.Quant' k var i over filter shape body) at s =
+      quantifier_reading at k var.at (sense o s var.name) (over_reading i (alone o over s) (reading o over i s))
+      (held_reading o filter (within s var.name (list_class (over_reading i (alone o over s) (reading o over i s)).type)))
+      (row_readings o body (within s var.name (list_class (over_reading i (alone o over s) (reading o over i s)).type)))
+
+  pub held_reading : Outline → quant.Held-Quant-filter → Scope → Option Reading
+  held_reading o quant.None' s = None
+  held_reading o (quant.Some' at e) s = Some (reading o e at s)
+
+  pub row_readings : {m : _} → Outline → quant.Row_of-Expr m → Scope → List Reading
+  row_readings o quant.end_of-Expr s = []
+  row_readings o (quant.more_of-Expr at e rest) s = reading o e at s ∷ row_readings o rest s
+
+abbrev pub read : Outline → Scope → Expr → Reading
+read o s e = reading o e.node e.at s
+
+-- the type of an expression, where it has one
+abbrev pub type_of : Outline → Scope → Expr → Option ExprType
+type_of o s e = (read o s e).type
+
+-- the faults that stand in an expression
+abbrev pub faults_of : Outline → Scope → Expr → List TypeFault
+faults_of o s e = (read o s e).faults
+
+-- what an expression is resolved to
+abbrev pub resolved : Outline → Scope → Expr → Tree
+resolved o s e = (read o s e).tree

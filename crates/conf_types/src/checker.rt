@@ -1,0 +1,247 @@
+//! A whole model: its constraints and objectives, each typed and resolved, in order of place.
+ghost use Rattle.std.specs.Prelude.{◌≡◌, ◌≤◌, ◌<◌, ◌+◌, ◌-◌, ◌^◌, ◌++◌, [], map, length, Contains, None, Some, IfOk, IfErr, IfSome, OnOk};
+ghost use Rattle.std.specs.List.{flat_map};
+ghost use Rattle.class_table.specs.Names.{item_class};
+ghost use Rattle.class_table.specs.Outline.{outline};
+ghost use Rattle.conf_syntax.specs.Trees.{depth, depth_of_all, depth_of_items, depth_of_members, item_depth, nesting, program_tokens};
+ghost use Rattle.conf_types.specs.Checked.{scope_of};
+ghost use Rattle.conf_types.specs.Programs.{OnFault, constraint_view, goal_view, resolved_constraint, resolved_goal, constraint_faults, goal_faults, faults, constraints, goals, stated, member_exprs, item_constraints, item_goal, next_class, outside};
+
+use crate::expressions::check_needed;
+use crate::scope::Scope;
+use crate::{Constraint, Constraints, Goal, Goals, Need, TypeFault};
+use class_table::ClassTable;
+use conf_syntax::{Expr, GoalDecl, Item, Member, Program};
+use std::alloc::Global;
+
+/// A model in which the expressions have no fault: its constraints and objectives, resolved.
+#[derive(Drop)]
+pub struct TypedModel {
+    constraints: Constraints,
+    goals: Goals,
+}
+
+impl TypedModel {
+    /// The constraints, in order of place.
+    pub fn constraints(&self) -> &[Constraint]
+        ensures constraints { result.now ≡ self.now.constraints }
+    {
+        self.constraints.items()
+    }
+
+    /// The objectives, in order of place.
+    pub fn goals(&self) -> &[Goal]
+        ensures goals { result.now ≡ self.now.goals }
+    {
+        self.goals.items()
+    }
+}
+
+/// What was resolved so far.
+#[derive(Drop)]
+struct Parts {
+    constraints: Vec<Constraint>,
+    goals: Vec<Goal>,
+}
+
+/// The scope of a whole expression: no quantifier stands round it.
+fn outside<'a>(alloc: Global, class: Option<u32>) -> Scope<'a>
+    ensures scope { scope_of result ≡ outside class }
+    ensures class { result.class ≡ class }
+    ensures locals { result.locals.items ≡ [] }
+{
+    Scope {
+        class,
+        locals: Vec::new(alloc),
+    }
+}
+
+/// A constraint, which is stated for the objects of this class or at the top level.
+fn check_constraint(
+    alloc: Global,
+    table: &ClassTable,
+    class: Option<u32>,
+    expr: &Expr,
+) -> Result<Constraint, TypeFault>
+    requires class { IfSome class (λ c. c < length table.now.classes) }
+    requires depth { depth expr.now.node ≤ 200 }
+    ensures constraint { IfOk result (λ k. constraint_view k ≡ resolved_constraint table.now (stated class expr.now)) }
+    ensures right { OnOk result (constraint_faults table.now (stated class expr.now) ≡ []) }
+    ensures fault { IfErr result (λ f. OnFault f (λ g. Contains (constraint_faults table.now (stated class expr.now)) g)) }
+{
+    let scope = outside(alloc, class);
+    match check_needed(alloc, table, &scope, expr, Need::Truth) {
+        Ok(x) => Ok(Constraint {
+            class,
+            place: x.first,
+            expr: x.expr,
+        }),
+        Err(fault) => Err(fault),
+    }
+}
+
+/// An objective.
+fn check_goal(alloc: Global, table: &ClassTable, decl: &GoalDecl) -> Result<Goal, TypeFault>
+    requires depth { depth decl.now.expr.node ≤ 200 }
+    ensures goal { IfOk result (λ k. goal_view k ≡ resolved_goal table.now decl.now) }
+    ensures right { OnOk result (goal_faults table.now decl.now ≡ []) }
+    ensures fault { IfErr result (λ f. OnFault f (λ g. Contains (goal_faults table.now decl.now) g)) }
+{
+    let scope = outside(alloc, None);
+    match check_needed(alloc, table, &scope, &decl.expr, Need::Int) {
+        Ok(x) => Ok(Goal {
+            max: decl.max,
+            expr: x.expr,
+        }),
+        Err(fault) => Err(fault),
+    }
+}
+
+/// Adds some constraints.
+fn check_list(
+    alloc: Global,
+    table: &ClassTable,
+    class: Option<u32>,
+    list: &[Expr],
+    found: &mut Vec<Constraint>,
+) -> Result<(), TypeFault>
+    requires class { IfSome class (λ c. c < length table.now.classes) }
+    requires depth { depth_of_all list.now ≤ 200 }
+    ensures constraints { OnOk result (map constraint_view found.new.items ≡ map constraint_view found.old.items ++ map (resolved_constraint table.now) (map (stated class) list.now)) }
+    ensures right { OnOk result (flat_map (constraint_faults table.now) (map (stated class) list.now) ≡ []) }
+    ensures fault { IfErr result (λ f. OnFault f (λ g. Contains (flat_map (constraint_faults table.now) (map (stated class) list.now)) g)) }
+{
+    for expr in list {
+        match check_constraint(alloc, table, class, expr) {
+            Ok(constraint) => found.push(constraint)?,
+            Err(fault) => return Err(fault),
+        }
+    }
+    Ok(())
+}
+
+/// Adds the constraints of a class.
+fn check_members(
+    alloc: Global,
+    table: &ClassTable,
+    class: u32,
+    members: &[Member],
+    found: &mut Vec<Constraint>,
+) -> Result<(), TypeFault>
+    requires class { class < length table.now.classes }
+    requires depth { depth_of_members members.now ≤ 200 }
+    ensures constraints { OnOk result (map constraint_view found.new.items ≡ map constraint_view found.old.items ++ map (resolved_constraint table.now) (map (stated (Some class)) (flat_map member_exprs members.now))) }
+    ensures right { OnOk result (flat_map (constraint_faults table.now) (map (stated (Some class)) (flat_map member_exprs members.now)) ≡ []) }
+    ensures fault { IfErr result (λ f. OnFault f (λ g. Contains (flat_map (constraint_faults table.now) (map (stated (Some class)) (flat_map member_exprs members.now))) g)) }
+{
+    for member in members {
+        let Member::Where(decl) = member else {
+            continue;
+        };
+        if let Err(fault) = check_list(alloc, table, Some(class), decl.list.items(), found) {
+            return Err(fault);
+        }
+    }
+    Ok(())
+}
+
+/// Adds the constraints or the objective of an item. The next class has this number.
+fn check_item(
+    alloc: Global,
+    table: &ClassTable,
+    class: u32,
+    item: &Item,
+    found: &mut Parts,
+) -> Result<(), TypeFault>
+    requires class { class + length (item_class item.now) ≤ length table.now.classes }
+    requires depth { item_depth item.now ≤ 200 }
+    ensures constraints { OnOk result (map constraint_view found.new.constraints.items ≡ map constraint_view found.old.constraints.items ++ map (resolved_constraint table.now) (item_constraints item.now class)) }
+    ensures goals { OnOk result (map goal_view found.new.goals.items ≡ map goal_view found.old.goals.items ++ map (resolved_goal table.now) (item_goal item.now)) }
+    ensures right_constraints { OnOk result (flat_map (constraint_faults table.now) (item_constraints item.now class) ≡ []) }
+    ensures right_goals { OnOk result (flat_map (goal_faults table.now) (item_goal item.now) ≡ []) }
+    ensures fault { IfErr result (λ f. OnFault f (λ g. Contains (flat_map (constraint_faults table.now) (item_constraints item.now class) ++ flat_map (goal_faults table.now) (item_goal item.now)) g)) }
+{
+    match item {
+        Item::Class(decl) => check_members(
+            alloc,
+            table,
+            class,
+            decl.members.items(),
+            &mut found.constraints,
+        ),
+        Item::Where(decl) => check_list(
+            alloc,
+            table,
+            None,
+            decl.list.items(),
+            &mut found.constraints,
+        ),
+        Item::Goal(decl) => match check_goal(alloc, table, decl) {
+            Ok(goal) => {
+                found.goals.push(goal)?;
+                Ok(())
+            }
+            Err(fault) => Err(fault),
+        },
+        Item::Enum(_) | Item::Var(_) => Ok(()),
+    }
+}
+
+/// The number of the next class, behind an item.
+fn class_behind(item: &Item, class: u32) -> u32
+    requires few { class < 2 ^ 32 - 1 }
+    ensures { result ≡ next_class item.now class }
+{
+    match item {
+        Item::Class(_) => class + 1,
+        Item::Enum(_) | Item::Var(_) | Item::Where(_) | Item::Goal(_) => class,
+    }
+}
+
+/// The constraints and objectives of the items of a model.
+fn check_items(alloc: Global, table: &ClassTable, items: &[Item]) -> Result<Parts, TypeFault>
+    requires table { table.now ≡ outline items.now }
+    requires few { length items.now < 2 ^ 32 - 1 }
+    requires depth { depth_of_items items.now ≤ 200 }
+    ensures constraints { IfOk result (λ m. map constraint_view m.constraints.items ≡ map (resolved_constraint table.now) (constraints items.now)) }
+    ensures goals { IfOk result (λ m. map goal_view m.goals.items ≡ map (resolved_goal table.now) (goals items.now)) }
+    ensures right { OnOk result (faults table.now items.now ≡ []) }
+    ensures fault { IfErr result (λ f. OnFault f (λ g. Contains (faults table.now items.now) g)) }
+{
+    let mut found = Parts {
+        constraints: Vec::new(alloc),
+        goals: Vec::new(alloc),
+    };
+    let mut class = 0;
+    for item in items {
+        if let Err(fault) = check_item(alloc, table, class, item, &mut found) {
+            return Err(fault);
+        }
+        class = class_behind(item, class);
+    }
+    Ok(found)
+}
+
+/// Types and resolves the constraints and objectives of a model, whose table this is.
+///
+/// # Errors
+///
+/// A fault that stands in the expressions, at its place; `Memory` where there is none left. No fault is passed over: where
+/// one stands, there is no typed model.
+pub fn check(alloc: Global, program: &Program, table: &ClassTable) -> Result<TypedModel, TypeFault>
+    requires table { table.now ≡ outline program.now.items }
+    requires tokens { length (program_tokens program.now) ≤ 1048576 }
+    requires nesting { nesting program.now ≤ 200 }
+    ensures constraints { IfOk result (λ m. map constraint_view m.constraints ≡ map (resolved_constraint table.now) (constraints program.now.items)) }
+    ensures goals { IfOk result (λ m. map goal_view m.goals ≡ map (resolved_goal table.now) (goals program.now.items)) }
+    ensures right { OnOk result (faults table.now program.now.items ≡ []) }
+    ensures fault { IfErr result (λ f. OnFault f (λ g. Contains (faults table.now program.now.items) g)) }
+{
+    match check_items(alloc, table, program.items.items()) {
+        Ok(found) => Ok(TypedModel {
+            constraints: Constraints::of(found.constraints),
+            goals: Goals::of(found.goals),
+        }),
+        Err(fault) => Err(fault),
+    }
+}

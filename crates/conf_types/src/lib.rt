@@ -1,0 +1,21 @@
+//! The types of a model's expressions: each expression is resolved and typed, or refused with a fault that stands in it.
+//!
+//! `check` is the entry. `specs` says what a word means where it stands (`Scopes`), and then, one row for each kind of
+//! expression, its type, the faults that stand in it and what it is resolved to (`Readings`).
+#![tactic(auto)]
+
+mod checker;
+mod expressions;
+mod fault;
+mod list;
+mod rules;
+mod scope;
+mod tree;
+mod types;
+
+pub use checker::{TypedModel, check};
+pub use fault::TypeFault;
+pub use list::{Constraints, Goals};
+pub use scope::Found;
+pub use tree::{Constraint, Goal, RExpr, RNode, RQuant};
+pub use types::{ExprType, Need};

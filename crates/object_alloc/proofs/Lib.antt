@@ -1,0 +1,14 @@
+pub mod VisitLaws
+pub mod Weights
+pub mod QueueSteps
+pub mod Members
+pub mod LayingLaws
+pub mod ExtentLaws
+pub mod Allocating
+pub mod Asked
+pub mod ShapeLaws
+pub mod HeldLaws
+pub mod PathLaws
+pub mod TextLaws
+pub mod PartLaws
+pub mod PartFound

@@ -1,0 +1,18 @@
+use Rattle.std.proofs.Common.{rules, ◌≡◌, ◌<◌, length, refl, sym, ap, ◌∙◌, subst, arith}
+use Rattle.std.specs.Prelude.{IfSome}
+use Rattle.object_alloc.specs.Laid.{class_in, variables_of}
+use Rattle.object_alloc.proofs.Asked.{class_there, variables_are, owner_there}
+use Rattle.object_alloc.proofs.objects.Objects.shape_count.Goals as goal
+
+pub class_of-requires : goal.class_of-requires
+class_of-requires c = record { owner = owner_there c.self.inside.table.now c.args.self.now c.deref.result.now c.args.owner c.self.view_is (c.deref.ensures.value ∙ c.self.invariant.objects_are) c.requires.owner }
+
+pub variable_count-requires : goal.variable_count-requires
+variable_count-requires c =
+    let there = owner_there c.self.inside.table.now c.args.self.now c.self.inside.objects.items c.args.owner c.self.view_is c.self.invariant.objects_are c.requires.owner in
+    record { class = subst (λ x. IfSome x (λ n. n < length c.self.inside.table.now.classes)) (sym (c.class_of.ensures.class ∙ ap (λ xs. class_in xs c.args.owner) c.deref.ensures.value)) (class_there (length c.self.inside.table.now.classes) c.self.inside.objects.items c.args.owner c.self.invariant.classes there) }
+
+pub returns : goal.returns
+returns c =
+    let same = variables_are c.self.inside.table.now c.args.self.now c.deref.result.now c.args.owner c.class_of.result c.self.view_is (c.deref.ensures.value ∙ c.self.invariant.objects_are) c.class_of.ensures.class in
+    record { count = c.variable_count.ensures.count ∙ ap length same }

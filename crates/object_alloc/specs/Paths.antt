@@ -1,0 +1,77 @@
+-- Where objects are held: the object that holds each, which objects are in which, and paths.
+use Rattle.std.specs.Prelude.{◌≡◌, ℕ, zero, suc, ◌+◌, ◌<◌, Bool, List, [], ◌∷◌, ◌++◌, Option, None, Some, length, slice_get, slice_index_or, decimal, codes, Contains}
+use Rattle.std.specs.Option.{option_map_or}
+use Rattle.class_table.specs.declared.table.Resolved.{Resolved}
+use Rattle.class_table.specs.declared.table.Resolved.TheVariants.{Span, Truth, Choice, One, Many, Ref, RefSet}
+use Rattle.class_table.specs.declared.table.Variable.{Variable}
+use Rattle.class_table.specs.Ancestry.{derives}
+use Rattle.class_table.specs.Outline.{Outline}
+use Rattle.object_alloc.specs.declared.object.Object.{Object}
+use Rattle.object_alloc.specs.Laid.{class_in}
+use Rattle.object_alloc.specs.Sums.{variables}
+use Rattle.object_alloc.specs.Walk.{objects}
+
+-- the object that holds an object; None at the top level
+abbrev pub owner_in : List Object → ℕ → Option ℕ
+owner_in xs n = option_map_or (λ (x : Object). x.owner) (slice_get xs n) None
+
+-- object n is `whole`, or is contained, at any depth, in it: `whole` is n, or holds it, or holds what holds it, and so on
+abbrev pub is_inside : Outline → ℕ → ℕ → Bool
+is_inside o n whole = derives (owner_in (objects o)) (length (objects o)) n whole
+
+-- the number of an element of an array
+abbrev pub index_text : Resolved → ℕ → List ℕ
+index_text (Many c m) i = codes "[" ++ decimal i ++ codes "]"
+index_text (One c) i = []
+index_text (Span low high) i = []
+index_text Truth i = []
+index_text (Choice e) i = []
+index_text (Ref c) i = []
+index_text (RefSet c m) i = []
+
+-- the last name of a path: a variable's name, and for an array the element's number
+abbrev pub step_text : Variable → ℕ → List ℕ
+step_text v i = v.name ++ index_text v.shape i
+
+abbrev pub last_step : List Variable → Object → List ℕ
+last_step vs x = option_map_or (λ (v : Variable). step_text v x.element) (slice_get vs x.attribute) []
+
+-- what stands before the last name: the path of the object that holds it, and a dot
+abbrev pub owner_path : (ℕ → List ℕ) → Option ℕ → List ℕ
+owner_path path_of None = []
+owner_path path_of (Some p) = path_of p ++ codes "."
+
+-- the path of object n, where at most so many objects hold one another
+abbrev pub path_within : Outline → List Object → ℕ → ℕ → List ℕ
+path_within o xs zero n = []
+path_within o xs (suc steps) n = option_map_or (λ (x : Object). owner_path (path_within o xs steps) x.owner ++ last_step (variables o (class_in xs x.owner)) x) (slice_get xs n) []
+
+-- the path of object n: each object is held by one with a lesser number
+abbrev pub path : Outline → ℕ → List ℕ
+path o n = path_within o (objects o) (suc n) n
+
+-- the shape holds objects of class c, and element i is one of them
+abbrev pub HoldsAt : Resolved → ℕ → ℕ → Type 0
+HoldsAt (One d) c i = (c ≡ d) × (i ≡ 0)
+HoldsAt (Many d m) c i = (c ≡ d) × (i < m)
+HoldsAt (Span low high) c i = ⊥
+HoldsAt Truth c i = ⊥
+HoldsAt (Choice e) c i = ⊥
+HoldsAt (Ref d) c i = ⊥
+HoldsAt (RefSet d m) c i = ⊥
+
+abbrev pub IsBefore : Option ℕ → ℕ → Type 0
+IsBefore None n = Unit {0}
+IsBefore (Some p) n = p < n
+
+-- object x, which has number n, is held by one with a lesser number, as an element of an attribute of it
+pub record IsHeld (o : Outline) (xs : List Object) (n : ℕ) (x : Object) : Type 0 where
+  pub owner : IsBefore x.owner n
+  pub variable : Variable
+  pub has : slice_get (variables o (class_in xs x.owner)) x.attribute ≡ Some variable
+  pub holds : HoldsAt variable.shape x.class x.element
+
+-- each of these objects, the first of which has number n
+abbrev pub AreHeld : Outline → List Object → ℕ → List Object → Type 0
+AreHeld o xs n [] = Unit {0}
+AreHeld o xs n (y ∷ ys) = IsHeld o xs n y × AreHeld o xs (suc n) ys

@@ -1,0 +1,22 @@
+//! The objects and the cells of a model, by containment.
+//!
+//! `allocate` is the entry: it lists them from the table of a model's classes, or says which limit the model breaks. `specs`
+//! says which objects and cells a model has: `Walk` for objects, `Cells` for extents and cells, `Limits` for the limits.
+#![tactic(auto)]
+
+mod cells;
+mod extents;
+mod fault;
+mod layout;
+mod object;
+mod objects;
+mod paths;
+mod queue;
+mod shapes;
+mod spots;
+#[cfg(test)]
+mod tests;
+
+pub use fault::AllocFault;
+pub use object::{Cell, Domain, Leaf, Object, ObjectList};
+pub use objects::{Objects, allocate};
