@@ -22,17 +22,17 @@ left_or x y h = rw h refl
 int_eq-same : (v : ℤ) → int_eq v v ≡ true
 int_eq-same v = (Decides-int_eq v v).1 refl
 
-order_cases : (v w : ℤ) → (v ≤ℤ w) ⊎ (w ≤ℤ v)
+pub order_cases : (v w : ℤ) → (v ≤ℤ w) ⊎ (w ≤ℤ v)
 order_cases v w = (elim (int_le v w) as (λ t. int_le v w ≡ t → (v ≤ℤ w) ⊎ (w ≤ℤ v)) [ true ↦ λ e. inl (grind (arith, ints)) | false ↦ λ e. inr (grind (arith, ints)) ]) refl
 
-in_parts : (a b : ℤ) (s : Ranges) → lies_in a b s ≡ true → (a ≤ℤ low_of s) × (high_of s ≤ℤ b)
+pub in_parts : (a b : ℤ) (s : Ranges) → lies_in a b s ≡ true → (a ≤ℤ low_of s) × (high_of s ≤ℤ b)
 in_parts a b s h =
     let parts = and_parts (int_le a (low_of s)) (int_le (high_of s) b) h in (grind (arith, ints), grind (arith, ints))
 
-in_from : (a b : ℤ) (s : Ranges) → a ≤ℤ low_of s → high_of s ≤ℤ b → lies_in a b s ≡ true
+pub in_from : (a b : ℤ) (s : Ranges) → a ≤ℤ low_of s → high_of s ≤ℤ b → lies_in a b s ≡ true
 in_from a b s h k = and_from (int_le a (low_of s)) (int_le (high_of s) b) (grind (arith, ints)) (grind (arith, ints))
 
-at_least : (f g : Bool) (m n : ℕ) → (f ≡ true → g ≡ true) → m ≤ n → cond f (suc m) m ≤ cond g (suc n) n
+pub at_least : (f g : Bool) (m n : ℕ) → (f ≡ true → g ≡ true) → m ≤ n → cond f (suc m) m ≤ cond g (suc n) n
 at_least true true m n h k = omega arith
 at_least true false m n h k = absurd (let e = h refl in cc)
 at_least false true m n h k = omega arith
@@ -41,7 +41,7 @@ at_least false false m n h k = k
 -- ---- starts
 
 -- boxes within a..b begin at v or later
-abbrev Starts : ℤ → ℤ → ℤ → List ℕ → Boxes → Type 0
+abbrev pub Starts : ℤ → ℤ → ℤ → List ℕ → Boxes → Type 0
 Starts v a b [] boxes = Unit {0}
 Starts v a b (x ∷ xs) boxes = (lies_in a b (box_of boxes x) ≡ true → v ≤ℤ low_of (box_of boxes x)) × Starts v a b xs boxes
 
@@ -50,7 +50,7 @@ abbrev is_start : ℤ → List ℕ → Boxes → Bool
 is_start v [] boxes = false
 is_start v (x ∷ xs) boxes = int_eq (low_of (box_of boxes x)) v || is_start v xs boxes
 
-none_starts : (v a b : ℤ) (xs : List ℕ) (boxes : Boxes) → count_in a b xs boxes ≤ 0 → Starts v a b xs boxes
+pub none_starts : (v a b : ℤ) (xs : List ℕ) (boxes : Boxes) → count_in a b xs boxes ≤ 0 → Starts v a b xs boxes
 none_starts v a b [] boxes h = tt
 none_starts v a b (x ∷ xs) boxes h =
     (elim (lies_in a b (box_of boxes x)) as (λ t. cond t (suc (count_in a b xs boxes)) (count_in a b xs boxes) ≤ 0 → (t ≡ true → v ≤ℤ low_of (box_of boxes x)) × Starts v a b xs boxes) [
@@ -58,7 +58,7 @@ none_starts v a b (x ∷ xs) boxes h =
       | false ↦ λ k. ((λ e. absurd cc), none_starts v a b xs boxes k)
     ]) h
 
-starts_on : (w v a b : ℤ) (xs : List ℕ) (boxes : Boxes) → w ≤ℤ v → Starts v a b xs boxes → Starts w a b xs boxes
+pub starts_on : (w v a b : ℤ) (xs : List ℕ) (boxes : Boxes) → w ≤ℤ v → Starts v a b xs boxes → Starts w a b xs boxes
 starts_on w v a b [] boxes h s = tt
 starts_on w v a b (x ∷ xs) boxes h s = ((λ e. let k = s.0 e in omega (arith, ints)), starts_on w v a b xs boxes h s.1)
 
@@ -103,7 +103,7 @@ find_start a b (x ∷ xs) boxes s h =
     ]) refl h
 
 -- so as many boxes lie within
-start_keeps : (v a b : ℤ) (xs : List ℕ) (boxes : Boxes) → Starts v a b xs boxes → count_in a b xs boxes ≤ count_in v b xs boxes
+pub start_keeps : (v a b : ℤ) (xs : List ℕ) (boxes : Boxes) → Starts v a b xs boxes → count_in a b xs boxes ≤ count_in v b xs boxes
 start_keeps v a b [] boxes s = omega arith
 start_keeps v a b (x ∷ xs) boxes s =
     let more = start_keeps v a b xs boxes s.1 in
@@ -200,13 +200,13 @@ from_start v (y ∷ ys) xs boxes h c =
       | inr e ↦ right_or _ _ (from_start v ys xs boxes e c)
     ]
 
-narrowed : (a b v w : ℤ) (m n k : ℕ) → a ≤ℤ v → v ≤ℤ w → w ≤ℤ b → m ≤ n → n ≤ k → (int_le a b && int_lt ((b -ℤ a) +ℤ pos 1) (pos m)) ≡ true → (int_le v w && int_lt ((w -ℤ v) +ℤ pos 1) (pos k)) ≡ true
+pub narrowed : (a b v w : ℤ) (m n k : ℕ) → a ≤ℤ v → v ≤ℤ w → w ≤ℤ b → m ≤ n → n ≤ k → (int_le a b && int_lt ((b -ℤ a) +ℤ pos 1) (pos m)) ≡ true → (int_le v w && int_lt ((w -ℤ v) +ℤ pos 1) (pos k)) ≡ true
 narrowed a b v w m n k h i j l o c =
     let parts = and_parts (int_le a b) (int_lt ((b -ℤ a) +ℤ pos 1) (pos m)) c in
     let less : ((b -ℤ a) +ℤ pos 1) <ℤ pos m = grind (arith, ints) in
     and_from (int_le v w) (int_lt ((w -ℤ v) +ℤ pos 1) (pos k)) (grind (arith, ints)) (let q : ((w -ℤ v) +ℤ pos 1) <ℤ pos k = omega (arith, ints) in grind (arith, ints))
 
-some_within : (a b : ℤ) (m : ℕ) → (int_le a b && int_lt ((b -ℤ a) +ℤ pos 1) (pos m)) ≡ true → 1 ≤ m
+pub some_within : (a b : ℤ) (m : ℕ) → (int_le a b && int_lt ((b -ℤ a) +ℤ pos 1) (pos m)) ≡ true → 1 ≤ m
 some_within a b m c =
     let parts = and_parts (int_le a b) (int_lt ((b -ℤ a) +ℤ pos 1) (pos m)) c in
     let order : a ≤ℤ b = grind (arith, ints) in
@@ -231,7 +231,7 @@ somewhere_from a (y ∷ ys) xs boxes h =
       | inr e ↦ somewhere_from a ys xs boxes e
     ]
 
-somewhere : (ys xs : List ℕ) (boxes : Boxes) → some_crowded ys xs boxes ≡ true → IsCrowdedSomewhere xs boxes
+pub somewhere : (ys xs : List ℕ) (boxes : Boxes) → some_crowded ys xs boxes ≡ true → IsCrowdedSomewhere xs boxes
 somewhere [] xs boxes h = absurd cc
 somewhere (y ∷ ys) xs boxes h =
     elim (or_cases (crowded_from (low_of (box_of boxes y)) xs xs boxes) (some_crowded ys xs boxes) h) [

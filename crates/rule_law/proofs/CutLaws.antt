@@ -21,12 +21,12 @@ use Rattle.ground_form.specs.declared.con.Con.{Con}
 use Rattle.ground_form.specs.Meaning.{vars_of}
 
 -- values are of 64 bits
-low_within : (low top : ℤ) (rs : Ranges) (v : ℤ) → Ascends low top rs → has rs v ≡ true → low ≤ℤ v
+pub low_within : (low top : ℤ) (rs : Ranges) (v : ℤ) → Ascends low top rs → has rs v ≡ true → low ≤ℤ v
 low_within low top [] v s h = absurd (grind arith)
 low_within low top (r ∷ rs) v s h =
     let more : has rs v ≡ true → (r.1 +ℤ pos 2) ≤ℤ v = low_within (r.1 +ℤ pos 2) top rs v s.2 in grind (arith, ints)
 
-top_within : (low top : ℤ) (rs : Ranges) (v : ℤ) → Ascends low top rs → has rs v ≡ true → v ≤ℤ top
+pub top_within : (low top : ℤ) (rs : Ranges) (v : ℤ) → Ascends low top rs → has rs v ≡ true → v ≤ℤ top
 top_within low top [] v s h = absurd (grind arith)
 top_within low top (r ∷ rs) v s h =
     let more : has rs v ≡ true → v ≤ℤ top = top_within (r.1 +ℤ pos 2) top rs v s.2 in

@@ -14,3 +14,13 @@ pub mod Leaps
 pub mod CutLaws
 pub mod Covering
 pub mod CrowdLaws
+pub mod Agreeing
+pub mod Reasoning
+pub mod Keeping
+pub mod NumberLists
+pub mod ProbeLaws
+pub mod KitProblem
+pub mod QuietFrom
+pub mod Leaving
+pub mod PlanLaws
+pub mod FlagPlans

@@ -193,6 +193,13 @@ walk_stopped test one rest left whole e h k t = grind arith
 pub walk_gone_on : (test one rest left whole : Bool) → left ≡ (one && rest) → test ≡ one → left ≡ whole → test ≡ true → rest ≡ whole
 walk_gone_on test one rest left whole e h k t = grind arith
 
+-- where what is looked for may be found in each step
+pub found_stops : (found one rest left whole : Bool) → left ≡ (one && rest) → not found ≡ one → left ≡ whole → found ≡ true → not found ≡ whole
+found_stops found one rest left whole e h k t = grind arith
+
+pub found_goes_on : (found one rest left whole : Bool) → left ≡ (one && rest) → not found ≡ one → left ≡ whole → found ≡ false → rest ≡ whole
+found_goes_on found one rest left whole e h k t = grind arith
+
 two_then : (b c rest : Bool) → (b && (c && rest)) ≡ ((b && c) && rest)
 two_then true c rest = refl
 two_then false c rest = refl

@@ -7,3 +7,5 @@ pub mod Firsts
 pub mod Left
 pub mod Answers
 pub mod Cover
+pub mod Reasons
+pub mod Plans

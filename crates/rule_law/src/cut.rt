@@ -133,7 +133,7 @@ fn rest_misses(domain: &IntSet, out: &IntSet, set: &IntSet) -> bool
 }
 
 /// Whether every value of the domain that `out` lacks is in the set.
-fn is_rest_inside(domain: &IntSet, out: &IntSet, set: &IntSet) -> bool
+pub fn is_rest_inside(domain: &IntSet, out: &IntSet, set: &IntSet) -> bool
     ensures { result ≡ inside (less domain.now out.now) set.now }
 {
     domain.ranges();

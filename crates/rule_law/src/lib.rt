@@ -5,17 +5,24 @@
 //! and it is quiet where no single value of a box would refute it. `specs/` holds these three tests, apart from this code.
 //!
 //! - `law`: a refuted constraint has no solution in the boxes.
+//! - `propagator`, `kit`: the face of what prunes by constraints, and kits that have a member for every kind.
+//! - `explain`: clauses made of reasons. `plain_probe`: probing that explains what it finds, for every kind.
 #![tactic(auto)]
 
 mod cut;
 mod emptiness;
+mod explain;
 mod flags;
 mod kit;
+#[cfg(test)]
+mod kit_tests;
 mod law;
 mod linear;
 mod numbers;
 mod packing;
 mod places;
+mod plain_probe;
+mod planned;
 mod probing;
 mod propagator;
 mod rules;
@@ -23,9 +30,14 @@ mod sums;
 #[cfg(test)]
 mod tests;
 mod values;
+mod variables;
 mod view;
 
+pub use cut::is_rest_inside;
+pub use explain::{keep_out, pruning};
 pub use kit::{Kit, MissingKind};
 pub use law::{refuted_is_false, some_interval_is_crowded};
+pub use plain_probe::probe;
+pub use planned::{planned_pruning, truth};
 pub use probing::{justified, quiet, refutes};
 pub use propagator::Propagator;

@@ -2,7 +2,7 @@
 //!
 //! `quiet` asks at each variable of the constraint whether one of its probed values, alone in its box, refutes the constraint.
 //! Boxes with one value in place of a box are a view (`Fixing`), so nothing is built.
-ghost use Rattle.std.specs.Prelude.{◌≡◌, ◌<◌, ◌≤ℤ◌, ◌&&◌, ℤ, true, false, [], ◌∷◌, length};
+ghost use Rattle.std.specs.Prelude.{◌≡◌, ◌<◌, ◌≤ℤ◌, ◌&&◌, ℤ, true, false, not, is_some, IfSome, [], ◌∷◌, length};
 ghost use Rattle.std.specs.List.{All};
 ghost use Rattle.signed_clause.specs.Ranges.{has, in_range, is_nil, IsValid};
 ghost use Rattle.signed_clause.specs.Clauses.{box_of};
@@ -12,6 +12,7 @@ ghost use Rattle.rule_law.specs.Named.{IsNamed, AreTermsNamed, IsItemNamed, AreI
 ghost use Rattle.rule_law.specs.Refuted.{width, refuted};
 ghost use Rattle.rule_law.specs.Justified.{justified};
 ghost use Rattle.rule_law.specs.Quiet.{fixing, values_from, values_of, probed, none_refutes, quiet_at, quiet};
+ghost use Rattle.rule_law.specs.Reasons.{IsCulprit};
 
 use crate::cut::Cut;
 use crate::numbers::{end_of, is_below, next, start_of};
@@ -70,77 +71,89 @@ fn does_value_refute(con: &Con, boxes: &[IntSet], x: u32, at: Number) -> bool
     refutes_in(con, &view)
 }
 
-/// Whether none of the values from `first` to `last`, all of the box of `x`, refutes the constraint.
-fn none_between(con: &Con, boxes: &[IntSet], x: u32, first: Number, last: Number) -> bool
+/// The first of the values from `first` to `last`, all of the box of `x`, that refutes the constraint.
+fn first_between(con: &Con, boxes: &[IntSet], x: u32, first: Number, last: Number) -> Option<Number>
     requires named { IsNamed con.now boxes.now }
     requires bounded { IsBounded con.now boxes.now }
     requires var { x < length boxes.now }
     requires order { first.value ≤ℤ last.value }
     requires members { (v : ℤ) → in_range (first.value, last.value) v ≡ true → has (box_of boxes.now x) v ≡ true }
-    ensures { result ≡ none_refutes con.now boxes.now x (values_from (width first.value last.value) first.value) }
+    ensures none { not (is_some result) ≡ none_refutes con.now boxes.now x (values_from (width first.value last.value) first.value) }
+    ensures some { IfSome result (λ v. IsCulprit con.now boxes.now x v.value) }
 {
     let mut at = first;
     if does_value_refute(con, boxes, x, at) {
-        return false;
+        return Some(at);
     }
     while is_below(at, last) {
         at = next(at, last);
         if does_value_refute(con, boxes, x, at) {
-            return false;
+            return Some(at);
         }
     }
-    true
+    None
 }
 
-/// Whether none of the values of the range, all of the box of `x`, refutes the constraint.
-fn none_in_range(con: &Con, boxes: &[IntSet], x: u32, r: (i64, i64)) -> bool
+/// The first of the values of the range, all of the box of `x`, that refutes the constraint.
+fn first_in_range(con: &Con, boxes: &[IntSet], x: u32, r: (i64, i64)) -> Option<Number>
     requires named { IsNamed con.now boxes.now }
     requires bounded { IsBounded con.now boxes.now }
     requires var { x < length boxes.now }
     requires order { r.0 ≤ℤ r.1 }
     requires members { (v : ℤ) → in_range r v ≡ true → has (box_of boxes.now x) v ≡ true }
-    ensures { result ≡ none_refutes con.now boxes.now x (values_from (width r.0 r.1) r.0) }
+    ensures none { not (is_some result) ≡ none_refutes con.now boxes.now x (values_from (width r.0 r.1) r.0) }
+    ensures some { IfSome result (λ v. IsCulprit con.now boxes.now x v.value) }
 {
-    none_between(con, boxes, x, start_of(r), end_of(r))
+    first_between(con, boxes, x, start_of(r), end_of(r))
 }
 
-/// Whether no value of the ranges, which are those of the box of `x`, refutes the constraint.
-fn none_in_ranges(con: &Con, boxes: &[IntSet], x: u32, ranges: &[(i64, i64)]) -> bool
+/// The first value of the ranges, which are those of the box of `x`, that refutes the constraint.
+fn first_in_ranges(con: &Con, boxes: &[IntSet], x: u32, ranges: &[(i64, i64)]) -> Option<Number>
     requires named { IsNamed con.now boxes.now }
     requires bounded { IsBounded con.now boxes.now }
     requires var { x < length boxes.now }
     requires of_x { ranges.now ≡ box_of boxes.now x }
     requires valid { IsValid ranges.now }
-    ensures { result ≡ none_refutes con.now boxes.now x (values_of ranges.now) }
+    ensures none { not (is_some result) ≡ none_refutes con.now boxes.now x (values_of ranges.now) }
+    ensures some { IfSome result (λ v. IsCulprit con.now boxes.now x v.value) }
 {
     for r in ranges {
-        if !none_in_range(con, boxes, x, *r) {
-            return false;
+        let found = first_in_range(con, boxes, x, *r);
+        if found.is_some() {
+            return found;
         }
     }
-    true
+    None
 }
 
-/// Whether no value of the box of `x` refutes the constraint.
-fn none_of_all(con: &Con, boxes: &[IntSet], x: u32) -> bool
+/// The first value of the box of `x` that refutes the constraint.
+fn first_of_all(con: &Con, boxes: &[IntSet], x: u32) -> Option<Number>
     requires named { IsNamed con.now boxes.now }
     requires bounded { IsBounded con.now boxes.now }
     requires var { x < length boxes.now }
-    ensures { result ≡ none_refutes con.now boxes.now x (values_of (box_of boxes.now x)) }
+    ensures none { not (is_some result) ≡ none_refutes con.now boxes.now x (values_of (box_of boxes.now x)) }
+    ensures some { IfSome result (λ v. IsCulprit con.now boxes.now x v.value) }
 {
-    none_in_ranges(con, boxes, x, boxes[x as usize].ranges())
+    first_in_ranges(con, boxes, x, boxes[x as usize].ranges())
 }
 
-/// Whether neither the least nor the greatest value of the box of `x`, which isn't empty, refutes the constraint.
-fn none_of_ends(con: &Con, boxes: &[IntSet], x: u32) -> bool
+/// The least or the greatest value of the box of `x`, which isn't empty, where it refutes the constraint.
+fn first_of_ends(con: &Con, boxes: &[IntSet], x: u32) -> Option<Number>
     requires named { IsNamed con.now boxes.now }
     requires bounded { IsBounded con.now boxes.now }
     requires var { x < length boxes.now }
     requires some { is_nil (box_of boxes.now x) ≡ false }
-    ensures { result ≡ none_refutes con.now boxes.now x (low_of (box_of boxes.now x) ∷ high_of (box_of boxes.now x) ∷ []) }
+    ensures none { not (is_some result) ≡ none_refutes con.now boxes.now x (low_of (box_of boxes.now x) ∷ high_of (box_of boxes.now x) ∷ []) }
+    ensures some { IfSome result (λ v. IsCulprit con.now boxes.now x v.value) }
 {
     let ends = set_ends(&boxes[x as usize]);
-    !does_value_refute(con, boxes, x, ends.0) && !does_value_refute(con, boxes, x, ends.1)
+    if does_value_refute(con, boxes, x, ends.0) {
+        Some(ends.0)
+    } else if does_value_refute(con, boxes, x, ends.1) {
+        Some(ends.1)
+    } else {
+        None
+    }
 }
 
 /// The least and the greatest value of a set that isn't empty.
@@ -157,19 +170,30 @@ fn set_ends(set: &IntSet) -> (Number, Number)
     (start_of(ends), end_of(ends))
 }
 
-/// Whether no probed value of the box of `x` refutes the constraint.
+/// The first probed value of the box of `x` that refutes the constraint.
 #[tactic(auto, using(crate::proofs::QuietLaws::many_some, crate::proofs::QuietLaws::few_probed, crate::proofs::QuietLaws::many_probed))]
+pub(crate) fn first_at(con: &Con, boxes: &[IntSet], x: u32) -> Option<Number>
+    requires named { IsNamed con.now boxes.now }
+    requires bounded { IsBounded con.now boxes.now }
+    requires var { x < length boxes.now }
+    ensures none { not (is_some result) ≡ none_refutes con.now boxes.now x (probed (box_of boxes.now x)) }
+    ensures some { IfSome result (λ v. IsCulprit con.now boxes.now x v.value) }
+{
+    if boxes[x as usize].at_most(64) {
+        first_of_all(con, boxes, x)
+    } else {
+        first_of_ends(con, boxes, x)
+    }
+}
+
+/// Whether no probed value of the box of `x` refutes the constraint.
 fn is_quiet_at(con: &Con, boxes: &[IntSet], x: u32) -> bool
     requires named { IsNamed con.now boxes.now }
     requires bounded { IsBounded con.now boxes.now }
     requires var { x < length boxes.now }
     ensures { result ≡ none_refutes con.now boxes.now x (probed (box_of boxes.now x)) }
 {
-    if boxes[x as usize].at_most(64) {
-        none_of_all(con, boxes, x)
-    } else {
-        none_of_ends(con, boxes, x)
-    }
+    first_at(con, boxes, x).is_none()
 }
 
 /// Whether that is so at each term's variable.
@@ -269,7 +293,7 @@ fn are_items_quiet(con: &Con, boxes: &[IntSet], items: &[(u32, u32, u32)]) -> bo
 }
 
 /// Whether that is so at each variable of the constraint.
-fn are_all_quiet(con: &Con, boxes: &[IntSet]) -> bool
+pub(crate) fn are_all_quiet(con: &Con, boxes: &[IntSet]) -> bool
     requires named { IsNamed con.now boxes.now }
     requires bounded { IsBounded con.now boxes.now }
     ensures { result ≡ quiet_at con.now boxes.now (vars_of con.now) }

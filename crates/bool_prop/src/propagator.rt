@@ -1,0 +1,85 @@
+//! `BoolProp`, the propagator of conjunctions, memberships and clauses.
+ghost use Rattle.std.specs.Prelude.{◌≡◌, ◌<◌, true, length, slice_get, IfOk, IfSome};
+ghost use Rattle.std.specs.List.{All};
+ghost use Rattle.signed_clause.specs.Ranges.{IsValid};
+ghost use Rattle.ground_form.specs.Kinds as kinds;
+ghost use Rattle.ground_form.specs.WellMade.{IsWellMade, IsWellMadeCon};
+ghost use Rattle.rule_law.specs.Answers.{AreBoxesWithin, IsAnswer};
+ghost use Rattle.bool_prop.specs.Handled.{is_boolean};
+
+use crate::clause::prune_clause;
+use crate::conjunction::prune_conjunction;
+use crate::member::prune_member;
+use ground_form::{Con, Ground, Kind};
+use rule_law::{Propagator, probe};
+use signed_clause::{Clause, IntSet};
+use std::alloc::{AllocError, Global};
+
+/// The propagator of conjunctions, memberships and clauses. It keeps nothing between calls: the boxes of a flag and of the
+/// first parts tell at once that there is nothing to say.
+#[derive(Drop)]
+pub struct BoolProp {
+    alloc: Global,
+}
+
+impl BoolProp {
+    /// The propagator. It takes no memory.
+    pub fn new(alloc: Global) -> BoolProp {
+        BoolProp { alloc }
+    }
+}
+
+/// Whether a kind is one of conjunctions, memberships or clauses.
+fn is_boolean(kind: Kind) -> bool
+    ensures { result ≡ is_boolean kind }
+{
+    matches!(kind, Kind::AndDef | Kind::MemberDef | Kind::ClauseCon)
+}
+
+/// What a constraint has to say in the boxes.
+pub(crate) fn prune_one(
+    con: &Con,
+    domains: &[IntSet],
+    boxes: &[IntSet],
+    alloc: Global,
+) -> Result<Option<Clause>, AllocError>
+    requires well_made { IsWellMadeCon domains.now con.now }
+    requires boxes { AreBoxesWithin domains.now boxes.now }
+    requires sets { All (λ d. IsValid d) domains.now }
+    ensures answer { IfOk result (λ a. IsAnswer con.now domains.now boxes.now a) }
+{
+    match con {
+        Con::AndDef { flag, parts } => {
+            prune_conjunction(con, *flag, parts.items(), domains, boxes, alloc)
+        }
+        Con::MemberDef { flag, var, set } => {
+            prune_member(con, *flag, *var, set, domains, boxes, alloc)
+        }
+        Con::ClauseCon { clause } => prune_clause(clause, domains, boxes),
+        _ => probe(con, domains, boxes, alloc),
+    }
+}
+
+impl Propagator for BoolProp {
+    ghost handled = { λ p kind. is_boolean kind };
+
+    fn handles(&self, kind: Kind) -> bool {
+        is_boolean(kind)
+    }
+
+    fn begin(&mut self) {}
+
+    fn prune(
+        &mut self,
+        g: &Ground,
+        k: u32,
+        boxes: &[IntSet],
+    ) -> Result<Option<Clause>, AllocError> {
+        prune_one(
+            &g.cons.items()[k as usize],
+            g.domains.items(),
+            boxes,
+            self.alloc,
+        )
+    }
+}

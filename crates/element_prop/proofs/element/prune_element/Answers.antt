@@ -1,0 +1,39 @@
+use Rattle.std.proofs.Common.{◌≡◌, ℤ, pos, get_or, arith, refl, subst, sym}
+use Rattle.std.proofs.lemmas.Grind.{common_steps}
+use Rattle.signed_clause.specs.Ranges.{Ranges}
+use Rattle.signed_clause.specs.Clauses.{box_of}
+use Rattle.rule_law.specs.Reasons.{IsReason}
+use Rattle.rule_law.specs.Plans.{literals_of}
+use Rattle.element_prop.specs.Elements.{HasToPick, pick_plan}
+use Rattle.element_prop.proofs.ElementLaws.{element, item_reason, out_reason}
+use Rattle.element_prop.proofs.element.prune_element.Goals as goal
+
+pub explain_pick-requires-clause-reason : goal.explain_pick-requires-clause-reason
+explain_pick-requires-clause-reason c =
+    let con = c.args.con.now in let domains = c.args.domains.now in let boxes = c.args.boxes.now in let vars = c.args.vars in let items = c.args.items.now in
+    let i = c.in-Item.i in
+    let said = c.in-Item.ensures in
+    let t = get_or items i (pos 0, 0) in
+    let out : c.index-boxes-out.result ≡ box_of boxes vars.0 = grind (arith, common_steps) in
+    let index : c.index-boxes-index.result ≡ box_of boxes vars.1 = grind (arith, common_steps) in
+    let picks : HasToPick (box_of boxes vars.1) t.0 (box_of boxes t.1) (box_of boxes vars.0) =
+    subst (λ (s : Ranges). HasToPick s t.0 (box_of boxes t.1) (box_of boxes vars.0)) index (subst (λ (s : Ranges). HasToPick c.index-boxes-index.result t.0 (box_of boxes t.1) s) out (said.1 (pos 0, 0))) in
+    let differ = c.if-not-are_different.ensures in
+    subst (λ (v : ℤ). IsReason con domains boxes (literals_of domains (pick_plan domains boxes vars.1 v t.1 vars.0))) (sym c.value_of-at.ensures)
+    (item_reason con domains boxes vars.0 vars.1 items i (pos 0, 0) (element con domains boxes vars.0 vars.1 items c.requires.is c.requires.well_made c.requires.boxes c.requires.sets) said.0 (c.requires.items i (pos 0, 0) said.0)
+    (differ.first refl) (differ.second refl) (differ.third refl) picks)
+
+pub explain_pick-requires-in-Out-clause-reason : goal.explain_pick-requires-in-Out-clause-reason
+explain_pick-requires-in-Out-clause-reason c =
+    let con = c.args.con.now in let domains = c.args.domains.now in let boxes = c.args.boxes.now in let vars = c.args.vars in let items = c.args.items.now in
+    let i = c.in-Out.i in
+    let said = c.in-Out.ensures in
+    let t = get_or items i (pos 0, 0) in
+    let out : c.index-boxes-out.result ≡ box_of boxes vars.0 = grind (arith, common_steps) in
+    let index : c.index-boxes-index.result ≡ box_of boxes vars.1 = grind (arith, common_steps) in
+    let picks : HasToPick (box_of boxes vars.1) t.0 (box_of boxes vars.0) (box_of boxes t.1) =
+    subst (λ (s : Ranges). HasToPick s t.0 (box_of boxes vars.0) (box_of boxes t.1)) index (subst (λ (s : Ranges). HasToPick c.index-boxes-index.result t.0 s (box_of boxes t.1)) out (said.1 (pos 0, 0))) in
+    let differ = c.if-not-are_different-2.ensures in
+    subst (λ (v : ℤ). IsReason con domains boxes (literals_of domains (pick_plan domains boxes vars.1 v vars.0 t.1))) (sym c.value_of-value.ensures)
+    (out_reason con domains boxes vars.0 vars.1 items i (pos 0, 0) (element con domains boxes vars.0 vars.1 items c.requires.is c.requires.well_made c.requires.boxes c.requires.sets) said.0 (c.requires.items i (pos 0, 0) said.0)
+    (differ.first refl) (differ.second refl) (differ.third refl) picks)

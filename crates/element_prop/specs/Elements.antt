@@ -1,0 +1,70 @@
+-- What the walk over an element's items finds. What a reader believes after this file: which clauses of three literals an element
+-- has to state in the boxes, where its variables are different.
+use Rattle.std.specs.Prelude.{◌≡◌, ℕ, suc, ◌<◌, ◌≤◌, Bool, true, false, not, ◌&&◌, ◌||◌, cond, ◌==◌, List, [], ◌∷◌, ℤ, pos, length, slice_index_or, ◌⊎◌}
+use Rattle.signed_clause.specs.Ranges.{Ranges, has, count_of}
+use Rattle.signed_clause.specs.SetAlgebra.{misses, inside, less}
+use Rattle.signed_clause.specs.Clauses.{Boxes, Literals, box_of}
+use Rattle.ground_form.specs.Meaning.{term_vars}
+use Rattle.rule_law.specs.Refuted.{fixed_at}
+use Rattle.rule_law.specs.Reasons.{has_number}
+use Rattle.element_prop.specs.declared.element.Finding.{Finding}
+use Rattle.element_prop.specs.declared.element.Finding.TheVariants.{Open, Item, Out}
+
+-- the index can be the value though the boxes have no common value, or is it though the one box isn't inside the other
+abbrev pub HasToPick : Ranges → ℤ → Ranges → Ranges → Type 0
+HasToPick index v box other =
+    ((has index v ≡ true) × (misses box other ≡ true)) ⊎ ((fixed_at index v ≡ true) × (inside box other ≡ false))
+
+-- what the clause leaves that says that the index isn't v, or a has a value that b's box has, or b is outside its box
+abbrev pub pick_plan : Boxes → Boxes → ℕ → ℤ → ℕ → ℕ → Literals
+pick_plan domains boxes x v a b = (x, (v, v) ∷ []) ∷ (a, less (box_of domains a) (box_of boxes b)) ∷ (b, box_of boxes b) ∷ []
+
+-- ---- an element that has nothing to say
+
+-- how many items' values the index can be
+abbrev pub count_possible : List (ℤ × ℕ) → Ranges → ℕ
+count_possible [] index = 0
+count_possible (t ∷ ts) index = cond (has index t.0) (suc (count_possible ts index)) (count_possible ts index)
+
+-- each item whose value the index can be can be out
+abbrev pub all_meet : List (ℤ × ℕ) → Ranges → Ranges → Boxes → Bool
+all_meet [] out index boxes = true
+all_meet (t ∷ ts) out index boxes = (not (has index t.0) || not (misses (box_of boxes t.1) out)) && all_meet ts out index boxes
+
+-- the box of one of them has all of out's
+abbrev pub some_covers : List (ℤ × ℕ) → Ranges → Ranges → Boxes → Bool
+some_covers [] out index boxes = false
+some_covers (t ∷ ts) out index boxes = (has index t.0 && inside out (box_of boxes t.1)) || some_covers ts out index boxes
+
+-- an item with the variable can be picked
+abbrev pub some_with : List (ℤ × ℕ) → ℕ → Ranges → Ranges → Boxes → Bool
+some_with [] x out index boxes = false
+some_with (t ∷ ts) x out index boxes =
+    (t.1 == x && (has index t.0 && not (misses (box_of boxes t.1) out))) || some_with ts x out index boxes
+
+-- an item with another variable can
+abbrev pub some_other : List (ℤ × ℕ) → ℕ → Ranges → Ranges → Boxes → Bool
+some_other [] x out index boxes = false
+some_other (t ∷ ts) x out index boxes =
+    (not (t.1 == x) && (has index t.0 && not (misses (box_of boxes t.1) out))) || some_other ts x out index boxes
+
+-- the variables are different, each value of the index is an item's, one item's box has all of out's, and two items of different
+-- variables can be picked
+pub record IsIdle (items : List (ℤ × ℕ)) (o x : ℕ) (boxes : Boxes) : Type 0 where
+  pub differ : o ≡ x → ⊥
+  pub out_apart : has_number o (term_vars items) ≡ false
+  pub index_apart : has_number x (term_vars items) ≡ false
+  pub met : all_meet items (box_of boxes o) (box_of boxes x) boxes ≡ true
+  pub full : count_of (box_of boxes x) ≤ count_possible items (box_of boxes x)
+  pub covered : some_covers items (box_of boxes o) (box_of boxes x) boxes ≡ true
+  pub var : ℕ
+  pub one : some_with items var (box_of boxes o) (box_of boxes x) boxes ≡ true
+  pub another : some_other items var (box_of boxes o) (box_of boxes x) boxes ≡ true
+
+-- what a finding says
+abbrev pub Says : List (ℤ × ℕ) → Ranges → Ranges → Boxes → Finding → Type 0
+Says items out index boxes Open = all_meet items out index boxes ≡ true
+Says items out index boxes (Item i) =
+    (i < length items) × ((d : ℤ × ℕ) → HasToPick index (slice_index_or items i d).0 (box_of boxes (slice_index_or items i d).1) out)
+Says items out index boxes (Out i) =
+    (i < length items) × ((d : ℤ × ℕ) → HasToPick index (slice_index_or items i d).0 out (box_of boxes (slice_index_or items i d).1))

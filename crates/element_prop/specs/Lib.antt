@@ -1,0 +1,5 @@
+pub mod Handled
+pub mod Within
+pub mod Equalities
+pub mod Conditionals
+pub mod Elements

@@ -1,0 +1,313 @@
+//! Elements.
+//!
+//! One walk over the items finds the first whose value the index can have though its variable and out have no common value, or
+//! whose value the index has though one of both has a value that the other lacks. Then the index isn't that value, or these two
+//! have a common value: a clause of three literals. Where no item tells anything, it mostly is plain that there is nothing to say:
+//! each value of the index has its item, one item can be whatever out can, and two can be picked. Else plain probing tells.
+ghost use Rattle.std.specs.Prelude.{◌≡◌, ◌<◌, ◌&&◌, ◌||◌, not, true, false, IfOk, IfSome, length, slice_index_or};
+ghost use Rattle.std.specs.List.{All};
+ghost use Rattle.signed_clause.specs.Ranges.{has, IsValid};
+ghost use Rattle.signed_clause.specs.SetAlgebra.{misses, inside};
+ghost use Rattle.signed_clause.specs.Clauses.{box_of};
+ghost use Rattle.ground_form.specs.declared.con.Con.TheVariants.{ElementDef};
+ghost use Rattle.ground_form.specs.Meaning.{term_vars};
+ghost use Rattle.ground_form.specs.WellMade.{IsWellMadeCon};
+ghost use Rattle.rule_law.specs.Answers.{AreBoxesWithin, IsAnswer, IsPruning};
+ghost use Rattle.rule_law.specs.Reasons.{IsReason, has_number};
+ghost use Rattle.rule_law.specs.Plans.{literals_of};
+ghost use Rattle.element_prop.specs.Elements.{HasToPick, pick_plan, Says, all_meet, count_possible, some_covers, some_other, IsIdle};
+
+use crate::equality::{alone, is_value};
+use ground_form::{Con, Number};
+use rule_law::{keep_out, probe, pruning};
+use signed_clause::{Clause, IntSet};
+use std::alloc::{AllocError, Global};
+
+/// What the items tell.
+#[derive(Clone, Copy)]
+pub enum Finding {
+    /// No single item tells anything.
+    Open,
+    /// The index isn't the value of the item at the place, or the item has a value that out's box has.
+    Item(usize),
+    /// The same, with out and the item exchanged.
+    Out(usize),
+}
+
+/// Whether the index can be the item's value though its box and that of out have no common value, or is it though the item's
+/// box isn't inside that of out.
+fn is_item_out(t: (i64, u32), out: &IntSet, index: &IntSet, boxes: &[IntSet]) -> bool
+    requires { t.1 < length boxes.now }
+    ensures said { result ≡ true → HasToPick index.now t.0 (box_of boxes.now t.1) out.now }
+    ensures met { result ≡ false → (not (has index.now t.0) || not (misses (box_of boxes.now t.1) out.now)) ≡ true }
+{
+    let at = &boxes[t.1 as usize];
+    index.contains(t.0)
+        && (at.disjoint(out) || (is_value(index, Number { value: t.0 }) && !at.within(out)))
+}
+
+/// Whether the index is the item's value though out's box isn't inside that of the item.
+fn is_out_out(t: (i64, u32), out: &IntSet, index: &IntSet, boxes: &[IntSet]) -> bool
+    requires { t.1 < length boxes.now }
+    ensures { result ≡ true → HasToPick index.now t.0 out.now (box_of boxes.now t.1) }
+{
+    is_value(index, Number { value: t.0 }) && !out.within(&boxes[t.1 as usize])
+}
+
+/// The first item that tells something.
+fn find(items: &[(i64, u32)], out: &IntSet, index: &IntSet, boxes: &[IntSet]) -> Finding
+    requires { All (λ t. t.1 < length boxes.now) items.now }
+    ensures { Says items.now out.now index.now boxes.now result }
+{
+    let mut i = 0;
+    while i < items.len() {
+        if is_item_out(items[i], out, index, boxes) {
+            return Finding::Item(i);
+        }
+        if is_out_out(items[i], out, index, boxes) {
+            return Finding::Out(i);
+        }
+        i += 1;
+    }
+    Finding::Open
+}
+
+/// Whether the index can be the item's value.
+fn is_possible(t: (i64, u32), index: &IntSet) -> bool
+    ensures { result ≡ has index.now t.0 }
+{
+    index.contains(t.0)
+}
+
+/// Whether the index can be the item's value, and the item can be out.
+fn can_pick(t: (i64, u32), out: &IntSet, index: &IntSet, boxes: &[IntSet]) -> bool
+    requires { t.1 < length boxes.now }
+    ensures { result ≡ (has index.now t.0 && not (misses (box_of boxes.now t.1) out.now)) }
+{
+    index.contains(t.0) && !boxes[t.1 as usize].disjoint(out)
+}
+
+/// Whether the index can be the item's value, and the item can be whatever out can.
+fn does_cover(t: (i64, u32), out: &IntSet, index: &IntSet, boxes: &[IntSet]) -> bool
+    requires { t.1 < length boxes.now }
+    ensures { result ≡ (has index.now t.0 && inside out.now (box_of boxes.now t.1)) }
+{
+    index.contains(t.0) && out.within(&boxes[t.1 as usize])
+}
+
+/// How many items' values the index can be.
+fn possible_items(items: &[(i64, u32)], index: &IntSet) -> usize
+    ensures { result ≡ count_possible items.now index.now }
+{
+    let mut count = 0;
+    let mut i = 0;
+    while i < items.len() {
+        if is_possible(items[i], index) {
+            count += 1;
+        }
+        i += 1;
+    }
+    count
+}
+
+/// Whether one of them can be whatever out can.
+fn is_covered(items: &[(i64, u32)], out: &IntSet, index: &IntSet, boxes: &[IntSet]) -> bool
+    requires { All (λ t. t.1 < length boxes.now) items.now }
+    ensures { result ≡ some_covers items.now out.now index.now boxes.now }
+{
+    for t in items {
+        if does_cover(*t, out, index, boxes) {
+            return true;
+        }
+    }
+    false
+}
+
+/// Whether an item has the variable.
+fn does_name(items: &[(i64, u32)], x: u32) -> bool
+    ensures { result ≡ has_number x (term_vars items.now) }
+{
+    for t in items {
+        if t.1 == x {
+            return true;
+        }
+    }
+    false
+}
+
+/// The place of the first item that can be picked.
+fn first_pick(items: &[(i64, u32)], out: &IntSet, index: &IntSet, boxes: &[IntSet]) -> Option<usize>
+    requires { All (λ t. t.1 < length boxes.now) items.now }
+    ensures within { IfSome result (λ i. i < length items.now) }
+    ensures can { IfSome result (λ i. (d : _) → (has index.now (slice_index_or items.now i d).0
+        && not (misses (box_of boxes.now (slice_index_or items.now i d).1) out.now)) ≡ true) }
+{
+    let mut i = 0;
+    while i < items.len() {
+        if can_pick(items[i], out, index, boxes) {
+            return Some(i);
+        }
+        i += 1;
+    }
+    None
+}
+
+/// Whether an item of another variable can be picked.
+fn has_another(items: &[(i64, u32)], x: u32, out: &IntSet, index: &IntSet, boxes: &[IntSet]) -> bool
+    requires { All (λ t. t.1 < length boxes.now) items.now }
+    ensures { result ≡ some_other items.now x out.now index.now boxes.now }
+{
+    for t in items {
+        if t.1 != x && can_pick(*t, out, index, boxes) {
+            return true;
+        }
+    }
+    false
+}
+
+/// Whether it is plain that there is nothing to say: the variables are different, each value of the index is an item's, one
+/// item can be whatever out can, and two items of different variables can be picked.
+fn is_idle(items: &[(i64, u32)], vars: (u32, u32), boxes: &[IntSet]) -> bool
+    requires out { vars.0 < length boxes.now }
+    requires index { vars.1 < length boxes.now }
+    requires items { All (λ t. t.1 < length boxes.now) items.now }
+    requires met { all_meet items.now (box_of boxes.now vars.0) (box_of boxes.now vars.1) boxes.now ≡ true }
+    ensures { result ≡ true → IsIdle items.now vars.0 vars.1 boxes.now }
+{
+    let out = &boxes[vars.0 as usize];
+    let index = &boxes[vars.1 as usize];
+    if vars.0 == vars.1 || does_name(items, vars.0) || does_name(items, vars.1) {
+        return false;
+    }
+    if !index.at_most(possible_items(items, index) as u64)
+        || !is_covered(items, out, index, boxes)
+    {
+        return false;
+    }
+    match first_pick(items, out, index, boxes) {
+        Some(i) => has_another(items, items[i].1, out, index, boxes),
+        None => false,
+    }
+}
+
+/// What an element of which no single item tells anything has to say.
+fn prune_open(
+    con: &Con,
+    vars: (u32, u32),
+    items: &[(i64, u32)],
+    domains: &[IntSet],
+    boxes: &[IntSet],
+    alloc: Global,
+) -> Result<Option<Clause>, AllocError>
+    requires is { con.now ≡ ElementDef vars.0 vars.1 items.now }
+    requires well_made { IsWellMadeCon domains.now con.now }
+    requires boxes { AreBoxesWithin domains.now boxes.now }
+    requires sets { All (λ d. IsValid d) domains.now }
+    requires out { vars.0 < length boxes.now }
+    requires index { vars.1 < length boxes.now }
+    requires items { All (λ t. t.1 < length boxes.now) items.now }
+    requires met { all_meet items.now (box_of boxes.now vars.0) (box_of boxes.now vars.1) boxes.now ≡ true }
+    ensures answer { IfOk result (λ a. IsAnswer con.now domains.now boxes.now a) }
+{
+    if is_idle(items, vars, boxes) {
+        Ok(None)
+    } else {
+        probe(con, domains, boxes, alloc)
+    }
+}
+
+/// The clause that the index isn't the value, or `var` has a value that the box of `other` has, or that other is outside it.
+fn explain_pick(
+    con: &Con,
+    index: (u32, Number),
+    var: u32,
+    other: u32,
+    domains: &[IntSet],
+    boxes: &[IntSet],
+    alloc: Global,
+) -> Result<Clause, AllocError>
+    requires index { index.0 < length domains.now }
+    requires var { var < length domains.now }
+    requires other { other < length domains.now }
+    requires size { length boxes.now ≡ length domains.now }
+    requires reason { IsReason con.now domains.now boxes.now (literals_of domains.now (pick_plan domains.now boxes.now index.0 index.1.value var other)) }
+    ensures pruning { IfOk result (λ c. IsPruning con.now domains.now boxes.now c) }
+{
+    let outside = domains[var as usize].less(&boxes[other as usize])?;
+    let mut literals = Vec::new(alloc);
+    keep_out(
+        &mut literals,
+        index.0,
+        &domains[index.0 as usize],
+        &alone(alloc, index.1),
+    )?;
+    keep_out(&mut literals, var, &domains[var as usize], &outside)?;
+    keep_out(
+        &mut literals,
+        other,
+        &domains[other as usize],
+        &boxes[other as usize],
+    )?;
+    Ok(pruning(con, domains, boxes, literals))
+}
+
+/// The item's value.
+fn value_of(t: (i64, u32)) -> Number
+    ensures { result.value ≡ t.0 }
+{
+    Number { value: t.0 }
+}
+
+/// Whether three variables are different.
+fn are_different(x: u32, y: u32, z: u32) -> bool
+    ensures first { result ≡ true → y ≡ x → ⊥ }
+    ensures second { result ≡ true → z ≡ x → ⊥ }
+    ensures third { result ≡ true → z ≡ y → ⊥ }
+{
+    x != y && x != z && y != z
+}
+
+/// What an element has to say in the boxes: of out, the index and the items.
+///
+/// # Errors
+/// Want of memory.
+pub fn prune_element(
+    con: &Con,
+    vars: (u32, u32),
+    items: &[(i64, u32)],
+    domains: &[IntSet],
+    boxes: &[IntSet],
+    alloc: Global,
+) -> Result<Option<Clause>, AllocError>
+    requires is { con.now ≡ ElementDef vars.0 vars.1 items.now }
+    requires well_made { IsWellMadeCon domains.now con.now }
+    requires boxes { AreBoxesWithin domains.now boxes.now }
+    requires sets { All (λ d. IsValid d) domains.now }
+    requires out { vars.0 < length domains.now }
+    requires index { vars.1 < length domains.now }
+    requires items { All (λ t. t.1 < length domains.now) items.now }
+    ensures answer { IfOk result (λ a. IsAnswer con.now domains.now boxes.now a) }
+{
+    let (out, index) = vars;
+    match find(items, &boxes[out as usize], &boxes[index as usize], boxes) {
+        Finding::Open => prune_open(con, vars, items, domains, boxes, alloc),
+        Finding::Item(i) => {
+            let t = items[i];
+            if !are_different(index, t.1, out) {
+                return probe(con, domains, boxes, alloc);
+            }
+            let at = value_of(t);
+            let clause = explain_pick(con, (index, at), t.1, out, domains, boxes, alloc)?;
+            Ok(Some(clause))
+        }
+        Finding::Out(i) => {
+            let t = items[i];
+            if !are_different(index, t.1, out) {
+                return probe(con, domains, boxes, alloc);
+            }
+            let value = value_of(t);
+            let clause = explain_pick(con, (index, value), out, t.1, domains, boxes, alloc)?;
+            Ok(Some(clause))
+        }
+    }
+}

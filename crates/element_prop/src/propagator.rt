@@ -1,0 +1,87 @@
+//! `ElementProp`, the propagator of elements, equalities and conditionals.
+ghost use Rattle.std.specs.Prelude.{◌≡◌, ◌<◌, true, length, slice_get, IfOk, IfSome};
+ghost use Rattle.std.specs.List.{All};
+ghost use Rattle.signed_clause.specs.Ranges.{IsValid};
+ghost use Rattle.ground_form.specs.Kinds as kinds;
+ghost use Rattle.ground_form.specs.WellMade.{IsWellMade, IsWellMadeCon};
+ghost use Rattle.rule_law.specs.Answers.{AreBoxesWithin, IsAnswer};
+ghost use Rattle.element_prop.specs.Handled.{is_choice};
+
+use crate::conditional::prune_conditional;
+use crate::element::prune_element;
+use crate::equality::prune_equality;
+use ground_form::{Con, Ground, Kind};
+use rule_law::{Propagator, probe};
+use signed_clause::{Clause, IntSet};
+use std::alloc::{AllocError, Global};
+
+/// The propagator of elements, equalities and conditionals. It keeps nothing between calls: the boxes of two or three variables
+/// tell at once whether there is something to say.
+#[derive(Drop)]
+pub struct ElementProp {
+    alloc: Global,
+}
+
+impl ElementProp {
+    /// The propagator. It takes no memory.
+    pub fn new(alloc: Global) -> ElementProp {
+        ElementProp { alloc }
+    }
+}
+
+/// Whether a kind is one of elements, equalities or conditionals.
+fn is_choice(kind: Kind) -> bool
+    ensures { result ≡ is_choice kind }
+{
+    matches!(kind, Kind::EqDef | Kind::ElementDef | Kind::CondDef)
+}
+
+/// What a constraint has to say in the boxes.
+pub(crate) fn prune_one(
+    con: &Con,
+    domains: &[IntSet],
+    boxes: &[IntSet],
+    alloc: Global,
+) -> Result<Option<Clause>, AllocError>
+    requires well_made { IsWellMadeCon domains.now con.now }
+    requires boxes { AreBoxesWithin domains.now boxes.now }
+    requires sets { All (λ d. IsValid d) domains.now }
+    ensures answer { IfOk result (λ a. IsAnswer con.now domains.now boxes.now a) }
+{
+    match con {
+        Con::EqDef { flag, left, right } => {
+            prune_equality(con, (*flag, *left, *right), domains, boxes, alloc)
+        }
+        Con::ElementDef { out, index, items } => {
+            prune_element(con, (*out, *index), items.items(), domains, boxes, alloc)
+        }
+        Con::CondDef { out, flag, item } => {
+            prune_conditional(con, (*out, *flag, *item), domains, boxes, alloc)
+        }
+        _ => probe(con, domains, boxes, alloc),
+    }
+}
+
+impl Propagator for ElementProp {
+    ghost handled = { λ p kind. is_choice kind };
+
+    fn handles(&self, kind: Kind) -> bool {
+        is_choice(kind)
+    }
+
+    fn begin(&mut self) {}
+
+    fn prune(
+        &mut self,
+        g: &Ground,
+        k: u32,
+        boxes: &[IntSet],
+    ) -> Result<Option<Clause>, AllocError> {
+        prune_one(
+            &g.cons.items()[k as usize],
+            g.domains.items(),
+            boxes,
+            self.alloc,
+        )
+    }
+}

@@ -1,0 +1,16 @@
+pub mod Spreads
+pub mod RowTerms
+pub mod Products
+pub mod WalkSteps
+pub mod Falling
+pub mod Literals
+pub mod Turning
+pub mod RowFacts
+pub mod Causes
+pub mod Quieting
+pub mod KindLaws
+pub mod QuietKinds
+pub mod KindAnswers
+pub mod Distinct
+pub mod UpTo
+pub mod TestRows

@@ -1,0 +1,20 @@
+use Rattle.std.proofs.Common.{arith}
+use Rattle.std.proofs.lemmas.Int.{ints}
+use Rattle.rule_law.proofs.EndLaws.{are_sets}
+use Rattle.linear_prop.proofs.KindLaws.{over_zero, flag_apart_turned}
+use Rattle.linear_prop.proofs.KindAnswers.{follows_zero_con, open_zero}
+use Rattle.linear_prop.proofs.kinds.open_zero_answer.Goals as goal
+
+pub open_answer-requires-clause-over : goal.open_answer-requires-clause-over
+open_answer-requires-clause-over c = over_zero c.args.flag c.args.terms.now c.args.bound c.args.domains.now c.args.boxes.now c.requires.well_made c.requires.sets c.requires.boxes c.requires.differ
+
+pub open_answer-requires-clause-apart : goal.open_answer-requires-clause-apart
+open_answer-requires-clause-apart c = flag_apart_turned c.args.flag c.args.terms.now c.requires.differ
+
+pub open_answer-requires-clause-open : goal.open_answer-requires-clause-open
+open_answer-requires-clause-open c = open_zero c.args.flag c.args.boxes.now (are_sets c.args.boxes.now c.requires.boxes.sets c.args.flag) c.requires.open
+
+pub open_answer-requires-clause-follows : goal.open_answer-requires-clause-follows
+open_answer-requires-clause-follows c o h n =
+    let v = c.turned_bound.ensures.value in let r = c.ranges.bound in
+    follows_zero_con c.args.con.now c.args.flag c.args.terms.now c.args.bound c.turned_bound.result.value c.args.domains.now o c.requires.con (omega (arith, ints)) h n

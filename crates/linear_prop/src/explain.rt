@@ -1,0 +1,160 @@
+//! Explanations: the literals of a row that has something to say.
+//!
+//! A walk over the terms lets each fall as far as the slack permits, the first ones first (`fall`). The literals that this asks
+//! for are those of different variables, since no variable of the row has two terms. With what they leave of the domains the
+//! row's least sum is still above its bound.
+ghost use Rattle.std.specs.Prelude.{◌≡◌, ◌<◌, ◌≤◌, ◌^◌, ◌+◌, ◌*ℤ◌, ◌≤ℤ◌, ◌≢◌, ℕ, pos, length, IfOk, OnOk};
+ghost use Rattle.signed_clause.specs.Clauses.{box_of};
+ghost use Rattle.ground_form.specs.Bounds.{greatest_term, term_weight, low_of, high_of};
+ghost use Rattle.linear_prop.specs.Rows.{terms_of};
+ghost use Rattle.linear_prop.specs.Turns.{with_literal};
+ghost use Rattle.linear_prop.specs.Explaining.{IsCause, IsSoFar, IsTurn, IsRowOver};
+
+use crate::fall::{Fall, fall_of, lowest};
+use crate::row::{Row, factor_of};
+use crate::wide::Wide;
+use signed_clause::IntSet;
+use std::alloc::{AllocError, Global};
+
+/// Why a row has something to say.
+#[derive(Clone, Copy)]
+pub struct Cause {
+    /// The place of the term whose variable is pruned; the row's length where the row is refuted.
+    pub place: usize,
+    /// The first value of that variable that is taken away.
+    pub to: Wide,
+    /// By how much more the sum is above the bound than it has to be.
+    pub slack: u128,
+}
+
+/// The set of the variable.
+pub fn set_at<'a>(sets: &'a [IntSet], x: u32) -> &'a IntSet
+    requires { x < length sets.now }
+    ensures { result.now ≡ box_of sets.now x }
+{
+    &sets[x as usize]
+}
+
+/// Adds the literal of the variable, where the term needs one.
+fn put(out: &mut Vec<(u32, IntSet)>, x: u32, literal: Option<IntSet>) -> Result<(), AllocError>
+    ensures { OnOk result (out.new.items ≡ with_literal out.old.items x literal) }
+{
+    if let Some(set) = literal {
+        out.push((x, set))?;
+    }
+    Ok(())
+}
+
+/// The turn at a term that isn't the one at the place: it may fall from the least that it is in its box.
+fn turn_elsewhere(
+    alloc: Global,
+    row: &Row,
+    cause: Cause,
+    i: usize,
+    t: (i128, u32),
+    slack: u128,
+    domains: &[IntSet],
+    boxes: &[IntSet],
+    out: &mut Vec<(u32, IntSet)>,
+) -> Result<u128, AllocError>
+    requires turn { IsTurn (terms_of row.now) domains.now boxes.now i t }
+    requires domain { t.1 < length domains.now }
+    requires fits { term_weight t domains.now ≤ 2 ^ 64 }
+    requires so_far { IsSoFar (terms_of row.now) domains.now boxes.now row.now.bound.value cause.place cause.to.value i out.old.items slack }
+    requires other { i ≢ cause.place }
+    ensures { IfOk result (λ left. IsSoFar (terms_of row.now) domains.now boxes.now row.now.bound.value cause.place cause.to.value (i + 1) out.new.items left) }
+{
+    let c = factor_of(t);
+    let domain = set_at(domains, t.1);
+    let at = lowest(c, set_at(boxes, t.1));
+    let f = fall_of(alloc, c, at, slack, domain)?;
+    let left = f.left;
+    put(out, t.1, f.literal)?;
+    Ok(left)
+}
+
+/// The turn at the term at the place: it falls no further than to where its variable is the first value that is taken away.
+fn turn_at_place(
+    alloc: Global,
+    row: &Row,
+    cause: Cause,
+    i: usize,
+    t: (i128, u32),
+    slack: u128,
+    domains: &[IntSet],
+    boxes: &[IntSet],
+    out: &mut Vec<(u32, IntSet)>,
+) -> Result<u128, AllocError>
+    requires turn { IsTurn (terms_of row.now) domains.now boxes.now i t }
+    requires domain { t.1 < length domains.now }
+    requires fits { term_weight t domains.now ≤ 2 ^ 64 }
+    requires cause { IsCause (terms_of row.now) boxes.now row.now.bound.value cause.place cause.to.value cause.slack }
+    requires so_far { IsSoFar (terms_of row.now) domains.now boxes.now row.now.bound.value cause.place cause.to.value i out.old.items slack }
+    requires place { i ≡ cause.place }
+    ensures { IfOk result (λ left. IsSoFar (terms_of row.now) domains.now boxes.now row.now.bound.value cause.place cause.to.value (i + 1) out.new.items left) }
+{
+    let c = factor_of(t);
+    let domain = set_at(domains, t.1);
+    let f = fall_of(alloc, c, cause.to, 0, domain)?;
+    put(out, t.1, f.literal)?;
+    Ok(slack)
+}
+
+/// The turn at term `i`.
+fn turn(
+    alloc: Global,
+    row: &Row,
+    cause: Cause,
+    i: usize,
+    t: (i128, u32),
+    slack: u128,
+    domains: &[IntSet],
+    boxes: &[IntSet],
+    out: &mut Vec<(u32, IntSet)>,
+) -> Result<u128, AllocError>
+    requires turn { IsTurn (terms_of row.now) domains.now boxes.now i t }
+    requires domain { t.1 < length domains.now }
+    requires fits { term_weight t domains.now ≤ 2 ^ 64 }
+    requires cause { IsCause (terms_of row.now) boxes.now row.now.bound.value cause.place cause.to.value cause.slack }
+    requires so_far { IsSoFar (terms_of row.now) domains.now boxes.now row.now.bound.value cause.place cause.to.value i out.old.items slack }
+    ensures { IfOk result (λ left. IsSoFar (terms_of row.now) domains.now boxes.now row.now.bound.value cause.place cause.to.value (i + 1) out.new.items left) }
+{
+    if i == cause.place {
+        let left = turn_at_place(alloc, row, cause, i, t, slack, domains, boxes, out)?;
+        Ok(left)
+    } else {
+        let left = turn_elsewhere(alloc, row, cause, i, t, slack, domains, boxes, out)?;
+        Ok(left)
+    }
+}
+
+/// The literals of a row that has something to say, added to those that are there.
+pub fn explain(
+    alloc: Global,
+    row: &Row,
+    cause: Cause,
+    domains: &[IntSet],
+    boxes: &[IntSet],
+    out: &mut Vec<(u32, IntSet)>,
+) -> Result<u128, AllocError>
+    requires over { IsRowOver (terms_of row.now) domains.now boxes.now }
+    requires cause { IsCause (terms_of row.now) boxes.now row.now.bound.value cause.place cause.to.value cause.slack }
+    requires so_far { IsSoFar (terms_of row.now) domains.now boxes.now row.now.bound.value cause.place cause.to.value 0 out.old.items cause.slack }
+    ensures { IfOk result (λ left. IsSoFar (terms_of row.now) domains.now boxes.now row.now.bound.value cause.place cause.to.value (length (terms_of row.now)) out.new.items left) }
+{
+    let mut slack = cause.slack;
+    for i in 0..row.len() {
+        slack = turn(
+            alloc,
+            row,
+            cause,
+            i,
+            row.term(i),
+            slack,
+            domains,
+            boxes,
+            out,
+        )?;
+    }
+    Ok(slack)
+}

@@ -1,0 +1,358 @@
+//! The three kinds, each as its rows.
+//!
+//! A sum with a bound is one row. A sum that defines a variable is two: the sum less the variable, and the variable less the
+//! sum. Of a flag that says whether a sum keeps a bound, the one row holds where the flag is 1, and the other, with turned
+//! signs, where it is 0; where the flag is open each only tells the flag.
+ghost use Rattle.std.specs.Prelude.{◌≡◌, ◌<◌, true, false, length, ℤ, pos, negsuc, ◌-ℤ◌, ◌∷◌, ◌≤◌, ◌^◌, unsigned_abs, IfOk};
+ghost use Rattle.std.specs.List.{All};
+ghost use Rattle.ground_form.specs.declared.con.Con.TheVariants as con_kind;
+ghost use Rattle.ground_form.specs.Meaning.{term_vars, vars_of};
+ghost use Rattle.ground_form.specs.WellMade.{IsWellMadeCon};
+ghost use Rattle.rule_law.specs.Reasons.{no_repeat};
+ghost use Rattle.rule_law.specs.Answers.{AreBoxesWithin, IsAnswer};
+ghost use Rattle.signed_clause.specs.Ranges.{has, IsValid};
+ghost use Rattle.signed_clause.specs.Clauses.{box_of};
+ghost use Rattle.linear_prop.specs.Rows.{negated};
+ghost use Rattle.linear_prop.specs.RowAnswers.{IsRowAnswer, IsSumAnswer};
+
+use crate::row::Row;
+use crate::row_clauses::{fixed_answer, open_answer, row_answer};
+use crate::wide::Wide;
+use ground_form::{Con, Number};
+use rule_law::probe;
+use signed_clause::{Clause, IntSet};
+use std::alloc::{AllocError, Global};
+
+/// The answer of a sum with a bound, in which no variable stands twice.
+fn at_most_answer(
+    alloc: Global,
+    con: &Con,
+    terms: &[(i64, u32)],
+    bound: i64,
+    domains: &[IntSet],
+    boxes: &[IntSet],
+) -> Result<Option<Clause>, AllocError>
+    requires con { con.now ≡ con_kind.LinLe terms.now bound }
+    requires well_made { IsWellMadeCon domains.now (con_kind.LinLe terms.now bound) }
+    requires sets { All (λ d. IsValid d) domains.now }
+    requires boxes { AreBoxesWithin domains.now boxes.now }
+    requires differ { no_repeat (term_vars terms.now) ≡ true }
+    ensures { IfOk result (λ answer. IsAnswer con.now domains.now boxes.now answer) }
+{
+    let row = Row {
+        head: None,
+        terms,
+        turned: false,
+        bound: Wide::of(bound),
+    };
+    let answer = row_answer(alloc, con, &row, domains, boxes)?;
+    Ok(answer)
+}
+
+/// The bound of the row 'the sum less the variable'.
+fn less_offset(offset: i64) -> Wide
+    ensures value { result.value ≡ pos 0 -ℤ offset }
+    ensures fits { unsigned_abs result.value ≤ 2 ^ 64 }
+{
+    Wide::of(0).minus(Wide::of(offset))
+}
+
+/// The bound of a row with turned signs that says that the sum is above the bound.
+fn turned_bound(bound: i64) -> Wide
+    ensures value { result.value ≡ negsuc 0 -ℤ bound }
+    ensures fits { unsigned_abs result.value ≤ 2 ^ 64 }
+{
+    Wide::of(-1).minus(Wide::of(bound))
+}
+
+/// The answer of the row 'the sum less the variable'.
+fn up_answer(
+    alloc: Global,
+    con: &Con,
+    out: u32,
+    terms: &[(i64, u32)],
+    offset: i64,
+    domains: &[IntSet],
+    boxes: &[IntSet],
+) -> Result<Option<Clause>, AllocError>
+    requires con { con.now ≡ con_kind.LinDef out terms.now offset }
+    requires well_made { IsWellMadeCon domains.now (con_kind.LinDef out terms.now offset) }
+    requires sets { All (λ d. IsValid d) domains.now }
+    requires boxes { AreBoxesWithin domains.now boxes.now }
+    requires differ { no_repeat (out ∷ term_vars terms.now) ≡ true }
+    ensures { IfOk result (λ answer. IsRowAnswer con.now ((negsuc 0, out) ∷ terms.now) (pos 0 -ℤ offset) domains.now boxes.now answer) }
+{
+    let row = Row {
+        head: Some((-1, out)),
+        terms,
+        turned: false,
+        bound: less_offset(offset),
+    };
+    let answer = row_answer(alloc, con, &row, domains, boxes)?;
+    Ok(answer)
+}
+
+/// The answer of the row 'the variable less the sum'.
+fn down_answer(
+    alloc: Global,
+    con: &Con,
+    out: u32,
+    terms: &[(i64, u32)],
+    offset: i64,
+    domains: &[IntSet],
+    boxes: &[IntSet],
+) -> Result<Option<Clause>, AllocError>
+    requires con { con.now ≡ con_kind.LinDef out terms.now offset }
+    requires well_made { IsWellMadeCon domains.now (con_kind.LinDef out terms.now offset) }
+    requires sets { All (λ d. IsValid d) domains.now }
+    requires boxes { AreBoxesWithin domains.now boxes.now }
+    requires differ { no_repeat (out ∷ term_vars terms.now) ≡ true }
+    ensures { IfOk result (λ answer. IsRowAnswer con.now ((pos 1, out) ∷ negated terms.now) offset domains.now boxes.now answer) }
+{
+    let row = Row {
+        head: Some((1, out)),
+        terms,
+        turned: true,
+        bound: Wide::of(offset),
+    };
+    let answer = row_answer(alloc, con, &row, domains, boxes)?;
+    Ok(answer)
+}
+
+/// The answer of a sum that defines a variable, in which no variable stands twice.
+fn sum_answer(
+    alloc: Global,
+    con: &Con,
+    out: u32,
+    terms: &[(i64, u32)],
+    offset: i64,
+    domains: &[IntSet],
+    boxes: &[IntSet],
+) -> Result<Option<Clause>, AllocError>
+    requires con { con.now ≡ con_kind.LinDef out terms.now offset }
+    requires well_made { IsWellMadeCon domains.now (con_kind.LinDef out terms.now offset) }
+    requires sets { All (λ d. IsValid d) domains.now }
+    requires boxes { AreBoxesWithin domains.now boxes.now }
+    requires differ { no_repeat (out ∷ term_vars terms.now) ≡ true }
+    ensures { IfOk result (λ answer. IsAnswer con.now domains.now boxes.now answer) }
+{
+    let up = up_answer(alloc, con, out, terms, offset, domains, boxes)?;
+    match up {
+        Some(clause) => Ok(Some(clause)),
+        None => {
+            let down = down_answer(alloc, con, out, terms, offset, domains, boxes)?;
+            Ok(down)
+        }
+    }
+}
+
+/// The answer of a flag that says whether a sum keeps a bound, in which no variable stands twice, where the flag is 1.
+fn one_answer(
+    alloc: Global,
+    con: &Con,
+    flag: u32,
+    terms: &[(i64, u32)],
+    bound: i64,
+    domains: &[IntSet],
+    boxes: &[IntSet],
+) -> Result<Option<Clause>, AllocError>
+    requires con { con.now ≡ con_kind.ReifLe flag terms.now bound }
+    requires well_made { IsWellMadeCon domains.now (con_kind.ReifLe flag terms.now bound) }
+    requires sets { All (λ d. IsValid d) domains.now }
+    requires boxes { AreBoxesWithin domains.now boxes.now }
+    requires differ { no_repeat (flag ∷ term_vars terms.now) ≡ true }
+    requires fixed { has (box_of boxes.now flag) (pos 0) ≡ false }
+    ensures { IfOk result (λ answer. IsAnswer con.now domains.now boxes.now answer) }
+{
+    let row = Row {
+        head: None,
+        terms,
+        turned: false,
+        bound: Wide::of(bound),
+    };
+    let answer = fixed_answer(alloc, con, &row, flag, Number { value: 0 }, domains, boxes)?;
+    Ok(answer)
+}
+
+/// The same where the flag is 0.
+fn zero_answer(
+    alloc: Global,
+    con: &Con,
+    flag: u32,
+    terms: &[(i64, u32)],
+    bound: i64,
+    domains: &[IntSet],
+    boxes: &[IntSet],
+) -> Result<Option<Clause>, AllocError>
+    requires con { con.now ≡ con_kind.ReifLe flag terms.now bound }
+    requires well_made { IsWellMadeCon domains.now (con_kind.ReifLe flag terms.now bound) }
+    requires sets { All (λ d. IsValid d) domains.now }
+    requires boxes { AreBoxesWithin domains.now boxes.now }
+    requires differ { no_repeat (flag ∷ term_vars terms.now) ≡ true }
+    requires fixed { has (box_of boxes.now flag) (pos 1) ≡ false }
+    ensures { IfOk result (λ answer. IsAnswer con.now domains.now boxes.now answer) }
+{
+    let row = Row {
+        head: None,
+        terms,
+        turned: true,
+        bound: turned_bound(bound),
+    };
+    let answer = fixed_answer(alloc, con, &row, flag, Number { value: 1 }, domains, boxes)?;
+    Ok(answer)
+}
+
+/// The answer of an open flag by the row that holds where it is 1.
+fn open_one_answer(
+    alloc: Global,
+    con: &Con,
+    flag: u32,
+    terms: &[(i64, u32)],
+    bound: i64,
+    domains: &[IntSet],
+    boxes: &[IntSet],
+) -> Result<Option<Clause>, AllocError>
+    requires con { con.now ≡ con_kind.ReifLe flag terms.now bound }
+    requires well_made { IsWellMadeCon domains.now (con_kind.ReifLe flag terms.now bound) }
+    requires sets { All (λ d. IsValid d) domains.now }
+    requires boxes { AreBoxesWithin domains.now boxes.now }
+    requires differ { no_repeat (flag ∷ term_vars terms.now) ≡ true }
+    requires open { has (box_of boxes.now flag) (pos 1) ≡ true }
+    ensures { IfOk result (λ answer. IsSumAnswer con.now terms.now bound domains.now boxes.now answer) }
+{
+    let row = Row {
+        head: None,
+        terms,
+        turned: false,
+        bound: Wide::of(bound),
+    };
+    let answer = open_answer(alloc, con, &row, flag, Number { value: 0 }, domains, boxes)?;
+    Ok(answer)
+}
+
+/// The answer of an open flag by the row that holds where it is 0.
+fn open_zero_answer(
+    alloc: Global,
+    con: &Con,
+    flag: u32,
+    terms: &[(i64, u32)],
+    bound: i64,
+    domains: &[IntSet],
+    boxes: &[IntSet],
+) -> Result<Option<Clause>, AllocError>
+    requires con { con.now ≡ con_kind.ReifLe flag terms.now bound }
+    requires well_made { IsWellMadeCon domains.now (con_kind.ReifLe flag terms.now bound) }
+    requires sets { All (λ d. IsValid d) domains.now }
+    requires boxes { AreBoxesWithin domains.now boxes.now }
+    requires differ { no_repeat (flag ∷ term_vars terms.now) ≡ true }
+    requires open { has (box_of boxes.now flag) (pos 0) ≡ true }
+    ensures { IfOk result (λ answer. IsSumAnswer con.now (negated terms.now) (negsuc 0 -ℤ bound) domains.now boxes.now answer) }
+{
+    let row = Row {
+        head: None,
+        terms,
+        turned: true,
+        bound: turned_bound(bound),
+    };
+    let answer = open_answer(alloc, con, &row, flag, Number { value: 1 }, domains, boxes)?;
+    Ok(answer)
+}
+
+/// The answer of an open flag.
+fn flag_answer(
+    alloc: Global,
+    con: &Con,
+    flag: u32,
+    terms: &[(i64, u32)],
+    bound: i64,
+    domains: &[IntSet],
+    boxes: &[IntSet],
+) -> Result<Option<Clause>, AllocError>
+    requires con { con.now ≡ con_kind.ReifLe flag terms.now bound }
+    requires well_made { IsWellMadeCon domains.now (con_kind.ReifLe flag terms.now bound) }
+    requires sets { All (λ d. IsValid d) domains.now }
+    requires boxes { AreBoxesWithin domains.now boxes.now }
+    requires differ { no_repeat (flag ∷ term_vars terms.now) ≡ true }
+    requires open_one { has (box_of boxes.now flag) (pos 1) ≡ true }
+    requires open_zero { has (box_of boxes.now flag) (pos 0) ≡ true }
+    ensures { IfOk result (λ answer. IsAnswer con.now domains.now boxes.now answer) }
+{
+    let one = open_one_answer(alloc, con, flag, terms, bound, domains, boxes)?;
+    match one {
+        Some(clause) => Ok(Some(clause)),
+        None => {
+            let other = open_zero_answer(alloc, con, flag, terms, bound, domains, boxes)?;
+            Ok(other)
+        }
+    }
+}
+
+/// The answer of a flag that says whether a sum keeps a bound, in which no variable stands twice.
+fn reified_answer(
+    alloc: Global,
+    con: &Con,
+    flag: u32,
+    terms: &[(i64, u32)],
+    bound: i64,
+    domains: &[IntSet],
+    boxes: &[IntSet],
+) -> Result<Option<Clause>, AllocError>
+    requires con { con.now ≡ con_kind.ReifLe flag terms.now bound }
+    requires well_made { IsWellMadeCon domains.now (con_kind.ReifLe flag terms.now bound) }
+    requires sets { All (λ d. IsValid d) domains.now }
+    requires boxes { AreBoxesWithin domains.now boxes.now }
+    requires differ { no_repeat (flag ∷ term_vars terms.now) ≡ true }
+    ensures { IfOk result (λ answer. IsAnswer con.now domains.now boxes.now answer) }
+{
+    if !has_value(boxes, flag, 0) {
+        let answer = one_answer(alloc, con, flag, terms, bound, domains, boxes)?;
+        return Ok(answer);
+    }
+    if !has_value(boxes, flag, 1) {
+        let answer = zero_answer(alloc, con, flag, terms, bound, domains, boxes)?;
+        return Ok(answer);
+    }
+    let answer = flag_answer(alloc, con, flag, terms, bound, domains, boxes)?;
+    Ok(answer)
+}
+
+/// Whether the variable's box has the value.
+fn has_value(boxes: &[IntSet], x: u32, v: i64) -> bool
+    requires { x < length boxes.now }
+    ensures { result ≡ has (box_of boxes.now x) v }
+{
+    boxes[x as usize].contains(v)
+}
+
+/// The answer of a constraint of one of the three kinds in which no variable stands twice; of another kind by probing.
+pub fn linear_answer(
+    alloc: Global,
+    con: &Con,
+    domains: &[IntSet],
+    boxes: &[IntSet],
+) -> Result<Option<Clause>, AllocError>
+    requires well_made { IsWellMadeCon domains.now con.now }
+    requires sets { All (λ d. IsValid d) domains.now }
+    requires boxes { AreBoxesWithin domains.now boxes.now }
+    requires differ { no_repeat (vars_of con.now) ≡ true }
+    ensures { IfOk result (λ answer. IsAnswer con.now domains.now boxes.now answer) }
+{
+    match con {
+        Con::LinLe { terms, bound } => {
+            let answer = at_most_answer(alloc, con, terms.items(), *bound, domains, boxes)?;
+            Ok(answer)
+        }
+        Con::LinDef { out, terms, offset } => {
+            let answer = sum_answer(alloc, con, *out, terms.items(), *offset, domains, boxes)?;
+            Ok(answer)
+        }
+        Con::ReifLe { flag, terms, bound } => {
+            let answer = reified_answer(alloc, con, *flag, terms.items(), *bound, domains, boxes)?;
+            Ok(answer)
+        }
+        _ => {
+            let answer = probe(con, domains, boxes, alloc)?;
+            Ok(answer)
+        }
+    }
+}

@@ -1,0 +1,32 @@
+//! The propagator of the linear kinds: sums with a bound, sums that define a variable, and flags that say whether a sum keeps
+//! a bound.
+//!
+//! All three come down to rows: an inequality over terms. A walk over the terms adds up the least sum and finds the term
+//! that can rise the most above its least; these two numbers tell whether the row has something to say.
+//!
+//! - `wide`: numbers in which no sum or product of such a walk wraps.
+//! - `row`: an inequality, read from a constraint's terms without a copy.
+//! - `survey`: the walk.
+//! - `fall`: how far an explanation lets a term fall.
+//! - `explain`: the walk that makes an explanation.
+//! - `cause`: whether a row has something to say.
+//! - `row_clauses`: the clause that it gives.
+//! - `kinds`: the rows of each kind.
+//! - `differing`: whether no variable stands twice in a constraint, and what is kept of that.
+//! - `propagator`: `LinearProp` itself.
+#![tactic(auto)]
+
+mod cause;
+mod differing;
+mod explain;
+mod fall;
+mod kinds;
+mod propagator;
+mod row;
+mod row_clauses;
+mod survey;
+#[cfg(test)]
+mod tests;
+mod wide;
+
+pub use propagator::LinearProp;

@@ -1,0 +1,112 @@
+//! `LinearProp`, the propagator of the linear kinds.
+ghost use Rattle.std.specs.Prelude.{◌≡◌, ◌<◌, true, IfOk, IfSome, length, slice_get};
+ghost use Rattle.std.specs.List.{All};
+ghost use Rattle.signed_clause.specs.Ranges.{IsValid};
+ghost use Rattle.ground_form.specs.Kinds as kinds;
+ghost use Rattle.ground_form.specs.Meaning.{vars_of};
+ghost use Rattle.ground_form.specs.WellMade.{IsWellMade, IsWellMadeCon};
+ghost use Rattle.rule_law.specs.Reasons.{no_repeat};
+ghost use Rattle.rule_law.specs.Answers.{AreBoxesWithin, IsAnswer};
+ghost use Rattle.linear_prop.specs.Handled.{is_linear};
+
+use crate::differing::{Known, do_differ};
+use crate::kinds::linear_answer;
+use ground_form::{Con, Ground, Kind};
+use rule_law::{Propagator, probe};
+use signed_clause::{Clause, IntSet};
+use std::alloc::{AllocError, Global};
+
+/// The propagator of sums with a bound, of sums that define a variable, and of flags that say whether a sum keeps a bound.
+///
+/// A constraint in which no variable stands twice is answered by its rows: a walk over the terms, and two for a sum that
+/// defines a variable or an open flag; another by plain probing. That no variable stands twice is kept.
+#[derive(Drop)]
+pub struct LinearProp {
+    alloc: Global,
+    known: Vec<Known>,
+}
+
+impl LinearProp {
+    /// A propagator that has kept nothing. It takes no memory.
+    pub fn new(alloc: Global) -> LinearProp {
+        LinearProp {
+            alloc,
+            known: Vec::new(alloc),
+        }
+    }
+}
+
+/// Whether no variable stands twice in the constraint, which is one of the three kinds.
+fn is_plain(alloc: Global, known: &mut Vec<Known>, k: u32, con: &Con) -> Result<bool, AllocError>
+    ensures { IfOk result (λ plain. plain ≡ true → no_repeat (vars_of con.now) ≡ true) }
+{
+    match con {
+        Con::LinLe { terms, .. } => {
+            let differ = do_differ(alloc, known, k, None, terms.items())?;
+            Ok(differ)
+        }
+        Con::LinDef { out, terms, .. } => {
+            let differ = do_differ(alloc, known, k, Some(*out), terms.items())?;
+            Ok(differ)
+        }
+        Con::ReifLe { flag, terms, .. } => {
+            let differ = do_differ(alloc, known, k, Some(*flag), terms.items())?;
+            Ok(differ)
+        }
+        _ => Ok(false),
+    }
+}
+
+/// The answer of the constraint with the number.
+pub(crate) fn answer_of(
+    alloc: Global,
+    known: &mut Vec<Known>,
+    k: u32,
+    con: &Con,
+    domains: &[IntSet],
+    boxes: &[IntSet],
+) -> Result<Option<Clause>, AllocError>
+    requires well_made { IsWellMadeCon domains.now con.now }
+    requires sets { All (λ d. IsValid d) domains.now }
+    requires boxes { AreBoxesWithin domains.now boxes.now }
+    ensures { IfOk result (λ answer. IsAnswer con.now domains.now boxes.now answer) }
+{
+    let plain = is_plain(alloc, known, k, con)?;
+    if plain {
+        let answer = linear_answer(alloc, con, domains, boxes)?;
+        Ok(answer)
+    } else {
+        let answer = probe(con, domains, boxes, alloc)?;
+        Ok(answer)
+    }
+}
+
+impl Propagator for LinearProp {
+    ghost handled = { λ p kind. is_linear kind };
+
+    fn handles(&self, kind: Kind) -> bool {
+        matches!(kind, Kind::LinLe | Kind::LinDef | Kind::ReifLe)
+    }
+
+    fn begin(&mut self) {
+        self.known.clear();
+    }
+
+    fn prune(
+        &mut self,
+        g: &Ground,
+        k: u32,
+        boxes: &[IntSet],
+    ) -> Result<Option<Clause>, AllocError> {
+        let con = &g.cons.items()[k as usize];
+        let answer = answer_of(
+            self.alloc,
+            &mut self.known,
+            k,
+            con,
+            g.domains.items(),
+            boxes,
+        )?;
+        Ok(answer)
+    }
+}

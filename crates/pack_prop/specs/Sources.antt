@@ -1,0 +1,45 @@
+-- What an overfull place is explained by.
+use Rattle.std.specs.Prelude.{ℕ, ◌≡◌, ◌<◌, true, false, pos, ◌≤ℤ◌, cond, List, [], ◌∷◌, ◌++◌, ℤ, slice_set, slice_index_or, int_lt, length}
+use Rattle.std.specs.List.{All}
+use Rattle.signed_clause.specs.Ranges.{Ranges, is_nil, IsValid}
+use Rattle.signed_clause.specs.SetAlgebra.{inside}
+use Rattle.signed_clause.specs.Clauses.{Boxes, box_of}
+use Rattle.ground_form.specs.Bounds.{low_of, high_of}
+use Rattle.rule_law.specs.Refuted.{fixed_at, fixed_load}
+use Rattle.rule_law.specs.Answers.{AreBoxesWithin}
+use Rattle.rule_law.specs.Named.{AreItemsNamed}
+use Rattle.rule_law.specs.Reasons.{has_number}
+
+-- the boxes with a part of that of x in its place
+abbrev pub parted : Boxes → ℕ → Ranges → Boxes
+parted boxes x part = slice_set boxes x part
+
+-- the variable behind the others, where it isn't one of them
+abbrev pub add_new : ℕ → List ℕ → List ℕ
+add_new y ps = cond (has_number y ps) ps (ps ++ y ∷ [])
+
+-- and the places and sizes of the items that are fixed at v
+abbrev pub covered : ℤ → List (ℕ × ℕ × ℕ) → Boxes → List ℕ → List ℕ
+covered v [] boxes ps = ps
+covered v (i ∷ is) boxes ps = covered v is boxes (cond (fixed_at (box_of boxes i.0) v) (add_new i.1 (add_new i.0 ps)) ps)
+
+-- x, those, and a room
+abbrev pub sources : ℤ → List (ℕ × ℕ × ℕ) → Boxes → ℕ → ℕ → List ℕ
+sources v items boxes x room = add_new room (covered v items boxes (x ∷ []))
+
+-- item k is fixed at v, and the load there is more than its greatest room
+pub record IsOverfilled (v : ℤ) (items : List (ℕ × ℕ × ℕ)) (boxes : Boxes) (k : ℕ) : Type 0 where
+  pub there : k < length items
+  pub fixed : fixed_at (box_of boxes (slice_index_or items k (0, 0, 0)).0) v ≡ true
+  pub over : int_lt (high_of (box_of boxes (slice_index_or items k (0, 0, 0)).2)) (fixed_load v items boxes) ≡ true
+
+-- the part has values of the box of x, and the boxes are those of a well made constraint
+pub record IsPart (domains boxes : Boxes) (items : List (ℕ × ℕ × ℕ)) (x : ℕ) (s : Ranges) : Type 0 where
+  pub boxes_within : AreBoxesWithin domains boxes
+  pub domain_sets : All (λ d. IsValid d) domains
+  pub named : AreItemsNamed items boxes
+  pub sizes : All (λ i. pos 0 ≤ℤ low_of (box_of domains i.1)) items
+  pub var : x < length boxes
+  pub valid : IsValid s
+  pub some : is_nil s ≡ false
+  pub within : inside s (box_of boxes x) ≡ true

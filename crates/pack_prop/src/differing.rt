@@ -1,0 +1,78 @@
+//! Places that differ.
+//!
+//! Each interval holds at most as many places as it has numbers. Where fewer numbers than boxes within are found, the places
+//! are refuted; where as many are, the interval's numbers leave every other box. It is enough to look from where each narrow
+//! box begins, and one sweep shows all intervals from there: the cost is the number of narrow boxes times that of places.
+//!
+//! Cost: one walk where no box is narrow. Explained by the boxes within the interval.
+ghost use Rattle.std.specs.Prelude.{◌≡◌, ◌<◌, true, IfOk, IfSome, IfNone, length};
+ghost use Rattle.std.specs.List.{All};
+ghost use Rattle.signed_clause.specs.Ranges.{IsValid};
+ghost use Rattle.ground_form.specs.declared.con.Con.TheVariants.{AllDiff};
+ghost use Rattle.ground_form.specs.WellMade.{IsWellMadeCon};
+ghost use Rattle.rule_law.specs.Answers.{AreBoxesWithin, IsAnswer};
+ghost use Rattle.rule_law.specs.Quiet.{quiet};
+ghost use Rattle.rule_law.specs.Reasons.{no_repeat};
+
+use crate::different::are_different;
+use crate::explain::explain;
+use crate::sweep::{Slots, find};
+use ground_form::Con;
+use rule_law::probe;
+use signed_clause::{Clause, IntSet};
+use std::alloc::{AllocError, Global};
+
+/// What different variables that differ answer.
+#[tactic(auto, using(crate::proofs::QuietFrom::differing_quiet))]
+fn prune_different(
+    alloc: Global,
+    slots: &mut Slots,
+    con: &Con,
+    vars: &[u32],
+    domains: &[IntSet],
+    boxes: &[IntSet],
+) -> Result<Option<Clause>, AllocError>
+    requires con { con.now ≡ AllDiff vars.now }
+    requires named { All (λ x. x < length boxes.now) vars.now }
+    requires domains { All (λ x. x < length domains.now) vars.now }
+    requires boxes { AreBoxesWithin domains.now boxes.now }
+    requires box_sets { All (λ s. IsValid s) boxes.now }
+    requires sets { All (λ d. IsValid d) domains.now }
+    requires once { no_repeat vars.now ≡ true }
+    ensures { IfOk result (λ a. IsAnswer con.now domains.now boxes.now a) }
+{
+    let found = find(alloc, slots, vars, boxes)?;
+    match found {
+        None => Ok(None),
+        Some(found) => {
+            let clause = explain(alloc, con, vars, domains, boxes, found)?;
+            Ok(Some(clause))
+        }
+    }
+}
+
+/// A clause that places that differ justify and that takes something away; None where they are quiet.
+///
+/// # Errors
+/// Want of memory.
+#[tactic(auto, using(crate::proofs::QuietFrom::differing_named, crate::proofs::QuietFrom::named_boxes))]
+pub fn prune_differing(
+    alloc: Global,
+    slots: &mut Slots,
+    con: &Con,
+    vars: &[u32],
+    domains: &[IntSet],
+    boxes: &[IntSet],
+) -> Result<Option<Clause>, AllocError>
+    requires con { con.now ≡ AllDiff vars.now }
+    requires well_made { IsWellMadeCon domains.now con.now }
+    requires boxes { AreBoxesWithin domains.now boxes.now }
+    requires sets { All (λ d. IsValid d) domains.now }
+    ensures { IfOk result (λ a. IsAnswer con.now domains.now boxes.now a) }
+{
+    if are_different(vars) {
+        prune_different(alloc, slots, con, vars, domains, boxes)
+    } else {
+        probe(con, domains, boxes, alloc)
+    }
+}

@@ -1,0 +1,26 @@
+//! Prunes by places that differ and by items to be packed.
+//!
+//! - `propagator`: `PackProp`, and what a constraint answers.
+//! - `differing`: places that differ. `sweep` finds crowded and full intervals with the counters of `slots`, `explain` says
+//!   why, by the boxes within them; `interval` and `different` answer small questions.
+//! - `packing`: items to be packed. `room` shows with the numbers of `loads` that they are roomy, or finds an item that doesn't
+//!   fit; `open_vars` tells which variables are open; `misfits` and `overfull` say what such an item takes away, and why.
+#![tactic(auto)]
+
+mod different;
+mod differing;
+mod explain;
+mod interval;
+mod loads;
+mod misfits;
+mod open_vars;
+mod overfull;
+mod packing;
+mod propagator;
+mod room;
+mod slots;
+mod sweep;
+#[cfg(test)]
+mod tests;
+
+pub use propagator::PackProp;

@@ -1,0 +1,119 @@
+//! Items to be packed.
+//!
+//! Of each item (place, size, room), the sizes at its place add up to at most its room; and all sizes to at most the best rooms
+//! of the places that are open to them. `room` shows in one pass over places and items that neither rule has anything to say,
+//! or finds an item that doesn't fit, which `misfits` explains; where neither can, the rule is probed.
+//!
+//! Cost: the number of places times that of items, where they are roomy.
+ghost use Rattle.std.specs.Prelude.{◌≡◌, ◌<◌, true, false, IfOk, length};
+ghost use Rattle.std.specs.List.{All};
+ghost use Rattle.signed_clause.specs.Ranges.{is_nil, IsValid};
+ghost use Rattle.signed_clause.specs.Clauses.{box_of};
+ghost use Rattle.ground_form.specs.declared.con.Con.TheVariants.{Pack};
+ghost use Rattle.ground_form.specs.Meaning.{item_vars};
+ghost use Rattle.ground_form.specs.WellMade.{IsWellMadeCon};
+ghost use Rattle.rule_law.specs.Answers.{AreBoxesWithin, IsAnswer};
+ghost use Rattle.rule_law.specs.Named.{AreItemsNamed, IsItemNamed};
+ghost use Rattle.rule_law.specs.Quiet.{quiet};
+ghost use Rattle.rule_law.specs.Reasons.{no_repeat};
+ghost use Rattle.pack_prop.specs.Packing.{opens, AllFit, HasEnough};
+
+use crate::different::are_different;
+use crate::misfits::prune_misfit;
+use crate::open_vars::collect_open;
+use crate::room::{Look, look_at_items};
+use ground_form::{Con, Number};
+use rule_law::probe;
+use signed_clause::{Clause, IntSet};
+use std::alloc::{AllocError, Global};
+
+/// Whether no open variable of the items stands twice.
+fn are_open_once(
+    found: &mut Vec<u32>,
+    items: &[(u32, u32, u32)],
+    boxes: &[IntSet],
+) -> Result<bool, AllocError>
+    requires { AreItemsNamed items.now boxes.now }
+    ensures { IfOk result (λ b. b ≡ no_repeat (opens items.now boxes.now)) }
+{
+    collect_open(found, items, boxes)?;
+    Ok(are_different(found.as_slice()))
+}
+
+/// What roomy items answer: nothing, where none of their open variables stands twice.
+#[tactic(auto, using(crate::proofs::Roomy::roomy_from, crate::proofs::Roomy::pack_quiet))]
+fn prune_roomy(
+    alloc: Global,
+    found: &mut Vec<u32>,
+    con: &Con,
+    items: &[(u32, u32, u32)],
+    domains: &[IntSet],
+    boxes: &[IntSet],
+) -> Result<Option<Clause>, AllocError>
+    requires con { con.now ≡ Pack items.now }
+    requires items { AreItemsNamed items.now boxes.now }
+    requires well_made { IsWellMadeCon domains.now con.now }
+    requires boxes { AreBoxesWithin domains.now boxes.now }
+    requires sets { All (λ d. IsValid d) domains.now }
+    requires fit { AllFit items.now boxes.now }
+    requires enough { HasEnough items.now boxes.now }
+    ensures { IfOk result (λ a. IsAnswer con.now domains.now boxes.now a) }
+{
+    let once = are_open_once(found, items, boxes)?;
+    if once {
+        return Ok(None);
+    }
+    probe(con, domains, boxes, alloc)
+}
+
+/// What an item that doesn't fit at the value answers.
+#[tactic(auto, using(crate::proofs::Roomy::pack_sizes))]
+fn prune_by_item(
+    alloc: Global,
+    con: &Con,
+    items: &[(u32, u32, u32)],
+    domains: &[IntSet],
+    boxes: &[IntSet],
+    at: Number,
+    i: (u32, u32, u32),
+) -> Result<Option<Clause>, AllocError>
+    requires con { con.now ≡ Pack items.now }
+    requires items { AreItemsNamed items.now boxes.now }
+    requires item { IsItemNamed i boxes.now }
+    requires well_made { IsWellMadeCon domains.now con.now }
+    requires boxes { AreBoxesWithin domains.now boxes.now }
+    requires sets { All (λ d. IsValid d) domains.now }
+    ensures { IfOk result (λ a. IsAnswer con.now domains.now boxes.now a) }
+{
+    let pruned = prune_misfit(alloc, con, items, domains, boxes, at, i)?;
+    if pruned.is_some() {
+        return Ok(pruned);
+    }
+    probe(con, domains, boxes, alloc)
+}
+
+/// A clause that items to be packed justify and that takes something away; None where they are quiet.
+///
+/// # Errors
+/// Want of memory.
+#[tactic(auto, using(crate::proofs::Roomy::pack_named, crate::proofs::Roomy::pack_some))]
+pub fn prune_packing(
+    alloc: Global,
+    found: &mut Vec<u32>,
+    con: &Con,
+    items: &[(u32, u32, u32)],
+    domains: &[IntSet],
+    boxes: &[IntSet],
+) -> Result<Option<Clause>, AllocError>
+    requires con { con.now ≡ Pack items.now }
+    requires well_made { IsWellMadeCon domains.now con.now }
+    requires boxes { AreBoxesWithin domains.now boxes.now }
+    requires sets { All (λ d. IsValid d) domains.now }
+    ensures { IfOk result (λ a. IsAnswer con.now domains.now boxes.now a) }
+{
+    match look_at_items(items, boxes) {
+        Look::Roomy => prune_roomy(alloc, found, con, items, domains, boxes),
+        Look::Misfit(at, i) => prune_by_item(alloc, con, items, domains, boxes, at, i),
+        Look::Unsure => probe(con, domains, boxes, alloc),
+    }
+}

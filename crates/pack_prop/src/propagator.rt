@@ -1,0 +1,91 @@
+//! The propagator.
+ghost use Rattle.std.specs.Prelude.{◌≡◌, ◌<◌, true, ◌||◌, IfOk, IfSome, length, slice_get};
+ghost use Rattle.std.specs.List.{All};
+ghost use Rattle.signed_clause.specs.Ranges.{IsValid};
+ghost use Rattle.ground_form.specs.Kinds as kinds;
+ghost use Rattle.ground_form.specs.WellMade.{IsWellMade, IsWellMadeCon};
+ghost use Rattle.rule_law.specs.Answers.{AreBoxesWithin, IsAnswer};
+ghost use Rattle.pack_prop.specs.Handled.{is_handled};
+
+use crate::differing::prune_differing;
+use crate::packing::prune_packing;
+use crate::sweep::Slots;
+use ground_form::{Con, Ground, Kind};
+use rule_law::{Propagator, probe};
+use signed_clause::{Clause, IntSet};
+use std::alloc::{AllocError, Global};
+
+/// Prunes by places that differ and by items to be packed.
+#[derive(Drop)]
+pub struct PackProp {
+    alloc: Global,
+    slots: Slots,
+}
+
+impl PackProp {
+    /// A propagator, without memory.
+    pub fn new(alloc: Global) -> PackProp {
+        PackProp {
+            alloc,
+            slots: Slots {
+                starts: Vec::new(alloc),
+                ends: Vec::new(alloc),
+                open: Vec::new(alloc),
+            },
+        }
+    }
+}
+
+/// What the constraint answers.
+pub fn answer(
+    alloc: Global,
+    slots: &mut Slots,
+    con: &Con,
+    domains: &[IntSet],
+    boxes: &[IntSet],
+) -> Result<Option<Clause>, AllocError>
+    requires well_made { IsWellMadeCon domains.now con.now }
+    requires boxes { AreBoxesWithin domains.now boxes.now }
+    requires sets { All (λ d. IsValid d) domains.now }
+    ensures { IfOk result (λ a. IsAnswer con.now domains.now boxes.now a) }
+{
+    match con {
+        Con::AllDiff { vars } => prune_differing(alloc, slots, con, vars.items(), domains, boxes),
+        Con::Pack { items } => prune_packing(
+            alloc,
+            &mut slots.open,
+            con,
+            items.items(),
+            domains,
+            boxes,
+        ),
+        _ => probe(con, domains, boxes, alloc),
+    }
+}
+
+impl Propagator for PackProp {
+    ghost handled = { λ p k. is_handled k };
+
+    fn handles(&self, kind: Kind) -> bool {
+        match kind {
+            Kind::AllDiff | Kind::Pack => true,
+            _ => false,
+        }
+    }
+
+    fn begin(&mut self) {
+        self.slots.starts.clear();
+        self.slots.ends.clear();
+        self.slots.open.clear();
+    }
+
+    fn prune(
+        &mut self,
+        g: &Ground,
+        k: u32,
+        boxes: &[IntSet],
+    ) -> Result<Option<Clause>, AllocError> {
+        let con = &g.cons.items()[k as usize];
+        answer(self.alloc, &mut self.slots, con, g.domains.items(), boxes)
+    }
+}

@@ -1,0 +1,365 @@
+//! What no clause says: that pruning until there is nothing to say comes to the same boxes as plain probing does. Each table is
+//! all boxes within small domains, made by a loop.
+ghost use Rattle.std.specs.Prelude.{◌≡◌, ◌<◌, true, false, length, IfOk, IfErr};
+ghost use Rattle.std.specs.List.{All};
+ghost use Rattle.signed_clause.specs.Ranges.{is_nil, IsValid};
+ghost use Rattle.signed_clause.specs.SetAlgebra.{inside};
+ghost use Rattle.signed_clause.specs.Clauses.{box_of};
+ghost use Rattle.ground_form.specs.WellMade.{IsWellMadeCon};
+ghost use Rattle.rule_law.specs.Answers.{AreBoxesWithin, IsAnswer};
+
+use crate::propagator::answer;
+use crate::sweep::Slots;
+use ground_form::{Con, PackItems, VarList};
+use rule_law::{justified, probe};
+use signed_clause::{Clause, IntSet};
+use std::alloc::{AllocError, Global};
+
+/// Whether the box isn't empty and lies within its domain.
+fn is_part(domains: &[IntSet], boxes: &[IntSet], x: usize) -> bool
+    requires boxes { x < length boxes.now }
+    requires domains { x < length domains.now }
+    ensures within { result ≡ true → inside (box_of boxes.now x) (box_of domains.now x) ≡ true }
+    ensures some { result ≡ true → is_nil (box_of boxes.now x) ≡ false }
+    ensures valid { IsValid (box_of boxes.now x) }
+{
+    boxes[x].ranges();
+    boxes[x].within(&domains[x]) && !boxes[x].is_empty()
+}
+
+/// Whether no box is empty, and each lies within its domain.
+#[tactic(auto, using(crate::proofs::UpTo::next_part, crate::proofs::UpTo::all_parts))]
+fn are_within(domains: &[IntSet], boxes: &[IntSet]) -> bool
+    ensures { result ≡ true → AreBoxesWithin domains.now boxes.now }
+{
+    if boxes.len() != domains.len() {
+        return false;
+    }
+    let mut x = 0;
+    while x < boxes.len() {
+        if !is_part(domains, boxes, x) {
+            return false;
+        }
+        x += 1;
+    }
+    true
+}
+
+/// What the propagator says, or plain probing.
+fn answer_or_probe(
+    slots: &mut Slots,
+    con: &Con,
+    domains: &[IntSet],
+    boxes: &[IntSet],
+    plain: bool,
+    alloc: Global,
+) -> Result<Option<Clause>, AllocError>
+    requires well_made { IsWellMadeCon domains.now con.now }
+    requires boxes { AreBoxesWithin domains.now boxes.now }
+    requires sets { All (λ d. IsValid d) domains.now }
+    ensures answer { IfOk result (λ a. IsAnswer con.now domains.now boxes.now a) }
+{
+    if plain {
+        probe(con, domains, boxes, alloc)
+    } else {
+        answer(alloc, slots, con, domains, boxes)
+    }
+}
+
+/// What one call comes to.
+#[derive(Drop)]
+enum Turn {
+    /// There is nothing to say.
+    Still,
+    /// A box is narrowed to a set.
+    Narrowed(u32, IntSet),
+    /// Nothing is left.
+    Conflict,
+    /// The clause isn't justified.
+    Wrong,
+}
+
+/// Asks once.
+fn ask(
+    slots: &mut Slots,
+    con: &Con,
+    domains: &[IntSet],
+    boxes: &[IntSet],
+    plain: bool,
+    alloc: Global,
+) -> Result<Turn, AllocError>
+    requires well_made { IsWellMadeCon domains.now con.now }
+    requires boxes { AreBoxesWithin domains.now boxes.now }
+    requires sets { All (λ d. IsValid d) domains.now }
+{
+    let Some(clause) = answer_or_probe(slots, con, domains, boxes, plain, alloc)? else {
+        return Ok(Turn::Still);
+    };
+    if !justified(con, domains, &clause) {
+        return Ok(Turn::Wrong);
+    }
+    match clause.unit(boxes)? {
+        Some((x, set)) => Ok(Turn::Narrowed(x, set)),
+        None => Ok(Turn::Conflict),
+    }
+}
+
+/// The boxes where there is nothing more to say, or None where nothing is left or something went wrong; and how many calls
+/// it took.
+fn settle(
+    slots: &mut Slots,
+    con: &Con,
+    domains: &[IntSet],
+    mut boxes: Vec<IntSet>,
+    plain: bool,
+    alloc: Global,
+) -> Result<Option<Vec<IntSet>>, AllocError>
+    requires well_made { IsWellMadeCon domains.now con.now }
+    requires sets { All (λ d. IsValid d) domains.now }
+{
+    for _ in 0..40u32 {
+        if !are_within(domains, boxes.as_slice()) {
+            return Ok(None);
+        }
+        match ask(slots, con, domains, boxes.as_slice(), plain, alloc)? {
+            Turn::Still => return Ok(Some(boxes)),
+            Turn::Narrowed(x, set) => {
+                if (x as usize) < boxes.len() {
+                    boxes[x as usize] = set;
+                }
+            }
+            Turn::Conflict | Turn::Wrong => return Ok(None),
+        }
+    }
+    Ok(None)
+}
+
+/// Of each domain the values 0 to 3 whose bits are set in a digit of `n`.
+fn nth_boxes(alloc: Global, domains: &[IntSet], n: u32) -> Result<Vec<IntSet>, AllocError> {
+    let mut rest = n;
+    let mut boxes = Vec::new(alloc);
+    for d in domains {
+        let mut part = IntSet::empty(alloc);
+        for v in 0..4i64 {
+            if rest % 2 == 1 {
+                part = part.join(&IntSet::range(alloc, v, v))?;
+            }
+            rest /= 2;
+        }
+        boxes.push(d.meet(&part)?)?;
+    }
+    Ok(boxes)
+}
+
+/// Whether both have the same sets.
+fn are_same(a: &[IntSet], b: &[IntSet]) -> bool {
+    a.len() == b.len() && a.iter().zip(b).all(|(s, t)| s.same(t))
+}
+
+/// The values of a point: the digits of `n` to the base 4.
+fn nth_point(alloc: Global, n: u32, variables: usize) -> Result<Vec<i64>, AllocError> {
+    let mut rest = n;
+    let mut values = Vec::new(alloc);
+    for _ in 0..variables {
+        values.push(i64::from(rest % 4))?;
+        rest /= 4;
+    }
+    Ok(values)
+}
+
+/// The value of `x` at the point.
+fn value_of(point: &[i64], x: u32) -> i64 {
+    match point.get(x as usize) {
+        Some(v) => *v,
+        None => 0,
+    }
+}
+
+/// Whether the first of the variables has another value than each behind it.
+fn is_first_alone(vars: &[u32], point: &[i64]) -> bool {
+    match vars {
+        [x, rest @ ..] => rest
+            .iter()
+            .all(|y| value_of(point, *x) != value_of(point, *y)),
+        [] => true,
+    }
+}
+
+/// Whether the sizes of the items at the item's place add up to at most its room.
+fn has_room(items: &[(u32, u32, u32)], item: (u32, u32, u32), point: &[i64]) -> bool {
+    let mut load = 0i64;
+    for i in items {
+        if value_of(point, i.0) == value_of(point, item.0) {
+            load = load.saturating_add(value_of(point, i.1));
+        }
+    }
+    load <= value_of(point, item.2)
+}
+
+/// Whether the constraint is true at the point, by what it says.
+fn is_true(con: &Con, point: &[i64]) -> bool {
+    match con {
+        Con::AllDiff { vars } => {
+            let all = vars.items();
+            (0..all.len()).all(|k| is_first_alone(&all[k..], point))
+        }
+        Con::Pack { items } => {
+            let all = items.items();
+            all.iter().all(|i| has_room(all, *i, point))
+        }
+        _ => false,
+    }
+}
+
+/// Whether the point lies in the boxes.
+fn is_inside(boxes: &[IntSet], point: &[i64]) -> bool {
+    boxes.iter().zip(point).all(|(s, v)| s.contains(*v))
+}
+
+/// Whether each point of the boxes at which the constraint is true lies in what is left of them.
+fn keeps_points(
+    alloc: Global,
+    con: &Con,
+    boxes: &[IntSet],
+    left: Option<&[IntSet]>,
+) -> Result<bool, AllocError> {
+    for n in 0..256u32 {
+        let point = nth_point(alloc, n, boxes.len())?;
+        if is_inside(boxes, &point) && is_true(con, &point) {
+            let is_kept = match left {
+                Some(left) => is_inside(left, &point),
+                None => false,
+            };
+            if !is_kept {
+                return Ok(false);
+            }
+        }
+    }
+    Ok(true)
+}
+
+/// Whether the propagator and plain probing come to the same from all boxes within the domains, and lose no point at which the
+/// constraint is true; and how many cases there are.
+fn agrees(alloc: Global, con: &Con, domains: &[IntSet], count: u32) -> Result<u32, AllocError>
+    requires well_made { IsWellMadeCon domains.now con.now }
+    requires sets { All (λ d. IsValid d) domains.now }
+{
+    let mut cases = 0u32;
+    let mut slots = Slots {
+        starts: Vec::new(alloc),
+        ends: Vec::new(alloc),
+        open: Vec::new(alloc),
+    };
+    for k in 0..count {
+        let n = k.saturating_mul(11);
+        let boxes = nth_boxes(alloc, domains, n)?;
+        if are_within(domains, boxes.as_slice()) {
+            let quick = settle(&mut slots, con, domains, boxes, false, alloc)?;
+            let plain = settle(
+                &mut slots,
+                con,
+                domains,
+                nth_boxes(alloc, domains, n)?,
+                true,
+                alloc,
+            )?;
+            let same = match (&quick, &plain) {
+                (Some(a), Some(b)) => are_same(a.as_slice(), b.as_slice()),
+                (None, None) => true,
+                _ => false,
+            };
+            let left = match &quick {
+                Some(left) => Some(left.as_slice()),
+                None => None,
+            };
+            let whole = nth_boxes(alloc, domains, n)?;
+            if !same || !keeps_points(alloc, con, &whole, left)? {
+                return Ok(0);
+            }
+            cases = cases.saturating_add(1);
+        }
+    }
+    Ok(cases)
+}
+
+#[test]
+fn places_that_differ(rt: HostRuntime) -> Result<(), AllocError> {
+    let alloc = rt.alloc();
+    let domains = vec![in alloc;
+        IntSet::range(alloc, 0, 3),
+        IntSet::range(alloc, 0, 3),
+        IntSet::range(alloc, 0, 3),
+    ]?;
+    for vars in [[0u32, 1, 2], [2, 0, 1], [1, 0, 1]] {
+        let con = Con::AllDiff {
+            vars: VarList::of(vec![in alloc; vars[0], vars[1], vars[2]]?),
+        };
+        assert!(rt; agrees(alloc, &con, domains.as_slice(), 4096)? > 3000);
+    }
+    Ok(())
+}
+
+#[test]
+fn three_places_for_two_values(rt: HostRuntime) -> Result<(), AllocError> {
+    let alloc = rt.alloc();
+    let domains = vec![in alloc;
+        IntSet::range(alloc, 1, 9),
+        IntSet::range(alloc, 1, 9),
+        IntSet::range(alloc, 1, 9),
+    ]?;
+    for high in [2i64, 3] {
+        let boxes = vec![in alloc;
+            IntSet::range(alloc, 1, high),
+            IntSet::range(alloc, 1, high),
+            IntSet::range(alloc, 1, high),
+        ]?;
+        let con = Con::AllDiff {
+            vars: VarList::of(vec![in alloc; 0u32, 1, 2]?),
+        };
+        let mut slots = Slots {
+            starts: Vec::new(alloc),
+            ends: Vec::new(alloc),
+            open: Vec::new(alloc),
+        };
+        if are_within(domains.as_slice(), boxes.as_slice()) {
+            let turn = ask(
+                &mut slots,
+                &con,
+                domains.as_slice(),
+                boxes.as_slice(),
+                false,
+                alloc,
+            )?;
+            let expected = match turn {
+                Turn::Conflict => high == 2,
+                Turn::Still => high == 3,
+                _ => false,
+            };
+            assert!(rt; expected, "places in 1..{high}");
+        } else {
+            assert!(rt; false, "these boxes lie within the domains");
+        }
+    }
+    Ok(())
+}
+
+#[test]
+fn items_to_be_packed(rt: HostRuntime) -> Result<(), AllocError> {
+    let alloc = rt.alloc();
+    let domains = vec![in alloc;
+        IntSet::range(alloc, 0, 2),
+        IntSet::range(alloc, 0, 2),
+        IntSet::range(alloc, 0, 3),
+        IntSet::range(alloc, 1, 3),
+    ]?;
+    for items in [
+        [(0u32, 2u32, 3u32), (1, 2, 3), (0, 2, 3)],
+        [(0, 2, 3), (1, 3, 2), (1, 2, 2)],
+    ] {
+        let con = Con::Pack {
+            items: PackItems::of(vec![in alloc; items[0], items[1], items[2]]?),
+        };
+        assert!(rt; agrees(alloc, &con, domains.as_slice(), 5400)? > 2500);
+    }
+    Ok(())
+}
