@@ -8,3 +8,7 @@ pub mod Fronts
 pub mod Problems
 pub mod Feeding
 pub mod SingleGoal
+pub mod TrimLaws
+pub mod LastLine
+pub mod Marking
+pub mod Renumbering

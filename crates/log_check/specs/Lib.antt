@@ -6,3 +6,6 @@ pub mod Progress
 pub mod Refusals
 pub mod Fed
 pub mod OneGoal
+pub mod Added
+pub mod Trimmed
+pub mod Marks

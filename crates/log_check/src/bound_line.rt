@@ -15,7 +15,7 @@ ghost use Rattle.log_check.specs.Literals.{joined_with};
 
 use crate::derived::Derived;
 use ground_form::{GroundGoal, Number};
-use signed_clause::{push_copy, push_rest, Clause, IntSet};
+use signed_clause::{Clause, IntSet, push_copy, push_rest};
 use std::alloc::{AllocError, Global};
 
 /// The clause that says what `c` says, or that the value of `x` is in the set.

@@ -44,7 +44,9 @@ impl<'g> Checker<'g> {
 
     /// Takes in further bytes. Each line is checked as soon as it ends.
     ///
-    /// # Errors `Rejected` with the number of the first line that ends and isn't spelled or accepted. Where it has refused once, it answers the same again.
+    /// # Errors
+    /// `Rejected` with the number of the first line that ends and isn't spelled or accepted. Where
+    /// it has refused once, it answers the same again.
     pub fn feed(&mut self, piece: &[u8]) -> Result<(), CheckError>
         requires ready { IsReady self.old.ground.now self.old.failed self.old.intake }
         requires few { self.old.intake.count + length piece.now < 2 ^ 64 }

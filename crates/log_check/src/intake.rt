@@ -89,7 +89,7 @@ impl Intake {
             Err(LineError::BadLine) => return Err(CheckError::Rejected(number)),
             Err(LineError::Memory) => return Err(CheckError::Memory),
         };
-        if !self.progress.step(alloc, g, &line)? {
+        if !self.progress.step_with(alloc, g, line)? {
             return Err(CheckError::Rejected(number));
         }
         self.rest.clear();

@@ -10,23 +10,29 @@
 //! - `progress`, `derived`: what the lines so far leave, and one more line.
 //! - `chains`, `solution`, `bound_line`: what Chain, Found and Bound lines have to meet, and what
 //!   they make.
+//! - `trimming`, `needed`, `closing`: the lines that are needed of accepted ones, which they are, and
+//!   whether there is anything to leave out.
 //! - `laws`: problems with one goal or none.
 #![tactic(auto)]
 
 mod bound_line;
 mod chains;
 mod checker;
+mod closing;
 mod derived;
 mod intake;
 mod laws;
 mod lines;
+mod needed;
 mod progress;
 mod solution;
 #[cfg(test)]
 mod tests;
+mod trimming;
 mod verdict;
 
 pub use checker::Checker;
 pub use laws::one_goal_or_none;
 pub use lines::{CheckError, check};
+pub use trimming::trim;
 pub use verdict::{Verdict, VerdictKind};

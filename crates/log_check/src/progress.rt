@@ -65,6 +65,22 @@ impl Progress {
         Ok(true)
     }
 
+    /// The same of a line that is handed over: what it holds is moved, not copied.
+    pub fn step_with(&mut self, alloc: Global, g: &Ground, line: Line) -> Result<bool, AllocError>
+        requires made { IsWellMade g.now }
+        requires right { IsRight g.now self.old }
+        ensures asked { IfOk result (λ b. b ≡ acceptance.may_come g.now (made_of self.old) line) }
+        ensures made { IfOk result (λ b. b ≡ true → made_of self.new ≡ after g.now (made_of self.old) line) }
+        ensures right { IfOk result (λ b. b ≡ true → IsRight g.now self.new) }
+    {
+        if !may_come(alloc, g, self, &line)? {
+            return Ok(false);
+        }
+        know_clause(&line);
+        self.advance_with(alloc, g, line)?;
+        Ok(true)
+    }
+
     /// Takes in a line that may come next.
     #[tactic(auto, unfolding(proof_log::specs::Acceptance::after))]
     fn advance(&mut self, alloc: Global, g: &Ground, line: &Line) -> Result<(), AllocError>
@@ -83,6 +99,30 @@ impl Progress {
             }
             Line::Empty(_) => self.derived.push(empty_clause(alloc)),
             Line::Use(_) | Line::Decide(..) => Ok(()),
+        }
+    }
+
+    /// Takes in a line that may come next and is handed over. Each part that isn't kept has a name,
+    /// so that it is let go in its arm.
+    #[tactic(auto, unfolding(proof_log::specs::Acceptance::after))]
+    fn advance_with(&mut self, alloc: Global, g: &Ground, line: Line) -> Result<(), AllocError>
+        requires well_made { IsWellMade g.now }
+        requires right { IsRight g.now self.old }
+        requires accepted { accepts g.now (made_of self.old) line ≡ true }
+        ensures made { OnOk result (made_of self.new ≡ after g.now (made_of self.old) line) }
+        ensures closed { OnOk result (self.new.derived.closed ≡ has_empty self.new.derived.clauses) }
+    {
+        match line {
+            Line::Axiom(_, clause) => self.derived.push(clause),
+            Line::Chain(_chain, clause) => self.derived.push(clause),
+            Line::Bound(_values) => self.push_bound(alloc, g),
+            Line::Found(values) => {
+                self.found = Some(values);
+                Ok(())
+            }
+            Line::Empty(_) => self.derived.push(empty_clause(alloc)),
+            Line::Use(_) => Ok(()),
+            Line::Decide(_, _set) => Ok(()),
         }
     }
 

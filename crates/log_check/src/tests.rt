@@ -2,9 +2,9 @@
 ghost use Rattle.std.specs.Prelude.{◌+◌, ◌<◌, IfOk, length};
 ghost use Rattle.ground_form.specs.WellMade.{IsWellMade};
 
-use crate::{CheckError, Checker, VerdictKind, check};
+use crate::{CheckError, Checker, VerdictKind, check, trim};
 use ground_form::{Con, Cons, Domains, Goals, Ground, GroundGoal, Terms};
-use proof_log::{Line, LineError, read_line};
+use proof_log::{Line, LineError, lines_text, read_line};
 use signed_clause::IntSet;
 use std::alloc::{AllocError, Global};
 
@@ -44,6 +44,19 @@ fn two_goals(alloc: Global) -> Result<Ground, AllocError>
     })
 }
 
+/// One variable that has no value.
+fn no_value(alloc: Global) -> Result<Ground, AllocError>
+    ensures { IfOk result (λ g. IsWellMade g) }
+{
+    let domains = Domains::of(vec![in alloc; IntSet::empty(alloc)]?);
+    Ok(Ground {
+        domains,
+        search: 1,
+        cons: Cons::of(Vec::new(alloc)),
+        goals: Goals::of(Vec::new(alloc)),
+    })
+}
+
 /// The lines of a text, separated by semicolons.
 fn lines_of(alloc: Global, text: &str) -> Result<Vec<Line>, LineError> {
     let mut lines = Vec::new(alloc);
@@ -55,19 +68,26 @@ fn lines_of(alloc: Global, text: &str) -> Result<Vec<Line>, LineError> {
     Ok(lines)
 }
 
-/// What the checker says of lines: the kind of verdict and the value of the first variable, or the
+/// The first and the last of values.
+fn ends_of(values: Option<&[i64]>) -> Option<(i64, i64)> {
+    let values = values?;
+    Some((*values.first()?, *values.last()?))
+}
+
+/// What the checker says of lines: the kind of verdict and the first and the last value, or the
 /// line that is refused.
-fn answer_to(alloc: Global, g: &Ground, text: &str) -> Result<(VerdictKind, Option<i64>), u64>
+fn answer_to(
+    alloc: Global,
+    g: &Ground,
+    text: &str,
+) -> Result<(VerdictKind, Option<(i64, i64)>), u64>
     requires { IsWellMade g.now }
 {
     let Ok(lines) = lines_of(alloc, text) else {
         return Err(0);
     };
     match check(alloc, g, lines.as_slice()) {
-        Ok(verdict) => Ok((
-            verdict.kind(),
-            verdict.values().and_then(|a| a.first().copied()),
-        )),
+        Ok(verdict) => Ok((verdict.kind(), ends_of(verdict.values()))),
         Err(CheckError::Rejected(n)) => Err(n),
         Err(CheckError::Memory) => Err(0),
     }
@@ -80,11 +100,11 @@ fn logs_of_one_goal(rt: HostRuntime) -> Result<(), AllocError> {
     for (text, answer) in [
         (
             "axiom 0 0:2..3;decide 0 2;found 2;bound 2;chain 1 0:0 =",
-            Ok((VerdictKind::Best, Some(2))),
+            Ok((VerdictKind::Best, Some((2, 2)))),
         ),
         (
             "axiom 0 0:2..3;decide 0 2;found 2;bound 2",
-            Ok((VerdictKind::Open, Some(2))),
+            Ok((VerdictKind::Open, Some((2, 2)))),
         ),
         ("", Ok((VerdictKind::Open, None))),
         (
@@ -110,7 +130,11 @@ fn logs_of_one_goal(rt: HostRuntime) -> Result<(), AllocError> {
         ("use 0", Err(1)),
         ("axiom 0 0:2..3;chain 0 0:0 =", Err(2)),
         ("axiom 0 0:2..3;chain 1 0:0 =", Err(2)),
+        ("axiom 0 0:2..3;chain 0 0:1 =", Err(2)),
         ("axiom 1 0:2..3", Err(1)),
+        ("axiom 0 0:2..3 1:0", Err(1)),
+        ("decide 1 0", Err(1)),
+        ("found 2 2", Err(1)),
         ("empty 0", Err(1)),
     ] {
         assert_eq!(rt; answer_to(alloc, &g, text), answer, "{text}");
@@ -125,21 +149,90 @@ fn logs_of_two_goals(rt: HostRuntime) -> Result<(), AllocError> {
     for (text, answer) in [
         (
             "found 1 0;bound 1 0;found 1 1;bound 1 1",
-            Ok((VerdictKind::Best, Some(1))),
+            Ok((VerdictKind::Best, Some((1, 1)))),
         ),
         ("found 1 0;found 0 1", Err(2)),
         ("found 1 0;bound 1", Err(2)),
-        ("found 0 1;bound 0 1", Ok((VerdictKind::Open, Some(0)))),
+        ("found 0 1;bound 0 1", Ok((VerdictKind::Open, Some((0, 1))))),
+        (
+            "found 0 1;bound 0 1;chain 0 0:1 = 0:1;chain 1 0:1 = 0:1",
+            Ok((VerdictKind::Open, Some((0, 1)))),
+        ),
+        (
+            "found 0 1;bound 0 1;chain 0 0:0 = 0:0..1",
+            Ok((VerdictKind::Open, Some((0, 1)))),
+        ),
         (
             "found 0 1;bound 0 1;found 1 0;bound 1 0;found 1 1;bound 1 1",
-            Ok((VerdictKind::Best, Some(1))),
+            Ok((VerdictKind::Best, Some((1, 1)))),
         ),
         (
             "found 1 0;bound 1 0;chain 0 0:0 = 0:1;chain 1 1:1 = 1:1",
-            Ok((VerdictKind::Open, Some(1))),
+            Ok((VerdictKind::Open, Some((1, 0)))),
         ),
     ] {
         assert_eq!(rt; answer_to(alloc, &g, text), answer, "{text}");
+    }
+    Ok(())
+}
+
+/// Whether the lines are accepted and trim to these.
+fn trims_to(alloc: Global, g: &Ground, text: &str, left: &str) -> bool
+    requires { IsWellMade g.now }
+{
+    let Ok(lines) = lines_of(alloc, text) else {
+        return false;
+    };
+    if check(alloc, g, lines.as_slice()).is_err() {
+        return false;
+    }
+    match trim(alloc, g, lines.as_slice()) {
+        Ok(kept) => are_lines(alloc, kept.items(), left),
+        Err(_) => false,
+    }
+}
+
+/// Whether the lines are those of the text.
+fn are_lines(alloc: Global, lines: &[Line], text: &str) -> bool {
+    let Ok(others) = lines_of(alloc, text) else {
+        return false;
+    };
+    match (
+        lines_text(alloc, lines),
+        lines_text(alloc, others.as_slice()),
+    ) {
+        (Ok(one), Ok(other)) => one.as_slice() == other.as_slice(),
+        _ => false,
+    }
+}
+
+#[test]
+fn logs_are_trimmed(rt: HostRuntime) -> Result<(), AllocError> {
+    let alloc = rt.alloc();
+    let g = at_least_two(alloc)?;
+    for (text, left) in [
+        ("", ""),
+        (
+            "axiom 0 0:1..3;use 0;found 3",
+            "axiom 0 0:1..3;use 0;found 3",
+        ),
+        (
+            "axiom 0 0:1..3;axiom 0 0:2..3;use 1;decide 0 2;found 2;bound 2;chain 2 0:1 =",
+            "axiom 0 0:2..3;found 2;bound 2;chain 1 0:0 =",
+        ),
+        (
+            "axiom 0 0:2..3;axiom 0 0:1..3;chain 1 0:1 = 0:1..3;chain 0 0:0 = 0:2..3;found 3;bound 3;found 2;bound 2;chain 5 0:3 =",
+            "axiom 0 0:2..3;chain 0 0:0 = 0:2..3;found 3;bound 3;found 2;bound 2;chain 3 0:1 =",
+        ),
+    ] {
+        assert!(rt; trims_to(alloc, &g, text, left), "{text}");
+    }
+    let g = two_goals(alloc)?;
+    for text in [
+        "found 0 1;bound 0 1;found 1 0;bound 1 0;found 1 1;bound 1 1",
+        "found 0 1;decide 1 0;bound 0 1;chain 0 0:1 = 0:1",
+    ] {
+        assert!(rt; trims_to(alloc, &g, text, text), "{text}");
     }
     Ok(())
 }
@@ -157,6 +250,19 @@ fn answer_in_two(
     let mut checker = Checker::new(alloc, g);
     checker.feed(first)?;
     checker.feed(second)?;
+    let verdict = checker.finish()?;
+    Ok(verdict.kind())
+}
+
+/// What it says of a text that comes byte by byte.
+fn answer_by_bytes(alloc: Global, g: &Ground, text: &[u8]) -> Result<VerdictKind, CheckError>
+    requires well_made { IsWellMade g.now }
+    requires few { length text.now < 1000 }
+{
+    let mut checker = Checker::new(alloc, g);
+    for k in 0..text.len() {
+        checker.feed(&text[k..k + 1])?;
+    }
     let verdict = checker.finish()?;
     Ok(verdict.kind())
 }
@@ -183,6 +289,32 @@ fn a_text_in_pieces(rt: HostRuntime) -> Result<(), AllocError> {
         if text[cut] == b'\n' {
             line = line.saturating_add(1);
         }
+    }
+    for whole in [text] {
+        let answer = answer_by_bytes(alloc, &g, whole);
+        assert_eq!(rt; answer, Ok(VerdictKind::Best));
+    }
+    Ok(())
+}
+
+#[test]
+fn short_texts(rt: HostRuntime) -> Result<(), AllocError> {
+    let alloc = rt.alloc();
+    let g = no_value(alloc)?;
+    for (first, second, answer) in [
+        ("", "", Ok(VerdictKind::Open)),
+        ("empty 0\n", "", Ok(VerdictKind::NoSolution)),
+        ("empty", " 0\n", Ok(VerdictKind::NoSolution)),
+        ("empty 0", "", Err(CheckError::Rejected(1))),
+        ("empty 0\n", "\n", Err(CheckError::Rejected(2))),
+        ("empty 0\nuse 0\n", "", Err(CheckError::Rejected(2))),
+        ("empty 1\n", "empty 0\n", Err(CheckError::Rejected(1))),
+        ("hello\n", "", Err(CheckError::Rejected(1))),
+        ("hello\n", "empty 0\n", Err(CheckError::Rejected(1))),
+        ("decide 0 \n", "empty 0\n", Ok(VerdictKind::NoSolution)),
+    ] {
+        let said = answer_in_two(alloc, &g, first.as_bytes(), second.as_bytes());
+        assert_eq!(rt; said, answer, "{first}{second}");
     }
     Ok(())
 }

@@ -1,7 +1,10 @@
 //! A line of a log.
+ghost use Rattle.std.specs.Prelude.{◌≡◌, IfOk};
+
 use crate::values::Values;
 use learn_clauses::Chain;
 use signed_clause::{Clause, IntSet};
+use std::alloc::AllocError;
 
 /// A line of a log. The clauses that lines make are numbered from 0, in the order in which they are
 /// made.
@@ -22,4 +25,25 @@ pub enum Line {
     Decide(u32, IntSet),
     /// The domain of this variable is empty, which makes the empty clause.
     Empty(u32),
+}
+
+impl Line {
+    /// The same line again.
+    pub fn copy(&self) -> Result<Self, AllocError>
+        ensures { IfOk result (λ l. l ≡ self.now) }
+    {
+        match self {
+            Line::Axiom(k, clause) => Ok(Line::Axiom(*k, clause.copy()?)),
+            Line::Chain(chain, clause) => {
+                let steps = chain.steps.copy()?;
+                let first = chain.first;
+                Ok(Line::Chain(Chain { first, steps }, clause.copy()?))
+            }
+            Line::Bound(values) => Ok(Line::Bound(values.copy()?)),
+            Line::Use(i) => Ok(Line::Use(*i)),
+            Line::Found(values) => Ok(Line::Found(values.copy()?)),
+            Line::Decide(x, set) => Ok(Line::Decide(*x, set.copy()?)),
+            Line::Empty(x) => Ok(Line::Empty(*x)),
+        }
+    }
 }

@@ -8,6 +8,6 @@ pub returns-clause-taken : goal.returns-clause-taken
 returns-clause-taken c bytes h =
     let said = c.if-not-branch.false in (
       h.0 ++ c.in-Ok.line ∷ [],
-      fed_line c.args.g.now bytes h.0 (made_of c.args.self.now.progress) (made_of c.step.new.self) c.args.self.now.rest.items c.clear.new.self.items c.args.self.now.count _ c.in-Ok.line c.in_ok-step.field-0 h.1
-          (subst (λ (z : List ℕ). Spells z c.in-Ok.line) c.as_slice.ensures.value c.in-Ok.ensures.ok) c.in_ok-step.ensures.asked said (c.in_ok-step.ensures.made said) c.clear.ensures.items refl,
+      fed_line c.args.g.now bytes h.0 (made_of c.args.self.now.progress) (made_of c.step_with.new.self) c.args.self.now.rest.items c.clear.new.self.items c.args.self.now.count _ c.in-Ok.line c.in_ok-step_with.field-0 h.1
+          (subst (λ (z : List ℕ). Spells z c.in-Ok.line) c.as_slice.ensures.value c.in-Ok.ensures.ok) c.in_ok-step_with.ensures.asked said (c.in_ok-step_with.ensures.made said) c.clear.ensures.items refl,
     )

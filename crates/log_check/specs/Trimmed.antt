@@ -1,0 +1,107 @@
+-- Which lines of an accepted log are needed. What a reader believes after this file: what is left
+-- out is neither named by what stays nor needed for the verdict.
+use Rattle.std.specs.Prelude.{ℕ, zero, suc, ◌+◌, Bool, true, false, ◌&&◌, ◌||◌, cond, List, [], ◌∷◌, ◌++◌, ◌==◌, length, map, slice_index_or}
+use Rattle.signed_clause.specs.Ranges.{is_nil}
+use Rattle.ground_form.specs.declared.ground.Ground.{Ground}
+use Rattle.ground_form.specs.declared.ground.GroundGoal.{GroundGoal}
+use Rattle.proof_log.specs.declared.line.Line.{Line}
+use Rattle.proof_log.specs.declared.line.Line.TheVariants.{Axiom, Chain, Bound, Use, Found, Decide, Empty}
+use Rattle.proof_log.specs.Acceptance.{has_empty, made}
+
+-- ---- which clauses a line makes and names
+
+-- a Bound line makes one for each goal, and one where there is no goal
+abbrev pub bounds_count : List GroundGoal → ℕ
+bounds_count [] = 1
+bounds_count (goal ∷ goals) = suc (length goals)
+
+-- how many clauses a line makes
+abbrev pub clauses_of : Ground → Line → ℕ
+clauses_of g (Axiom k c) = 1
+clauses_of g (Chain chain c) = 1
+clauses_of g (Bound values) = bounds_count g.goals
+clauses_of g (Use i) = 0
+clauses_of g (Found a) = 0
+clauses_of g (Decide x set) = 0
+clauses_of g (Empty x) = 1
+
+-- a step resolves with the clause of number j
+abbrev pub steps_name : List (ℕ × ℕ) → ℕ → Bool
+steps_name [] j = false
+steps_name (s ∷ ss) j = s.1 == j || steps_name ss j
+
+-- the line is a Chain that begins with the clause of number j or resolves with it
+abbrev pub names : Line → ℕ → Bool
+names (Axiom k c) j = false
+names (Chain chain c) j = chain.first == j || steps_name chain.steps j
+names (Bound values) j = false
+names (Use i) j = false
+names (Found a) j = false
+names (Decide x set) j = false
+names (Empty x) j = false
+
+-- ---- which lines are needed
+
+-- every Found and every Bound line is, and a line that makes a clause, where it is the last or a
+-- needed line names its clause; Use and Decide lines make none, so the last line of those that made
+-- the empty clause is needed
+abbrev pub is_needed : Line → Bool → Bool → Bool
+is_needed (Axiom k c) last is_named = last || is_named
+is_needed (Chain chain c) last is_named = last || is_named
+is_needed (Bound values) last is_named = true
+is_needed (Use i) last is_named = false
+is_needed (Found a) last is_named = true
+is_needed (Decide x set) last is_named = false
+is_needed (Empty x) last is_named = last || is_named
+
+-- of lines before which n clauses were made, a needed one names the clause of number j
+abbrev pub named : Ground → ℕ → List Line → ℕ → Bool
+named g n [] j = false
+named g n (l ∷ ls) j =
+    (is_needed l (is_nil ls) (named g (n + clauses_of g l) ls n) && names l j) || named g (n + clauses_of g l) ls j
+
+-- the line l, before which n clauses were made and behind which ls stand, is needed
+abbrev pub stays : Ground → ℕ → Line → List Line → Bool
+stays g n l ls = is_needed l (is_nil ls) (named g (n + clauses_of g l) ls n)
+
+-- ---- the numbers that clauses have then
+
+-- the number of a clause, out of the list of them
+abbrev pub number_of : List ℕ → ℕ → ℕ
+number_of numbers j = slice_index_or numbers j 0
+
+abbrev pub steps_renumbered : List ℕ → List (ℕ × ℕ) → List (ℕ × ℕ)
+steps_renumbered numbers ss = map (λ s. (s.0, number_of numbers s.1)) ss
+
+-- the line, with these numbers in place of those that it names
+abbrev pub renumbered : List ℕ → Line → Line
+renumbered numbers (Axiom k c) = Axiom k c
+renumbered numbers (Chain chain c) = Chain (record { first = number_of numbers chain.first; steps = steps_renumbered numbers chain.steps }) c
+renumbered numbers (Bound values) = Bound values
+renumbered numbers (Use i) = Use i
+renumbered numbers (Found a) = Found a
+renumbered numbers (Decide x set) = Decide x set
+renumbered numbers (Empty x) = Empty x
+
+-- the next number behind k clauses that stay or go
+abbrev pub next_number : Bool → ℕ → ℕ → ℕ
+next_number kept k next = cond kept (next + k) next
+
+-- the numbers of k clauses that stay; where they go no line asks for theirs
+abbrev pub numbers_from : Bool → ℕ → ℕ → List ℕ
+numbers_from kept zero next = []
+numbers_from kept (suc k) next = next ∷ numbers_from kept k (next_number kept 1 next)
+
+-- ---- what is left
+
+-- the needed lines in their order, where the clauses made before have these numbers and `next` is
+-- the number of the next one that stays
+abbrev pub trimmed_from : Ground → List ℕ → ℕ → List Line → List Line
+trimmed_from g numbers next [] = []
+trimmed_from g numbers next (l ∷ ls) =
+    cond (stays g (length numbers) l ls) (renumbered numbers l ∷ []) []
+    ++ trimmed_from g (numbers ++ numbers_from (stays g (length numbers) l ls) (clauses_of g l) next) (next_number (stays g (length numbers) l ls) (clauses_of g l) next) ls
+
+-- all lines where the empty clause wasn't made, else the needed ones
+abbrev pub trimmed : Ground → List Line → List Line
+trimmed g ls = cond (has_empty (made g ls).clauses) (trimmed_from g [] 0 ls) ls
