@@ -24,7 +24,9 @@ pub struct BoolProp {
 
 impl BoolProp {
     /// The propagator. It takes no memory.
-    pub fn new(alloc: Global) -> BoolProp {
+    pub fn new(alloc: Global) -> BoolProp
+        ensures { result.alloc ≡ alloc }
+    {
         BoolProp { alloc }
     }
 }

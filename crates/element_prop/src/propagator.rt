@@ -24,7 +24,9 @@ pub struct ElementProp {
 
 impl ElementProp {
     /// The propagator. It takes no memory.
-    pub fn new(alloc: Global) -> ElementProp {
+    pub fn new(alloc: Global) -> ElementProp
+        ensures { result.alloc ≡ alloc }
+    {
         ElementProp { alloc }
     }
 }

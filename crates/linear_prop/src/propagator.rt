@@ -1,5 +1,5 @@
 //! `LinearProp`, the propagator of the linear kinds.
-ghost use Rattle.std.specs.Prelude.{◌≡◌, ◌<◌, true, IfOk, IfSome, length, slice_get};
+ghost use Rattle.std.specs.Prelude.{◌≡◌, ◌<◌, true, [], IfOk, IfSome, length, slice_get};
 ghost use Rattle.std.specs.List.{All};
 ghost use Rattle.signed_clause.specs.Ranges.{IsValid};
 ghost use Rattle.ground_form.specs.Kinds as kinds;
@@ -28,7 +28,10 @@ pub struct LinearProp {
 
 impl LinearProp {
     /// A propagator that has kept nothing. It takes no memory.
-    pub fn new(alloc: Global) -> LinearProp {
+    pub fn new(alloc: Global) -> LinearProp
+        ensures alloc { result.alloc ≡ alloc }
+        ensures nothing_kept { result.known.items ≡ [] }
+    {
         LinearProp {
             alloc,
             known: Vec::new(alloc),

@@ -1,5 +1,5 @@
 //! The propagator.
-ghost use Rattle.std.specs.Prelude.{◌≡◌, ◌<◌, true, ◌||◌, IfOk, IfSome, length, slice_get};
+ghost use Rattle.std.specs.Prelude.{◌≡◌, ◌<◌, true, ◌||◌, [], IfOk, IfSome, length, slice_get};
 ghost use Rattle.std.specs.List.{All};
 ghost use Rattle.signed_clause.specs.Ranges.{IsValid};
 ghost use Rattle.ground_form.specs.Kinds as kinds;
@@ -24,7 +24,12 @@ pub struct PackProp {
 
 impl PackProp {
     /// A propagator, without memory.
-    pub fn new(alloc: Global) -> PackProp {
+    pub fn new(alloc: Global) -> PackProp
+        ensures alloc { result.alloc ≡ alloc }
+        ensures no_starts { result.slots.starts.items ≡ [] }
+        ensures no_ends { result.slots.ends.items ≡ [] }
+        ensures none_open { result.slots.open.items ≡ [] }
+    {
         PackProp {
             alloc,
             slots: Slots {
