@@ -28,7 +28,7 @@ impl PackProp {
         ensures alloc { result.alloc ≡ alloc }
         ensures no_starts { result.slots.starts.items ≡ [] }
         ensures no_ends { result.slots.ends.items ≡ [] }
-        ensures none_open { result.slots.open.items ≡ [] }
+        ensures none_open { result.slots.«open».items ≡ [] }
     {
         PackProp {
             alloc,
