@@ -2,6 +2,5 @@ pub mod ClauseQuiet
 pub mod MemberLaws
 pub mod ConjunctionQuiet
 pub mod ConjunctionReasons
-pub mod Different
 pub mod Asked
 pub mod UpTo

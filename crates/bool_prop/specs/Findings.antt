@@ -1,6 +1,6 @@
 -- What the quick tests find. What a reader believes after this file: which of its clauses a constraint has to state in the boxes,
 -- where its flag is another variable than the rest.
-use Rattle.std.specs.Prelude.{◌≡◌, ℕ, ◌<◌, Bool, true, false, not, ◌&&◌, ◌||◌, cond, List, [], ◌∷◌, ℤ, pos, Option, Some, None, length, slice_index_or, nat_le, suc, ◌==◌, ◌⊎◌}
+use Rattle.std.specs.Prelude.{◌≡◌, ℕ, ◌<◌, Bool, true, false, not, ◌&&◌, ◌||◌, cond, List, [], ◌∷◌, pos, Option, Some, None, length, slice_index_or, ◌==◌, ◌⊎◌}
 use Rattle.std.specs.List.{All}
 use Rattle.signed_clause.specs.Ranges.{Ranges, has, is_nil, IsValid}
 use Rattle.signed_clause.specs.SetAlgebra.{misses, inside}
@@ -59,11 +59,6 @@ pub record IsPartOpen (flag : ℕ) (p : ℕ × Bool) (boxes : Boxes) : Type 0 wh
 abbrev pub IsWholeOpen : ℕ → List (ℕ × Bool) → Boxes → Type 0
 IsWholeOpen flag parts boxes =
     ((barred boxes flag false ≡ false) × (all_fixed parts boxes ≡ true)) ⊎ ((barred boxes flag true ≡ true) × (one_open parts boxes ≡ true))
-
--- the numbers ascend from n on
-abbrev pub ascends_from : ℕ → List ℕ → Bool
-ascends_from n [] = true
-ascends_from n (x ∷ xs) = nat_le n x && ascends_from (suc x) xs
 
 -- what a finding says
 abbrev pub Says : ℕ → List (ℕ × Bool) → Boxes → Finding → Type 0

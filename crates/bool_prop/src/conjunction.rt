@@ -3,22 +3,22 @@
 //! A conjunction says of each part that the flag is 0 or the part as it wants, and at last that the flag is 1 or some part
 //! isn't. Where the flag is 1 the walk stops at the first part that isn't fixed; where it is 0, at the second such part or at
 //! one that is barred; and where it is open, at one that is barred.
-ghost use Rattle.std.specs.Prelude.{◌≡◌, ◌<◌, ◌∷◌, ◌++◌, [], pos, true, false, not, drop, IfOk, OnOk, IfSome, IfNone, length, slice_index_or, nat_le};
+ghost use Rattle.std.specs.Prelude.{◌≡◌, ◌<◌, ◌∷◌, ◌++◌, [], pos, true, false, not, drop, IfOk, OnOk, IfSome, IfNone, length, slice_index_or};
 ghost use Rattle.std.specs.List.{All};
 ghost use Rattle.signed_clause.specs.Ranges.{IsValid};
 ghost use Rattle.signed_clause.specs.SetAlgebra.{less};
 ghost use Rattle.signed_clause.specs.Clauses.{box_of};
 ghost use Rattle.ground_form.specs.declared.con.Con.TheVariants.{AndDef};
-ghost use Rattle.ground_form.specs.Meaning.{bit, part_vars};
+ghost use Rattle.ground_form.specs.Meaning.{bit};
 ghost use Rattle.ground_form.specs.WellMade.{IsWellMadeCon};
 ghost use Rattle.rule_law.specs.Answers.{AreBoxesWithin, IsAnswer, IsPruning};
 ghost use Rattle.rule_law.specs.Refuted.{barred, fixed_at};
-ghost use Rattle.rule_law.specs.Reasons.{IsReason, no_repeat, kept_one};
+ghost use Rattle.rule_law.specs.Reasons.{IsReason, kept_one};
 ghost use Rattle.rule_law.specs.Plans.{literals_of};
-ghost use Rattle.bool_prop.specs.Findings.{IsScene, part_fixed, open_rest, whole_plan, IsWholeOpen, Says, ascends_from};
+ghost use Rattle.bool_prop.specs.Findings.{IsScene, part_fixed, open_rest, whole_plan, IsWholeOpen, Says};
 
 use ground_form::{Con, Number, ends_of};
-use rule_law::{keep_out, planned_pruning, probe, pruning, truth};
+use rule_law::{Differing, keep_out, planned_pruning, probe, pruning, truth};
 use signed_clause::{Clause, IntSet};
 use std::alloc::{AllocError, Global};
 
@@ -246,50 +246,10 @@ fn explain_whole(
     Ok(pruning(con, domains, boxes, literals))
 }
 
-/// Whether a variable may stand behind ones below `least`.
-fn may_follow(x: u32, least: u64) -> bool
-    ensures { result ≡ nat_le least x }
-{
-    least <= x as u64
-}
-
-/// Whether the variables ascend.
-fn do_ascend(vars: &[u32]) -> bool
-    ensures { result ≡ ascends_from 0 vars.now }
-{
-    let mut least = 0;
-    for x in vars {
-        if !may_follow(*x, least) {
-            return false;
-        }
-        least = *x as u64 + 1;
-    }
-    true
-}
-
-/// The flag and the parts' variables.
-fn vars_with(flag: u32, parts: &[(u32, bool)], alloc: Global) -> Result<Vec<u32>, AllocError>
-    ensures { IfOk result (λ vars. vars.items ≡ flag ∷ part_vars parts.now) }
-{
-    let mut vars = Vec::new(alloc);
-    vars.push(flag)?;
-    for p in parts {
-        vars.push(p.0)?;
-    }
-    Ok(vars)
-}
-
-/// Whether none of the flag and the parts' variables is found to stand twice.
-fn are_different(flag: u32, parts: &[(u32, bool)], alloc: Global) -> Result<bool, AllocError>
-    ensures { IfOk result (λ found. found ≡ true → no_repeat (flag ∷ part_vars parts.now) ≡ true) }
-{
-    let mut vars = vars_with(flag, parts, alloc)?;
-    vars.sort_unstable();
-    Ok(do_ascend(vars.as_slice()))
-}
-
 /// What a conjunction says as a whole, which it has to in the boxes.
 fn prune_whole(
+    differing: &mut Differing,
+    k: u32,
     con: &Con,
     flag: u32,
     parts: &[(u32, bool)],
@@ -306,7 +266,8 @@ fn prune_whole(
     requires open { IsWholeOpen flag parts.now boxes.now }
     ensures answer { IfOk result (λ a. IsAnswer con.now domains.now boxes.now a) }
 {
-    if !are_different(flag, parts, alloc)? {
+    let differ = differing.do_differ(k, con)?;
+    if !differ {
         return probe(con, domains, boxes, alloc);
     }
     let clause = explain_whole(con, flag, parts, domains, boxes, alloc)?;
@@ -318,6 +279,8 @@ fn prune_whole(
 /// # Errors
 /// Want of memory.
 pub fn prune_conjunction(
+    differing: &mut Differing,
+    k: u32,
     con: &Con,
     flag: u32,
     parts: &[(u32, bool)],
@@ -339,7 +302,7 @@ pub fn prune_conjunction(
             let clause = explain_part(con, flag, parts[i], domains, boxes, alloc)?;
             Ok(Some(clause))
         }
-        Finding::Whole => prune_whole(con, flag, parts, domains, boxes, alloc),
+        Finding::Whole => prune_whole(differing, k, con, flag, parts, domains, boxes, alloc),
         Finding::Unclear => probe(con, domains, boxes, alloc),
     }
 }

@@ -11,15 +11,16 @@ use crate::clause::prune_clause;
 use crate::conjunction::prune_conjunction;
 use crate::member::prune_member;
 use ground_form::{Con, Ground, Kind};
-use rule_law::{Propagator, probe};
+use rule_law::{Differing, Propagator, probe};
 use signed_clause::{Clause, IntSet};
 use std::alloc::{AllocError, Global};
 
-/// The propagator of conjunctions, memberships and clauses. It keeps nothing between calls: the boxes of a flag and of the
-/// first parts tell at once that there is nothing to say.
+/// The propagator of conjunctions, memberships and clauses. The boxes of a flag and of the first parts tell at once that there
+/// is nothing to say; what is kept is which conjunctions have a variable that stands twice.
 #[derive(Drop)]
 pub struct BoolProp {
     alloc: Global,
+    differing: Differing,
 }
 
 impl BoolProp {
@@ -27,7 +28,10 @@ impl BoolProp {
     pub fn new(alloc: Global) -> BoolProp
         ensures { result.alloc ≡ alloc }
     {
-        BoolProp { alloc }
+        BoolProp {
+            alloc,
+            differing: Differing::new(alloc),
+        }
     }
 }
 
@@ -40,10 +44,12 @@ fn is_boolean(kind: Kind) -> bool
 
 /// What a constraint has to say in the boxes.
 pub(crate) fn prune_one(
+    alloc: Global,
+    differing: &mut Differing,
+    k: u32,
     con: &Con,
     domains: &[IntSet],
     boxes: &[IntSet],
-    alloc: Global,
 ) -> Result<Option<Clause>, AllocError>
     requires well_made { IsWellMadeCon domains.now con.now }
     requires boxes { AreBoxesWithin domains.now boxes.now }
@@ -52,7 +58,16 @@ pub(crate) fn prune_one(
 {
     match con {
         Con::AndDef { flag, parts } => {
-            prune_conjunction(con, *flag, parts.items(), domains, boxes, alloc)
+            prune_conjunction(
+                differing,
+                k,
+                con,
+                *flag,
+                parts.items(),
+                domains,
+                boxes,
+                alloc,
+            )
         }
         Con::MemberDef { flag, var, set } => {
             prune_member(con, *flag, *var, set, domains, boxes, alloc)
@@ -69,7 +84,9 @@ impl Propagator for BoolProp {
         is_boolean(kind)
     }
 
-    fn begin(&mut self) {}
+    fn begin(&mut self) {
+        self.differing.forget();
+    }
 
     fn prune(
         &mut self,
@@ -77,11 +94,14 @@ impl Propagator for BoolProp {
         k: u32,
         boxes: &[IntSet],
     ) -> Result<Option<Clause>, AllocError> {
+        let con = &g.cons.items()[k as usize];
         prune_one(
-            &g.cons.items()[k as usize],
+            self.alloc,
+            &mut self.differing,
+            k,
+            con,
             g.domains.items(),
             boxes,
-            self.alloc,
         )
     }
 }

@@ -9,7 +9,7 @@ use Rattle.ground_form.specs.WellMade.{IsWellMadeCon}
 use Rattle.rule_law.specs.Answers.{AreBoxesWithin}
 use Rattle.rule_law.specs.Quiet.{quiet}
 use Rattle.rule_law.specs.Reasons.{IsReason}
-use Rattle.rule_law.specs.Plans.{IsFlag, literals_of}
+use Rattle.rule_law.specs.Plans.{literals_of}
 use Rattle.rule_law.proofs.FlagPlans.{are_good, is_flag}
 use Rattle.element_prop.specs.Within.{HasToLie, within_plan}
 use Rattle.element_prop.specs.Equalities.{AreBothAt, same_plan}

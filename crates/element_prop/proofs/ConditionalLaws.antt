@@ -1,25 +1,23 @@
 -- What a conditional has to state, and when it is quiet.
-use Rattle.std.proofs.Common.{◌≡◌, ℕ, zero, suc, ◌<◌, Bool, true, false, not, ◌&&◌, ◌||◌, cond, List, [], ◌∷◌, ℤ, pos, length, All, refl, arith, subst, sym, ap, ◌∙◌, inl, inr, ◌⊎◌}
+use Rattle.std.proofs.Common.{◌≡◌, ℕ, ◌<◌, Bool, true, false, not, ◌&&◌, ◌||◌, [], ◌∷◌, ℤ, pos, length, All, refl, arith, subst, sym, ap, ◌∙◌, inl, inr, ◌⊎◌}
 use Rattle.std.proofs.lemmas.Int.{ints}
 use Rattle.std.proofs.lemmas.Bool.{and_parts, false_from_ne_true}
 use Rattle.signed_clause.specs.Ranges.{Ranges, has, is_nil, IsValid}
 use Rattle.signed_clause.specs.SetAlgebra.{misses, inside, less}
-use Rattle.signed_clause.specs.Clauses.{Boxes, Literals, box_of}
+use Rattle.signed_clause.specs.Clauses.{Boxes, box_of}
 use Rattle.signed_clause.proofs.RangeSteps.{IsValid-less, has-less_valid}
 use Rattle.signed_clause.proofs.SetFacts.{inside_law, misses_law}
-use Rattle.ground_form.specs.declared.con.Con.{Con}
 use Rattle.ground_form.specs.declared.con.Con.TheVariants.{CondDef}
 use Rattle.ground_form.specs.Bounds.{low_of}
-use Rattle.rule_law.specs.Refuted.{excluded}
-use Rattle.rule_law.specs.Quiet.{fixing, quiet}
-use Rattle.rule_law.specs.Reasons.{Acts, IsReason}
+use Rattle.rule_law.specs.Quiet.{quiet}
+use Rattle.rule_law.specs.Reasons.{IsReason}
 use Rattle.rule_law.specs.Plans.{IsFlag, literals_of}
 use Rattle.rule_law.proofs.FlagLaws.{misses-single, single-misses}
 use Rattle.rule_law.proofs.QuietLaws.{has_low}
 use Rattle.rule_law.proofs.QuietFrom.{quiet_from}
-use Rattle.rule_law.proofs.Leaving.{less_inside, missing_inside, less_misses, missed_by_rest, twice_inside, left_over, value_valid}
+use Rattle.rule_law.proofs.Leaving.{less_inside, missing_inside, less_misses, missed_by_rest, left_over, value_valid}
 use Rattle.rule_law.proofs.PlanLaws.{ArePlanned, plan_reason, plan_acts_over}
-use Rattle.rule_law.proofs.FlagPlans.{AreGood, flag_other, bit_valid, IsPair, PairActs, pair_reason}
+use Rattle.rule_law.proofs.FlagPlans.{flag_other, bit_valid, IsPair, PairActs, pair_reason}
 use Rattle.element_prop.specs.Within.{HasToLie, within_plan}
 use Rattle.element_prop.specs.Conditionals.{IsCalm, HasToBeZero, either_plan}
 use Rattle.element_prop.proofs.Triples.{IsTriple, turned, three_fixed, within_reason, two_differ, inside_itself, in_other}

@@ -1,11 +1,11 @@
 -- What an element has to state of one item.
-use Rattle.std.proofs.Common.{◌≡◌, ℕ, zero, suc, ◌<◌, Bool, true, false, not, ◌&&◌, ◌||◌, cond, List, [], ◌∷◌, ℤ, pos, length, get_or, All, refl, arith, subst, sym, ap, ◌∙◌, inl, inr, ◌⊎◌}
+use Rattle.std.proofs.Common.{◌≡◌, ℕ, zero, suc, ◌<◌, Bool, true, false, not, ◌||◌, cond, List, [], ◌∷◌, ℤ, length, get_or, All, refl, arith, subst, sym, ap, ◌∙◌, inl, inr}
 use Rattle.std.specs.Ordering.{int_eq}
 use Rattle.std.proofs.lemmas.Bool.{and_parts, and_from, false_from_ne_true}
 use Rattle.std.proofs.lemmas.Bool.Decides.{Decides-int_eq}
 use Rattle.signed_clause.specs.Ranges.{Ranges, has, IsValid}
-use Rattle.signed_clause.specs.SetAlgebra.{misses, inside, less}
-use Rattle.signed_clause.specs.Clauses.{Boxes, Literals, box_of}
+use Rattle.signed_clause.specs.SetAlgebra.{misses, less}
+use Rattle.signed_clause.specs.Clauses.{Boxes, box_of}
 use Rattle.signed_clause.proofs.RangeSteps.{IsValid-less}
 use Rattle.ground_form.specs.declared.con.Con.{Con}
 use Rattle.ground_form.specs.declared.con.Con.TheVariants.{ElementDef}
@@ -13,7 +13,7 @@ use Rattle.ground_form.specs.WellMade.{IsWellMadeCon, lacks_value, distinct_valu
 use Rattle.ground_form.specs.Meaning.{term_vars}
 use Rattle.ground_form.proofs.VarLists.{all_terms, all_tail}
 use Rattle.rule_law.specs.Answers.{AreBoxesWithin}
-use Rattle.rule_law.specs.Refuted.{fixed_at, none_picked, excluded}
+use Rattle.rule_law.specs.Refuted.{none_picked, excluded}
 use Rattle.rule_law.specs.Reasons.{Acts, IsReason}
 use Rattle.rule_law.specs.Plans.{literals_of}
 use Rattle.rule_law.proofs.EndLaws.{single_has}

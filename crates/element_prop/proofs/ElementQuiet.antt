@@ -1,9 +1,9 @@
 -- An element of which each index value has an item, one item's box has all of out's, and two items can be picked, is quiet.
-use Rattle.std.proofs.Common.{◌≡◌, ℕ, zero, suc, ◌+◌, ◌<◌, ◌≤◌, Bool, true, false, not, ◌&&◌, ◌||◌, cond, List, [], ◌∷◌, ℤ, pos, length, get_or, All, refl, arith, subst, sym, ap, ◌∙◌, inl, inr, ◌⊎◌}
+use Rattle.std.proofs.Common.{◌≡◌, ℕ, zero, suc, ◌<◌, ◌≤◌, Bool, true, false, not, ◌&&◌, ◌||◌, cond, List, [], ◌∷◌, ℤ, length, get_or, refl, arith, subst, sym, ap, ◌∙◌, inl, inr}
 use Rattle.std.specs.Prelude.{◌==◌}
 use Rattle.std.specs.Ordering.{int_eq}
 use Rattle.std.proofs.lemmas.Int.{ints}
-use Rattle.std.proofs.lemmas.Bool.{and_parts, and_from, or_cases, cases_eq, false_from_ne_true}
+use Rattle.std.proofs.lemmas.Bool.{and_parts, or_cases, cases_eq, false_from_ne_true}
 use Rattle.std.proofs.lemmas.Bool.Decides.{nat_tests, Decides-int_eq}
 use Rattle.signed_clause.specs.Ranges.{Ranges, has, is_nil, count_of, IsValid}
 use Rattle.signed_clause.specs.SetAlgebra.{misses, inside, less}
@@ -13,18 +13,18 @@ use Rattle.signed_clause.proofs.CountLaws.{count-part, count-some}
 use Rattle.signed_clause.proofs.SetFacts.{inside_law}
 use Rattle.ground_form.specs.declared.con.Con.{Con}
 use Rattle.ground_form.specs.declared.con.Con.TheVariants.{ElementDef}
-use Rattle.ground_form.specs.Meaning.{term_vars}
+use Rattle.ground_form.specs.Meaning.{term_vars, vars_of}
 use Rattle.ground_form.specs.WellMade.{IsWellMadeCon, lacks_value, distinct_values}
-use Rattle.rule_law.specs.Answers.{AreBoxesWithin}
 use Rattle.rule_law.specs.Refuted.{none_picked}
 use Rattle.rule_law.specs.Quiet.{fixing, quiet}
 use Rattle.rule_law.specs.Reasons.{has_number}
+use Rattle.rule_law.specs.Repeats.{stands_twice}
 use Rattle.rule_law.proofs.EndLaws.{single_has}
 use Rattle.rule_law.proofs.SetLaws.{fixing_same, fixing_other}
 use Rattle.rule_law.proofs.FlagLaws.{single-misses}
 use Rattle.rule_law.proofs.QuietFrom.{quiet_from}
 use Rattle.rule_law.proofs.Leaving.{value_valid, one_inside}
-use Rattle.element_prop.specs.Elements.{count_possible, all_meet, some_covers, some_with, some_other, IsIdle}
+use Rattle.element_prop.specs.Elements.{count_possible, all_meet, some_covers, some_with, some_other, AreHeadsApart, IsIdle}
 use Rattle.element_prop.proofs.ElementLaws.{IsElement}
 
 first_false : (a b : Bool) → a ≡ false → (a && b) ≡ false
@@ -236,13 +236,24 @@ idle_from items o x i d boxes n a b m f c lt h k = record {
   another = k;
 }
 
-pub idle_at : (items : List (ℤ × ℕ)) (o x i : ℕ) (d : ℤ × ℕ) (boxes : Boxes) (out index : Ranges) (n : ℕ) → out ≡ box_of boxes o → index ≡ box_of boxes x → (o ≡ x → ⊥) →
-    has_number o (term_vars items) ≡ false → has_number x (term_vars items) ≡ false → all_meet items (box_of boxes o) (box_of boxes x) boxes ≡ true → n ≡ count_possible items index → count_of index ≤ n →
-    some_covers items out index boxes ≡ true → i < length items → (has index (get_or items i d).0 && not (misses (box_of boxes (get_or items i d).1) out)) ≡ true →
-    some_other items (get_or items i d).1 out index boxes ≡ true → IsIdle items o x boxes
-idle_at items o x i d boxes out index n eo ex s a b m en f c lt h k =
-    let F : Ranges → Ranges → Type 0 = λ p q. count_of q ≤ count_possible items q → some_covers items p q boxes ≡ true → (has q (get_or items i d).0 && not (misses (box_of boxes (get_or items i d).1) p)) ≡ true →
-    some_other items (get_or items i d).1 p q boxes ≡ true → IsIdle items o x boxes in
-    let here : F (box_of boxes o) (box_of boxes x) = λ f2 c2 h2 k2. idle_from items o x i d boxes s a b m f2 c2 lt h2 k2 in
-    let there : F out index = subst (λ (q : Ranges). F out q) (sym ex) (subst (λ (p : Ranges). F p (box_of boxes x)) (sym eo) here) in
-    there (omega (arith, en, f)) c h k
+pub idle_at : (items : List (ℤ × ℕ)) (o x i : ℕ) (d : ℤ × ℕ) (boxes : Boxes) (out index : Ranges) → out ≡ box_of boxes o → index ≡ box_of boxes x → AreHeadsApart o x items →
+    all_meet items (box_of boxes o) (box_of boxes x) boxes ≡ true → count_of (box_of boxes x) ≤ count_possible items (box_of boxes x) → some_covers items out index boxes ≡ true → i < length items →
+    (has index (get_or items i d).0 && not (misses (box_of boxes (get_or items i d).1) out)) ≡ true → some_other items (get_or items i d).1 out index boxes ≡ true → IsIdle items o x boxes
+idle_at items o x i d boxes out index eo ex s m f c lt h k =
+    let F : Ranges → Ranges → Type 0 = λ p q. some_covers items p q boxes ≡ true → (has q (get_or items i d).0 && not (misses (box_of boxes (get_or items i d).1) p)) ≡ true → some_other items (get_or items i d).1 p q boxes ≡ true → IsIdle items o x boxes in
+    let here : F (box_of boxes o) (box_of boxes x) = λ c2 h2 k2. idle_from items o x i d boxes s.differ s.out_apart s.index_apart m f c2 lt h2 k2 in
+    let there : F out index = subst (λ (q : Ranges). F out q) (sym ex) (subst (λ (p : Ranges). F p (box_of boxes x)) (sym eo) here) in there c h k
+
+-- what the test of the variables finds
+pub heads_apart : (con : Con) (o x : ℕ) (items : List (ℤ × ℕ)) → con ≡ ElementDef o x items → stands_twice o (vars_of con) ≡ false → stands_twice x (vars_of con) ≡ false → AreHeadsApart o x items
+heads_apart con o x items is first second =
+    let one : stands_twice o (o ∷ x ∷ term_vars items) ≡ false = sym (ap (λ (k : Con). stands_twice o (vars_of k)) is) ∙ first in
+    let two : stands_twice x (o ∷ x ∷ term_vars items) ≡ false = sym (ap (λ (k : Con). stands_twice x (vars_of k)) is) ∙ second in
+    let self : (o == o) ≡ true = grind (arith, nat_tests) in
+    let same : (x == x) ≡ true = grind (arith, nat_tests) in
+    let there : (x == o) ≡ false = grind arith in
+    record {
+      differ = λ e. let bad : (x == o) ≡ true = grind (arith, nat_tests) in cc;
+      out_apart = grind arith;
+      index_apart = grind arith;
+    }

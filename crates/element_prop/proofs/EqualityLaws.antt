@@ -1,17 +1,16 @@
 -- What an equality has to state, and when it is quiet.
-use Rattle.std.proofs.Common.{◌≡◌, ℕ, zero, suc, ◌<◌, Bool, true, false, not, ◌&&◌, ◌||◌, cond, List, [], ◌∷◌, ℤ, pos, length, All, refl, arith, subst, sym, ap, ◌∙◌, inl, inr, ◌⊎◌}
+use Rattle.std.proofs.Common.{◌≡◌, ℕ, ◌<◌, Bool, true, false, not, ◌&&◌, ◌||◌, [], ◌∷◌, ℤ, pos, length, All, refl, arith, subst, sym, ap, ◌∙◌, inl, inr, ◌⊎◌}
 use Rattle.std.specs.Ordering.{int_eq}
-use Rattle.std.proofs.lemmas.Bool.{and_parts, and_from, false_from_ne_true}
+use Rattle.std.proofs.lemmas.Bool.{and_parts, false_from_ne_true}
 use Rattle.std.proofs.lemmas.Bool.Decides.{Decides-int_eq}
 use Rattle.signed_clause.specs.Ranges.{Ranges, has, is_nil, IsValid}
 use Rattle.signed_clause.specs.SetAlgebra.{misses, inside, less}
-use Rattle.signed_clause.specs.Clauses.{Boxes, Literals, box_of}
+use Rattle.signed_clause.specs.Clauses.{Boxes, box_of}
 use Rattle.signed_clause.proofs.SetFacts.{inside_law, misses_law}
-use Rattle.ground_form.specs.declared.con.Con.{Con}
 use Rattle.ground_form.specs.declared.con.Con.TheVariants.{EqDef}
 use Rattle.ground_form.specs.Bounds.{low_of, high_of}
-use Rattle.rule_law.specs.Refuted.{fixed_at, same_single, excluded}
-use Rattle.rule_law.specs.Quiet.{fixing, quiet}
+use Rattle.rule_law.specs.Refuted.{fixed_at, same_single}
+use Rattle.rule_law.specs.Quiet.{quiet}
 use Rattle.rule_law.specs.Reasons.{Acts, IsReason}
 use Rattle.rule_law.specs.Plans.{IsFlag, literals_of}
 use Rattle.rule_law.proofs.EndLaws.{fixed_value, single_fixed}
@@ -19,8 +18,8 @@ use Rattle.rule_law.proofs.FlagLaws.{misses-single, single-misses}
 use Rattle.rule_law.proofs.QuietLaws.{has_low}
 use Rattle.rule_law.proofs.QuietFrom.{quiet_from}
 use Rattle.rule_law.proofs.Leaving.{less_misses, missed_by_rest, has_one, one_inside, value_valid}
-use Rattle.rule_law.proofs.PlanLaws.{ArePlanned, AllLeft, plan_reason, plan_acts_head, plan_acts_tail}
-use Rattle.rule_law.proofs.FlagPlans.{AreGood, in_domain, flag_other, flag_only, bit_valid}
+use Rattle.rule_law.proofs.PlanLaws.{ArePlanned, plan_reason, plan_acts_head, plan_acts_tail}
+use Rattle.rule_law.proofs.FlagPlans.{in_domain, flag_other, flag_only, bit_valid}
 use Rattle.element_prop.specs.Within.{HasToLie, within_plan}
 use Rattle.element_prop.specs.Equalities.{IsCalm, AreBothAt, same_plan}
 use Rattle.element_prop.proofs.Triples.{IsTriple, turned, three_fixed, within_reason, all_differ}

@@ -5,3 +5,5 @@ pub mod Asked
 pub mod ElementLaws
 pub mod UpTo
 pub mod ElementQuiet
+pub mod IndexLaws
+pub mod OutLaws

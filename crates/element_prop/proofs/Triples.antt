@@ -1,11 +1,11 @@
 -- Constraints over a flag and two more variables, and the plan that says that one of these lies within the other's box.
-use Rattle.std.proofs.Common.{◌≡◌, ℕ, zero, suc, ◌<◌, Bool, true, false, not, ◌&&◌, ◌||◌, cond, List, [], ◌∷◌, ℤ, pos, length, All, refl, arith, subst, sym, ap, ◌∙◌, inl, inr, ◌⊎◌}
+use Rattle.std.proofs.Common.{◌≡◌, ℕ, ◌<◌, true, false, [], ◌∷◌, ℤ, pos, length, refl, arith, subst, sym, inl, inr}
 use Rattle.std.specs.Prelude.{◌==◌}
 use Rattle.std.proofs.lemmas.Bool.{cases_eq, false_from_ne_true}
 use Rattle.std.proofs.lemmas.Bool.Decides.{nat_tests}
 use Rattle.signed_clause.specs.Ranges.{Ranges, has, IsValid}
-use Rattle.signed_clause.specs.SetAlgebra.{misses, inside, less}
-use Rattle.signed_clause.specs.Clauses.{Boxes, Literals, box_of}
+use Rattle.signed_clause.specs.SetAlgebra.{inside, less}
+use Rattle.signed_clause.specs.Clauses.{Boxes, box_of}
 use Rattle.signed_clause.proofs.RangeSteps.{IsValid-less}
 use Rattle.signed_clause.proofs.SetFacts.{inside_law}
 use Rattle.ground_form.specs.declared.con.Con.{Con}
@@ -14,7 +14,7 @@ use Rattle.rule_law.specs.Quiet.{fixing}
 use Rattle.rule_law.specs.Reasons.{no_repeat, Acts, IsReason}
 use Rattle.rule_law.specs.Plans.{IsFlag, literals_of}
 use Rattle.rule_law.proofs.SetLaws.{fixing_same, fixing_other}
-use Rattle.rule_law.proofs.Leaving.{less_inside, missing_inside, twice_inside, has_one, one_inside, left_over}
+use Rattle.rule_law.proofs.Leaving.{less_inside, missing_inside, twice_inside, one_inside, left_over}
 use Rattle.rule_law.proofs.PlanLaws.{ArePlanned, plan_reason, plan_acts_head, plan_acts_tail, plan_acts_over}
 use Rattle.rule_law.proofs.FlagPlans.{AreGood, in_domain, flag_other, flag_only, bit_valid}
 use Rattle.element_prop.specs.Within.{HasToLie, within_plan}

@@ -1,6 +1,6 @@
 -- What the walk over an element's items finds. What a reader believes after this file: which clauses of three literals an element
 -- has to state in the boxes, where its variables are different.
-use Rattle.std.specs.Prelude.{◌≡◌, ℕ, suc, ◌<◌, ◌≤◌, Bool, true, false, not, ◌&&◌, ◌||◌, cond, ◌==◌, List, [], ◌∷◌, ℤ, pos, length, slice_index_or, ◌⊎◌}
+use Rattle.std.specs.Prelude.{◌≡◌, ℕ, suc, ◌<◌, ◌≤◌, Bool, true, false, not, ◌&&◌, ◌||◌, cond, ◌==◌, List, [], ◌∷◌, ℤ, length, slice_index_or, ◌⊎◌}
 use Rattle.signed_clause.specs.Ranges.{Ranges, has, count_of}
 use Rattle.signed_clause.specs.SetAlgebra.{misses, inside, less}
 use Rattle.signed_clause.specs.Clauses.{Boxes, Literals, box_of}
@@ -18,6 +18,43 @@ HasToPick index v box other =
 -- what the clause leaves that says that the index isn't v, or a has a value that b's box has, or b is outside its box
 abbrev pub pick_plan : Boxes → Boxes → ℕ → ℤ → ℕ → ℕ → Literals
 pick_plan domains boxes x v a b = (x, (v, v) ∷ []) ∷ (a, less (box_of domains a) (box_of boxes b)) ∷ (b, box_of boxes b) ∷ []
+
+-- ---- values of the index
+
+-- the set without the value
+abbrev pub without_one : ℤ → Ranges → Ranges
+without_one v s = cond (has s v) (less s ((v, v) ∷ [])) s
+
+-- the set without the items' values
+abbrev pub without_items : List (ℤ × ℕ) → Ranges → Ranges
+without_items [] s = s
+without_items (t ∷ ts) s = without_items ts (without_one t.0 s)
+
+-- what the clause leaves that says that the index is an item's value: of the index what no item has
+abbrev pub index_plan : Boxes → ℕ → List (ℤ × ℕ) → Literals
+index_plan domains x items = (x, without_items items (box_of domains x)) ∷ []
+
+-- ---- values of out
+
+-- the set without the values of each item whose value the index can have
+abbrev pub without_boxes : List (ℤ × ℕ) → Ranges → Boxes → Ranges → Ranges
+without_boxes [] index boxes s = s
+without_boxes (t ∷ ts) index boxes s = without_boxes ts index boxes (cond (has index t.0) (less s (box_of boxes t.1)) s)
+
+-- of each such item what its domain has outside the set
+abbrev pub items_plan : List (ℤ × ℕ) → Ranges → Boxes → Ranges → Literals
+items_plan [] index domains s = []
+items_plan (t ∷ ts) index domains s = cond (has index t.0) ((t.1, less (box_of domains t.1) s) ∷ items_plan ts index domains s) (items_plan ts index domains s)
+
+-- what the clause leaves that says that out has no value of the set, or the index is outside its box, or such an item has a value of
+-- the set
+abbrev pub out_plan : List (ℤ × ℕ) → Boxes → Boxes → ℕ → ℕ → Ranges → Literals
+out_plan items domains boxes o x s = (o, s) ∷ (x, box_of boxes x) ∷ items_plan items (box_of boxes x) domains s
+
+-- the box of one of them has the value
+abbrev pub some_offers : List (ℤ × ℕ) → ℤ → Ranges → Boxes → Bool
+some_offers [] v index boxes = false
+some_offers (t ∷ ts) v index boxes = (has index t.0 && has (box_of boxes t.1) v) || some_offers ts v index boxes
 
 -- ---- an element that has nothing to say
 
@@ -47,6 +84,12 @@ abbrev pub some_other : List (ℤ × ℕ) → ℕ → Ranges → Ranges → Boxe
 some_other [] x out index boxes = false
 some_other (t ∷ ts) x out index boxes =
     (not (t.1 == x) && (has index t.0 && not (misses (box_of boxes t.1) out))) || some_other ts x out index boxes
+
+-- out, the index and the items' variables are different, these last not from each other
+pub record AreHeadsApart (o x : ℕ) (items : List (ℤ × ℕ)) : Type 0 where
+  pub differ : o ≡ x → ⊥
+  pub out_apart : has_number o (term_vars items) ≡ false
+  pub index_apart : has_number x (term_vars items) ≡ false
 
 -- the variables are different, each value of the index is an item's, one item's box has all of out's, and two items of different
 -- variables can be picked

@@ -11,15 +11,16 @@ use crate::conditional::prune_conditional;
 use crate::element::prune_element;
 use crate::equality::prune_equality;
 use ground_form::{Con, Ground, Kind};
-use rule_law::{Propagator, probe};
+use rule_law::{Differing, Propagator, probe};
 use signed_clause::{Clause, IntSet};
 use std::alloc::{AllocError, Global};
 
-/// The propagator of elements, equalities and conditionals. It keeps nothing between calls: the boxes of two or three variables
-/// tell at once whether there is something to say.
+/// The propagator of elements, equalities and conditionals. Of equalities and conditionals the boxes of three variables tell at
+/// once whether there is something to say. What is kept is which variables of an element stand twice.
 #[derive(Drop)]
 pub struct ElementProp {
     alloc: Global,
+    differing: Differing,
 }
 
 impl ElementProp {
@@ -27,7 +28,10 @@ impl ElementProp {
     pub fn new(alloc: Global) -> ElementProp
         ensures { result.alloc ≡ alloc }
     {
-        ElementProp { alloc }
+        ElementProp {
+            alloc,
+            differing: Differing::new(alloc),
+        }
     }
 }
 
@@ -40,10 +44,12 @@ fn is_choice(kind: Kind) -> bool
 
 /// What a constraint has to say in the boxes.
 pub(crate) fn prune_one(
+    alloc: Global,
+    differing: &mut Differing,
+    k: u32,
     con: &Con,
     domains: &[IntSet],
     boxes: &[IntSet],
-    alloc: Global,
 ) -> Result<Option<Clause>, AllocError>
     requires well_made { IsWellMadeCon domains.now con.now }
     requires boxes { AreBoxesWithin domains.now boxes.now }
@@ -55,7 +61,16 @@ pub(crate) fn prune_one(
             prune_equality(con, (*flag, *left, *right), domains, boxes, alloc)
         }
         Con::ElementDef { out, index, items } => {
-            prune_element(con, (*out, *index), items.items(), domains, boxes, alloc)
+            prune_element(
+                alloc,
+                differing,
+                k,
+                con,
+                (*out, *index),
+                items.items(),
+                domains,
+                boxes,
+            )
         }
         Con::CondDef { out, flag, item } => {
             prune_conditional(con, (*out, *flag, *item), domains, boxes, alloc)
@@ -71,7 +86,9 @@ impl Propagator for ElementProp {
         is_choice(kind)
     }
 
-    fn begin(&mut self) {}
+    fn begin(&mut self) {
+        self.differing.forget();
+    }
 
     fn prune(
         &mut self,
@@ -79,11 +96,14 @@ impl Propagator for ElementProp {
         k: u32,
         boxes: &[IntSet],
     ) -> Result<Option<Clause>, AllocError> {
+        let con = &g.cons.items()[k as usize];
         prune_one(
-            &g.cons.items()[k as usize],
+            self.alloc,
+            &mut self.differing,
+            k,
+            con,
             g.domains.items(),
             boxes,
-            self.alloc,
         )
     }
 }

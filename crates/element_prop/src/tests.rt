@@ -11,7 +11,7 @@ ghost use Rattle.rule_law.specs.Answers.{AreBoxesWithin, IsAnswer};
 use crate::ElementProp;
 use crate::propagator::prune_one;
 use ground_form::{Con, Kind, Terms, copy_sets};
-use rule_law::{Propagator, justified, probe};
+use rule_law::{Differing, Propagator, justified, probe};
 use signed_clause::{Clause, IntSet};
 use std::alloc::{AllocError, Global};
 
@@ -46,6 +46,7 @@ fn are_within(domains: &[IntSet], boxes: &[IntSet]) -> bool
 
 /// What the propagator says, or plain probing.
 fn answer(
+    differing: &mut Differing,
     con: &Con,
     domains: &[IntSet],
     boxes: &[IntSet],
@@ -60,7 +61,7 @@ fn answer(
     if plain {
         probe(con, domains, boxes, alloc)
     } else {
-        prune_one(con, domains, boxes, alloc)
+        prune_one(alloc, differing, 3, con, domains, boxes)
     }
 }
 
@@ -79,6 +80,7 @@ enum Turn {
 
 /// Asks once.
 fn ask(
+    differing: &mut Differing,
     con: &Con,
     domains: &[IntSet],
     boxes: &[IntSet],
@@ -89,7 +91,7 @@ fn ask(
     requires boxes { AreBoxesWithin domains.now boxes.now }
     requires sets { All (λ d. IsValid d) domains.now }
 {
-    let Some(clause) = answer(con, domains, boxes, plain, alloc)? else {
+    let Some(clause) = answer(differing, con, domains, boxes, plain, alloc)? else {
         return Ok(Turn::Still);
     };
     if !justified(con, domains, &clause) {
@@ -104,6 +106,7 @@ fn ask(
 /// The boxes where there is nothing more to say, or None where nothing is left or something went wrong; and how many calls
 /// it took.
 fn settle(
+    differing: &mut Differing,
     con: &Con,
     domains: &[IntSet],
     mut boxes: Vec<IntSet>,
@@ -117,7 +120,7 @@ fn settle(
         if !are_within(domains, boxes.as_slice()) {
             return Ok(None);
         }
-        match ask(con, domains, boxes.as_slice(), plain, alloc)? {
+        match ask(differing, con, domains, boxes.as_slice(), plain, alloc)? {
             Turn::Still => return Ok(Some(boxes)),
             Turn::Narrowed(x, set) => {
                 if (x as usize) < boxes.len() {
@@ -153,7 +156,13 @@ fn are_same(a: &[IntSet], b: &[IntSet]) -> bool {
 }
 
 /// Whether the propagator and plain probing come to the same from all boxes within the domains, and how many cases there are.
-fn agrees(alloc: Global, con: &Con, domains: &[IntSet], count: u32) -> Result<u32, AllocError>
+fn agrees(
+    alloc: Global,
+    differing: &mut Differing,
+    con: &Con,
+    domains: &[IntSet],
+    count: u32,
+) -> Result<u32, AllocError>
     requires well_made { IsWellMadeCon domains.now con.now }
     requires sets { All (λ d. IsValid d) domains.now }
 {
@@ -161,8 +170,15 @@ fn agrees(alloc: Global, con: &Con, domains: &[IntSet], count: u32) -> Result<u3
     for n in 0..count {
         let boxes = nth_boxes(alloc, domains, n)?;
         if are_within(domains, boxes.as_slice()) {
-            let quick = settle(con, domains, boxes, false, alloc)?;
-            let plain = settle(con, domains, nth_boxes(alloc, domains, n)?, true, alloc)?;
+            let quick = settle(differing, con, domains, boxes, false, alloc)?;
+            let plain = settle(
+                differing,
+                con,
+                domains,
+                nth_boxes(alloc, domains, n)?,
+                true,
+                alloc,
+            )?;
             let same = match (&quick, &plain) {
                 (Some(a), Some(b)) => are_same(a.as_slice(), b.as_slice()),
                 (None, None) => true,
@@ -180,6 +196,7 @@ fn agrees(alloc: Global, con: &Con, domains: &[IntSet], count: u32) -> Result<u3
 #[test]
 fn equalities(rt: HostRuntime) -> Result<(), AllocError> {
     let alloc = rt.alloc();
+    let mut differing = Differing::new(alloc);
     let domains = vec![in alloc;
         IntSet::range(alloc, 0, 1),
         IntSet::range(alloc, 0, 2),
@@ -191,7 +208,7 @@ fn equalities(rt: HostRuntime) -> Result<(), AllocError> {
             left,
             right,
         };
-        assert!(rt; agrees(alloc, &con, domains.as_slice(), 512)? > 140);
+        assert!(rt; agrees(alloc, &mut differing, &con, domains.as_slice(), 512)? > 140);
     }
     Ok(())
 }
@@ -199,6 +216,7 @@ fn equalities(rt: HostRuntime) -> Result<(), AllocError> {
 #[test]
 fn conditionals(rt: HostRuntime) -> Result<(), AllocError> {
     let alloc = rt.alloc();
+    let mut differing = Differing::new(alloc);
     let domains = vec![in alloc;
         IntSet::range(alloc, 0, 1),
         IntSet::range(alloc, 0, 2),
@@ -206,7 +224,7 @@ fn conditionals(rt: HostRuntime) -> Result<(), AllocError> {
     ]?;
     for (out, item) in [(1u32, 2u32), (2, 1), (1, 1), (0, 1), (2, 0)] {
         let con = Con::CondDef { out, flag: 0, item };
-        assert!(rt; agrees(alloc, &con, domains.as_slice(), 512)? > 140);
+        assert!(rt; agrees(alloc, &mut differing, &con, domains.as_slice(), 512)? > 140);
     }
     Ok(())
 }
@@ -214,6 +232,7 @@ fn conditionals(rt: HostRuntime) -> Result<(), AllocError> {
 #[test]
 fn elements(rt: HostRuntime) -> Result<(), AllocError> {
     let alloc = rt.alloc();
+    let mut differing = Differing::new(alloc);
     let domains = vec![in alloc;
         IntSet::range(alloc, 0, 2),
         IntSet::range(alloc, 0, 2),
@@ -226,7 +245,7 @@ fn elements(rt: HostRuntime) -> Result<(), AllocError> {
             index: 1,
             items: Terms::of(vec![in alloc; (0i64, first), (1i64, second)]?),
         };
-        assert!(rt; agrees(alloc, &con, domains.as_slice(), 4096)? == 2401);
+        assert!(rt; agrees(alloc, &mut differing, &con, domains.as_slice(), 4096)? == 2401);
     }
     Ok(())
 }
@@ -234,6 +253,7 @@ fn elements(rt: HostRuntime) -> Result<(), AllocError> {
 #[test]
 fn what_is_picked_narrows_the_index(rt: HostRuntime) -> Result<(), AllocError> {
     let alloc = rt.alloc();
+    let mut differing = Differing::new(alloc);
     let con = Con::ElementDef {
         out: 3,
         index: 0,
@@ -246,7 +266,15 @@ fn what_is_picked_narrows_the_index(rt: HostRuntime) -> Result<(), AllocError> {
         IntSet::range(alloc, 4, 9),
     ]?;
     let boxes = copy_sets(alloc, domains.as_slice())?;
-    let Some(left) = settle(&con, domains.as_slice(), boxes, false, alloc)? else {
+    let Some(left) = settle(
+        &mut differing,
+        &con,
+        domains.as_slice(),
+        boxes,
+        false,
+        alloc,
+    )?
+    else {
         assert!(rt; false, "there is a solution");
         return Ok(());
     };

@@ -11,6 +11,5 @@ pub mod Quieting
 pub mod KindLaws
 pub mod QuietKinds
 pub mod KindAnswers
-pub mod Distinct
 pub mod UpTo
 pub mod TestRows

@@ -5,5 +5,4 @@ pub mod Explaining
 pub mod Turns
 pub mod Flags
 pub mod RowAnswers
-pub mod Differing
 pub mod Handled

@@ -12,12 +12,10 @@
 //! - `cause`: whether a row has something to say.
 //! - `row_clauses`: the clause that it gives.
 //! - `kinds`: the rows of each kind.
-//! - `differing`: whether no variable stands twice in a constraint, and what is kept of that.
 //! - `propagator`: `LinearProp` itself.
 #![tactic(auto)]
 
 mod cause;
-mod differing;
 mod explain;
 mod fall;
 mod kinds;

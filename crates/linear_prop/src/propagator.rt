@@ -1,18 +1,15 @@
 //! `LinearProp`, the propagator of the linear kinds.
-ghost use Rattle.std.specs.Prelude.{◌≡◌, ◌<◌, true, [], IfOk, IfSome, length, slice_get};
+ghost use Rattle.std.specs.Prelude.{◌≡◌, ◌<◌, true, IfOk, IfSome, length, slice_get};
 ghost use Rattle.std.specs.List.{All};
 ghost use Rattle.signed_clause.specs.Ranges.{IsValid};
 ghost use Rattle.ground_form.specs.Kinds as kinds;
-ghost use Rattle.ground_form.specs.Meaning.{vars_of};
 ghost use Rattle.ground_form.specs.WellMade.{IsWellMade, IsWellMadeCon};
-ghost use Rattle.rule_law.specs.Reasons.{no_repeat};
 ghost use Rattle.rule_law.specs.Answers.{AreBoxesWithin, IsAnswer};
 ghost use Rattle.linear_prop.specs.Handled.{is_linear};
 
-use crate::differing::{Known, do_differ};
 use crate::kinds::linear_answer;
 use ground_form::{Con, Ground, Kind};
-use rule_law::{Propagator, probe};
+use rule_law::{Differing, Propagator, probe};
 use signed_clause::{Clause, IntSet};
 use std::alloc::{AllocError, Global};
 
@@ -23,47 +20,25 @@ use std::alloc::{AllocError, Global};
 #[derive(Drop)]
 pub struct LinearProp {
     alloc: Global,
-    known: Vec<Known>,
+    differing: Differing,
 }
 
 impl LinearProp {
     /// A propagator that has kept nothing. It takes no memory.
     pub fn new(alloc: Global) -> LinearProp
-        ensures alloc { result.alloc ≡ alloc }
-        ensures nothing_kept { result.known.items ≡ [] }
+        ensures { result.alloc ≡ alloc }
     {
         LinearProp {
             alloc,
-            known: Vec::new(alloc),
+            differing: Differing::new(alloc),
         }
-    }
-}
-
-/// Whether no variable stands twice in the constraint, which is one of the three kinds.
-fn is_plain(alloc: Global, known: &mut Vec<Known>, k: u32, con: &Con) -> Result<bool, AllocError>
-    ensures { IfOk result (λ plain. plain ≡ true → no_repeat (vars_of con.now) ≡ true) }
-{
-    match con {
-        Con::LinLe { terms, .. } => {
-            let differ = do_differ(alloc, known, k, None, terms.items())?;
-            Ok(differ)
-        }
-        Con::LinDef { out, terms, .. } => {
-            let differ = do_differ(alloc, known, k, Some(*out), terms.items())?;
-            Ok(differ)
-        }
-        Con::ReifLe { flag, terms, .. } => {
-            let differ = do_differ(alloc, known, k, Some(*flag), terms.items())?;
-            Ok(differ)
-        }
-        _ => Ok(false),
     }
 }
 
 /// The answer of the constraint with the number.
 pub(crate) fn answer_of(
     alloc: Global,
-    known: &mut Vec<Known>,
+    differing: &mut Differing,
     k: u32,
     con: &Con,
     domains: &[IntSet],
@@ -74,8 +49,8 @@ pub(crate) fn answer_of(
     requires boxes { AreBoxesWithin domains.now boxes.now }
     ensures { IfOk result (λ answer. IsAnswer con.now domains.now boxes.now answer) }
 {
-    let plain = is_plain(alloc, known, k, con)?;
-    if plain {
+    let differ = differing.do_differ(k, con)?;
+    if differ {
         let answer = linear_answer(alloc, con, domains, boxes)?;
         Ok(answer)
     } else {
@@ -92,7 +67,7 @@ impl Propagator for LinearProp {
     }
 
     fn begin(&mut self) {
-        self.known.clear();
+        self.differing.forget();
     }
 
     fn prune(
@@ -104,7 +79,7 @@ impl Propagator for LinearProp {
         let con = &g.cons.items()[k as usize];
         let answer = answer_of(
             self.alloc,
-            &mut self.known,
+            &mut self.differing,
             k,
             con,
             g.domains.items(),

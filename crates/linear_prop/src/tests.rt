@@ -12,11 +12,10 @@ ghost use Rattle.ground_form.specs.WellMade.{IsWellMadeCon};
 ghost use Rattle.rule_law.specs.Answers.{AreBoxesWithin, IsAnswer};
 
 use crate::LinearProp;
-use crate::differing::Known;
 use crate::explain::set_at;
 use crate::propagator::answer_of;
 use ground_form::{Con, Kind, Terms, copy_sets, ends_of};
-use rule_law::{Propagator, justified, probe};
+use rule_law::{Differing, Propagator, justified, probe};
 use signed_clause::{Clause, IntSet};
 use std::alloc::{AllocError, Global};
 
@@ -97,7 +96,7 @@ fn are_fit(terms: &[(i64, u32)], domains: &[IntSet]) -> bool
 
 /// What the propagator says, or plain probing.
 fn answer(
-    known: &mut Vec<Known>,
+    differing: &mut Differing,
     con: &Con,
     domains: &[IntSet],
     boxes: &[IntSet],
@@ -112,7 +111,7 @@ fn answer(
     if plain {
         probe(con, domains, boxes, alloc)
     } else {
-        answer_of(alloc, known, 3, con, domains, boxes)
+        answer_of(alloc, differing, 3, con, domains, boxes)
     }
 }
 
@@ -131,7 +130,7 @@ enum Turn {
 
 /// Asks once.
 fn ask(
-    known: &mut Vec<Known>,
+    differing: &mut Differing,
     con: &Con,
     domains: &[IntSet],
     boxes: &[IntSet],
@@ -142,7 +141,7 @@ fn ask(
     requires boxes { AreBoxesWithin domains.now boxes.now }
     requires sets { All (λ d. IsValid d) domains.now }
 {
-    let Some(clause) = answer(known, con, domains, boxes, plain, alloc)? else {
+    let Some(clause) = answer(differing, con, domains, boxes, plain, alloc)? else {
         return Ok(Turn::Still);
     };
     if !justified(con, domains, &clause) {
@@ -156,7 +155,7 @@ fn ask(
 
 /// The boxes where there is nothing more to say, or None where nothing is left or something went wrong.
 fn settle(
-    known: &mut Vec<Known>,
+    differing: &mut Differing,
     con: &Con,
     domains: &[IntSet],
     mut boxes: Vec<IntSet>,
@@ -170,7 +169,7 @@ fn settle(
         if !are_within(domains, boxes.as_slice()) {
             return Ok(None);
         }
-        match ask(known, con, domains, boxes.as_slice(), plain, alloc)? {
+        match ask(differing, con, domains, boxes.as_slice(), plain, alloc)? {
             Turn::Still => return Ok(Some(boxes)),
             Turn::Narrowed(x, set) => {
                 if (x as usize) < boxes.len() {
@@ -208,7 +207,7 @@ fn are_same(a: &[IntSet], b: &[IntSet]) -> bool {
 /// How many cases there are, if the propagator and plain probing come to the same from all boxes within the domains; else 0.
 fn agrees(
     alloc: Global,
-    known: &mut Vec<Known>,
+    differing: &mut Differing,
     con: &Con,
     domains: &[IntSet],
 ) -> Result<u32, AllocError>
@@ -219,9 +218,9 @@ fn agrees(
     for n in 0..512u32 {
         let boxes = nth_boxes(alloc, domains, n)?;
         if are_within(domains, boxes.as_slice()) {
-            let quick = settle(known, con, domains, boxes, false, alloc)?;
+            let quick = settle(differing, con, domains, boxes, false, alloc)?;
             let plain = settle(
-                known,
+                differing,
                 con,
                 domains,
                 nth_boxes(alloc, domains, n)?,
@@ -246,7 +245,7 @@ fn agrees(
 #[tactic(auto, using(crate::proofs::TestRows::made_at_most))]
 fn at_most_agrees(
     alloc: Global,
-    known: &mut Vec<Known>,
+    differing: &mut Differing,
     terms: &[(i64, u32)],
     bound: i64,
     domains: &[IntSet],
@@ -258,14 +257,14 @@ fn at_most_agrees(
     }
     let terms = Terms::of(terms.to_vec(alloc)?);
     let con = Con::LinLe { terms, bound };
-    agrees(alloc, known, &con, domains)
+    agrees(alloc, differing, &con, domains)
 }
 
 /// The same for a sum that defines a variable.
 #[tactic(auto, using(crate::proofs::TestRows::made_sum))]
 fn sum_agrees(
     alloc: Global,
-    known: &mut Vec<Known>,
+    differing: &mut Differing,
     out: u32,
     terms: &[(i64, u32)],
     offset: i64,
@@ -279,7 +278,7 @@ fn sum_agrees(
     }
     let terms = Terms::of(terms.to_vec(alloc)?);
     let con = Con::LinDef { out, terms, offset };
-    agrees(alloc, known, &con, domains)
+    agrees(alloc, differing, &con, domains)
 }
 
 /// Whether the variable has a domain within 0..1.
@@ -299,7 +298,7 @@ fn is_flag(domains: &[IntSet], x: u32) -> bool
 #[tactic(auto, using(crate::proofs::TestRows::made_flag))]
 fn flag_agrees(
     alloc: Global,
-    known: &mut Vec<Known>,
+    differing: &mut Differing,
     flag: u32,
     terms: &[(i64, u32)],
     bound: i64,
@@ -312,7 +311,7 @@ fn flag_agrees(
     }
     let terms = Terms::of(terms.to_vec(alloc)?);
     let con = Con::ReifLe { flag, terms, bound };
-    agrees(alloc, known, &con, domains)
+    agrees(alloc, differing, &con, domains)
 }
 
 /// The three terms of a row of the tables, in which a variable may stand twice and a coefficient be 0.
@@ -329,10 +328,10 @@ const ROWS: [[(i64, u32); 3]; 6] = [
 fn do_bounds_agree(alloc: Global, domains: &[IntSet]) -> Result<bool, AllocError>
     requires sets { All (λ d. IsValid d) domains.now }
 {
-    let mut known = Vec::new(alloc);
+    let mut differing = Differing::new(alloc);
     for terms in ROWS {
         for bound in [-3i64, -1, 0, 2, i64::MIN, i64::MAX] {
-            if at_most_agrees(alloc, &mut known, &terms, bound, domains)? != 343 {
+            if at_most_agrees(alloc, &mut differing, &terms, bound, domains)? != 343 {
                 return Ok(false);
             }
         }
@@ -344,7 +343,7 @@ fn do_bounds_agree(alloc: Global, domains: &[IntSet]) -> Result<bool, AllocError
 fn do_sums_agree(alloc: Global, domains: &[IntSet]) -> Result<bool, AllocError>
     requires sets { All (λ d. IsValid d) domains.now }
 {
-    let mut known = Vec::new(alloc);
+    let mut differing = Differing::new(alloc);
     for (out, terms, offset) in [
         (2u32, [(2i64, 0u32), (-1, 1)], 0i64),
         (0, [(-1, 2), (-1, 1)], -1),
@@ -352,7 +351,15 @@ fn do_sums_agree(alloc: Global, domains: &[IntSet]) -> Result<bool, AllocError>
         (1, [(1, 1), (-3, 2)], 0),
         (2, [(0, 1), (1, 0)], 1),
     ] {
-        if sum_agrees(alloc, &mut known, out, &terms, offset.clamp(-9, 9), domains)? != 343 {
+        if sum_agrees(
+            alloc,
+            &mut differing,
+            out,
+            &terms,
+            offset.clamp(-9, 9),
+            domains,
+        )? != 343
+        {
             return Ok(false);
         }
     }
@@ -363,7 +370,7 @@ fn do_sums_agree(alloc: Global, domains: &[IntSet]) -> Result<bool, AllocError>
 fn do_flags_agree(alloc: Global, domains: &[IntSet]) -> Result<bool, AllocError>
     requires sets { All (λ d. IsValid d) domains.now }
 {
-    let mut known = Vec::new(alloc);
+    let mut differing = Differing::new(alloc);
     for terms in [
         [(2i64, 1u32), (3, 2)],
         [(-4, 2), (1, 1)],
@@ -372,7 +379,7 @@ fn do_flags_agree(alloc: Global, domains: &[IntSet]) -> Result<bool, AllocError>
         [(0, 2), (-1, 1)],
     ] {
         for bound in [-2i64, -1, 0, 1, 5, i64::MIN, i64::MAX] {
-            if flag_agrees(alloc, &mut known, 0, &terms, bound, domains)? == 0 {
+            if flag_agrees(alloc, &mut differing, 0, &terms, bound, domains)? == 0 {
                 return Ok(false);
             }
         }
@@ -420,9 +427,9 @@ fn left_by_bound(
     }
     let terms = Terms::of(terms.to_vec(alloc)?);
     let con = Con::LinLe { terms, bound };
-    let mut known = Vec::new(alloc);
+    let mut differing = Differing::new(alloc);
     settle(
-        &mut known,
+        &mut differing,
         &con,
         domains,
         copy_sets(alloc, domains)?,
@@ -450,9 +457,9 @@ fn left_by_sum(
         terms,
         offset: 2,
     };
-    let mut known = Vec::new(alloc);
+    let mut differing = Differing::new(alloc);
     settle(
-        &mut known,
+        &mut differing,
         &con,
         domains,
         copy_sets(alloc, domains)?,

@@ -6,7 +6,6 @@ pub mod Behind
 pub mod Kept
 pub mod DiffReasons
 pub mod DiffExplained
-pub mod Ascents
 pub mod Taking
 pub mod Spots
 pub mod OneBox

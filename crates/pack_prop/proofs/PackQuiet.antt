@@ -20,7 +20,8 @@ use Rattle.rule_law.proofs.EndLaws.{AreSets, are_sets, ends_in_order, above_low,
 use Rattle.rule_law.proofs.SetLaws.{fixing_same, fixing_other}
 use Rattle.rule_law.proofs.CutLaws.{low_within, top_within}
 use Rattle.rule_law.proofs.Agreeing.{agree_refuted}
-use Rattle.pack_prop.specs.Packing.{is_one, tight_room, fits, all_fit, two_rooms, seconds_from, growth, AreRoomy}
+use Rattle.rule_law.specs.Repeats.{is_one}
+use Rattle.pack_prop.specs.Packing.{tight_room, fits, all_fit, two_rooms, seconds_from, growth, AreRoomy}
 use Rattle.pack_prop.proofs.Calm.{all_at}
 use Rattle.pack_prop.proofs.CalmQuiet.{none_empty, fixed_not_empty}
 use Rattle.pack_prop.proofs.QuietFrom.{quiet_from}

@@ -15,7 +15,8 @@ use Rattle.rule_law.specs.Refuted.{width, fixed_at, fixed_load, first_place, las
 use Rattle.rule_law.proofs.EndLaws.{AreSets, are_sets, above_low, below_high}
 use Rattle.rule_law.proofs.QuietLaws.{has_low}
 use Rattle.rule_law.proofs.PackLaws.{first_place-le, last_place-ge}
-use Rattle.pack_prop.specs.Packing.{is_one, AllFit, tight_room, fits, all_fit, put, two_rooms, seconds_from, growth}
+use Rattle.rule_law.specs.Repeats.{is_one}
+use Rattle.pack_prop.specs.Packing.{AllFit, tight_room, fits, all_fit, put, two_rooms, seconds_from, growth}
 
 pub tight_upto : (v : ℤ) (is : List (ℕ × ℕ × ℕ)) (boxes : Boxes) → tight_room v is boxes ≤ℤ pos 9223372036854775807
 tight_upto v [] boxes = omega (arith, ints)

@@ -11,11 +11,12 @@ use Rattle.rule_law.specs.Answers.{AreBoxesWithin}
 use Rattle.rule_law.specs.Named.{AreItemsNamed}
 use Rattle.rule_law.specs.Quiet.{quiet}
 use Rattle.rule_law.specs.Reasons.{no_repeat}
-use Rattle.pack_prop.specs.Packing.{opens, AllFit, HasEnough, AreRoomy}
+use Rattle.rule_law.specs.Repeats.{open_vars}
+use Rattle.pack_prop.specs.Packing.{AllFit, HasEnough, AreRoomy}
 use Rattle.pack_prop.proofs.PackQuiet.{roomy_quiet}
 
-pub roomy_from : (items : List (ℕ × ℕ × ℕ)) (boxes : Boxes) → AllFit items boxes → HasEnough items boxes → no_repeat (opens items boxes) ≡ true → AreRoomy items boxes
-roomy_from items boxes f e n = record { once = n; fit = f; enough = e }
+pub roomy_from : (con : Con) (items : List (ℕ × ℕ × ℕ)) (boxes : Boxes) → con ≡ Pack items → AllFit items boxes → HasEnough items boxes → no_repeat (open_vars (vars_of con) boxes) ≡ true → AreRoomy items boxes
+roomy_from con items boxes is f e n = record { once = subst (λ (k : Con). no_repeat (open_vars (vars_of k) boxes) ≡ true) is n; fit = f; enough = e }
 
 vars_named : (con : Con) (domains boxes : Boxes) (items : List (ℕ × ℕ × ℕ)) → con ≡ Pack items → IsWellMadeCon domains con → AreBoxesWithin domains boxes → All (λ x. x < length boxes) (item_vars items)
 vars_named con domains boxes items e w b k d lt =

@@ -6,7 +6,8 @@ use Rattle.std.proofs.lemmas.Bool.Decides.{nat_tests}
 use Rattle.signed_clause.specs.Clauses.{Boxes, box_of}
 use Rattle.ground_form.specs.Meaning.{item_vars}
 use Rattle.rule_law.specs.Reasons.{has_number, no_repeat}
-use Rattle.pack_prop.specs.Packing.{is_one, open_one, opens}
+use Rattle.rule_law.specs.Repeats.{is_one, open_one}
+use Rattle.pack_prop.specs.Packing.{opens}
 
 -- which of the item's variables it is
 pub data Role (x : ℕ) (i : ℕ × ℕ × ℕ) : Type 0 where

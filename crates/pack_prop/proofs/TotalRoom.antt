@@ -10,7 +10,8 @@ use Rattle.ground_form.specs.Bounds.{low_of, high_of}
 use Rattle.rule_law.specs.Refuted.{best_room, rooms_from, first_place, last_place, width, all_room}
 use Rattle.rule_law.proofs.EndLaws.{AreSets, ends_in_order, above_low, below_high}
 use Rattle.rule_law.proofs.PackLaws.{best_room-ge, first_place-le, last_place-ge}
-use Rattle.pack_prop.specs.Packing.{is_one, put, two_rooms, seconds_from}
+use Rattle.rule_law.specs.Repeats.{is_one}
+use Rattle.pack_prop.specs.Packing.{put, two_rooms, seconds_from}
 
 -- ---- the greatest and the second greatest room
 

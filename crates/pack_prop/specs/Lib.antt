@@ -2,7 +2,6 @@ pub mod Intervals
 pub mod Slots
 pub mod Sweeps
 pub mod Within
-pub mod Ascending
 pub mod Handled
 pub mod Packing
 pub mod Looks

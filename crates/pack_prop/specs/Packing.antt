@@ -2,26 +2,19 @@
 -- put, and there is room enough whichever box is narrowed, the items are roomy.
 use Rattle.std.specs.Prelude.{ℕ, zero, suc, ◌≡◌, ◌≤ℤ◌, Bool, true, not, ◌&&◌, ◌||◌, cond, List, [], ◌∷◌, ℤ, pos, ◌+ℤ◌, ◌-ℤ◌, int_le}
 use Rattle.std.specs.Int.{int_max, int_min}
-use Rattle.signed_clause.specs.Ranges.{Ranges, has}
+use Rattle.signed_clause.specs.Ranges.{has}
 use Rattle.signed_clause.specs.Clauses.{Boxes, box_of}
+use Rattle.ground_form.specs.Meaning.{item_vars}
 use Rattle.ground_form.specs.Bounds.{low_of, high_of}
 use Rattle.rule_law.specs.Refuted.{fixed_at, fixed_load, least_sizes}
 use Rattle.rule_law.specs.Reasons.{no_repeat}
+use Rattle.rule_law.specs.Repeats.{is_one, open_vars}
 
 -- ---- variables that are open
 
--- the set is one value
-abbrev pub is_one : Ranges → Bool
-is_one s = fixed_at s (low_of s)
-
--- x before the others, where its box isn't one value
-abbrev pub open_one : ℕ → Boxes → List ℕ → List ℕ
-open_one x boxes rest = cond (is_one (box_of boxes x)) rest (x ∷ rest)
-
 -- the open variables of the items, in order
 abbrev pub opens : List (ℕ × ℕ × ℕ) → Boxes → List ℕ
-opens [] boxes = []
-opens (i ∷ is) boxes = open_one i.0 boxes (open_one i.1 boxes (open_one i.2 boxes (opens is boxes)))
+opens items boxes = open_vars (item_vars items) boxes
 
 -- ---- one place
 

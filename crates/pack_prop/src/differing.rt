@@ -14,8 +14,8 @@ ghost use Rattle.rule_law.specs.Answers.{AreBoxesWithin, IsAnswer};
 ghost use Rattle.rule_law.specs.Quiet.{quiet};
 ghost use Rattle.rule_law.specs.Reasons.{no_repeat};
 
-use crate::different::are_different;
 use crate::explain::explain;
+use crate::propagator::Kept;
 use crate::sweep::{Slots, find};
 use ground_form::Con;
 use rule_law::probe;
@@ -58,7 +58,8 @@ fn prune_different(
 #[tactic(auto, using(crate::proofs::QuietFrom::differing_named, crate::proofs::QuietFrom::named_boxes))]
 pub fn prune_differing(
     alloc: Global,
-    slots: &mut Slots,
+    kept: &mut Kept,
+    k: u32,
     con: &Con,
     vars: &[u32],
     domains: &[IntSet],
@@ -70,8 +71,9 @@ pub fn prune_differing(
     requires sets { All (λ d. IsValid d) domains.now }
     ensures { IfOk result (λ a. IsAnswer con.now domains.now boxes.now a) }
 {
-    if are_different(vars) {
-        prune_different(alloc, slots, con, vars, domains, boxes)
+    let differ = kept.differing.do_differ(k, con)?;
+    if differ {
+        prune_different(alloc, &mut kept.slots, con, vars, domains, boxes)
     } else {
         probe(con, domains, boxes, alloc)
     }

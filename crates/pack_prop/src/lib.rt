@@ -2,18 +2,16 @@
 //!
 //! - `propagator`: `PackProp`, and what a constraint answers.
 //! - `differing`: places that differ. `sweep` finds crowded and full intervals with the counters of `slots`, `explain` says
-//!   why, by the boxes within them; `interval` and `different` answer small questions.
+//!   why, by the boxes within them; `interval` answers small questions.
 //! - `packing`: items to be packed. `room` shows with the numbers of `loads` that they are roomy, or finds an item that doesn't
-//!   fit; `open_vars` tells which variables are open; `misfits` and `overfull` say what such an item takes away, and why.
+//!   fit; `misfits` and `overfull` say what such an item takes away, and why.
 #![tactic(auto)]
 
-mod different;
 mod differing;
 mod explain;
 mod interval;
 mod loads;
 mod misfits;
-mod open_vars;
 mod overfull;
 mod packing;
 mod propagator;

@@ -6,7 +6,8 @@ ghost use Rattle.signed_clause.specs.Clauses.{box_of};
 ghost use Rattle.ground_form.specs.Bounds.{low_of, high_of};
 ghost use Rattle.rule_law.specs.Refuted.{fixed_at, fixed_load, least_sizes};
 ghost use Rattle.rule_law.specs.Named.{AreItemsNamed, IsItemNamed};
-ghost use Rattle.pack_prop.specs.Packing.{is_one, tight_room, put, two_rooms, growth};
+ghost use Rattle.rule_law.specs.Repeats.{is_one};
+ghost use Rattle.pack_prop.specs.Packing.{tight_room, put, two_rooms, growth};
 
 use ground_form::{Number, ends_of};
 use signed_clause::IntSet;

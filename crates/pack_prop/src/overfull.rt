@@ -16,10 +16,9 @@ ghost use Rattle.rule_law.specs.Refuted.{fixed_at, fixed_load};
 ghost use Rattle.rule_law.specs.Reasons.{kept_one, kept, no_repeat};
 ghost use Rattle.pack_prop.specs.Sources.{parted, add_new, covered, sources, IsPart, IsOverfilled};
 
-use crate::different::has;
 use crate::loads::Total;
 use ground_form::{Con, Number, ends_of};
-use rule_law::{keep_out, pruning};
+use rule_law::{has_var, keep_out, pruning};
 use signed_clause::{Clause, IntSet};
 use std::alloc::{AllocError, Global};
 
@@ -147,7 +146,7 @@ pub fn overfilled(
 fn push_new(vars: &mut Vec<u32>, y: u32) -> Result<(), AllocError>
     ensures { OnOk result (vars.new.items ≡ add_new y vars.old.items) }
 {
-    if !has(vars.as_slice(), y) {
+    if !has_var(vars.as_slice(), y) {
         vars.push(y)?;
     }
     Ok(())

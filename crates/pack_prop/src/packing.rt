@@ -15,36 +15,21 @@ ghost use Rattle.ground_form.specs.WellMade.{IsWellMadeCon};
 ghost use Rattle.rule_law.specs.Answers.{AreBoxesWithin, IsAnswer};
 ghost use Rattle.rule_law.specs.Named.{AreItemsNamed, IsItemNamed};
 ghost use Rattle.rule_law.specs.Quiet.{quiet};
-ghost use Rattle.rule_law.specs.Reasons.{no_repeat};
-ghost use Rattle.pack_prop.specs.Packing.{opens, AllFit, HasEnough};
+ghost use Rattle.pack_prop.specs.Packing.{AllFit, HasEnough};
 
-use crate::different::are_different;
 use crate::misfits::prune_misfit;
-use crate::open_vars::collect_open;
 use crate::room::{Look, look_at_items};
 use ground_form::{Con, Number};
-use rule_law::probe;
+use rule_law::{Differing, probe};
 use signed_clause::{Clause, IntSet};
 use std::alloc::{AllocError, Global};
-
-/// Whether no open variable of the items stands twice.
-fn are_open_once(
-    found: &mut Vec<u32>,
-    items: &[(u32, u32, u32)],
-    boxes: &[IntSet],
-) -> Result<bool, AllocError>
-    requires { AreItemsNamed items.now boxes.now }
-    ensures { IfOk result (λ b. b ≡ no_repeat (opens items.now boxes.now)) }
-{
-    collect_open(found, items, boxes)?;
-    Ok(are_different(found.as_slice()))
-}
 
 /// What roomy items answer: nothing, where none of their open variables stands twice.
 #[tactic(auto, using(crate::proofs::Roomy::roomy_from, crate::proofs::Roomy::pack_quiet))]
 fn prune_roomy(
     alloc: Global,
-    found: &mut Vec<u32>,
+    differing: &mut Differing,
+    k: u32,
     con: &Con,
     items: &[(u32, u32, u32)],
     domains: &[IntSet],
@@ -59,7 +44,7 @@ fn prune_roomy(
     requires enough { HasEnough items.now boxes.now }
     ensures { IfOk result (λ a. IsAnswer con.now domains.now boxes.now a) }
 {
-    let once = are_open_once(found, items, boxes)?;
+    let once = differing.do_open_differ(k, con, boxes)?;
     if once {
         return Ok(None);
     }
@@ -99,7 +84,8 @@ fn prune_by_item(
 #[tactic(auto, using(crate::proofs::Roomy::pack_named, crate::proofs::Roomy::pack_some))]
 pub fn prune_packing(
     alloc: Global,
-    found: &mut Vec<u32>,
+    differing: &mut Differing,
+    k: u32,
     con: &Con,
     items: &[(u32, u32, u32)],
     domains: &[IntSet],
@@ -112,7 +98,7 @@ pub fn prune_packing(
     ensures { IfOk result (λ a. IsAnswer con.now domains.now boxes.now a) }
 {
     match look_at_items(items, boxes) {
-        Look::Roomy => prune_roomy(alloc, found, con, items, domains, boxes),
+        Look::Roomy => prune_roomy(alloc, differing, k, con, items, domains, boxes),
         Look::Misfit(at, i) => prune_by_item(alloc, con, items, domains, boxes, at, i),
         Look::Unsure => probe(con, domains, boxes, alloc),
     }

@@ -11,32 +11,52 @@ use crate::differing::prune_differing;
 use crate::packing::prune_packing;
 use crate::sweep::Slots;
 use ground_form::{Con, Ground, Kind};
-use rule_law::{Propagator, probe};
+use rule_law::{Differing, Propagator, probe};
 use signed_clause::{Clause, IntSet};
 use std::alloc::{AllocError, Global};
+
+/// What is kept between calls.
+#[derive(Drop)]
+pub struct Kept {
+    /// Counters for a sweep.
+    pub slots: Slots,
+    /// Which variables of a constraint stand twice.
+    pub differing: Differing,
+}
+
+impl Kept {
+    /// Nothing yet. It takes no memory.
+    pub fn new(alloc: Global) -> Kept
+        ensures no_starts { result.slots.starts.items ≡ [] }
+        ensures no_ends { result.slots.ends.items ≡ [] }
+    {
+        Kept {
+            slots: Slots {
+                starts: Vec::new(alloc),
+                ends: Vec::new(alloc),
+            },
+            differing: Differing::new(alloc),
+        }
+    }
+}
 
 /// Prunes by places that differ and by items to be packed.
 #[derive(Drop)]
 pub struct PackProp {
     alloc: Global,
-    slots: Slots,
+    kept: Kept,
 }
 
 impl PackProp {
     /// A propagator, without memory.
     pub fn new(alloc: Global) -> PackProp
         ensures alloc { result.alloc ≡ alloc }
-        ensures no_starts { result.slots.starts.items ≡ [] }
-        ensures no_ends { result.slots.ends.items ≡ [] }
-        ensures none_open { result.slots.«open».items ≡ [] }
+        ensures no_starts { result.kept.slots.starts.items ≡ [] }
+        ensures no_ends { result.kept.slots.ends.items ≡ [] }
     {
         PackProp {
             alloc,
-            slots: Slots {
-                starts: Vec::new(alloc),
-                ends: Vec::new(alloc),
-                open: Vec::new(alloc),
-            },
+            kept: Kept::new(alloc),
         }
     }
 }
@@ -44,7 +64,8 @@ impl PackProp {
 /// What the constraint answers.
 pub fn answer(
     alloc: Global,
-    slots: &mut Slots,
+    kept: &mut Kept,
+    k: u32,
     con: &Con,
     domains: &[IntSet],
     boxes: &[IntSet],
@@ -55,10 +76,13 @@ pub fn answer(
     ensures { IfOk result (λ a. IsAnswer con.now domains.now boxes.now a) }
 {
     match con {
-        Con::AllDiff { vars } => prune_differing(alloc, slots, con, vars.items(), domains, boxes),
+        Con::AllDiff { vars } => {
+            prune_differing(alloc, kept, k, con, vars.items(), domains, boxes)
+        }
         Con::Pack { items } => prune_packing(
             alloc,
-            &mut slots.open,
+            &mut kept.differing,
+            k,
             con,
             items.items(),
             domains,
@@ -79,9 +103,9 @@ impl Propagator for PackProp {
     }
 
     fn begin(&mut self) {
-        self.slots.starts.clear();
-        self.slots.ends.clear();
-        self.slots.open.clear();
+        self.kept.slots.starts.clear();
+        self.kept.slots.ends.clear();
+        self.kept.differing.forget();
     }
 
     fn prune(
@@ -91,6 +115,6 @@ impl Propagator for PackProp {
         boxes: &[IntSet],
     ) -> Result<Option<Clause>, AllocError> {
         let con = &g.cons.items()[k as usize];
-        answer(self.alloc, &mut self.slots, con, g.domains.items(), boxes)
+        answer(self.alloc, &mut self.kept, k, con, g.domains.items(), boxes)
     }
 }

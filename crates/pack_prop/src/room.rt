@@ -11,7 +11,8 @@ ghost use Rattle.ground_form.specs.Meaning.{item_vars};
 ghost use Rattle.ground_form.specs.Bounds.{low_of, high_of};
 ghost use Rattle.rule_law.specs.Refuted.{fixed_load, first_place, last_place, least_sizes};
 ghost use Rattle.rule_law.specs.Named.{AreItemsNamed, IsItemNamed};
-ghost use Rattle.pack_prop.specs.Packing.{is_one, tight_room, fits, all_fit, put, two_rooms, seconds_from, growth, HasEnough};
+ghost use Rattle.rule_law.specs.Repeats.{is_one};
+ghost use Rattle.pack_prop.specs.Packing.{tight_room, fits, all_fit, put, two_rooms, seconds_from, growth, HasEnough};
 ghost use Rattle.pack_prop.specs.Looks.{IsSeen};
 
 use crate::interval::ends_in_order;

@@ -154,8 +154,6 @@ pub struct Slots {
     pub starts: Vec<usize>,
     /// How many boxes end in each.
     pub ends: Vec<usize>,
-    /// The open variables of items.
-    pub open: Vec<u32>,
 }
 
 /// What is found from `a` on.

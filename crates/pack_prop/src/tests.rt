@@ -8,8 +8,7 @@ ghost use Rattle.signed_clause.specs.Clauses.{box_of};
 ghost use Rattle.ground_form.specs.WellMade.{IsWellMadeCon};
 ghost use Rattle.rule_law.specs.Answers.{AreBoxesWithin, IsAnswer};
 
-use crate::propagator::answer;
-use crate::sweep::Slots;
+use crate::propagator::{Kept, answer};
 use ground_form::{Con, PackItems, VarList};
 use rule_law::{justified, probe};
 use signed_clause::{Clause, IntSet};
@@ -47,7 +46,7 @@ fn are_within(domains: &[IntSet], boxes: &[IntSet]) -> bool
 
 /// What the propagator says, or plain probing.
 fn answer_or_probe(
-    slots: &mut Slots,
+    kept: &mut Kept,
     con: &Con,
     domains: &[IntSet],
     boxes: &[IntSet],
@@ -62,7 +61,7 @@ fn answer_or_probe(
     if plain {
         probe(con, domains, boxes, alloc)
     } else {
-        answer(alloc, slots, con, domains, boxes)
+        answer(alloc, kept, 3, con, domains, boxes)
     }
 }
 
@@ -81,7 +80,7 @@ enum Turn {
 
 /// Asks once.
 fn ask(
-    slots: &mut Slots,
+    kept: &mut Kept,
     con: &Con,
     domains: &[IntSet],
     boxes: &[IntSet],
@@ -92,7 +91,7 @@ fn ask(
     requires boxes { AreBoxesWithin domains.now boxes.now }
     requires sets { All (λ d. IsValid d) domains.now }
 {
-    let Some(clause) = answer_or_probe(slots, con, domains, boxes, plain, alloc)? else {
+    let Some(clause) = answer_or_probe(kept, con, domains, boxes, plain, alloc)? else {
         return Ok(Turn::Still);
     };
     if !justified(con, domains, &clause) {
@@ -107,7 +106,7 @@ fn ask(
 /// The boxes where there is nothing more to say, or None where nothing is left or something went wrong; and how many calls
 /// it took.
 fn settle(
-    slots: &mut Slots,
+    kept: &mut Kept,
     con: &Con,
     domains: &[IntSet],
     mut boxes: Vec<IntSet>,
@@ -121,7 +120,7 @@ fn settle(
         if !are_within(domains, boxes.as_slice()) {
             return Ok(None);
         }
-        match ask(slots, con, domains, boxes.as_slice(), plain, alloc)? {
+        match ask(kept, con, domains, boxes.as_slice(), plain, alloc)? {
             Turn::Still => return Ok(Some(boxes)),
             Turn::Narrowed(x, set) => {
                 if (x as usize) < boxes.len() {
@@ -245,18 +244,14 @@ fn agrees(alloc: Global, con: &Con, domains: &[IntSet], count: u32) -> Result<u3
     requires sets { All (λ d. IsValid d) domains.now }
 {
     let mut cases = 0u32;
-    let mut slots = Slots {
-        starts: Vec::new(alloc),
-        ends: Vec::new(alloc),
-        open: Vec::new(alloc),
-    };
+    let mut kept = Kept::new(alloc);
     for k in 0..count {
         let n = k.saturating_mul(11);
         let boxes = nth_boxes(alloc, domains, n)?;
         if are_within(domains, boxes.as_slice()) {
-            let quick = settle(&mut slots, con, domains, boxes, false, alloc)?;
+            let quick = settle(&mut kept, con, domains, boxes, false, alloc)?;
             let plain = settle(
-                &mut slots,
+                &mut kept,
                 con,
                 domains,
                 nth_boxes(alloc, domains, n)?,
@@ -316,14 +311,10 @@ fn three_places_for_two_values(rt: HostRuntime) -> Result<(), AllocError> {
         let con = Con::AllDiff {
             vars: VarList::of(vec![in alloc; 0u32, 1, 2]?),
         };
-        let mut slots = Slots {
-            starts: Vec::new(alloc),
-            ends: Vec::new(alloc),
-            open: Vec::new(alloc),
-        };
+        let mut kept = Kept::new(alloc);
         if are_within(domains.as_slice(), boxes.as_slice()) {
             let turn = ask(
-                &mut slots,
+                &mut kept,
                 &con,
                 domains.as_slice(),
                 boxes.as_slice(),

@@ -1,31 +1,27 @@
 -- Boxes within domains, flags, and plans for a flag and one variable more.
-use Rattle.std.proofs.Common.{◌≡◌, ℕ, zero, suc, ◌<◌, Bool, true, false, not, ◌&&◌, ◌||◌, cond, [], ◌∷◌, ℤ, pos, negsuc, ◌≤ℤ◌, Option, Some, None, length, All, refl, arith, subst, sym, ap, ◌∙◌, inl, inr, ◌⊎◌}
+use Rattle.std.proofs.Common.{◌≡◌, ℕ, zero, suc, ◌<◌, Bool, true, false, not, [], ◌∷◌, ℤ, pos, negsuc, ◌≤ℤ◌, length, All, refl, arith, subst, sym, inl, inr, ◌⊎◌}
 use Rattle.std.specs.Prelude.{◌==◌}
 use Rattle.std.proofs.lemmas.Int.{ints}
 use Rattle.std.proofs.lemmas.Bool.{cases_eq, false_from_ne_true}
 use Rattle.std.proofs.lemmas.Bool.Decides.{nat_tests}
 use Rattle.signed_clause.specs.Ranges.{Ranges, has, IsValid}
-use Rattle.signed_clause.specs.SetAlgebra.{misses, inside, less}
+use Rattle.signed_clause.specs.SetAlgebra.{inside, less}
 use Rattle.signed_clause.specs.Clauses.{Boxes, box_of}
-use Rattle.signed_clause.proofs.RangeSteps.{IsValid-less, has-less_valid}
-use Rattle.signed_clause.proofs.SetFacts.{misses_law, inside_law}
+use Rattle.signed_clause.proofs.SetFacts.{inside_law}
 use Rattle.ground_form.specs.declared.con.Con.{Con}
-use Rattle.ground_form.specs.declared.con.Con.TheVariants.{MemberDef}
 use Rattle.ground_form.specs.Meaning.{bit}
 use Rattle.ground_form.specs.Bounds.{low_of, LiesWithin}
-use Rattle.ground_form.specs.WellMade.{IsWellMadeCon}
 use Rattle.rule_law.specs.Answers.{AreBoxesWithin}
 use Rattle.rule_law.specs.Refuted.{excluded}
-use Rattle.rule_law.specs.Quiet.{fixing, quiet}
+use Rattle.rule_law.specs.Quiet.{fixing}
 use Rattle.rule_law.specs.Reasons.{no_repeat, Acts, IsReason}
 use Rattle.rule_law.proofs.EndLaws.{AreSets, are_sets, above_low, below_high}
 use Rattle.rule_law.proofs.SetLaws.{fixing_same, fixing_other}
-use Rattle.rule_law.proofs.FlagLaws.{misses-single, inside-single}
 use Rattle.rule_law.proofs.QuietLaws.{has_low}
 use Rattle.rule_law.specs.Plans.{literals_of}
 use Rattle.rule_law.specs.Plans.{IsFlag}
-use Rattle.rule_law.proofs.QuietFrom.{AreSome, quiet_from}
-use Rattle.rule_law.proofs.Leaving.{less_inside, missing_inside, within_inside, less_misses, twice_inside, one_valid, value_valid, has_one, one_inside, left_over}
+use Rattle.rule_law.proofs.QuietFrom.{AreSome}
+use Rattle.rule_law.proofs.Leaving.{one_valid, has_one, one_inside}
 use Rattle.rule_law.proofs.PlanLaws.{ArePlanned, plan_reason, plan_acts_head, plan_acts_tail, plan_acts_over}
 
 -- ---- boxes within domains

@@ -24,3 +24,5 @@ pub mod QuietFrom
 pub mod Leaving
 pub mod PlanLaws
 pub mod FlagPlans
+pub mod VarsAt
+pub mod Twice

@@ -9,3 +9,4 @@ pub mod Answers
 pub mod Cover
 pub mod Reasons
 pub mod Plans
+pub mod Repeats

@@ -9,6 +9,7 @@ ghost use Rattle.ground_form.specs.WellMade.{IsWellMade};
 ghost use Rattle.rule_law.specs.Answers.{AreBoxesWithin, IsAnswer};
 ghost use Rattle.rule_law.specs.Cover.{rank, covers, CoversAll, IsLeastMissing};
 
+use crate::plain_probe::probe;
 use crate::propagator::Propagator;
 use ground_form::{Ground, Kind, kind_of};
 use signed_clause::{Clause, IntSet};
@@ -176,7 +177,8 @@ impl Kit {
         begin_all(self.list.as_mut_slice());
     }
 
-    /// A clause that constraint `k` justifies and that is unit or false in the boxes; None where the constraint is quiet.
+    /// A clause that constraint `k` justifies and that is unit or false in the boxes; None where the constraint is quiet. That
+    /// each kind has a member isn't known here: a constraint of a kind without one would be probed.
     ///
     /// # Errors
     /// Want of memory.
@@ -186,17 +188,16 @@ impl Kit {
         k: u32,
         boxes: &[IntSet],
     ) -> Result<Option<Clause>, AllocError>
-        requires complete { CoversAll (map (λ p. handled p) self.old.list.items) }
         requires well_made { IsWellMade g.now }
         requires con { k < length g.now.cons }
         requires boxes { AreBoxesWithin g.now.domains boxes.now }
         ensures answer { IfOk result (λ answer. IfSome (slice_get g.now.cons k) (λ con. IsAnswer con g.now.domains boxes.now answer)) }
-        ensures complete { CoversAll (map (λ p. handled p) self.new.list.items) }
+        ensures same { map (λ p. handled p) self.new.list.items ≡ map (λ p. handled p) self.old.list.items }
     {
-        let kind = kind_of(&g.cons.items()[k as usize]);
-        match first_for(self.list.as_slice(), kind) {
+        let con = &g.cons.items()[k as usize];
+        match first_for(self.list.as_slice(), kind_of(con)) {
             Some(place) => prune_at(self.list.as_mut_slice(), place, g, k, boxes),
-            None => unreachable!(),
+            None => probe(con, g.domains.items(), boxes, *self.list.allocator()),
         }
     }
 }

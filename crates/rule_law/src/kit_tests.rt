@@ -1,7 +1,7 @@
 //! What no clause says: that a kit is made and prunes, and which lists are refused.
-ghost use Rattle.std.specs.Prelude.{◌≡◌, ◌≤ℤ◌, ◌⊎◌, ◌||◌, [], ◌∷◌, pos, IfOk, length, map, nat_lt};
+ghost use Rattle.std.specs.Prelude.{◌≡◌, ◌≤ℤ◌, ◌⊎◌, ◌||◌, [], ◌∷◌, pos, IfOk, length, nat_lt};
 ghost use Rattle.ground_form.specs.WellMade.{IsWellMade};
-ghost use Rattle.rule_law.specs.Cover.{rank, CoversAll};
+ghost use Rattle.rule_law.specs.Cover.{rank};
 
 use crate::{Kit, Propagator, probe};
 use ground_form::{Con, Cons, Domains, Goals, Ground, Kind, VarList};
@@ -111,11 +111,9 @@ fn pruned_from(
     low: i64,
 ) -> Result<Option<(u32, Option<i64>, Option<i64>)>, AllocError>
     requires low { (low ≡ pos 1) ⊎ (low ≡ pos 3) }
-    requires complete { CoversAll (map (λ p. handled p) kit.old.list.items) }
     requires made { IsWellMade g.now }
     requires one { length g.now.cons ≡ 1 }
     requires domains { g.now.domains ≡ ((pos 1, pos 2) ∷ []) ∷ ((pos 1, pos 2) ∷ []) ∷ ((pos 1, pos 3) ∷ []) ∷ [] }
-    ensures complete { CoversAll (map (λ p. handled p) kit.new.list.items) }
 {
     let boxes = three(alloc, low)?;
     match kit.prune(g, 0, boxes.as_slice())? {

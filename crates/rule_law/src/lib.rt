@@ -6,10 +6,12 @@
 //!
 //! - `law`: a refuted constraint has no solution in the boxes.
 //! - `propagator`, `kit`: the face of what prunes by constraints, and kits that have a member for every kind.
+//! - `differing`: whether a variable stands twice in a constraint, and what is kept of that.
 //! - `explain`: clauses made of reasons. `plain_probe`: probing that explains what it finds, for every kind.
 #![tactic(auto)]
 
 mod cut;
+mod differing;
 mod emptiness;
 mod explain;
 mod flags;
@@ -34,6 +36,7 @@ mod variables;
 mod view;
 
 pub use cut::is_rest_inside;
+pub use differing::{Differing, has_var};
 pub use explain::{keep_out, pruning};
 pub use kit::{Kit, MissingKind};
 pub use law::{refuted_is_false, some_interval_is_crowded};

@@ -1,0 +1,439 @@
+//! Whether a variable stands twice in a constraint.
+//!
+//! Variables that ascend differ, which one walk tells. Of other lists it is found once, by sorting a copy, which variables stand
+//! twice, and kept under the constraint's number together with the list. A kept list counts only where it is the constraint's, so
+//! what is kept is right for whatever ground problem is handed in.
+ghost use Rattle.std.specs.Prelude.{◌≡◌, ◌<◌, ◌≤◌, true, false, [], ◌∷◌, ℕ, None, Some, IfOk, IfSome, length, drop, slice_get, slice_index_or};
+ghost use Rattle.signed_clause.specs.Clauses.{box_of};
+ghost use Rattle.ground_form.specs.Meaning.{vars_of, term_vars, part_vars, item_vars, clause_vars};
+ghost use Rattle.rule_law.specs.Reasons.{has_number, no_repeat};
+ghost use Rattle.rule_law.specs.Repeats.{AreTwice, stands_twice, ascends, doubles_after, is_again, is_one, open_vars, IsKept};
+
+use crate::variables::{all_vars, distinct};
+use ground_form::{Con, ends_of};
+use signed_clause::IntSet;
+use std::alloc::{AllocError, Global};
+use std::marker::Model;
+
+/// A list of variables, and those that stand twice in it.
+#[derive(Drop)]
+struct Known {
+    vars: Vec<u32>,
+    twice: Vec<u32>,
+}
+
+impl Model for Known {
+    ghost use Rattle.std.specs.Prelude.{ℕ, List};
+    ghost use Rattle.rule_law.specs.Repeats.{AreTwice};
+
+    ghost Value = { List ℕ × List ℕ };
+
+    ghost view = { λ k. (k.vars.items, k.twice.items) };
+
+    ghost invariant = { λ k. AreTwice k.twice.items k.vars.items };
+}
+
+impl Known {
+    /// The list.
+    fn vars(&self) -> &[u32]
+        ensures { result.now ≡ self.now.0 }
+    {
+        self.vars.as_slice()
+    }
+
+    /// Those that stand twice in it.
+    fn twice(&self) -> &[u32]
+        ensures { AreTwice result.now self.now.0 }
+    {
+        self.twice.as_slice()
+    }
+}
+
+// ---- the variables of a constraint, one by one
+
+/// The variable of the term at the place.
+#[tactic(auto, using(crate::proofs::VarsAt::term_at, crate::proofs::VarsAt::no_term))]
+fn nth_term(terms: &[(i64, u32)], i: usize) -> Option<u32>
+    ensures { result ≡ slice_get (term_vars terms.now) i }
+{
+    if i < terms.len() {
+        Some(terms[i].1)
+    } else {
+        None
+    }
+}
+
+/// The variable of the part at the place.
+#[tactic(auto, using(crate::proofs::VarsAt::part_at, crate::proofs::VarsAt::no_part))]
+fn nth_part(parts: &[(u32, bool)], i: usize) -> Option<u32>
+    ensures { result ≡ slice_get (part_vars parts.now) i }
+{
+    if i < parts.len() {
+        Some(parts[i].0)
+    } else {
+        None
+    }
+}
+
+/// The variable of the literal.
+fn literal_var(l: &(u32, IntSet)) -> u32
+    ensures { result ≡ l.now.0 }
+{
+    l.0
+}
+
+/// The variable of the literal at the place.
+#[tactic(auto, using(crate::proofs::VarsAt::literal_at, crate::proofs::VarsAt::no_literal))]
+fn nth_literal(literals: &[(u32, IntSet)], i: usize) -> Option<u32>
+    ensures { result ≡ slice_get (clause_vars literals.now) i }
+{
+    if i < literals.len() {
+        Some(literal_var(&literals[i]))
+    } else {
+        None
+    }
+}
+
+/// The variable at the place of a list in which each item has its three.
+fn nth_item(items: &[(u32, u32, u32)], i: usize) -> Option<u32>
+    ensures { result ≡ slice_get (item_vars items.now) i }
+{
+    if i / 3 >= items.len() {
+        return None;
+    }
+    let item = items[i / 3];
+    match i % 3 {
+        0 => Some(item.0),
+        1 => Some(item.1),
+        _ => Some(item.2),
+    }
+}
+
+/// The variable at the place.
+fn nth(vars: &[u32], i: usize) -> Option<u32>
+    ensures { result ≡ slice_get vars.now i }
+{
+    if i < vars.len() { Some(vars[i]) } else { None }
+}
+
+/// The variable at the place, where one stands before the terms.
+#[tactic(auto, using(crate::proofs::VarsAt::behind_at))]
+fn nth_term_behind(head: u32, terms: &[(i64, u32)], i: usize) -> Option<u32>
+    ensures { result ≡ slice_get (head ∷ term_vars terms.now) i }
+{
+    if i == 0 {
+        Some(head)
+    } else {
+        nth_term(terms, i - 1)
+    }
+}
+
+/// The variable at the place, where one stands before the parts.
+#[tactic(auto, using(crate::proofs::VarsAt::behind_at))]
+fn nth_part_behind(head: u32, parts: &[(u32, bool)], i: usize) -> Option<u32>
+    ensures { result ≡ slice_get (head ∷ part_vars parts.now) i }
+{
+    if i == 0 {
+        Some(head)
+    } else {
+        nth_part(parts, i - 1)
+    }
+}
+
+/// The variable at the place of the constraint's.
+#[tactic(auto, using(crate::proofs::VarsAt::behind_at))]
+fn nth_var(con: &Con, i: usize) -> Option<u32>
+    ensures { result ≡ slice_get (vars_of con.now) i }
+{
+    match con {
+        Con::LinLe { terms, .. } => nth_term(terms.items(), i),
+        Con::LinDef { out, terms, .. } => nth_term_behind(*out, terms.items(), i),
+        Con::ReifLe { flag, terms, .. } => nth_term_behind(*flag, terms.items(), i),
+        Con::AndDef { flag, parts } => nth_part_behind(*flag, parts.items(), i),
+        Con::MemberDef { flag, var, .. } => nth(&[*flag, *var], i),
+        Con::EqDef { flag, left, right } => nth(&[*flag, *left, *right], i),
+        Con::ElementDef { out, index, items } => {
+            if i == 0 {
+                Some(*out)
+            } else {
+                nth_term_behind(*index, items.items(), i - 1)
+            }
+        }
+        Con::CondDef { out, flag, item } => nth(&[*out, *flag, *item], i),
+        Con::ClauseCon { clause } => nth_literal(clause.literals(), i),
+        Con::AllDiff { vars } => nth(vars.items(), i),
+        Con::Pack { items } => nth_item(items.items(), i),
+    }
+}
+
+// ---- variables that ascend
+
+/// The number behind the last of the constraint's variables from the place on, where they ascend.
+#[tactic(auto, using(crate::proofs::VarsAt::next_var, crate::proofs::VarsAt::no_var))]
+fn end_of_rise(con: &Con, from: usize) -> Option<u64>
+    ensures { IfSome result (λ top. ascends 0 top (drop from (vars_of con.now)) ≡ true) }
+{
+    let mut low = 0u64;
+    for i in from..usize::MAX {
+        let Some(x) = nth_var(con, i) else {
+            return Some(low);
+        };
+        if (x as u64) < low {
+            return None;
+        }
+        low = x as u64 + 1;
+    }
+    None
+}
+
+/// Whether the first variable is before the second, where there is one.
+fn is_first_before(con: &Con, first: u32) -> bool
+    ensures { result ≡ true → IfSome (slice_get (vars_of con.now) 1) (λ second. first < second) }
+{
+    match nth_var(con, 1) {
+        Some(second) => first < second,
+        None => true,
+    }
+}
+
+/// Whether the variables behind the first ascend, and the first is behind or before all of them.
+fn do_ascend(con: &Con) -> bool
+    ensures { result ≡ true → no_repeat (vars_of con.now) ≡ true }
+{
+    match nth_var(con, 0) {
+        None => true,
+        Some(first) => match end_of_rise(con, 1) {
+            None => false,
+            Some(top) => top <= first as u64 || is_first_before(con, first),
+        },
+    }
+}
+
+// ---- variables that stand twice
+
+/// Whether the number is the last one.
+fn is_again(last: Option<u32>, x: u32) -> bool
+    ensures { result ≡ is_again last x }
+{
+    match last {
+        Some(y) => y == x,
+        None => false,
+    }
+}
+
+/// The numbers that are the same as the one before.
+fn doubles(sorted: &[u32], alloc: Global) -> Result<Vec<u32>, AllocError>
+    ensures { IfOk result (λ found. found.items ≡ doubles_after None sorted.now) }
+{
+    let mut found = Vec::new(alloc);
+    let mut last = None;
+    for x in sorted {
+        if is_again(last, *x) {
+            found.push(*x)?;
+        }
+        last = Some(*x);
+    }
+    Ok(found)
+}
+
+/// The variables that stand twice in the constraint, found by a copy of its variables that is sorted.
+fn find_twice(con: &Con, alloc: Global) -> Result<Vec<u32>, AllocError>
+    ensures { IfOk result (λ twice. AreTwice twice.items (vars_of con.now)) }
+{
+    let mut sorted = all_vars(con, alloc)?;
+    sorted.sort_unstable();
+    let found = doubles(sorted.as_slice(), alloc)?;
+    Ok(distinct(found))
+}
+
+/// Whether the box of the variable is one value.
+fn is_one(boxes: &[IntSet], x: u32) -> bool
+    ensures { result ≡ true → is_one (box_of boxes.now x) ≡ true }
+{
+    if x as usize >= boxes.len() || boxes[x as usize].is_empty() {
+        return false;
+    }
+    let ends = ends_of(&boxes[x as usize]);
+    ends.0 == ends.1
+}
+
+/// Whether the boxes of the variables are one value each.
+fn are_all_one(vars: &[u32], boxes: &[IntSet]) -> bool
+    ensures { result ≡ true → (x : ℕ) → has_number x vars.now ≡ true → is_one (box_of boxes.now x) ≡ true }
+{
+    for x in vars {
+        if !is_one(boxes, *x) {
+            return false;
+        }
+    }
+    true
+}
+
+// ---- what is kept
+
+/// Whether the list is that of the constraint's variables.
+#[tactic(auto, using(crate::proofs::VarsAt::next_var, crate::proofs::VarsAt::no_var))]
+fn are_vars(vars: &[u32], con: &Con) -> bool
+    ensures { result ≡ true → vars.now ≡ vars_of con.now }
+{
+    for i in 0..vars.len() {
+        if !is_at(con, i, vars[i]) {
+            return false;
+        }
+    }
+    match nth_var(con, vars.len()) {
+        None => true,
+        Some(_) => false,
+    }
+}
+
+/// Whether the variable is the constraint's at the place.
+fn is_at(con: &Con, i: usize, x: u32) -> bool
+    ensures { result ≡ true → slice_get (vars_of con.now) i ≡ Some x }
+{
+    match nth_var(con, i) {
+        Some(y) => y == x,
+        None => false,
+    }
+}
+
+/// Where the constraint's list is kept, if it is.
+fn place_of(places: &[usize], known: &[Known], k: u32, con: &Con) -> Option<usize>
+    ensures { IfSome result (λ i. IsKept known.now i (vars_of con.now)) }
+{
+    if k as usize >= places.len() {
+        return None;
+    }
+    let i = places[k as usize];
+    if i < known.len() && are_vars(known[i].vars(), con) {
+        Some(i)
+    } else {
+        None
+    }
+}
+
+/// Keeps a list, and tells where.
+fn keep(
+    places: &mut Vec<usize>,
+    known: &mut Vec<Known>,
+    k: u32,
+    found: Known,
+) -> Result<usize, AllocError>
+    ensures { IfOk result (λ i. IsKept known.new.items i found.0) }
+{
+    let end = known.len();
+    for _i in places.len()..k as usize + 1 {
+        places.push(end)?;
+    }
+    known.push(found)?;
+    if (k as usize) < places.len() {
+        places[k as usize] = end;
+    }
+    Ok(end)
+}
+
+/// Whether the variable is in the list.
+pub fn has_var(vars: &[u32], x: u32) -> bool
+    ensures { result ≡ has_number x vars.now }
+{
+    for y in vars {
+        if *y == x {
+            return true;
+        }
+    }
+    false
+}
+
+/// What was found of constraints, each under its number: their variables, and those that stand twice.
+#[derive(Drop)]
+pub struct Differing {
+    alloc: Global,
+    places: Vec<usize>,
+    known: Vec<Known>,
+}
+
+impl Differing {
+    /// Nothing. It takes no memory.
+    pub fn new(alloc: Global) -> Differing
+        ensures alloc { result.alloc ≡ alloc }
+        ensures nothing { result.known.items ≡ [] }
+    {
+        Differing {
+            alloc,
+            places: Vec::new(alloc),
+            known: Vec::new(alloc),
+        }
+    }
+
+    /// Forgets all of it.
+    pub fn forget(&mut self)
+        ensures { self.new.known.items ≡ [] }
+    {
+        self.places.clear();
+        self.known.clear();
+    }
+
+    /// Where what is known of the constraint is kept.
+    fn find(&mut self, k: u32, con: &Con) -> Result<usize, AllocError>
+        ensures { IfOk result (λ i. IsKept self.new.known.items i (vars_of con.now)) }
+    {
+        if let Some(i) = place_of(self.places.as_slice(), self.known.as_slice(), k, con) {
+            return Ok(i);
+        }
+        let vars = all_vars(con, self.alloc)?;
+        let twice = find_twice(con, self.alloc)?;
+        let i = keep(&mut self.places, &mut self.known, k, Known { vars, twice })?;
+        Ok(i)
+    }
+
+    /// Whether no variable stands twice in the constraint with the number. Memory is taken only where that isn't known yet.
+    ///
+    /// # Errors
+    /// Want of memory.
+    pub fn do_differ(&mut self, k: u32, con: &Con) -> Result<bool, AllocError>
+        ensures { IfOk result (λ differ. differ ≡ true → no_repeat (vars_of con.now) ≡ true) }
+    {
+        if do_ascend(con) {
+            return Ok(true);
+        }
+        let i = self.find(k, con)?;
+        Ok(self.known[i].twice().is_empty())
+    }
+
+    /// Whether neither of two variables stands twice in the constraint with the number. Memory is taken only where it isn't known
+    /// yet which variables do.
+    ///
+    /// # Errors
+    /// Want of memory.
+    pub fn do_stand_once(&mut self, k: u32, con: &Con, x: u32, y: u32) -> Result<bool, AllocError>
+        ensures first { IfOk result (λ once. once ≡ true → stands_twice x (vars_of con.now) ≡ false) }
+        ensures second { IfOk result (λ once. once ≡ true → stands_twice y (vars_of con.now) ≡ false) }
+    {
+        if do_ascend(con) {
+            return Ok(true);
+        }
+        let i = self.find(k, con)?;
+        let twice = self.known[i].twice();
+        Ok(!has_var(twice, x) && !has_var(twice, y))
+    }
+
+    /// Whether no variable whose box isn't one value stands twice in the constraint with the number. Memory is taken only where
+    /// it isn't known yet which variables do.
+    ///
+    /// # Errors
+    /// Want of memory.
+    pub fn do_open_differ(
+        &mut self,
+        k: u32,
+        con: &Con,
+        boxes: &[IntSet],
+    ) -> Result<bool, AllocError>
+        ensures { IfOk result (λ differ. differ ≡ true → no_repeat (open_vars (vars_of con.now) boxes.now) ≡ true) }
+    {
+        if do_ascend(con) {
+            return Ok(true);
+        }
+        let i = self.find(k, con)?;
+        Ok(are_all_one(self.known[i].twice(), boxes))
+    }
+}
