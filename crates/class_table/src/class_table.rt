@@ -14,9 +14,10 @@ ghost use Rattle.class_table.specs.Outline.{outline, parent_in, own_in, is_a, at
 ghost use Rattle.class_table.specs.Same.{same_name};
 ghost use Rattle.class_table.specs.Scopes.{HasParents};
 ghost use Rattle.class_table.specs.Sound.{IsSound};
-ghost use Rattle.class_table.specs.Tables.{enumeration_meant, root_meant, IsTable, IsMeant, IsShapeOf, own_names, variable_name};
+ghost use Rattle.class_table.specs.Tables.{enumeration_meant, root_meant, IsFew, IsTable, IsMeant, IsShapeOf, own_names, variable_name};
 
 use crate::build::check_classes;
+use crate::name_text::NameText;
 use crate::names::{Meaning, Space, names_of};
 use crate::own_names::own_names;
 use crate::parts::{class_decls, resolve_items};
@@ -164,7 +165,15 @@ impl ClassTable {
         ensures root { result ≡ root_meant (means self.now.names name.now) }
         ensures exists { IfSome result (λ k. k < length self.now.roots) }
     {
-        match self.names.get(name).copied() {
+        self.root_spelled(name.as_bytes())
+    }
+
+    /// The top-level variable whose name has these bytes.
+    pub fn root_spelled(&self, name: &[u8]) -> Option<u32>
+        ensures root { result ≡ root_meant (means self.now.names name.now) }
+        ensures exists { IfSome result (λ k. k < length self.now.roots) }
+    {
+        match self.names.get(NameText { bytes: name }).copied() {
             Some(Meaning::Variable(root)) => Some(root),
             _ => None,
         }
@@ -220,6 +229,7 @@ impl ClassTable {
     pub fn class_count(&self) -> u32
         ensures count { result ≡ length self.now.classes }
         ensures sound { IsSound self.now }
+        ensures values { All IsFew self.now.enumerations }
     {
         self.classes.len() as u32
     }
@@ -251,6 +261,15 @@ impl ClassTable {
     /// The number of the attribute of this name, an inherited one too. The cost is one look-up by hash for each class from `c`
     /// up to the one that declares the attribute; where there is none, for each ancestor.
     pub fn attribute_named(&self, c: u32, name: &Name) -> Option<u32>
+        requires class { c < length self.now.classes }
+        ensures number { result ≡ position (same_name name.now) (map variable_name (attributes self.now.classes c)) }
+        ensures exists { IfSome result (λ k. k < length (attributes self.now.classes c)) }
+    {
+        self.attribute_spelled(c, name.as_bytes())
+    }
+
+    /// The number of the attribute whose name has these bytes, as `attribute_named` finds it.
+    pub fn attribute_spelled(&self, c: u32, name: &[u8]) -> Option<u32>
         requires class { c < length self.now.classes }
         ensures number { result ≡ position (same_name name.now) (map variable_name (attributes self.now.classes c)) }
         ensures exists { IfSome result (λ k. k < length (attributes self.now.classes c)) }
@@ -290,7 +309,7 @@ impl ClassTable {
         requires enumeration { e < length self.now.enumerations }
         ensures value { (d : AnEnumeration) → result ≡ position (same_name name.now) (slice_index_or self.now.enumerations e d).values }
     {
-        match self.enumerations[e as usize].values.number(name) {
+        match self.enumerations[e as usize].values.number(name.as_bytes()) {
             Some(number) => Some(number as u32),
             None => None,
         }
@@ -340,7 +359,7 @@ fn number_of(
     counts: &[u32],
     order: &[State],
     c: u32,
-    name: &Name,
+    name: &[u8],
 ) -> Option<u32>
     requires table { IsTable classes.now counts.now order.now }
     requires names { names.now ≡ map own_names classes.now }

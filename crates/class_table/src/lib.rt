@@ -12,6 +12,7 @@ mod cycle;
 mod cycles;
 mod fault;
 mod graphs;
+mod name_text;
 mod names;
 mod own_names;
 mod parts;

@@ -3,6 +3,7 @@ ghost use Rattle.std.specs.Prelude.{◌≡◌, ◌++◌, ◌∷◌, [], if◌the
 ghost use Rattle.std.specs.List.{list_any};
 ghost use Rattle.class_table.specs.Same.{same_name};
 
+use crate::name_text::NameText;
 use conf_syntax::Name;
 use indexmap::IndexSet;
 use std::alloc::{AllocError, Global};
@@ -120,10 +121,10 @@ impl Values {
     }
 
     /// The number of the value with this name.
-    pub fn number(&self, name: &Name) -> Option<usize>
+    pub fn number(&self, name: &[u8]) -> Option<usize>
         ensures number { result ≡ position (same_name name.now) self.now }
     {
-        self.names.get_index_of(name)
+        self.names.get_index_of(NameText { bytes: name })
     }
 }
 

@@ -2,3 +2,10 @@ pub mod ScopeLaws
 pub mod ReadingLaws
 pub mod CheckLaws
 pub mod ProgramLaws
+pub mod TypingLaws
+pub mod TypingTrees
+pub mod TypedParts
+pub mod CopyLaws
+pub mod TypeNeeds
+pub mod TextLaws
+pub mod FewConstraints

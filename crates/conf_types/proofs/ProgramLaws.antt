@@ -11,7 +11,7 @@ use Rattle.conf_types.specs.declared.fault.TypeFault.{TypeFault}
 use Rattle.conf_types.specs.Programs.{OnFault, stated, member_exprs, item_constraints, item_goal, next_class, constraints_from, goals, constraint_faults, goal_faults, faults, constraints}
 use Rattle.conf_types.proofs.CheckLaws.{on_fault, in_first}
 
-next : {X : Type 0} (xs : List X) (i : ℕ) (x : X) → i < length xs → x ≡ get_or xs i x → drop i xs ≡ x ∷ drop (i + 1) xs
+pub next : {X : Type 0} (xs : List X) (i : ℕ) (x : X) → i < length xs → x ≡ get_or xs i x → drop i xs ≡ x ∷ drop (i + 1) xs
 next [] i x h e = absurd (omega (arith, h))
 next (y ∷ ys) zero x h e = ap (λ z. z ∷ ys) (sym e)
 next (y ∷ ys) (suc i) x h e =

@@ -1,4 +1,5 @@
 pub mod Types
+pub mod Typing
 pub mod Trees
 pub mod Scopes
 pub mod Readings

@@ -1,5 +1,5 @@
 -- The constraints and objectives of a model, and the faults that stand in them.
-use Rattle.std.specs.Prelude.{ℕ, ◌+◌, Bool, List, [], ◌∷◌, ◌++◌, Option, None, Some, map}
+use Rattle.std.specs.Prelude.{ℕ, ◌+◌, Bool, List, [], ◌∷◌, ◌++◌, Option, None, Some, map, slice_index_or}
 use Rattle.std.specs.List.{flat_map}
 use Rattle.class_table.specs.Outline.{Outline}
 use Rattle.conf_syntax.specs.declared.tree.Expr.{Expr}
@@ -15,7 +15,7 @@ use Rattle.conf_types.specs.declared.tree.Goal.{Goal}
 use Rattle.conf_types.specs.declared.types.Need.TheVariants as need
 use Rattle.conf_types.specs.Readings.{Reading, read, needed}
 use Rattle.conf_types.specs.Scopes.{Scope}
-use Rattle.conf_types.specs.Trees.{Tree, tree_of}
+use Rattle.conf_types.specs.Trees.{Tree, Missing, tree_of}
 
 -- a constraint as it is stated: the class for whose objects, or none at the top level, and its expression
 pub record Stated : Type 0 where
@@ -109,6 +109,10 @@ constraint_view k = record { class = k.class; place = k.place; tree = tree_of k.
 
 abbrev pub goal_view : Goal → ResolvedGoal
 goal_view g = record { max = g.max; tree = tree_of g.expr }
+
+-- constraint number k of these
+abbrev pub constraint_at : List ResolvedConstraint → ℕ → ResolvedConstraint
+constraint_at ks k = slice_index_or ks k (record { class = None; place = 0; tree = Missing 0 })
 
 -- P holds of a fault that is told; want of memory has no cause
 abbrev pub OnFault : TypeFault → (TypeFault → Type 0) → Type 0

@@ -1,18 +1,21 @@
 //! A whole model: its constraints and objectives, each typed and resolved, in order of place.
-ghost use Rattle.std.specs.Prelude.{◌≡◌, ◌≤◌, ◌<◌, ◌+◌, ◌-◌, ◌^◌, ◌++◌, [], map, length, Contains, None, Some, IfOk, IfErr, IfSome, OnOk};
+ghost use Rattle.std.specs.Prelude.{◌≡◌, ◌≤◌, ◌<◌, ◌+◌, ◌-◌, ◌^◌, ◌++◌, [], map, length, All, AllPairs, Contains, None, Some, IfOk, IfErr, IfSome, OnOk};
 ghost use Rattle.std.specs.List.{flat_map};
 ghost use Rattle.class_table.specs.Names.{item_class};
-ghost use Rattle.class_table.specs.Outline.{outline};
+ghost use Rattle.class_table.specs.Outline.{Outline, outline};
+ghost use Rattle.class_table.specs.Sound.{IsSound};
 ghost use Rattle.conf_syntax.specs.Trees.{depth, depth_of_all, depth_of_items, depth_of_members, item_depth, nesting, program_tokens};
 ghost use Rattle.conf_types.specs.Checked.{scope_of};
-ghost use Rattle.conf_types.specs.Programs.{OnFault, constraint_view, goal_view, resolved_constraint, resolved_goal, constraint_faults, goal_faults, faults, constraints, goals, stated, member_exprs, item_constraints, item_goal, next_class, outside};
+ghost use Rattle.conf_types.specs.Programs.{OnFault, constraint_view, constraint_at, goal_view, resolved_constraint, resolved_goal, constraint_faults, goal_faults, faults, constraints, goals, stated, member_exprs, item_constraints, item_goal, next_class, outside};
+ghost use Rattle.conf_types.specs.Typing.{IsTypedConstraint, IsTypedGoal, IsTypedModel};
 
+use crate::copies::copy_constraints;
 use crate::expressions::check_needed;
 use crate::scope::Scope;
 use crate::{Constraint, Constraints, Goal, Goals, Need, TypeFault};
 use class_table::ClassTable;
 use conf_syntax::{Expr, GoalDecl, Item, Member, Program};
-use std::alloc::Global;
+use std::alloc::{AllocError, Global};
 
 /// A model in which the expressions have no fault: its constraints and objectives, resolved.
 #[derive(Drop)]
@@ -34,6 +37,21 @@ impl TypedModel {
         ensures goals { result.now ≡ self.now.goals }
     {
         self.goals.items()
+    }
+
+    /// The model with the constraints of these indexes alone, in order, and with no objective.
+    pub fn only(&self, alloc: Global, keep: &[u32]) -> Result<TypedModel, AllocError>
+        requires ascend { AllPairs ◌<◌ keep.now }
+        requires exist { All (λ k. k < length self.now.constraints) keep.now }
+        ensures constraints { IfOk result (λ m. map constraint_view m.constraints ≡ map (constraint_at (map constraint_view self.now.constraints)) keep.now) }
+        ensures goals { IfOk result (λ m. m.goals ≡ []) }
+        ensures typed { (o : Outline) → IsTypedModel o (map constraint_view self.now.constraints) (map goal_view self.now.goals) → IfOk result (λ m. IsTypedModel o (map constraint_view m.constraints) (map goal_view m.goals)) }
+    {
+        let constraints = copy_constraints(alloc, self.constraints.items(), keep)?;
+        Ok(TypedModel {
+            constraints: Constraints::of(constraints),
+            goals: Goals::of(Vec::new(alloc)),
+        })
     }
 }
 
@@ -63,10 +81,12 @@ fn check_constraint(
     class: Option<u32>,
     expr: &Expr,
 ) -> Result<Constraint, TypeFault>
+    requires sound { IsSound table.now }
     requires class { IfSome class (λ c. c < length table.now.classes) }
     requires depth { depth expr.now.node ≤ 200 }
     ensures constraint { IfOk result (λ k. constraint_view k ≡ resolved_constraint table.now (stated class expr.now)) }
     ensures right { OnOk result (constraint_faults table.now (stated class expr.now) ≡ []) }
+    ensures typed { IfOk result (λ k. IsTypedConstraint table.now (constraint_view k)) }
     ensures fault { IfErr result (λ f. OnFault f (λ g. Contains (constraint_faults table.now (stated class expr.now)) g)) }
 {
     let scope = outside(alloc, class);
@@ -82,9 +102,11 @@ fn check_constraint(
 
 /// An objective.
 fn check_goal(alloc: Global, table: &ClassTable, decl: &GoalDecl) -> Result<Goal, TypeFault>
+    requires sound { IsSound table.now }
     requires depth { depth decl.now.expr.node ≤ 200 }
     ensures goal { IfOk result (λ k. goal_view k ≡ resolved_goal table.now decl.now) }
     ensures right { OnOk result (goal_faults table.now decl.now ≡ []) }
+    ensures typed { IfOk result (λ k. IsTypedGoal table.now (goal_view k)) }
     ensures fault { IfErr result (λ f. OnFault f (λ g. Contains (goal_faults table.now decl.now) g)) }
 {
     let scope = outside(alloc, None);
@@ -105,10 +127,12 @@ fn check_list(
     list: &[Expr],
     found: &mut Vec<Constraint>,
 ) -> Result<(), TypeFault>
+    requires sound { IsSound table.now }
     requires class { IfSome class (λ c. c < length table.now.classes) }
     requires depth { depth_of_all list.now ≤ 200 }
     ensures constraints { OnOk result (map constraint_view found.new.items ≡ map constraint_view found.old.items ++ map (resolved_constraint table.now) (map (stated class) list.now)) }
     ensures right { OnOk result (flat_map (constraint_faults table.now) (map (stated class) list.now) ≡ []) }
+    ensures typed { OnOk result (All (IsTypedConstraint table.now) (map constraint_view found.old.items) → All (IsTypedConstraint table.now) (map constraint_view found.new.items)) }
     ensures fault { IfErr result (λ f. OnFault f (λ g. Contains (flat_map (constraint_faults table.now) (map (stated class) list.now)) g)) }
 {
     for expr in list {
@@ -128,10 +152,12 @@ fn check_members(
     members: &[Member],
     found: &mut Vec<Constraint>,
 ) -> Result<(), TypeFault>
+    requires sound { IsSound table.now }
     requires class { class < length table.now.classes }
     requires depth { depth_of_members members.now ≤ 200 }
     ensures constraints { OnOk result (map constraint_view found.new.items ≡ map constraint_view found.old.items ++ map (resolved_constraint table.now) (map (stated (Some class)) (flat_map member_exprs members.now))) }
     ensures right { OnOk result (flat_map (constraint_faults table.now) (map (stated (Some class)) (flat_map member_exprs members.now)) ≡ []) }
+    ensures typed { OnOk result (All (IsTypedConstraint table.now) (map constraint_view found.old.items) → All (IsTypedConstraint table.now) (map constraint_view found.new.items)) }
     ensures fault { IfErr result (λ f. OnFault f (λ g. Contains (flat_map (constraint_faults table.now) (map (stated (Some class)) (flat_map member_exprs members.now))) g)) }
 {
     for member in members {
@@ -153,12 +179,14 @@ fn check_item(
     item: &Item,
     found: &mut Parts,
 ) -> Result<(), TypeFault>
+    requires sound { IsSound table.now }
     requires class { class + length (item_class item.now) ≤ length table.now.classes }
     requires depth { item_depth item.now ≤ 200 }
     ensures constraints { OnOk result (map constraint_view found.new.constraints.items ≡ map constraint_view found.old.constraints.items ++ map (resolved_constraint table.now) (item_constraints item.now class)) }
     ensures goals { OnOk result (map goal_view found.new.goals.items ≡ map goal_view found.old.goals.items ++ map (resolved_goal table.now) (item_goal item.now)) }
     ensures right_constraints { OnOk result (flat_map (constraint_faults table.now) (item_constraints item.now class) ≡ []) }
     ensures right_goals { OnOk result (flat_map (goal_faults table.now) (item_goal item.now) ≡ []) }
+    ensures typed { OnOk result (IsTypedModel table.now (map constraint_view found.old.constraints.items) (map goal_view found.old.goals.items) → IsTypedModel table.now (map constraint_view found.new.constraints.items) (map goal_view found.new.goals.items)) }
     ensures fault { IfErr result (λ f. OnFault f (λ g. Contains (flat_map (constraint_faults table.now) (item_constraints item.now class) ++ flat_map (goal_faults table.now) (item_goal item.now)) g)) }
 {
     match item {
@@ -201,11 +229,13 @@ fn class_behind(item: &Item, class: u32) -> u32
 /// The constraints and objectives of the items of a model.
 fn check_items(alloc: Global, table: &ClassTable, items: &[Item]) -> Result<Parts, TypeFault>
     requires table { table.now ≡ outline items.now }
+    requires sound { IsSound table.now }
     requires few { length items.now < 2 ^ 32 - 1 }
     requires depth { depth_of_items items.now ≤ 200 }
     ensures constraints { IfOk result (λ m. map constraint_view m.constraints.items ≡ map (resolved_constraint table.now) (constraints items.now)) }
     ensures goals { IfOk result (λ m. map goal_view m.goals.items ≡ map (resolved_goal table.now) (goals items.now)) }
     ensures right { OnOk result (faults table.now items.now ≡ []) }
+    ensures typed { IfOk result (λ m. IsTypedModel table.now (map constraint_view m.constraints.items) (map goal_view m.goals.items)) }
     ensures fault { IfErr result (λ f. OnFault f (λ g. Contains (faults table.now items.now) g)) }
 {
     let mut found = Parts {
@@ -233,10 +263,13 @@ pub fn check(alloc: Global, program: &Program, table: &ClassTable) -> Result<Typ
     requires tokens { length (program_tokens program.now) ≤ 1048576 }
     requires nesting { nesting program.now ≤ 200 }
     ensures constraints { IfOk result (λ m. map constraint_view m.constraints ≡ map (resolved_constraint table.now) (constraints program.now.items)) }
+    ensures few { IfOk result (λ m. length m.constraints ≤ 1048576) }
     ensures goals { IfOk result (λ m. map goal_view m.goals ≡ map (resolved_goal table.now) (goals program.now.items)) }
     ensures right { OnOk result (faults table.now program.now.items ≡ []) }
+    ensures typed { IfOk result (λ m. IsTypedModel table.now (map constraint_view m.constraints) (map goal_view m.goals)) }
     ensures fault { IfErr result (λ f. OnFault f (λ g. Contains (faults table.now program.now.items) g)) }
 {
+    let _classes = table.class_count();
     match check_items(alloc, table, program.items.items()) {
         Ok(found) => Ok(TypedModel {
             constraints: Constraints::of(found.constraints),

@@ -5,11 +5,14 @@
 #![tactic(auto)]
 
 mod checker;
+mod copies;
 mod expressions;
 mod fault;
 mod list;
 mod rules;
 mod scope;
+#[cfg(test)]
+mod tests;
 mod tree;
 mod types;
 

@@ -40,7 +40,8 @@ fn status_of(rt: &HostRuntime) -> Status {
 fn tell(rt: &HostRuntime, status: &Status) -> Result<(), AllocError> {
     let line = line_of(rt.alloc(), status)?;
     if !line.is_empty() {
-        let _ = eprintln!(rt; "{line}");
+        let text = String::from_utf8_lossy(rt.alloc(), &line)?;
+        let _ = eprintln!(rt; "{text}");
     }
     Ok(())
 }

@@ -1,3 +1,9 @@
-pub mod GivenTexts
-pub mod MeaningLaws
+pub mod RefusingLaws
+pub mod EndLaws
+pub mod TextEnds
+pub mod Completeness
 pub mod TextLaws
+pub mod VerifyingLaws
+pub mod OutcomeLaws
+pub mod GivenTexts
+pub mod RunLaws

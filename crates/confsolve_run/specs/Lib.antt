@@ -1,7 +1,11 @@
-pub mod Answer
-pub mod Meaning
-pub mod Refusal
-pub mod Refusing
 pub mod Request
 pub mod Status
+pub mod Meaning
+pub mod Models
+pub mod Answer
+pub mod Refusal
+pub mod Refusing
 pub mod TextErrors
+pub mod Building
+pub mod Solving
+pub mod Ending

@@ -1,23 +1,35 @@
-//! From a model's text to what is printed.
+//! From a model's text and a request to what is printed.
 //!
-//! `answer_text` is the entry: it reads the text's model, looks for faults in it, answers it, and prints the answer.
-ghost use Rattle.std.specs.Prelude.{◌≡◌, ◌⊎◌, ◌≤◌, ℕ, Some, length};
+//! `answer_text` is the entry: it reads the text's model, builds it, answers what is asked of it, and prints the answer.
+ghost use Rattle.std.specs.Prelude.{◌≡◌, ◌≤◌, IsTrue, ℕ, List, Some, length, map, IfOk, IfErr};
 ghost use Rattle.conf_syntax.specs.Spelling.{IsStuckAtNumber};
 ghost use Rattle.conf_syntax.specs.Trees.{program_tokens, nesting};
-ghost use Rattle.desk_io.specs.Fault.{HasRisen};
-ghost use Rattle.confsolve_run.specs.Answer.{Prints, PrintsSome};
-ghost use Rattle.confsolve_run.specs.Refusal.{IsRefusedFor, IsRefusedAs, IsSyntaxAt, IsNestingAt};
+ghost use Rattle.conf_types.specs.Programs.{constraint_view, goal_view};
+ghost use Rattle.desk_io.specs.Desk.{OfFile};
+ghost use Rattle.confsolve_run.specs.Answer.{IsSatisfiedAnswer, IsModelAnswer};
+ghost use Rattle.confsolve_run.specs.Ending.{Answers, Refuses, Ends, EndsText, change};
+ghost use Rattle.confsolve_run.specs.Refusal.{IsSyntaxAt, IsNestingAt};
 ghost use Rattle.confsolve_run.specs.Refusing.{refusal_of};
-ghost use Rattle.confsolve_run.specs.Request.{HasModel};
-ghost use Rattle.confsolve_run.specs.Status.{OnAnswer, OnRefusal, OnText, IsOfModel, IsOfText, IsUnlessFault};
+ghost use Rattle.confsolve_run.specs.Request.{IsConfigFile, IsOfSomeText, OfAsked};
+ghost use Rattle.confsolve_run.specs.Solving.{IsReady, IsUnverified, IsUnanswered};
+ghost use Rattle.confsolve_run.specs.Status.{IsAnswered, IsUnlessFault};
 
-use crate::answer::answer_of;
-use crate::meaning::{check_meaning, status_of};
+use crate::answer::Answer;
+use crate::building::{objects_of, table_of, typed_model, within};
 use crate::model::{TextError, model_of};
+use crate::request::{FileName, Request};
+use crate::solving::solve;
 use crate::status::{LimitKind, Status};
+use crate::verifying::verify_bytes;
+use class_table::ClassTable;
 use conf_syntax::Program;
-use desk_io::{Desk, WriteError, print_all};
+use conf_types::TypedModel;
+use desk_io::{Desk, ReadError, WriteError, print_all, read_all};
+use object_alloc::Objects;
 use std::alloc::Global;
+
+/// The greatest length of a configuration's text, in bytes.
+const CONFIG_LIMIT: u64 = 16_777_216;
 
 /// The status of a text that gave no model.
 fn refusal_of(error: TextError) -> Status
@@ -37,53 +49,142 @@ fn refusal_of(error: TextError) -> Status
     }
 }
 
-/// Answers a model.
-fn answer_model<D: Desk>(alloc: Global, desk: &mut D, program: &Program) -> Status
+/// The answer to `verify` with the configuration in this file.
+fn verify<D: Desk>(
+    alloc: Global,
+    desk: &mut D,
+    config: &FileName,
+    table: &ClassTable,
+    model: &TypedModel,
+    objects: &Objects<'_>,
+) -> Result<Answer, Status>
+    requires may_read { IsTrue (D.may_read desk.old config.now) }
+    requires ready { IsReady table.now objects.now (map constraint_view model.now.constraints) (map goal_view model.now.goals) }
+    ensures status { IfOk result (λ a. a.status ≡ Status.Done) }
+    ensures answer { IfOk result (λ a. OfFile (D.files desk.old) config.now (λ bytes. IsSatisfiedAnswer objects.now (map constraint_view model.now.constraints) (map goal_view model.now.goals) bytes a.status a.text.items)) }
+    ensures refused { IfErr result (IsUnverified (D.files desk.old) config.now objects.now (map constraint_view model.now.constraints) (D.read_faults desk.old) (D.read_faults desk.new)) }
+    ensures files { D.files desk.new ≡ D.files desk.old }
+    ensures printed { D.printed desk.new ≡ D.printed desk.old }
+    ensures read_faults { D.read_faults desk.old ≤ D.read_faults desk.new }
+    ensures write_faults { D.write_faults desk.new ≡ D.write_faults desk.old }
+{
+    let bytes = match read_all(alloc, desk, config.as_str(), CONFIG_LIMIT) {
+        Ok(bytes) => bytes,
+        Err(ReadError::ReadFault) => return Err(Status::ReadFault),
+        Err(ReadError::TooLong) => {
+            return Err(Status::Limit {
+                kind: LimitKind::Former,
+                place: None,
+            });
+        }
+        Err(ReadError::Memory) => return Err(Status::Memory),
+    };
+    verify_bytes(alloc, &bytes, table, model, objects)
+}
+
+/// The answer to what is asked of a model that is within the limits.
+fn asked<D: Desk>(
+    alloc: Global,
+    desk: &mut D,
+    request: &Request,
+    table: &ClassTable,
+    model: &TypedModel,
+    objects: &Objects<'_>,
+) -> Result<Answer, Status>
+    requires may_read { (name : List ℕ) → IsConfigFile request.now name → IsTrue (D.may_read desk.old name) }
+    requires ready { IsReady table.now objects.now (map constraint_view model.now.constraints) (map goal_view model.now.goals) }
+    ensures status { IfOk result (λ a. IsAnswered request.now a.status) }
+    ensures answer { IfOk result (λ a. OfAsked (D.files desk.old) request.now (λ asked. IsModelAnswer objects.now (map constraint_view model.now.constraints) (map goal_view model.now.goals) asked a.status a.text.items)) }
+    ensures refused { IfErr result (IsUnanswered (D.files desk.old) request.now objects.now (map constraint_view model.now.constraints) (D.read_faults desk.old) (D.read_faults desk.new)) }
+    ensures files { D.files desk.new ≡ D.files desk.old }
+    ensures printed { D.printed desk.new ≡ D.printed desk.old }
+    ensures read_faults { D.read_faults desk.old ≤ D.read_faults desk.new }
+    ensures write_faults { D.write_faults desk.new ≡ D.write_faults desk.old }
+{
+    match request {
+        Request::Solve { .. } => solve(alloc, table, model, objects),
+        Request::Verify { config, .. } => verify(alloc, desk, config, table, model, objects),
+    }
+}
+
+/// The answer to what is asked of a model.
+fn outcome<D: Desk>(
+    alloc: Global,
+    desk: &mut D,
+    program: &Program,
+    request: &Request,
+) -> Result<Answer, Status>
+    requires text { IsOfSomeText program.now }
     requires nested { nesting program.now ≤ 200 }
     requires few { length (program_tokens program.now) ≤ 1048576 }
-    ensures answer { OnAnswer result (Prints result (D.printed desk.old) (D.printed desk.new) program.now) }
-    ensures refusal { OnRefusal result (D.printed desk.new ≡ D.printed desk.old) }
-    ensures refused { IsRefusedFor result program.now }
-    ensures write_fault_text { result ≡ Status.WriteFault → PrintsSome (D.printed desk.old) (D.printed desk.new) program.now }
-    ensures memory_text { result ≡ Status.Memory → (D.printed desk.new ≡ D.printed desk.old) ⊎ PrintsSome (D.printed desk.old) (D.printed desk.new) program.now }
-    ensures complete { (HasRisen (D.write_faults desk.old) (D.write_faults desk.new) → ⊥) → IsOfModel result }
-    ensures write_fault { result ≡ Status.WriteFault → HasRisen (D.write_faults desk.old) (D.write_faults desk.new) }
+    requires may_read { (name : List ℕ) → IsConfigFile request.now name → IsTrue (D.may_read desk.old name) }
+    ensures answer { IfOk result (λ a. Answers (D.files desk.old) request.now program.now a.status a.text.items) }
+    ensures refused { IfErr result (Refuses (D.files desk.old) request.now program.now (D.read_faults desk.old) (D.read_faults desk.new)) }
+    ensures files { D.files desk.new ≡ D.files desk.old }
+    ensures printed { D.printed desk.new ≡ D.printed desk.old }
+    ensures read_faults { D.read_faults desk.old ≤ D.read_faults desk.new }
+    ensures write_faults { D.write_faults desk.new ≡ D.write_faults desk.old }
+{
+    let table = match table_of(alloc, program) {
+        Ok(table) => table,
+        Err(status) => return Err(status),
+    };
+    let model = match typed_model(alloc, program, &table) {
+        Ok(model) => model,
+        Err(status) => return Err(status),
+    };
+    let objects = match objects_of(alloc, &table) {
+        Ok(objects) => objects,
+        Err(status) => return Err(status),
+    };
+    match within(&model, &objects) {
+        Ok(()) => asked(alloc, desk, request, &table, &model, &objects),
+        Err(status) => Err(status),
+    }
+}
+
+/// Answers a model.
+fn answer_model<D: Desk>(
+    alloc: Global,
+    desk: &mut D,
+    program: &Program,
+    request: &Request,
+) -> Status
+    requires text { IsOfSomeText program.now }
+    requires nested { nesting program.now ≤ 200 }
+    requires few { length (program_tokens program.now) ≤ 1048576 }
+    requires may_read { (name : List ℕ) → IsConfigFile request.now name → IsTrue (D.may_read desk.old name) }
+    ensures ends { Ends (D.files desk.old) request.now (change (D.printed desk.old) (D.printed desk.new) (D.read_faults desk.old) (D.read_faults desk.new) (D.write_faults desk.old) (D.write_faults desk.new)) program.now result }
     ensures files { D.files desk.new ≡ D.files desk.old }
 {
-    if let Err(error) = check_meaning(alloc, program) {
-        return status_of(error);
-    }
-    let answer = match answer_of(alloc, program) {
-        Ok(Some(answer)) => answer,
-        Ok(None) => return Status::NotBuilt,
-        Err(_) => return Status::Memory,
+    let answer = match outcome(alloc, desk, program, request) {
+        Ok(answer) => answer,
+        Err(status) => return status,
     };
-    match print_all(desk, answer.text.as_bytes()) {
+    match print_all(desk, &answer.text) {
         Ok(()) => answer.status,
         Err(WriteError::WriteFault) => Status::WriteFault,
         Err(WriteError::Memory) => Status::Memory,
     }
 }
 
-/// Answers the model that a text of at most 1,048,576 bytes is, or names what keeps it from being one.
-#[tactic(auto, using(crate::proofs::GivenTexts::refused_kind))]
-pub(crate) fn answer_text<D: Desk>(alloc: Global, desk: &mut D, text: &[u8]) -> Status
-    requires { length text.now ≤ 1048576 }
-    ensures answer { OnAnswer result (HasModel text.now (Prints result (D.printed desk.old) (D.printed desk.new))) }
-    ensures refusal { OnRefusal result (D.printed desk.new ≡ D.printed desk.old) }
-    ensures refused { OnText result (IsRefusedAs result text.now) }
-    ensures write_fault_text { result ≡ Status.WriteFault → HasModel text.now (PrintsSome (D.printed desk.old) (D.printed desk.new)) }
-    ensures memory_text { result ≡ Status.Memory → (D.printed desk.new ≡ D.printed desk.old) ⊎ HasModel text.now (PrintsSome (D.printed desk.old) (D.printed desk.new)) }
+/// Answers what is asked of the model that a text of at most 1,048,576 bytes is, or names what keeps it from being one.
+pub(crate) fn answer_text<D: Desk>(
+    alloc: Global,
+    desk: &mut D,
+    text: &[u8],
+    request: &Request,
+) -> Status
+    requires short { length text.now ≤ 1048576 }
+    requires may_read { (name : List ℕ) → IsConfigFile request.now name → IsTrue (D.may_read desk.old name) }
+    ensures ends { EndsText (D.files desk.old) request.now (change (D.printed desk.old) (D.printed desk.new) (D.read_faults desk.old) (D.read_faults desk.new) (D.write_faults desk.old) (D.write_faults desk.new)) text.now result }
     ensures syntax { (place : ℕ) → IsSyntaxAt text.now place → IsUnlessFault (Status.Syntax place) result }
     ensures literal { (place : ℕ) → IsStuckAtNumber text.now place → IsUnlessFault (Status.Limit LimitKind.Literal (Some place)) result }
     ensures nesting { (place : ℕ) → IsNestingAt text.now place → IsUnlessFault (Status.Limit LimitKind.Nesting (Some place)) result }
-    ensures complete { (HasRisen (D.write_faults desk.old) (D.write_faults desk.new) → ⊥) → IsOfModel result }
-    ensures kind { IsOfText result }
-    ensures write_fault { result ≡ Status.WriteFault → HasRisen (D.write_faults desk.old) (D.write_faults desk.new) }
     ensures files { D.files desk.new ≡ D.files desk.old }
 {
     match model_of(alloc, text) {
-        Ok(program) => answer_model(alloc, desk, &program),
+        Ok(program) => answer_model(alloc, desk, &program, request),
         Err(error) => refusal_of(error),
     }
 }

@@ -1,15 +1,17 @@
 //! How a run ends.
-ghost use Rattle.std.specs.Prelude.{◌≡◌, IfOk, string_bytes};
-ghost use Rattle.confsolve_run.specs.Status.{number_of, line_text, kind_text, fault_text};
+ghost use Rattle.std.specs.Prelude.{◌≡◌, ◌++◌, IfOk, codes, decimal};
+ghost use Rattle.confsolve_run.specs.Status.{number_of, line_text, for_text, kind_text, fault_text, former_text};
 
+use conf_syntax::PathText;
 use std::alloc::{AllocError, Global};
 
 /// How a run ends.
-#[derive(Clone, Copy, Debug, PartialEq, Eq)]
+#[derive(Debug, Drop)]
 pub enum Status {
-    /// A configuration was printed: it makes every constraint true, and none is better.
+    /// The answer was printed: a configuration that satisfies the model and than which none is better, or, of `verify`, that the
+    /// configuration satisfies the model.
     Done,
-    /// `none exists` was printed: no configuration makes every constraint true.
+    /// `none exists` was printed: no configuration satisfies the model.
     NoneExists,
     /// The text is no model; the place is that of its first wrong byte.
     Syntax { place: u32 },
@@ -23,10 +25,24 @@ pub enum Status {
     ReadFault,
     /// Writing failed.
     WriteFault,
+    /// The text of a configuration isn't read as one.
+    Former { kind: FormerKind },
+    /// The configuration doesn't satisfy the model: without a place it has no value for the variable or attribute of this path;
+    /// with one the constraint there is broken for the object of this path, which is empty at the top level.
+    Broken { place: Option<u32>, path: PathText },
     /// There was no memory.
     Memory,
-    /// The model has a form that isn't built yet.
+    /// The model has too many configurations for what is built yet.
     NotBuilt,
+}
+
+/// Why a text isn't read as a configuration.
+#[derive(Clone, Copy, Debug, PartialEq, Eq)]
+pub enum FormerKind {
+    /// It is no JSON.
+    NotJson,
+    /// It is JSON, but no object.
+    NotObject,
 }
 
 /// What may be wrong with what a model says.
@@ -63,6 +79,18 @@ pub enum LimitKind {
     Literal,
     /// The depth of an expression: 200. It has a place.
     Nesting,
+    /// The number of objects: 10,000.
+    Objects,
+    /// The number of names in an object's path: 60.
+    Depth,
+    /// The number of cells: 20,000.
+    Cells,
+    /// The weight of the constraints and objectives: 2,000,000.
+    Weight,
+    /// The ends of each interval: 1,125,899,906,842,624 either side of 0.
+    Width,
+    /// The length of a configuration's text: 16,777,216 bytes.
+    Former,
 }
 
 impl Status {
@@ -79,6 +107,8 @@ impl Status {
             Status::Usage => 6,
             Status::ReadFault => 7,
             Status::WriteFault => 8,
+            Status::Former { .. } => 9,
+            Status::Broken { .. } => 11,
             Status::Memory => 12,
             Status::NotBuilt => 13,
         }
@@ -93,6 +123,12 @@ fn kind_name(kind: LimitKind) -> &'static str
         LimitKind::Model => "Model",
         LimitKind::Literal => "Literal",
         LimitKind::Nesting => "Nesting",
+        LimitKind::Objects => "Objects",
+        LimitKind::Depth => "Depth",
+        LimitKind::Cells => "Cells",
+        LimitKind::Weight => "Weight",
+        LimitKind::Width => "Width",
+        LimitKind::Former => "Former",
     }
 }
 
@@ -114,29 +150,73 @@ fn fault_name(fault: Fault) -> &'static str
     }
 }
 
+/// The line of a text that isn't read as a configuration.
+fn former_line(kind: FormerKind) -> &'static str
+    ensures { result.now ≡ former_text kind }
+{
+    match kind {
+        FormerKind::NotJson => "former not JSON",
+        FormerKind::NotObject => "former not an object",
+    }
+}
+
+/// A text with some bytes behind it.
+fn with_bytes(alloc: Global, text: &str, bytes: &[u8]) -> Result<Vec<u8>, AllocError>
+    ensures line { IfOk result (λ line. line.items ≡ text.now ++ bytes.now) }
+{
+    let mut line = text.as_bytes().to_vec(alloc)?;
+    line.extend_from_slice(bytes)?;
+    Ok(line)
+}
+
+/// The line of a constraint that is broken for the object of this path; the path is empty at the top level.
+fn broken_line(alloc: Global, place: u32, path: &[u8]) -> Result<Vec<u8>, AllocError>
+    ensures line { IfOk result (λ line. line.items ≡ codes "broken at " ++ (decimal place ++ for_text path.now)) }
+{
+    let text = format!(in alloc; "broken at {place}")?;
+    if path.is_empty() {
+        return with_bytes(alloc, text.as_str(), b"");
+    }
+    let mut line = with_bytes(alloc, text.as_str(), b" for ")?;
+    line.extend_from_slice(path)?;
+    Ok(line)
+}
+
 /// The line that tells the status, without its line feed; empty where an answer was printed.
-pub fn line_of(alloc: Global, status: &Status) -> Result<String, AllocError>
-    ensures line { IfOk result (λ line. string_bytes line ≡ line_text status.now) }
+pub fn line_of(alloc: Global, status: &Status) -> Result<Vec<u8>, AllocError>
+    ensures line { IfOk result (λ line. line.items ≡ line_text status.now) }
 {
     let line = match status {
         Status::Done | Status::NoneExists => "",
-        Status::Syntax { place } => return format!(in alloc; "syntax at {place}"),
+        Status::Syntax { place } => {
+            return Ok(format!(in alloc; "syntax at {place}")?.into_bytes());
+        }
         Status::Meaning { fault, place } => {
             let name = fault_name(*fault);
-            return format!(in alloc; "meaning {name} at {place}");
+            return Ok(format!(in alloc; "meaning {name} at {place}")?.into_bytes());
         }
         Status::Limit { kind, place } => {
             let name = kind_name(*kind);
             return match place {
-                None => format!(in alloc; "limit {name}"),
-                Some(place) => format!(in alloc; "limit {name} at {place}"),
+                None => Ok(format!(in alloc; "limit {name}")?.into_bytes()),
+                Some(place) => Ok(format!(in alloc; "limit {name} at {place}")?.into_bytes()),
             };
         }
-        Status::Usage => "usage: confsolve solve MODEL",
+        Status::Usage => "usage: confsolve solve MODEL, verify MODEL CONFIG",
         Status::ReadFault => "read fault",
         Status::WriteFault => "write fault",
+        Status::Former { kind } => former_line(*kind),
+        Status::Broken { place: None, path } => {
+            return with_bytes(alloc, "broken no value for ", path.as_bytes());
+        }
+        Status::Broken {
+            place: Some(place),
+            path,
+        } => {
+            return broken_line(alloc, *place, path.as_bytes());
+        }
         Status::Memory => "out of memory",
         Status::NotBuilt => "not built yet",
     };
-    String::from_str(alloc, line)
+    with_bytes(alloc, line, b"")
 }

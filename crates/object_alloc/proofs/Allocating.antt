@@ -1,11 +1,12 @@
 -- From the queue of objects to the objects themselves.
-use Rattle.std.proofs.Common.{◌≡◌, ℕ, zero, suc, ◌+◌, ◌<◌, ◌≤◌, nat_lt, Bool, true, false, cond, List, [], ◌∷◌, ◌++◌, Option, None, Some, length, refl, ap, sym, ◌∙◌, subst, arith}
+use Rattle.std.proofs.Common.{◌≡◌, ℕ, zero, suc, ◌+◌, ◌<◌, ◌≤◌, nat_lt, Bool, true, false, cond, List, [], ◌∷◌, ◌++◌, Option, length, refl, ap, sym, ◌∙◌, subst, arith}
 use Rattle.std.specs.Prelude.{All, Contains, slice_index}
 use Rattle.std.specs.List.{sum_by}
 use Rattle.std.proofs.lemmas.List.Elements.{All-nil, All-cons}
 use Rattle.std.proofs.lemmas.List.Sums.{sum_by-cons}
 use Rattle.class_table.specs.Outline.{Outline}
 use Rattle.class_table.specs.Sound.{IsSound}
+use Rattle.class_table.specs.Tables.{IsFew}
 use Rattle.object_alloc.specs.declared.fault.AllocFault.{AllocFault}
 use Rattle.object_alloc.specs.declared.fault.AllocFault.TheVariants.{TooManyObjects, TooDeep, TooManyCells, Memory}
 use Rattle.object_alloc.specs.declared.layout.Layout.{Layout}
@@ -13,12 +14,13 @@ use Rattle.object_alloc.specs.declared.object.Cell.{Cell}
 use Rattle.object_alloc.specs.declared.object.Leaf.{Leaf}
 use Rattle.object_alloc.specs.declared.object.Object.{Object}
 use Rattle.object_alloc.specs.declared.queue.Kind.{Kind}
-use Rattle.object_alloc.specs.Cells.{cells, extent}
+use Rattle.object_alloc.specs.Cells.{cells}
 use Rattle.object_alloc.specs.Laid.{IsLaidOut}
-use Rattle.object_alloc.specs.Laying.{AreSizes, AreClassed, IsReady, HasLaid, IsCellExcess, IsRefusedPart, cells_of, met_cells}
-use Rattle.object_alloc.specs.Limits.{HasDeepObject, HasFewObjects, IsShallow, IsRefused, IsWithinLimits}
+use Rattle.object_alloc.specs.Laying.{AreSizes, AreClassed, IsReady, HasLaid, IsRefusedPart, cells_of, met_cells}
+use Rattle.object_alloc.specs.Limits.{HasDeepObject, HasFewObjects, IsShallow, IsRefused}
 use Rattle.object_alloc.specs.Sums.{Weigh, of_object, of_kind, kin, deep, kinds_of, kinds_weight, weight, IsExcess, IsLawful}
-use Rattle.object_alloc.specs.Walk.{objects, objects_in, members, visit, top, walk}
+use Rattle.object_alloc.specs.Walk.{objects, objects_in, leaves_in, members, visit, top, walk}
+use Rattle.object_alloc.specs.Groups.{numbers_from, is_part_of, is_cell_of}
 use Rattle.object_alloc.proofs.ExtentLaws.{extent_size}
 use Rattle.object_alloc.proofs.QueueSteps.{one, length_is}
 use Rattle.object_alloc.proofs.Weights.{objects_weight}
@@ -125,10 +127,10 @@ start_ready o sizes before sound are e1 e2 e3 few =
     objects_in' : ℕ → List Object
     objects_in' n = objects_in (members (visit o) top 0 o.roots n)
 
-pub laid_objects : (o : Outline) (before after : Layout) → before.leaves.items ≡ [] → before.objects.items ≡ [] → HasLaid o before after (λ n. members (visit o) top 0 o.roots n) → (after.objects.items ≡ objects o) × (cells_of o after.leaves.items ≡ cells o)
+pub laid_objects : (o : Outline) (before after : Layout) → before.leaves.items ≡ [] → before.objects.items ≡ [] → HasLaid o before after (λ n. members (visit o) top 0 o.roots n) → (after.objects.items ≡ objects o) × (after.leaves.items ≡ leaves_in (walk o))
 laid_objects o before after e1 e2 h = (
   h.objects_are ∙ ap (λ xs. xs ++ objects_in (members (visit o) top 0 o.roots (length xs))) e2,
-  h.cells_are ∙ ap (λ ls. cells_of o ls ++ met_cells o (members (visit o) top 0 o.roots (length before.objects.items))) e1 ∙ ap (λ xs. met_cells o (members (visit o) top 0 o.roots (length xs))) e2,
+  h.leaves_are ∙ ap (λ ls. ls ++ leaves_in (members (visit o) top 0 o.roots (length before.objects.items))) e1 ∙ ap (λ xs. leaves_in (members (visit o) top 0 o.roots (length xs))) e2,
 )
 
 module _ (o : Outline) (queue : List Kind) (kinds : (g : Weigh) → sum_by (of_kind g) queue ≡ sum_by (of_object g) (objects o)) (q : List Kind) (b : Bool) (e : q ≡ queue) (h : b ≡ nat_lt 0 (sum_by (of_kind deep) q)) where
@@ -149,14 +151,23 @@ module _ (o : Outline) (queue : List Kind) (kinds : (g : Weigh) → sum_by (of_k
 pub kept_sizes : (o : Outline) (queue q : List Kind) (sizes : List ℕ) → ((g : Weigh) → sum_by (of_kind g) queue ≡ sum_by (of_object g) (objects o)) → q ≡ queue → length sizes ≡ length o.classes → ((c : ℕ) → c < length o.classes → slice_index sizes c ≡ sum_by (of_kind (kin o c)) q) → AreSizes o sizes
 kept_sizes o queue q sizes kinds e count each = sizes_are o queue kinds sizes count (λ c on. each c on ∙ ap (sum_by (of_kind (kin o c))) e)
 
-pub laid_out : (o : Outline) (queue : List Kind) (before after : Layout) (sizes : List ℕ) (cs : List Cell) → ((g : Weigh) → sum_by (of_kind g) queue ≡ sum_by (of_object g) (objects o)) → IsLawful (length o.classes) 1 queue → length queue ≤ 10000 → 0 ≡ sum_by (of_kind deep) queue → IsSound o → AreSizes o sizes → before.leaves.items ≡ [] → before.objects.items ≡ [] → HasLaid o before after (λ n. members (visit o) top 0 o.roots n) → cs ≡ cells_of o after.leaves.items → IsLaidOut o after.objects.items cs sizes
-laid_out o queue before after sizes cs kinds lawful few none sound are e1 e2 h made =
+-- the lists by place are those of the objects and of the cells
+abbrev pub AreGrouped : {X : Type 0} → (Option ℕ → ℕ → X → Bool) → (Option ℕ → ℕ → List ℕ) → List X → Type 0
+AreGrouped test groups xs = (owner : Option ℕ) → (k : ℕ) → groups owner k ≡ numbers_from (test owner k) 0 xs
+
+pub laid_out : (o : Outline) (queue : List Kind) (before after : Layout) (sizes : List ℕ) (cs : List Cell) (parts own : Option ℕ → ℕ → List ℕ) → ((g : Weigh) → sum_by (of_kind g) queue ≡ sum_by (of_object g) (objects o)) → IsLawful (length o.classes) 1 queue → length queue ≤ 10000 → 0 ≡ sum_by (of_kind deep) queue → IsSound o → All IsFew o.enumerations → AreSizes o sizes → before.leaves.items ≡ [] → before.objects.items ≡ [] → HasLaid o before after (λ n. members (visit o) top 0 o.roots n) → cs ≡ cells_of o after.leaves.items → AreGrouped is_part_of parts after.objects.items → AreGrouped is_cell_of own cs → IsLaidOut o after.objects.items after.leaves.items cs sizes parts own
+laid_out o queue before after sizes cs parts own kinds lawful few none sound few_values are e1 e2 h made by_owner by_place =
     let laid = laid_objects o before after e1 e2 h in
+    let cells_are : cs ≡ cells o = made ∙ ap (cells_of o) laid.1 in
     record {
       sound = sound;
+      few_values = few_values;
       objects_are = laid.0;
-      cells_are = made ∙ laid.1;
+      leaves_are = laid.1;
+      cells_are = cells_are;
       sizes_are = are;
-      limits = record { objects = few_objects o queue kinds few; depths = no_deep o queue kinds none; cells = omega (arith, h.count, h.few_cells, ap length laid.1) };
+      parts_are = λ owner k. by_owner owner k ∙ ap (numbers_from (is_part_of owner k) 0) laid.0;
+      own_are = λ owner k. by_place owner k ∙ ap (numbers_from (is_cell_of owner k) 0) cells_are;
+      limits = record { objects = few_objects o queue kinds few; depths = no_deep o queue kinds none; cells = omega (arith, h.count, h.few_cells, ap length (ap (cells_of o) laid.1)) };
       classes = subst (AreClassed o) (sym laid.0) (classed o queue kinds lawful);
     }

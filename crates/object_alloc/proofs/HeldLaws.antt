@@ -1,5 +1,5 @@
 -- Each object of a model is held by one with a lesser number, as an element of an attribute of it.
-use Rattle.std.proofs.Common.{◌≡◌, ℕ, zero, suc, ◌+◌, ◌<◌, ◌≤◌, List, [], ◌∷◌, ◌++◌, Option, None, Some, length, drop, refl, ap, sym, ◌∙◌, subst, arith, length-append, append_assoc, append-nil}
+use Rattle.std.proofs.Common.{◌≡◌, ℕ, zero, suc, ◌+◌, ◌<◌, ◌≤◌, List, [], ◌∷◌, ◌++◌, Option, None, Some, length, refl, ap, sym, ◌∙◌, subst, arith, length-append, append_assoc}
 use Rattle.std.specs.Prelude.{slice_get}
 use Rattle.std.specs.Option.{option_map}
 use Rattle.std.proofs.lemmas.Grind.{flat_map-append}
@@ -11,7 +11,7 @@ use Rattle.object_alloc.specs.declared.object.Object.{Object}
 use Rattle.object_alloc.specs.Laid.{class_in}
 use Rattle.object_alloc.specs.Paths.{IsBefore, IsHeld, AreHeld, HoldsAt}
 use Rattle.object_alloc.specs.Sums.{variables}
-use Rattle.object_alloc.specs.Walk.{Met, Made, Passed, Visit, Inside, made, object, object_met, objects_in, elements, attribute, members, within, top, visit_to, visit, walk, objects}
+use Rattle.object_alloc.specs.Walk.{Met, Visit, Inside, made, object, object_met, objects_in, elements, attribute, members, within, top, visit_to, visit, objects}
 
 -- an object of a list is one of a longer list
 get_more : (xs zs : List Object) (n : ℕ) → n < length xs → slice_get (xs ++ zs) n ≡ slice_get xs n
@@ -19,12 +19,12 @@ get_more [] zs n h = absurd (omega (arith, h))
 get_more (x ∷ xs) zs zero h = refl
 get_more (x ∷ xs) zs (suc n) h = get_more xs zs n (omega (arith, h))
 
-get_last : (xs : List Object) (x : Object) (n : ℕ) → n ≡ length xs → slice_get (xs ++ x ∷ []) n ≡ Some x
+pub get_last : (xs : List Object) (x : Object) (n : ℕ) → n ≡ length xs → slice_get (xs ++ x ∷ []) n ≡ Some x
 get_last [] x n e = ap (slice_get (x ∷ [])) e
 get_last (y ∷ ys) x zero e = absurd (omega (arith, e))
 get_last (y ∷ ys) x (suc n) e = get_last ys x n (omega (arith, e))
 
-class_more : (xs zs : List Object) (owner : Option ℕ) (n : ℕ) → IsBefore owner n → n ≤ length xs → class_in (xs ++ zs) owner ≡ class_in xs owner
+pub class_more : (xs zs : List Object) (owner : Option ℕ) (n : ℕ) → IsBefore owner n → n ≤ length xs → class_in (xs ++ zs) owner ≡ class_in xs owner
 class_more xs zs None n h le = refl
 class_more xs zs (Some p) n h le = ap (option_map (λ (x : Object). x.class)) (get_more xs zs p (omega (arith, h, le)))
 

@@ -1,7 +1,6 @@
 -- Laying out parts one after the other.
 use Rattle.std.proofs.Common.{◌≡◌, ℕ, zero, suc, ◌+◌, ◌-◌, ◌<◌, ◌≤◌, nat_lt, Bool, true, false, cond, List, [], ◌∷◌, ◌++◌, length, drop, refl, ap, sym, ◌∙◌, subst, arith, length-append, append_assoc, append-nil, ◌⊎◌, inl, inr}
-use Rattle.std.specs.Prelude.{Contains, replicate, slice_index_or}
-use Rattle.std.specs.List.{flat_map, sum_by}
+use Rattle.std.specs.Prelude.{Contains, replicate}
 use Rattle.std.proofs.lemmas.Grind.{flat_map-append}
 use Rattle.std.proofs.lemmas.List.Elements.{Contains-append_cases}
 use Rattle.class_table.proofs.ListLaws.{contains_one}
@@ -14,12 +13,11 @@ use Rattle.class_table.specs.Tables.{IsShapeOf}
 use Rattle.object_alloc.specs.declared.fault.AllocFault.{AllocFault}
 use Rattle.object_alloc.specs.declared.fault.AllocFault.TheVariants.{TooManyObjects, TooDeep, TooManyCells, Memory}
 use Rattle.object_alloc.specs.declared.layout.Layout.{Layout}
-use Rattle.object_alloc.specs.declared.object.Cell.{Cell}
 use Rattle.object_alloc.specs.declared.object.Leaf.{Leaf}
 use Rattle.object_alloc.specs.declared.object.Object.{Object}
 use Rattle.object_alloc.specs.declared.queue.Kind.{Kind}
 use Rattle.object_alloc.specs.Cells.{leaf_cells}
-use Rattle.object_alloc.specs.Laying.{Part, AreThere, cells_of, met_cells, AreSizes, IsReady, HasLaid, IsLaying, IsCellExcess, IsRefusedPart}
+use Rattle.object_alloc.specs.Laying.{Part, AreThere, cells_of, met_cells, IsReady, HasLaid, IsLaying, IsCellExcess, IsRefusedPart}
 use Rattle.object_alloc.specs.Sums.{kind, held_kinds, kinds_of, kinds_weight, weight, deep}
 use Rattle.object_alloc.specs.Walk.{Met, Made, Passed, Visit, Inside, made, object_met, leaf_met, objects_in, leaves_in, elements, attribute, members, within, visit}
 use Rattle.object_alloc.proofs.VisitLaws.{visit_next}
@@ -28,6 +26,9 @@ use Rattle.object_alloc.proofs.Members.{IsAt}
 
 objects_append : (xs ys : List Met) → objects_in (xs ++ ys) ≡ objects_in xs ++ objects_in ys
 objects_append xs ys = flat_map-append object_met xs ys
+
+leaves_append : (xs ys : List Met) → leaves_in (xs ++ ys) ≡ leaves_in xs ++ leaves_in ys
+leaves_append xs ys = flat_map-append leaf_met xs ys
 
 cells_append : (o : Outline) (xs ys : List Met) → met_cells o (xs ++ ys) ≡ met_cells o xs ++ met_cells o ys
 cells_append o xs ys = ap (cells_of o) (flat_map-append leaf_met xs ys) ∙ flat_map-append (leaf_cells o) (leaves_in xs) (leaves_in ys)
@@ -44,14 +45,14 @@ Splits left here rest = (n : ℕ) → left n ≡ here n ++ rest (n + made (here 
 
 module _ (o : Outline) (sizes : List ℕ) (before : Layout) (whole : Part) where
   pub started : IsReady o sizes before whole → IsLaying o before before whole whole
-  started r = record { objects_are = refl; cells_are = refl; count = r.count; few_cells = r.few_cells; shapes = r.shapes }
+  started r = record { objects_are = refl; leaves_are = refl; count = r.count; few_cells = r.few_cells; shapes = r.shapes }
 
   pub ended : (now : Layout) (left : Part) → IsLaying o before now whole left → ((n : ℕ) → left n ≡ []) → HasLaid o before now whole
   ended now left l e =
       let none = e (length now.objects.items) in
       record {
         objects_are = sym (append-nil now.objects.items) ∙ ap (λ ms. now.objects.items ++ objects_in ms) (sym none) ∙ l.objects_are;
-        cells_are = sym (append-nil (cells_of o now.leaves.items)) ∙ ap (λ ms. cells_of o now.leaves.items ++ met_cells o ms) (sym none) ∙ l.cells_are;
+        leaves_are = sym (append-nil now.leaves.items) ∙ ap (λ ms. now.leaves.items ++ leaves_in ms) (sym none) ∙ l.leaves_are;
         count = l.count;
         few_cells = l.few_cells;
         shapes = l.shapes;
@@ -63,6 +64,12 @@ module _ (o : Outline) (sizes : List ℕ) (before : Layout) (whole : Part) where
 
     objects_split : objects_in (left (length now.objects.items)) ≡ objects_in (here (length now.objects.items)) ++ objects_in (rest (length now.objects.items + made (here (length now.objects.items))))
     objects_split = ap objects_in (s (length now.objects.items)) ∙ objects_append (here (length now.objects.items)) (rest (length now.objects.items + made (here (length now.objects.items))))
+
+    leaves_split : leaves_in (left (length now.objects.items)) ≡ leaves_in (here (length now.objects.items)) ++ leaves_in (rest (length now.objects.items + made (here (length now.objects.items))))
+    leaves_split = ap leaves_in (s (length now.objects.items)) ∙ leaves_append (here (length now.objects.items)) (rest (length now.objects.items + made (here (length now.objects.items))))
+
+    cells_kept : cells_of o now.leaves.items ++ met_cells o (left (length now.objects.items)) ≡ cells_of o before.leaves.items ++ met_cells o (whole (length before.objects.items))
+    cells_kept = sym (flat_map-append (leaf_cells o) now.leaves.items (leaves_in (left (length now.objects.items)))) ∙ ap (cells_of o) l.leaves_are ∙ flat_map-append (leaf_cells o) before.leaves.items (leaves_in (whole (length before.objects.items)))
 
     cells_split : met_cells o (left (length now.objects.items)) ≡ met_cells o (here (length now.objects.items)) ++ met_cells o (rest (length now.objects.items + made (here (length now.objects.items))))
     cells_split = ap (met_cells o) (s (length now.objects.items)) ∙ cells_append o (here (length now.objects.items)) (rest (length now.objects.items + made (here (length now.objects.items))))
@@ -92,7 +99,7 @@ module _ (o : Outline) (sizes : List ℕ) (before : Layout) (whole : Part) where
         excess_more (length (cells_of o now.leaves.items) + length (met_cells o (here (length now.objects.items)))) (length (cells_of o before.leaves.items) + length (met_cells o (whole (length before.objects.items)))) f
         (omega (
           arith,
-          ap length l.cells_are,
+          ap length cells_kept,
           ap length cells_split,
           length-append (cells_of o now.leaves.items) (met_cells o (left (length now.objects.items))),
           length-append (cells_of o before.leaves.items) (met_cells o (whole (length before.objects.items))),
@@ -109,12 +116,12 @@ module _ (o : Outline) (sizes : List ℕ) (before : Layout) (whole : Part) where
               ∙ ap (λ i. now.objects.items ++ (objects_in (here (length now.objects.items)) ++ objects_in (rest i))) (sym number)
               ∙ ap (λ xs. now.objects.items ++ xs) (sym objects_split)
               ∙ l.objects_are;
-          cells_are =
-              ap (λ xs. xs ++ met_cells o (rest (length new.objects.items))) h.cells_are
-              ∙ append_assoc (cells_of o now.leaves.items) (met_cells o (here (length now.objects.items))) (met_cells o (rest (length new.objects.items)))
-              ∙ ap (λ i. cells_of o now.leaves.items ++ (met_cells o (here (length now.objects.items)) ++ met_cells o (rest i))) (sym number)
-              ∙ ap (λ xs. cells_of o now.leaves.items ++ xs) (sym cells_split)
-              ∙ l.cells_are;
+          leaves_are =
+              ap (λ xs. xs ++ leaves_in (rest (length new.objects.items))) h.leaves_are
+              ∙ append_assoc now.leaves.items (leaves_in (here (length now.objects.items))) (leaves_in (rest (length new.objects.items)))
+              ∙ ap (λ i. now.leaves.items ++ (leaves_in (here (length now.objects.items)) ++ leaves_in (rest i))) (sym number)
+              ∙ ap (λ xs. now.leaves.items ++ xs) (sym leaves_split)
+              ∙ l.leaves_are;
           count = h.count;
           few_cells = h.few_cells;
           shapes = h.shapes;
@@ -228,11 +235,11 @@ module _ (o : Outline) (before mid : Layout) (x : Object) (m : ℕ) (m_is : m �
             ∙ append_assoc before.objects.items (x ∷ []) (objects_in (inside (length mid.objects.items)))
             ∙ ap (λ i. before.objects.items ++ x ∷ objects_in (inside i)) number
             ∙ ap (λ ms. before.objects.items ++ objects_in ms) (sym next);
-        cells_are =
-            h.cells_are
-            ∙ ap (λ ls. cells_of o ls ++ met_cells o (inside (length mid.objects.items))) leaves_are
-            ∙ ap (λ i. cells_of o before.leaves.items ++ met_cells o (inside i)) number
-            ∙ ap (λ ms. cells_of o before.leaves.items ++ met_cells o ms) (sym next);
+        leaves_are =
+            h.leaves_are
+            ∙ ap (λ ls. ls ++ leaves_in (inside (length mid.objects.items))) leaves_are
+            ∙ ap (λ i. before.leaves.items ++ leaves_in (inside i)) number
+            ∙ ap (λ ms. before.leaves.items ++ leaves_in ms) (sym next);
         count = h.count;
         few_cells = h.few_cells;
         shapes = h.shapes;
@@ -245,7 +252,7 @@ leaf_laid o before after l n size count few most objects_are leaves_are cells_ar
     let all : cells_of o after.leaves.items ≡ cells_of o before.leaves.items ++ cells_of o (l ∷ []) = ap (cells_of o) leaves_are ∙ flat_map-append (leaf_cells o) before.leaves.items (l ∷ []) in
     record {
       objects_are = objects_are ∙ sym (append-nil before.objects.items);
-      cells_are = all;
+      leaves_are = leaves_are;
       count = omega (arith, cells_are, count, size, ap length all, ap length single, length-append (cells_of o before.leaves.items) (cells_of o (l ∷ [])));
       few_cells = omega (arith, few, most, cells_are);
       shapes = λ x has. by x (Contains-append_cases before.leaves.items (l ∷ []) x (subst (λ ls. Contains ls x) leaves_are has));
@@ -254,21 +261,6 @@ leaf_laid o before after l n size count few most objects_are leaves_are cells_ar
     by : (x : Leaf) → Contains before.leaves.items x ⊎ Contains (l ∷ []) x → IsShapeOf (length o.classes) (length o.enumerations) x.shape
     by x (inl a) = shapes x a
     by x (inr a) = subst (λ (y : Leaf). IsShapeOf (length o.classes) (length o.enumerations) y.shape) (contains_one l x a) shape
-
--- a leaf without cells is passed over
-pub leaf_passed : (o : Outline) (before : Layout) (l : Leaf) → length (leaf_cells o l) ≡ 0 → before.cells ≡ length (cells_of o before.leaves.items) → before.cells ≤ 20000 → AreThere o before.leaves.items → HasLaid o before before (λ m. Passed l ∷ [])
-leaf_passed o before l none count most shapes =
-    record {
-      objects_are = sym (append-nil before.objects.items);
-      cells_are = sym (ap (λ xs. cells_of o before.leaves.items ++ xs) (append-nil (leaf_cells o l) ∙ empty (leaf_cells o l) none) ∙ append-nil (cells_of o before.leaves.items));
-      count = count;
-      few_cells = most;
-      shapes = shapes;
-    }
-  where
-    empty : (xs : List Cell) → length xs ≡ 0 → xs ≡ []
-    empty [] e = refl
-    empty (x ∷ xs) e = absurd (omega (arith, e))
 
 pub leaf_refused : (o : Outline) (before : Layout) (l : Leaf) (n : ℕ) → n ≡ length (leaf_cells o l) → before.cells ≡ length (cells_of o before.leaves.items) → before.cells ≤ 20000 → 20000 - before.cells < n → IsRefusedPart o before (λ m. Passed l ∷ []) TooManyCells
 leaf_refused o before l n size count most h =

@@ -1,5 +1,5 @@
 -- A look at all objects finds the one that is wanted.
-use Rattle.std.proofs.Common.{◌≡◌, ℕ, zero, suc, ◌+◌, ◌<◌, ◌≤◌, List, [], ◌∷◌, Option, length, get_or, sym, ◌∙◌, subst, arith}
+use Rattle.std.proofs.Common.{◌≡◌, ℕ, zero, suc, ◌<◌, ◌≤◌, List, [], ◌∷◌, Option, length, get_or, sym, ◌∙◌, subst, arith}
 use Rattle.class_table.specs.declared.table.Resolved.{Resolved}
 use Rattle.class_table.specs.declared.table.Resolved.TheVariants.{One, Many}
 use Rattle.std.specs.Prelude.{Contains, slice_index_or}

@@ -1,5 +1,5 @@
 -- Each element of each attribute that holds objects is an object.
-use Rattle.std.proofs.Common.{◌≡◌, ℕ, zero, suc, ◌+◌, ◌<◌, ◌≤◌, List, [], ◌∷◌, ◌++◌, Option, None, Some, length, refl, ap, sym, ◌∙◌, subst, arith, length-append, ◌⊎◌, inl, inr}
+use Rattle.std.proofs.Common.{◌≡◌, ℕ, zero, suc, ◌+◌, ◌<◌, List, [], ◌∷◌, ◌++◌, Option, None, Some, length, refl, ap, sym, ◌∙◌, subst, arith}
 use Rattle.std.specs.Prelude.{Contains, IfSome, slice_get, slice_index_or}
 use Rattle.std.specs.Option.{option_map}
 use Rattle.class_table.specs.Tables.{IsShapeOf}
@@ -14,8 +14,8 @@ use Rattle.class_table.specs.declared.table.Variable.{Variable}
 use Rattle.class_table.specs.Outline.{Outline, attributes}
 use Rattle.class_table.specs.Sound.{HasNesting, IsSound, held_class}
 use Rattle.object_alloc.specs.declared.object.Object.{Object}
-use Rattle.object_alloc.specs.Parts.{IsElement, IsPart, HasPart}
-use Rattle.object_alloc.specs.Walk.{Met, Made, Visit, Inside, made, object, object_met, objects_in, elements, attribute, members, within, top, visit_to, visit, objects}
+use Rattle.object_alloc.specs.Parts.{IsElement, HasPart}
+use Rattle.object_alloc.specs.Walk.{Met, Visit, Inside, made, object, object_met, objects_in, elements, attribute, members, within, top, visit_to, visit, objects}
 
 -- all parts of object y, which has number n, are among these objects
 abbrev pub IsFull : Outline → List Object → ℕ → Object → Type 0

@@ -1,5 +1,5 @@
 -- Paths, from the path of the object that holds an object.
-use Rattle.std.proofs.Common.{◌≡◌, ℕ, zero, suc, ◌+◌, ◌*◌, ◌<◌, ◌≤◌, List, [], ◌∷◌, ◌++◌, Option, None, Some, length, get_or, refl, ap, sym, ◌∙◌, subst, arith, append_assoc}
+use Rattle.std.proofs.Common.{◌≡◌, ℕ, zero, suc, ◌+◌, ◌*◌, ◌<◌, List, [], ◌∷◌, ◌++◌, Option, None, Some, length, get_or, refl, ap, sym, ◌∙◌, subst, arith, append_assoc}
 use Rattle.std.specs.Prelude.{slice_get, slice_index_or, codes, IfSome}
 use Rattle.std.specs.Option.{option_map_or}
 use Rattle.class_table.specs.declared.table.Resolved.{Resolved}
@@ -7,7 +7,7 @@ use Rattle.class_table.specs.declared.table.Variable.{Variable}
 use Rattle.class_table.specs.Outline.{Outline}
 use Rattle.object_alloc.specs.declared.object.Object.{Object}
 use Rattle.object_alloc.specs.Laid.{class_in}
-use Rattle.object_alloc.specs.Paths.{index_text, step_text, last_step, owner_path, path_within, path, IsBefore}
+use Rattle.object_alloc.specs.Paths.{index_text, step_text, last_step, owner_path, path_within, IsBefore}
 use Rattle.object_alloc.specs.Sums.{variables}
 use Rattle.object_alloc.specs.Walk.{objects}
 use Rattle.object_alloc.proofs.HeldLaws.{object_held}

@@ -1,13 +1,13 @@
 -- The queue of objects: what its first part and the subtrees of its second part add up to stays the same.
-use Rattle.std.proofs.Common.{◌≡◌, ℕ, zero, suc, ◌+◌, ◌*◌, ◌<◌, ◌≤◌, List, [], ◌∷◌, ◌++◌, Option, None, Some, length, get_or, take, drop, refl, ap, sym, ◌∙◌, subst, arith, length-append}
+use Rattle.std.proofs.Common.{◌≡◌, ℕ, zero, suc, ◌+◌, ◌<◌, ◌≤◌, List, [], ◌∷◌, ◌++◌, length, get_or, take, drop, refl, ap, sym, ◌∙◌, subst, arith, length-append}
 use Rattle.std.specs.Prelude.{Contains, replicate}
-use Rattle.std.specs.List.{flat_map, sum_by}
+use Rattle.std.specs.List.{sum_by}
 use Rattle.std.proofs.lemmas.List.Sums.{sum_by-append, sum_by-cons}
 use Rattle.class_table.specs.declared.table.Resolved.{Resolved}
 use Rattle.class_table.specs.declared.table.Resolved.TheVariants.{Span, Truth, Choice, One, Many, Ref, RefSet}
 use Rattle.class_table.specs.declared.table.Variable.{Variable}
 use Rattle.class_table.specs.Outline.{Outline, attributes}
-use Rattle.class_table.specs.Sound.{HasNesting, IsSound}
+use Rattle.class_table.specs.Sound.{HasNesting}
 use Rattle.class_table.specs.Tables.{IsShapeOf}
 use Rattle.object_alloc.specs.declared.fault.AllocFault.{AllocFault}
 use Rattle.object_alloc.specs.declared.fault.AllocFault.TheVariants.{TooManyObjects, TooDeep, TooManyCells, Memory}

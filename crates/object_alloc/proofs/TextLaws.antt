@@ -1,5 +1,5 @@
 -- A model's tokens are not more than its text's bytes.
-use Rattle.std.proofs.Common.{◌≡◌, ℕ, suc, ◌≤◌, List, [], ◌∷◌, length, map, refl, ap, sym, ◌∙◌, arith}
+use Rattle.std.proofs.Common.{◌≡◌, ℕ, suc, ◌≤◌, List, [], ◌∷◌, length, refl, ap, arith}
 use Rattle.conf_syntax.specs.declared.token.Placed.{Placed}
 use Rattle.conf_syntax.specs.declared.tree.Program.{Program}
 use Rattle.conf_syntax.specs.Models.{IsProgramOf}

@@ -1,13 +1,13 @@
 -- The walk does not depend on how many levels it is given, where there are as many as classes or more.
-use Rattle.std.proofs.Common.{◌≡◌, ℕ, zero, suc, ◌+◌, ◌<◌, ◌≤◌, List, [], ◌∷◌, ◌++◌, Option, None, Some, length, refl, ap, sym, ◌∙◌, subst, arith}
+use Rattle.std.proofs.Common.{◌≡◌, ℕ, zero, suc, ◌+◌, ◌<◌, List, [], ◌∷◌, ◌++◌, Some, length, refl, ap, ◌∙◌, arith}
 use Rattle.std.specs.Prelude.{Contains}
 use Rattle.class_table.specs.declared.table.Resolved.{Resolved}
 use Rattle.class_table.specs.declared.table.Resolved.TheVariants.{Span, Truth, Choice, One, Many, Ref, RefSet}
 use Rattle.class_table.specs.declared.table.Variable.{Variable}
 use Rattle.class_table.specs.Outline.{Outline, attributes}
-use Rattle.class_table.specs.Sound.{held_class, HasNesting, IsSound}
+use Rattle.class_table.specs.Sound.{held_class, HasNesting}
 use Rattle.object_alloc.specs.declared.object.Object.{Object}
-use Rattle.object_alloc.specs.Walk.{Met, Made, Passed, Visit, Inside, made, object, elements, attribute, members, within, visit_to, visit}
+use Rattle.object_alloc.specs.Walk.{Met, Made, Visit, Inside, made, object, elements, attribute, members, within, visit_to, visit}
 
 -- two visits do the same at objects of class c
 abbrev pub SameAt : Visit → Visit → ℕ → Type 0

@@ -1,19 +1,19 @@
 -- Sums over the objects of a walk, by their classes and depths.
-use Rattle.std.proofs.Common.{◌≡◌, ℕ, zero, suc, ◌+◌, ◌*◌, ◌<◌, ◌≤◌, List, [], ◌∷◌, ◌++◌, Option, None, Some, length, refl, ap, sym, ◌∙◌, subst, arith}
-use Rattle.std.specs.Prelude.{Contains, replicate}
-use Rattle.std.specs.List.{flat_map, sum_by}
+use Rattle.std.proofs.Common.{◌≡◌, ℕ, zero, suc, ◌+◌, ◌<◌, List, [], ◌∷◌, ◌++◌, None, length, refl, ap, sym, ◌∙◌, arith}
+use Rattle.std.specs.Prelude.{replicate}
+use Rattle.std.specs.List.{sum_by}
 use Rattle.std.proofs.lemmas.Grind.{flat_map-append}
 use Rattle.std.proofs.lemmas.List.Sums.{sum_by-append, sum_by-cons}
 use Rattle.class_table.specs.declared.table.Resolved.{Resolved}
 use Rattle.class_table.specs.declared.table.Resolved.TheVariants.{Span, Truth, Choice, One, Many, Ref, RefSet}
 use Rattle.class_table.specs.declared.table.Variable.{Variable}
 use Rattle.class_table.specs.Outline.{Outline, attributes}
-use Rattle.class_table.specs.Sound.{HasNesting, IsSound}
+use Rattle.class_table.specs.Sound.{HasNesting}
 use Rattle.object_alloc.specs.declared.object.Object.{Object}
 use Rattle.object_alloc.specs.declared.queue.Kind.{Kind}
 pub use Rattle.object_alloc.specs.Sums.{kinds_weight, weight_to, weight}
-use Rattle.object_alloc.specs.Sums.{Weigh, of_object, of_kind, kind, held_kinds, kinds_of}
-use Rattle.object_alloc.specs.Walk.{Met, Made, Passed, Visit, Inside, made, object, object_met, objects_in, elements, attribute, members, within, top, visit_to, visit, walk, objects}
+use Rattle.object_alloc.specs.Sums.{Weigh, of_object, kind, held_kinds, kinds_of}
+use Rattle.object_alloc.specs.Walk.{Met, Visit, Inside, made, object, object_met, objects_in, elements, attribute, members, within, top, visit_to, visit, objects}
 use Rattle.object_alloc.proofs.VisitLaws.{visit_same}
 
 -- the sum over the objects that were met

@@ -1,5 +1,5 @@
 -- Extents and cells. A leaf gives one cell, and a reference set one for each object that may be its member.
-use Rattle.std.specs.Prelude.{ℕ, suc, ◌+◌, ◌-ℤ◌, Bool, cond, List, [], ◌∷◌, Option, None, Some, ℤ, pos, length, map, slice_get}
+use Rattle.std.specs.Prelude.{ℕ, ◌+◌, ◌<◌, ◌-ℤ◌, cond, List, [], ◌∷◌, Option, None, Some, pos, length, map, slice_get}
 use Rattle.std.specs.List.{flat_map}
 use Rattle.std.specs.Option.{option_map_or}
 use Rattle.class_table.specs.declared.table.Class.{Class}
@@ -33,6 +33,11 @@ cell l element values = record { owner = l.owner; attribute = l.attribute; eleme
 -- one cell of a reference set for each of these objects: 0 is out, 1 is in
 abbrev pub member_cells : Leaf → List ℕ → List Cell
 member_cells l numbers = map (λ n. cell l (Some n) (domain.Span (pos 0) (pos 1))) numbers
+
+-- a domain that is an extent is that of one of so many classes
+abbrev pub IsDomainOf : ℕ → Domain → Type 0
+IsDomainOf classes (domain.Span low high) = Unit {0}
+IsDomainOf classes (domain.Extent c) = c < classes
 
 -- the values of the one cell of a leaf of this shape
 abbrev pub domain_of : Outline → Resolved → Option Domain

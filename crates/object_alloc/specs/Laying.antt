@@ -1,5 +1,5 @@
 -- Laying out objects and leaves, part by part.
-use Rattle.std.specs.Prelude.{◌≡◌, ℕ, ◌+◌, ◌<◌, ◌≤◌, List, [], ◌∷◌, ◌++◌, length, slice_index, Contains}
+use Rattle.std.specs.Prelude.{◌≡◌, ℕ, ◌+◌, ◌<◌, ◌≤◌, List, ◌++◌, length, slice_index, Contains}
 use Rattle.std.specs.List.{flat_map}
 use Rattle.class_table.specs.Outline.{Outline}
 use Rattle.class_table.specs.Sound.{IsSound}
@@ -48,7 +48,7 @@ pub record IsReady (o : Outline) (sizes : List ℕ) (before : Layout) (part : Pa
 -- a part was laid out behind what stood there
 pub record HasLaid (o : Outline) (before after : Layout) (part : Part) : Type 0 where
   pub objects_are : after.objects.items ≡ before.objects.items ++ objects_in (part (length before.objects.items))
-  pub cells_are : cells_of o after.leaves.items ≡ cells_of o before.leaves.items ++ met_cells o (part (length before.objects.items))
+  pub leaves_are : after.leaves.items ≡ before.leaves.items ++ leaves_in (part (length before.objects.items))
   pub count : after.cells ≡ length (cells_of o after.leaves.items)
   pub few_cells : after.cells ≤ 20000
   pub shapes : AreThere o after.leaves.items
@@ -56,7 +56,7 @@ pub record HasLaid (o : Outline) (before after : Layout) (part : Part) : Type 0 
 -- with a part that is left it is the whole part
 pub record IsLaying (o : Outline) (before now : Layout) (whole left : Part) : Type 0 where
   pub objects_are : now.objects.items ++ objects_in (left (length now.objects.items)) ≡ before.objects.items ++ objects_in (whole (length before.objects.items))
-  pub cells_are : cells_of o now.leaves.items ++ met_cells o (left (length now.objects.items)) ≡ cells_of o before.leaves.items ++ met_cells o (whole (length before.objects.items))
+  pub leaves_are : now.leaves.items ++ leaves_in (left (length now.objects.items)) ≡ before.leaves.items ++ leaves_in (whole (length before.objects.items))
   pub count : now.cells ≡ length (cells_of o now.leaves.items)
   pub few_cells : now.cells ≤ 20000
   pub shapes : AreThere o now.leaves.items

@@ -1,8 +1,14 @@
 pub mod Walk
 pub mod Cells
+pub mod Groups
+pub mod Grouping
+pub mod Own
+pub mod Configurations
 pub mod Limits
 pub mod Sums
 pub mod Laying
 pub mod Laid
 pub mod Paths
+pub mod Named
 pub mod Parts
+pub mod Leaves

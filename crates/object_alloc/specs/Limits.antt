@@ -1,5 +1,5 @@
 -- How many objects and cells a model may have, and how deep an object may stand.
-use Rattle.std.specs.Prelude.{ℕ, ◌<◌, ◌≤◌, length, All, Contains}
+use Rattle.std.specs.Prelude.{◌<◌, ◌≤◌, length, All, Contains}
 use Rattle.class_table.specs.Outline.{Outline}
 use Rattle.object_alloc.specs.declared.fault.AllocFault.{AllocFault}
 use Rattle.object_alloc.specs.declared.fault.AllocFault.TheVariants.{TooManyObjects, TooDeep, TooManyCells, Memory}

@@ -1,6 +1,6 @@
 -- The walk of a model's containment: the objects and the leaves of a model in their order, depth first. At the top level the
 -- variables stand in order of declaration, and behind each object that is made stand its attributes in their order.
-use Rattle.std.specs.Prelude.{ℕ, zero, suc, ◌+◌, List, [], ◌∷◌, ◌++◌, Option, None, Some, length}
+use Rattle.std.specs.Prelude.{ℕ, zero, suc, ◌+◌, List, [], ◌∷◌, ◌++◌, None, Some, length}
 use Rattle.std.specs.List.{flat_map}
 use Rattle.class_table.specs.declared.table.Resolved.{Resolved}
 use Rattle.class_table.specs.declared.table.Resolved.TheVariants.{Span, Truth, Choice, One, Many, Ref, RefSet}

@@ -1,7 +1,8 @@
 //! Lays out the objects and the leaves of a model in the order of its walk.
 //!
 //! `lay_members` is the entry. It is called for a model whose objects are counted: they are not too many, and none stands so
-//! deep that the calls would go deep too. A leaf that gives no cell is passed over, so the leaves are not more than the cells.
+//! deep that the calls would go deep too. A leaf is kept
+//! also where it gives no cell.
 ghost use Rattle.std.specs.Prelude.{◌≡◌, ◌+◌, ◌<◌, ◌≤◌, ℕ, [], ◌∷◌, length, replicate, IfErr, OnOk, IfSome};
 ghost use Rattle.class_table.specs.Tables.{IsShapeOf};
 ghost use Rattle.object_alloc.specs.declared.object.Leaf.{Leaf as ALeaf};
@@ -40,7 +41,7 @@ fn cell_count(table: &ClassTable, sizes: &[u32], shape: Resolved) -> u32
 }
 
 /// Lays out a leaf.
-#[tactic(auto, using(crate::proofs::LayingLaws::leaf_laid, crate::proofs::LayingLaws::leaf_passed, crate::proofs::LayingLaws::leaf_refused))]
+#[tactic(auto, using(crate::proofs::LayingLaws::leaf_laid, crate::proofs::LayingLaws::leaf_refused))]
 fn lay_leaf(
     layout: &mut Layout,
     table: &ClassTable,
@@ -55,9 +56,6 @@ fn lay_leaf(
     let count = cell_count(table, sizes, leaf.shape);
     if count > MOST_CELLS - layout.cells {
         return Err(AllocFault::TooManyCells);
-    }
-    if count == 0 {
-        return Ok(());
     }
     layout.leaves.push(leaf)?;
     layout.cells += count;

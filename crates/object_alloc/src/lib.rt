@@ -7,9 +7,14 @@
 mod cells;
 mod extents;
 mod fault;
+mod finding;
+mod groups;
 mod layout;
+mod numbers;
 mod object;
 mod objects;
+#[cfg(test)]
+mod path_tests;
 mod paths;
 mod queue;
 mod shapes;
@@ -18,5 +23,5 @@ mod spots;
 mod tests;
 
 pub use fault::AllocFault;
-pub use object::{Cell, Domain, Leaf, Object, ObjectList};
+pub use object::{Cell, Config, Domain, Hints, Leaf, Object, ObjectList};
 pub use objects::{Objects, allocate};

@@ -80,3 +80,63 @@ impl ObjectList {
         &self.items
     }
 }
+
+/// A configuration: one value for each cell, in order.
+#[derive(Debug, Drop)]
+pub struct Config {
+    values: Vec<i64>,
+}
+
+impl Model for Config {
+    ghost use Rattle.std.specs.Prelude.{List, ℤ};
+
+    ghost Value = { List ℤ };
+
+    ghost view = { λ config. config.values.items };
+}
+
+impl Config {
+    /// The configuration of these values.
+    pub fn of(values: Vec<i64>) -> Self
+        ensures values { result ≡ values.items }
+    {
+        Config { values }
+    }
+
+    /// The values, in order.
+    pub fn items(&self) -> &[i64]
+        ensures values { result.now ≡ self.now }
+    {
+        &self.values
+    }
+}
+
+/// For each cell, in order, the value that it had before, if it had one.
+#[derive(Debug, Drop)]
+pub struct Hints {
+    values: Vec<Option<i64>>,
+}
+
+impl Model for Hints {
+    ghost use Rattle.std.specs.Prelude.{List, Option, ℤ};
+
+    ghost Value = { List (Option ℤ) };
+
+    ghost view = { λ hints. hints.values.items };
+}
+
+impl Hints {
+    /// The hints with these values.
+    pub fn of(values: Vec<Option<i64>>) -> Self
+        ensures values { result ≡ values.items }
+    {
+        Hints { values }
+    }
+
+    /// The values, in order.
+    pub fn items(&self) -> &[Option<i64>]
+        ensures values { result.now ≡ self.now }
+    {
+        &self.values
+    }
+}

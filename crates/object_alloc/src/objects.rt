@@ -1,20 +1,26 @@
 //! The objects of a model: how they are allocated, and what is asked of them.
-ghost use Rattle.std.specs.Prelude.{◌≡◌, ◌<◌, ℕ, Some, length, slice_index_or, IfOk, IfErr, IfSome};
+ghost use Rattle.std.specs.Prelude.{All, ◌≡◌, ◌<◌, ℕ, Some, length, slice_index_or, IfOk, IfErr, IfSome};
 ghost use Rattle.class_table.specs.declared.table.Variable.{Variable as AVariable};
 ghost use Rattle.class_table.specs.Ancestry.{derives};
+ghost use Rattle.class_table.specs.Outline.{is_a};
+ghost use Rattle.class_table.specs.Sound.{IsSound};
+ghost use Rattle.class_table.specs.Tables.{IsFew};
+ghost use Rattle.object_alloc.specs.declared.object.Cell.{Cell as ACell};
 ghost use Rattle.object_alloc.specs.declared.object.Object.{Object as AnObject};
-ghost use Rattle.object_alloc.specs.Cells.{cells as all_cells, extent};
+ghost use Rattle.object_alloc.specs.Cells.{cells as all_cells, extent, IsDomainOf};
+ghost use Rattle.object_alloc.specs.Groups.{parts_of, own_cells};
 ghost use Rattle.object_alloc.specs.Laid.{variables_of};
 ghost use Rattle.object_alloc.specs.Parts.{IsElement, IsPart};
 ghost use Rattle.object_alloc.specs.Paths.{is_inside, owner_in, path};
 ghost use Rattle.object_alloc.specs.Limits.{IsRefused, IsWithinLimits};
-ghost use Rattle.object_alloc.specs.Walk.{objects as all_objects};
+ghost use Rattle.object_alloc.specs.Walk.{objects as all_objects, leaves_in, walk};
 
 use crate::cells::{cells_of_leaves, extent_of};
 use crate::extents::extent_sizes;
 use crate::fault::AllocFault;
+use crate::groups::{Groups, Place, cells_by_place, group_of, parts_of_objects};
 use crate::layout::{Layout, lay_members};
-use crate::object::{Cell, Inside, Object, ObjectList};
+use crate::object::{Cell, Inside, Leaf, Object, ObjectList};
 use crate::paths::push_path;
 use crate::queue::{has_deep, queue_all};
 use crate::shapes::{class_of, shape_at, variable_count};
@@ -30,22 +36,28 @@ use std::marker::Model;
 pub struct Objects<'t> {
     table: &'t ClassTable,
     objects: Vec<Object>,
+    leaves: Vec<Leaf>,
     cells: Vec<Cell>,
     /// How many objects the extent of each class has.
     sizes: Vec<u32>,
     /// The objects by where they are held. A look-up gives a hint, and no answer rests on it alone.
     spots: Spots,
+    /// The numbers of the objects that each attribute holds.
+    parts: Groups,
+    /// The numbers of the cells of each attribute.
+    own_cells: Groups,
 }
 
 impl<'t> Model for Objects<'t> {
     ghost use Rattle.class_table.specs.Outline.{Outline};
+    ghost use Rattle.object_alloc.specs.Grouping.{group};
     ghost use Rattle.object_alloc.specs.Laid.{IsLaidOut};
 
     ghost Value = { Outline };
 
     ghost view = { λ t. t.table.now };
 
-    ghost invariant = { λ t. IsLaidOut t.table.now t.objects.items t.cells.items t.sizes.items };
+    ghost invariant = { λ t. IsLaidOut t.table.now t.objects.items t.leaves.items t.cells.items t.sizes.items (group t.parts.entries) (group t.own_cells.entries) };
 }
 
 /// The objects and the cells of a model.
@@ -82,12 +94,17 @@ pub fn allocate<'t>(alloc: Global, table: &'t ClassTable) -> Result<Objects<'t>,
     }
     let cells = cells_of_leaves(alloc, table, &layout.objects, &layout.leaves)?;
     let spots = spots_of(alloc, &layout.objects)?;
+    let parts = parts_of_objects(alloc, &layout.objects)?;
+    let own_cells = cells_by_place(alloc, &cells)?;
     Ok(Objects {
         table,
         objects: layout.objects,
+        leaves: layout.leaves,
         cells,
         sizes,
         spots,
+        parts,
+        own_cells,
     })
 }
 
@@ -95,6 +112,9 @@ impl<'t> Objects<'t> {
     /// How many objects there are.
     pub fn count(&self) -> u32
         ensures count { result ≡ length (all_objects self.now) }
+        ensures sound { IsSound self.now }
+        ensures values { All IsFew self.now.enumerations }
+        ensures limits { IsWithinLimits self.now }
     {
         self.objects.len() as u32
     }
@@ -103,15 +123,39 @@ impl<'t> Objects<'t> {
     pub fn class(&self, object: u32) -> u32
         requires object { object < length (all_objects self.now) }
         ensures class { (d : AnObject) → result ≡ (slice_index_or (all_objects self.now) object d).class }
+        ensures there { result < length self.now.classes }
     {
         self.objects[object as usize].class
+    }
+
+    /// Whether an object is of the extent of a class.
+    pub fn is_of(&self, object: u32, class: u32) -> bool
+        requires object { object < length (all_objects self.now) }
+        ensures is { (d : AnObject) → result ≡ is_a self.now.classes (slice_index_or (all_objects self.now) object d).class class }
+    {
+        self.table.is_a(self.class(object), class)
+    }
+
+    /// The leaves, in the order of the walk, also those that give no cell.
+    pub fn leaves(&self) -> &[Leaf]
+        ensures leaves { result.now ≡ leaves_in (walk self.now) }
+    {
+        &self.leaves
     }
 
     /// The cells, in order.
     pub fn cells(&self) -> &[Cell]
         ensures cells { result.now ≡ all_cells self.now }
+        ensures domains { All (λ (c : ACell). IsDomainOf (length self.now.classes) c.domain) result.now }
     {
         &self.cells
+    }
+
+    /// The objects, in order.
+    pub fn objects(&self) -> &[Object]
+        ensures objects { result.now ≡ all_objects self.now }
+    {
+        &self.objects
     }
 
     /// How many objects the extent of a class has.
@@ -165,6 +209,30 @@ impl<'t> Objects<'t> {
         part_at(&self.objects, &self.spots, spot)
     }
 
+    /// The objects that an attribute of an object, or a variable of the top level, holds, by their numbers, in order. Where there
+    /// is no such attribute there are none.
+    pub fn parts(&self, owner: Option<u32>, k: u32) -> &[u32]
+        ensures parts { result.now ≡ parts_of self.now owner k }
+    {
+        let place = Place {
+            owner,
+            attribute: k,
+        };
+        group_of(&self.parts, place)
+    }
+
+    /// The numbers of the cells of an attribute of an object, or of a variable of the top level, in order. Where there is no such
+    /// attribute there are none.
+    pub fn own_cells(&self, owner: Option<u32>, k: u32) -> &[u32]
+        ensures cells { result.now ≡ own_cells self.now owner k }
+    {
+        let place = Place {
+            owner,
+            attribute: k,
+        };
+        group_of(&self.own_cells, place)
+    }
+
     /// How many attributes an object has, inherited ones too; for None how many variables the top level has.
     pub fn shape_count(&self, owner: Option<u32>) -> u32
         requires owner { IfSome owner (λ n. n < length (all_objects self.now)) }
@@ -180,6 +248,13 @@ impl<'t> Objects<'t> {
         ensures shape { (d : AVariable) → result ≡ (slice_index_or (variables_of self.now owner) k d).shape }
     {
         shape_at(self.table, class_of(&self.objects, owner), k)
+    }
+
+    /// The table of the model's classes.
+    pub(crate) fn table(&self) -> &'t ClassTable
+        ensures table { result.now ≡ self.now }
+    {
+        self.table
     }
 }
 

@@ -7,7 +7,7 @@ use std::test::Fail;
 
 /// The table of a model's text; None where the text is no model.
 #[tactic(auto, using(crate::proofs::TextLaws::few_tokens))]
-fn table_of(alloc: Global, text: &[u8]) -> Option<ClassTable> {
+pub(crate) fn table_of(alloc: Global, text: &[u8]) -> Option<ClassTable> {
     if text.len() > 1_000_000 {
         return None;
     }
@@ -117,7 +117,7 @@ fn depth_is_tested_behind_the_count(rt: HostRuntime) -> Result<(), Fail> {
 }
 
 /// Whether the object of this number has this path.
-fn has_path(alloc: Global, objects: &Objects<'_>, object: u32, path: &str) -> bool {
+pub(crate) fn has_path(alloc: Global, objects: &Objects<'_>, object: u32, path: &str) -> bool {
     if object >= objects.count() {
         return false;
     }

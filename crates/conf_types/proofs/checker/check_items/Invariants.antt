@@ -3,9 +3,10 @@ use Rattle.std.specs.List.{flat_map}
 use Rattle.class_table.specs.Names.{classes}
 use Rattle.conf_syntax.specs.Trees.{depth_of_items}
 use Rattle.conf_types.specs.Programs.{constraint_view, goal_view, resolved_constraint, resolved_goal, constraint_faults, goal_faults, constraints, constraints_from, goals}
+use Rattle.conf_types.specs.Typing.{IsTypedModel}
 use Rattle.conf_types.proofs.checker.check_items.Given as goal
 
--- with what is left the constraints, objectives and faults are those of all items
+-- with what is left the constraints, objectives and faults are those of all items; those so far are typed
 abbrev pub invariant-loop-item : goal.invariant-loop-item
 invariant-loop-item l =
     let left = drop l.item-index l.items in
@@ -16,5 +17,6 @@ invariant-loop-item l =
       right_goals : flat_map (goal_faults l.table) (goals left) ≡ flat_map (goal_faults l.table) (goals l.items);
       classes_are : l.class + length (classes left) ≡ length (classes l.items);
       few : l.class ≤ l.item-index;
+      typed : IsTypedModel l.table (map constraint_view l.found.constraints.items) (map goal_view l.found.goals.items);
       depth : depth_of_items left ≤ 200;
     }

@@ -1,10 +1,11 @@
-use Rattle.std.proofs.Common.{◌≡◌, ◌≤◌, ◌++◌, map, drop}
+use Rattle.std.proofs.Common.{◌≡◌, ◌≤◌, ◌++◌, All, map, drop}
 use Rattle.std.specs.List.{flat_map}
 use Rattle.conf_syntax.specs.Trees.{depth_of_all}
 use Rattle.conf_types.specs.Programs.{constraint_view, resolved_constraint, constraint_faults, stated}
+use Rattle.conf_types.specs.Typing.{IsTypedConstraint}
 use Rattle.conf_types.proofs.checker.check_list.Given as goal
 
--- with what is left the constraints and faults are those of all
+-- with what is left the constraints and faults are those of all; constraints that are typed stay so
 abbrev pub invariant-loop-expr : goal.invariant-loop-expr
 invariant-loop-expr l =
     let left = map (stated l.class) (drop l.expr-index l.list) in
@@ -12,5 +13,6 @@ invariant-loop-expr l =
     record {
       constraints : map constraint_view l.found.items ++ map (resolved_constraint l.table) left ≡ map constraint_view l.fn.found.items ++ map (resolved_constraint l.table) all;
       right : flat_map (constraint_faults l.table) left ≡ flat_map (constraint_faults l.table) all;
+      typed : All (IsTypedConstraint l.table) (map constraint_view l.fn.found.items) → All (IsTypedConstraint l.table) (map constraint_view l.found.items);
       depth : depth_of_all (drop l.expr-index l.list) ≤ 200;
     }

@@ -1,10 +1,11 @@
-use Rattle.std.proofs.Common.{◌≡◌, ◌≤◌, ◌++◌, Some, map, drop}
+use Rattle.std.proofs.Common.{◌≡◌, ◌≤◌, ◌++◌, Some, All, map, drop}
 use Rattle.std.specs.List.{flat_map}
 use Rattle.conf_syntax.specs.Trees.{depth_of_members}
 use Rattle.conf_types.specs.Programs.{constraint_view, resolved_constraint, constraint_faults, stated, member_exprs}
+use Rattle.conf_types.specs.Typing.{IsTypedConstraint}
 use Rattle.conf_types.proofs.checker.check_members.Given as goal
 
--- with what is left the constraints and faults are those of all members
+-- with what is left the constraints and faults are those of all members; constraints that are typed stay so
 abbrev pub invariant-loop-member : goal.invariant-loop-member
 invariant-loop-member l =
     let left = map (stated (Some l.class)) (flat_map member_exprs (drop l.member-index l.members)) in
@@ -12,5 +13,6 @@ invariant-loop-member l =
     record {
       constraints : map constraint_view l.found.items ++ map (resolved_constraint l.table) left ≡ map constraint_view l.fn.found.items ++ map (resolved_constraint l.table) all;
       right : flat_map (constraint_faults l.table) left ≡ flat_map (constraint_faults l.table) all;
+      typed : All (IsTypedConstraint l.table) (map constraint_view l.fn.found.items) → All (IsTypedConstraint l.table) (map constraint_view l.found.items);
       depth : depth_of_members (drop l.member-index l.members) ≤ 200;
     }

@@ -1,9 +1,10 @@
-use Rattle.std.proofs.Common.{Some, subst, sym}
+use Rattle.std.proofs.Common.{Some, subst, sym, inr, refl}
+use Rattle.confsolve_run.specs.Ending.{IsTextRefusal}
 use Rattle.confsolve_run.specs.Status.{IsUnlessFault}
 use Rattle.confsolve_run.specs.declared.model.TextError.TheVariants as error
 use Rattle.confsolve_run.specs.declared.status.LimitKind.TheVariants as kind
 use Rattle.confsolve_run.specs.declared.status.Status.TheVariants as status
-use Rattle.confsolve_run.proofs.GivenTexts.{unless}
+use Rattle.confsolve_run.proofs.GivenTexts.{unless, text_refusal}
 use Rattle.confsolve_run.proofs.answering.answer_text.Goals as goal
 
 pub returns-in-Ok-clause-syntax : goal.returns-in-Ok-clause-syntax
@@ -29,3 +30,7 @@ pub returns-in-Err-clause-nesting : goal.returns-in-Err-clause-nesting
 returns-in-Err-clause-nesting g c =
     λ place stands.
     subst (IsUnlessFault (status.Limit kind.Nesting (Some place))) (sym c.refusal_of.ensures) (unless (error.Nesting place) c.in-Err.error (c.in-Err.ensures.nesting place stands))
+
+pub returns-in-Err-clause-ends : goal.returns-in-Err-clause-ends
+returns-in-Err-clause-ends g c =
+    inr (subst (IsTextRefusal c.args.text.now) (sym c.refusal_of.ensures) (text_refusal c.args.text.now c.in-Err.error c.in-Err.ensures.refusal), refl)

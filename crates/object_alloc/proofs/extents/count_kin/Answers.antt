@@ -1,4 +1,4 @@
-use Rattle.std.proofs.Common.{rules, ◌≡◌, ◌+◌, ◌-◌, ◌<◌, ◌≤◌, suc, length, refl, sym, ap, ◌∙◌, arith, Some, slice_index_or, slice_set}
+use Rattle.std.proofs.Common.{rules, ◌≡◌, ◌+◌, ◌-◌, suc, length, refl, sym, ◌∙◌, arith, Some, slice_index_or, slice_set}
 use Rattle.class_table.specs.Outline.{parent_in}
 use Rattle.object_alloc.proofs.ExtentLaws.{count_start, count_next, count_last, count_end, count_most}
 use Rattle.object_alloc.proofs.extents.count_kin.Goals as goal

@@ -1,8 +1,8 @@
-use Rattle.std.proofs.Common.{rules, ◌≡◌, ◌+◌, ◌<◌, ◌≤◌, ◌++◌, ℕ, List, length, get_or, take, drop, sym, ap, ◌∙◌, subst, arith}
+use Rattle.std.proofs.Common.{rules, ◌≡◌, ◌+◌, ◌<◌, ◌++◌, ℕ, length, take, drop, ap, ◌∙◌, arith}
 use Rattle.std.specs.Prelude.{slice_index}
 use Rattle.std.specs.List.{sum_by}
 use Rattle.object_alloc.specs.declared.queue.Kind.{Kind}
-use Rattle.object_alloc.specs.Sums.{of_kind, kin, IsLawful}
+use Rattle.object_alloc.specs.Sums.{of_kind, kin}
 use Rattle.object_alloc.proofs.ExtentLaws.{queue_next, lawful_drop, written, kin_most, most_all}
 use Rattle.object_alloc.proofs.extents.extent_sizes.Goals as goal
 

@@ -1,9 +1,7 @@
 use Rattle.std.proofs.lemmas.Result.{on_ok_weaker, IfErr-weaker}
-use Rattle.std.proofs.Common.{rules, ◌≡◌, ◌+◌, ◌-◌, ◌<◌, ◌≤◌, length, drop, arith, refl, sym, ap, ◌∙◌, ℕ}
-use Rattle.class_table.specs.Outline.{attributes}
+use Rattle.std.proofs.Common.{rules, ◌≡◌, ◌+◌, ◌-◌, length, drop, arith, refl}
 use Rattle.object_alloc.specs.declared.layout.Layout.{Layout}
 use Rattle.object_alloc.specs.declared.object.Object.{Object}
-use Rattle.object_alloc.specs.Laying.{Part}
 use Rattle.object_alloc.specs.Sums.{variables, weight, deep}
 use Rattle.object_alloc.specs.Walk.{visit, members, attribute, elements}
 use Rattle.object_alloc.proofs.LayingLaws.{ready_next, refused_next, laid_next, members_split, elements_split, held_shallow, element_shallow, object_depth, object_shallow, object_ready, object_refused, object_laid}

@@ -1,4 +1,4 @@
-use Rattle.std.proofs.Common.{◌+◌, ◌*◌, ℕ, Option, None, Some}
+use Rattle.std.proofs.Common.{◌+◌, ◌*◌}
 use Rattle.std.specs.Option.{option_map_or}
 use Rattle.object_alloc.proofs.paths.+path.Given as goal
 

@@ -1,4 +1,4 @@
-use Rattle.std.proofs.Common.{◌≡◌, ◌+◌, ◌≤◌, ◌++◌, length, take, drop}
+use Rattle.std.proofs.Common.{◌≡◌, ◌≤◌, ◌++◌, length, drop}
 use Rattle.object_alloc.specs.Sums.{variables, kinds_of}
 use Rattle.object_alloc.proofs.queue.push_members.Given as goal
 

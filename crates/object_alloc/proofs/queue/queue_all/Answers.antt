@@ -1,8 +1,7 @@
-use Rattle.std.proofs.Common.{rules, ◌≡◌, ◌+◌, ◌<◌, ◌≤◌, ◌++◌, length, arith, sym, ap, subst, ◌∙◌, None, length-append}
+use Rattle.std.proofs.Common.{rules, ◌≡◌, ◌+◌, ◌<◌, ◌++◌, length, arith, sym, ap, subst, ◌∙◌, length-append}
 use Rattle.class_table.specs.Outline.{attributes}
-use Rattle.object_alloc.specs.Sums.{IsLawful, of_object, of_kind, variables, kinds_of}
-use Rattle.object_alloc.specs.Walk.{objects}
-use Rattle.object_alloc.proofs.QueueSteps.{one, balance_start, balance_next, balance_end, first_excess, next_excess, lawful_kinds, lawful_at, lawful_append}
+use Rattle.object_alloc.specs.Sums.{IsLawful, kinds_of}
+use Rattle.object_alloc.proofs.QueueSteps.{one, balance_start, balance_next, first_excess, next_excess, lawful_kinds, lawful_at, lawful_append}
 use Rattle.object_alloc.proofs.ShapeLaws.{shapes, root_shapes}
 use Rattle.object_alloc.proofs.queue.queue_all.Goals as goal
 

@@ -1,4 +1,4 @@
-use Rattle.std.proofs.Common.{rules, ◌≡◌, length, sym, ap, ◌∙◌, subst, arith}
+use Rattle.std.proofs.Common.{length, ap, ◌∙◌, arith}
 use Rattle.class_table.specs.Ancestry.{derives}
 use Rattle.object_alloc.specs.Paths.{owner_in, is_inside}
 use Rattle.object_alloc.specs.Walk.{objects}

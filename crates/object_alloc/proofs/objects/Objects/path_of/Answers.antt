@@ -1,4 +1,4 @@
-use Rattle.std.proofs.Common.{◌≡◌, ◌++◌, length, suc, sym, ap, ◌∙◌, subst}
+use Rattle.std.proofs.Common.{◌++◌, suc, sym, ap, ◌∙◌, subst}
 use Rattle.std.proofs.lemmas.Result.{IfOk-weaker}
 use Rattle.object_alloc.specs.Laying.{AreClassed}
 use Rattle.object_alloc.specs.Paths.{path, path_within}

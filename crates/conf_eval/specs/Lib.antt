@@ -1,0 +1,11 @@
+pub mod Breaking
+pub mod Evaluating
+pub mod Fitting
+pub mod Listing
+pub mod Meaning
+pub mod Measures
+pub mod Packing
+pub mod Satisfying
+pub mod Limits
+pub mod Counting
+pub mod Finding

@@ -1,0 +1,29 @@
+//! The meaning of a model: the value of an expression at a configuration, and which configurations satisfy the model.
+//!
+//! `eval` gives the value of an expression, `satisfied` what is broken first, `objectives` the values of the objectives. `limits`
+//! refuses models whose expressions may cost too much or may have numbers that are too large.
+#![tactic(auto)]
+
+mod attributes;
+mod broken;
+mod calls;
+mod capped;
+mod evaluate;
+mod interval;
+mod limit;
+mod measure;
+mod measuring;
+mod members;
+mod operators;
+mod packing;
+mod scene;
+#[cfg(test)]
+mod tests;
+mod value;
+#[cfg(test)]
+mod value_tests;
+
+pub use broken::{BrokenAt, satisfied};
+pub use calls::{Numbers, eval, objectives};
+pub use limit::{LimitFault, limits};
+pub use value::{Env, Value};

@@ -1,0 +1,13 @@
+pub mod ValuesRead
+pub mod Known
+pub mod StringLaws
+pub mod PlaceLaws
+pub mod CountLaws
+pub mod DomainLaws
+pub mod PickLaws
+pub mod WholeLaws
+pub mod MarkLaws
+pub mod HintLaws
+pub mod TreeLaws
+pub mod ObjectLaws
+pub mod FloatFree

@@ -1,0 +1,143 @@
+-- A JSON value that gives every leaf a value is a configuration whose reference sets have their sizes.
+use Rattle.std.proofs.Common.{◌≡◌, ℕ, zero, suc, List, [], ◌∷◌, ◌++◌, Option, None, Some, Bool, true, false, cond, length, map, refl, sym, ap, ◌∙◌, subst, append-nil}
+use Rattle.std.specs.Prelude.{ℤ, option_and_then, slice_get, slice_index_or, is_some, replicate}
+use Rattle.std.specs.List.{filter, flat_map}
+use Rattle.std.specs.Option.{option_map_or}
+use Rattle.std.proofs.lemmas.List.{map-append}
+use Rattle.std.proofs.lemmas.Option.{slice_get-get_or}
+use Rattle.class_table.specs.declared.table.Resolved.TheVariants.{RefSet}
+use Rattle.class_table.specs.Outline.{Outline}
+use Rattle.class_table.specs.Sound.{IsSound}
+use Rattle.object_alloc.specs.declared.object.Cell.{Cell}
+use Rattle.object_alloc.specs.declared.object.Leaf.{Leaf}
+use Rattle.object_alloc.specs.Cells.{cells, leaf_cells}
+use Rattle.object_alloc.specs.Configurations.{AreValues}
+use Rattle.object_alloc.specs.Groups.{is_cell_of, is_part_of}
+use Rattle.object_alloc.specs.Own.{inside_of}
+use Rattle.object_alloc.specs.Walk.{Met, Made, Passed, leaf, leaves_in, walk}
+use Rattle.object_alloc.proofs.HeldLeaves.{leaf_held}
+use Rattle.object_alloc.proofs.OwnLaws.{met_is}
+use Rattle.object_alloc.proofs.OwnWalk.{is_leaf_of, kept, first_met}
+use Rattle.serde_json.specs.Data.{Data}
+use Rattle.config_json.specs.Former.{value_in, leaf_place, former, leaf_hints, hints, leaf_path, first_missing, missing}
+use Rattle.config_json.specs.Whole.{HasItsSize, IsWhole}
+use Rattle.config_json.proofs.DomainLaws.{values_within}
+use Rattle.config_json.proofs.PickLaws.{picks, any_cell, picked_all, picks_append, picks_same, shape_each, set_size}
+
+-- the leaves that are met as an attribute
+kept_leaves : (owner : Option ℕ) (k : ℕ) (ms : List Met) → leaves_in (kept owner k ms) ≡ filter (is_leaf_of owner k) (leaves_in ms)
+kept_leaves owner k [] = refl
+kept_leaves owner k (Made x ∷ ms) = by (is_part_of owner k x) (kept_leaves owner k ms)
+  where
+    by : (b : Bool) → leaves_in (kept owner k ms) ≡ filter (is_leaf_of owner k) (leaves_in ms) → leaves_in (cond b (Made x ∷ kept owner k ms) (kept owner k ms)) ≡ filter (is_leaf_of owner k) (leaves_in ms)
+    by true rest = rest
+    by false rest = rest
+kept_leaves owner k (Passed l ∷ ms) = by (is_leaf_of owner k l) (kept_leaves owner k ms)
+  where
+    by : (b : Bool) → leaves_in (kept owner k ms) ≡ filter (is_leaf_of owner k) (leaves_in ms) → leaves_in (cond b (Passed l ∷ kept owner k ms) (kept owner k ms)) ≡ cond b (l ∷ filter (is_leaf_of owner k) (leaves_in ms)) (filter (is_leaf_of owner k) (leaves_in ms))
+    by true rest = ap (λ ls. l ∷ ls) rest
+    by false rest = rest
+
+-- a reference set is the only leaf of its attribute
+only_leaf : (o : Outline) → IsSound o → (i : ℕ) (l : Leaf) (c n : ℕ) → slice_get (leaves_in (walk o)) i ≡ Some l → l.shape ≡ RefSet c n → filter (is_leaf_of l.owner l.attribute) (leaves_in (walk o)) ≡ l ∷ []
+only_leaf o sound i l c n at is =
+    let held = leaf_held o i l at in
+    let shape : held.variable.shape ≡ RefSet c n = held.shape ∙ is in
+    sym (kept_leaves l.owner l.attribute (walk o))
+    ∙ ap leaves_in (met_is o sound l.owner l.attribute held.variable held.owner held.has ∙ ap (first_met (inside_of o l.owner) l.attribute) shape)
+    ∙ ap (λ s. leaf (inside_of o l.owner) l.attribute s ∷ []) (sym is)
+
+module _ (o : Outline) (d : Data) where
+  -- the values that the cells of a leaf are given
+  abbrev pub given : Leaf → List ℤ
+  given l = option_map_or (λ vs. vs) (former o d l) []
+
+  -- the leaf has a value
+  pub record IsGiven (l : Leaf) : Type 0 where
+    pub place : Data
+    pub is : value_in o l.shape place ≡ Some (given l)
+    pub hints_are : leaf_hints o d l ≡ map Some (given l)
+
+  abbrev pub AreGiven : List Leaf → Type 0
+  AreGiven [] = Unit {0}
+  AreGiven (l ∷ ls) = IsGiven l × AreGiven ls
+
+  is_given : (l : Leaf) (r : Option (List ℤ)) → former o d l ≡ r → is_some r ≡ true → IsGiven l
+  is_given l None is e = cc
+  is_given l (Some vs) is e = by (leaf_place o d l) is
+    where
+      same : given l ≡ vs
+      same = ap (λ r. option_map_or (λ vs. vs) r []) is
+
+      by : (p : Option Data) → option_and_then (value_in o l.shape) p ≡ Some vs → IsGiven l
+      by None g = cc
+      by (Some x) g = record { place = x; is = g ∙ ap Some (sym same); hints_are = ap (λ r. option_map_or (map Some) r (replicate (length (leaf_cells o l)) None)) is ∙ ap (map Some) (sym same) }
+
+  all_given : (ls : List Leaf) → first_missing o d ls ≡ None → AreGiven ls
+  all_given [] e = tt
+  all_given (l ∷ ls) e = by (is_some (former o d l)) refl e (λ r. all_given ls r)
+    where
+      by : (b : Bool) → is_some (former o d l) ≡ b → cond b (first_missing o d ls) (Some (leaf_path o l)) ≡ None → (first_missing o d ls ≡ None → AreGiven ls) → IsGiven l × AreGiven ls
+      by true is e rest = (is_given l (former o d l) refl is, rest e)
+      by false is e rest = cc
+
+  hints_given : (ls : List Leaf) → AreGiven ls → flat_map (leaf_hints o d) ls ≡ map Some (flat_map given ls)
+  hints_given [] h = refl
+  hints_given (l ∷ ls) (h, hs) =
+      ap (λ xs. xs ++ flat_map (leaf_hints o d) ls) h.hints_are ∙ ap (λ xs. map Some (given l) ++ xs) (hints_given ls hs)
+      ∙ sym (map-append Some (given l) (flat_map given ls))
+
+  values_append : (cs ds : List Cell) (vs ws : List ℤ) → AreValues o cs vs → AreValues o ds ws → AreValues o (cs ++ ds) (vs ++ ws)
+  values_append [] ds [] ws a b = b
+  values_append [] ds (v ∷ vs) ws a b = absurd a
+  values_append (c ∷ cs) ds [] ws a b = absurd a
+  values_append (c ∷ cs) ds (v ∷ vs) ws (h, a) b = (h, values_append cs ds vs ws a b)
+
+  values_given : (ls : List Leaf) → AreGiven ls → AreValues o (flat_map (leaf_cells o) ls) (flat_map given ls)
+  values_given [] h = tt
+  values_given (l ∷ ls) (h, hs) = values_append (leaf_cells o l) (flat_map (leaf_cells o) ls) (given l) (flat_map given ls) (values_within o l l.shape h.place (given l) h.is) (values_given ls hs)
+
+  given_at : (ls : List Leaf) (i : ℕ) (l : Leaf) → AreGiven ls → slice_get ls i ≡ Some l → IsGiven l
+  given_at [] i l h e = cc
+  given_at (m ∷ ms) zero l (h, hs) e = subst IsGiven (some_is e) h
+    where
+      some_is : {a b : Leaf} → Some a ≡ Some b → a ≡ b
+      some_is e = cc
+  given_at (m ∷ ms) (suc i) l (h, hs) e = given_at ms i l hs e
+
+  -- what is picked for an attribute is what is picked for its leaves
+  picks_leaves : (owner : Option ℕ) (k : ℕ) (ls : List Leaf) → AreGiven ls → picks (is_cell_of owner k) (flat_map (leaf_cells o) ls) (flat_map given ls) ≡ flat_map (λ l. picks any_cell (leaf_cells o l) (given l)) (filter (is_leaf_of owner k) ls)
+  picks_leaves owner k [] h = refl
+  picks_leaves owner k (l ∷ ls) (h, hs) =
+      picks_append o (is_cell_of owner k) (leaf_cells o l) (flat_map (leaf_cells o) ls) (given l) (flat_map given ls) (values_within o l l.shape h.place (given l) h.is)
+      ∙ by (is_leaf_of owner k l) (picks_same o (is_cell_of owner k) (is_leaf_of owner k l) (leaf_cells o l) (given l) (shape_each o owner k l l.shape)) (picks_leaves owner k ls hs)
+    where
+      by : (b : Bool) → picks (is_cell_of owner k) (leaf_cells o l) (given l) ≡ cond b (picks any_cell (leaf_cells o l) (given l)) [] → picks (is_cell_of owner k) (flat_map (leaf_cells o) ls) (flat_map given ls) ≡ flat_map (λ l. picks any_cell (leaf_cells o l) (given l)) (filter (is_leaf_of owner k) ls) → picks (is_cell_of owner k) (leaf_cells o l) (given l) ++ picks (is_cell_of owner k) (flat_map (leaf_cells o) ls) (flat_map given ls) ≡ flat_map (λ l. picks any_cell (leaf_cells o l) (given l)) (cond b (l ∷ filter (is_leaf_of owner k) ls) (filter (is_leaf_of owner k) ls))
+      by true here rest = ap (λ xs. xs ++ picks (is_cell_of owner k) (flat_map (leaf_cells o) ls) (flat_map given ls)) here ∙ ap (λ xs. picks any_cell (leaf_cells o l) (given l) ++ xs) rest
+      by false here rest = ap (λ xs. xs ++ picks (is_cell_of owner k) (flat_map (leaf_cells o) ls) (flat_map given ls)) here ∙ rest
+
+  abbrev values : List ℤ
+  values = flat_map given (leaves_in (walk o))
+
+  size_is : IsSound o → AreGiven (leaves_in (walk o)) → (i : ℕ) (l : Leaf) → slice_get (leaves_in (walk o)) i ≡ Some l → HasItsSize o values l
+  size_is sound h i l at c n is =
+      let given_l = given_at (leaves_in (walk o)) i l h at in
+      ap length (picked_all o (is_cell_of l.owner l.attribute) (cells o) values (values_given (leaves_in (walk o)) h)
+      ∙ picks_leaves l.owner l.attribute (leaves_in (walk o)) h
+      ∙ ap (flat_map (λ l. picks any_cell (leaf_cells o l) (given l))) (only_leaf o sound i l c n at is)
+      ∙ append-nil (picks any_cell (leaf_cells o l) (given l)))
+      ∙ set_size o l l.shape c n given_l.place (given l) is given_l.is
+
+  pub whole : IsSound o → missing o d ≡ None → IsWhole o (hints o d)
+  whole sound e =
+      let h = all_given (leaves_in (walk o)) e in
+      record {
+        values = values;
+        all = hints_given (leaves_in (walk o)) h;
+        configuration = values_given (leaves_in (walk o)) h;
+        sets = λ i l lt. size_is sound h i (slice_index_or (leaves_in (walk o)) i l) (slice_get-get_or (leaves_in (walk o)) i l lt);
+      }
+
+  -- hints that are found where none is missing
+  pub whole_found : (hs : List (Option ℤ)) → IsSound o → hs ≡ hints o d → missing o d ≡ None → IsWhole o hs
+  whole_found hs sound is e = subst (IsWhole o) (sym is) (whole sound e)

@@ -1,0 +1,10 @@
+pub mod Reading
+pub mod Keys
+pub mod Tree
+pub mod Former
+pub mod Places
+pub mod Whole
+pub mod Marked
+pub mod Marking
+pub mod Growing
+pub mod Contained

@@ -1,0 +1,14 @@
+//! Configurations as JSON: what is written for one, and the values that a former text gives.
+#![tactic(auto)]
+
+mod config;
+mod former;
+mod leaves;
+mod places;
+#[cfg(test)]
+mod tests;
+mod values;
+
+pub use config::{config_text, to_json};
+pub use former::{Former, FormerError, read_config};
+pub use leaves::{hints_of, missing};

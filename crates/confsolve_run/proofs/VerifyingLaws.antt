@@ -1,0 +1,120 @@
+-- A JSON value that gives each leaf a value is a configuration with full sets.
+use Rattle.std.proofs.Common.{◌≡◌, ◌∙◌, ℕ, ◌<◌, List, [], ◌∷◌, ◌++◌, Option, None, Some, IfSome, ℤ, All, Contains, true, is_some, length, map, sym, ap, subst, refl, slice_index_or}
+use native.Mathlib.Omega.{arith}
+use Rattle.std.proofs.lemmas.List.Elements as elements
+use Rattle.std.specs.List.{list_all}
+use Rattle.class_table.specs.Outline.{Outline}
+use Rattle.config_json.specs.Whole.{HasItsSize, IsWhole}
+use Rattle.conf_eval.specs.Meaning.{attribute_value, objects_of}
+use Rattle.conf_eval.specs.Breaking.{IsWrongConstraint, IsWrongSet}
+use Rattle.conf_eval.specs.Satisfying.{IsFull, stated_for}
+use Rattle.conf_eval.proofs.LawsClasses.{object_low}
+use Rattle.conf_types.specs.declared.tree.Constraint.{Constraint as AConstraint}
+use Rattle.conf_types.specs.Programs.{ResolvedConstraint, constraint_view}
+use Rattle.object_alloc.specs.declared.object.Leaf.{Leaf}
+use Rattle.object_alloc.specs.Configurations.{IsConfiguration}
+use Rattle.object_alloc.specs.Cells.{extent}
+use Rattle.object_alloc.specs.Walk.{walk, leaves_in, objects}
+use Rattle.confsolve_run.specs.Answer.{IsConfigOf}
+use Rattle.confsolve_run.specs.Refusal.{IsBroken, stated_path}
+use Rattle.confsolve_run.specs.Solving.{HasFullSets, IsBrokenStatus, IsUnsatisfied}
+use Rattle.confsolve_run.specs.declared.status.Status.{Status}
+use Rattle.confsolve_run.specs.declared.status.Status.TheVariants as status
+
+given : (ts : List ℤ) → list_all is_some (map Some ts) ≡ true
+given [] = refl
+given (t ∷ ts) = given ts
+
+same_values : (ts us : List ℤ) → map Some ts ≡ map Some us → ts ≡ us
+same_values [] [] e = refl
+same_values [] (u ∷ us) e = absurd cc
+same_values (t ∷ ts) [] e = absurd cc
+same_values (t ∷ ts) (u ∷ us) e =
+    let first : t ≡ u = cc in
+    let rest : map Some ts ≡ map Some us = cc in
+    let more = same_values ts us rest in
+    cc
+
+full : (o : Outline) (values : List ℤ) (l : Leaf) → HasItsSize o values l → IsFull o values l
+full o values l h = λ c n is. subst (λ s. length (objects_of (attribute_value o values l.owner l.attribute s)) ≡ n) (sym is) (h c n is)
+
+module _ (o : Outline) (hs : List (Option ℤ)) (w : IsWhole o hs) where
+  pub all_given : list_all is_some hs ≡ true
+  all_given = ap (list_all is_some) w.all ∙ given w.values
+
+  values_are : (ts : List ℤ) → hs ≡ map Some ts → w.values ≡ ts
+  values_are ts e = same_values w.values ts (sym w.all ∙ e)
+
+  pub is_configuration : (ts : List ℤ) → hs ≡ map Some ts → IsConfiguration o ts
+  is_configuration ts e = subst (IsConfiguration o) (values_are ts e) w.configuration
+
+  pub sets_full : (ts : List ℤ) → hs ≡ map Some ts → HasFullSets o ts
+  sets_full ts e = subst (HasFullSets o) (values_are ts e) (λ k d h. full o w.values (slice_index_or (leaves_in (walk o)) k d) (w.sets k d h))
+
+-- What is broken first
+
+mid : {X : Type 0} (P : X → Type 0) (xs before after : List X) (x : X) → All P xs → xs ≡ before ++ x ∷ after → P x
+mid P xs before after x all split =
+    elements.All-contains P xs x all (subst (λ ys. Contains ys x) (sym split) (elements.Contains-append_right before (x ∷ after) x (0, omega arith, refl)))
+
+abbrev IsThere : Outline → Option ℕ → Type 0
+IsThere o x = IfSome x (λ n. n < length (objects o))
+
+stated_there : (o : Outline) (class : Option ℕ) → All (IsThere o) (stated_for o class)
+stated_there o None = elements.All-from_recursion (IsThere o) (None ∷ []) (tt, tt)
+stated_there o (Some c) = elements.All-map (IsThere o) Some (extent o c) (λ k d lt. object_low o c (slice_index_or (extent o c) k d) (elements.Contains-get_or (extent o c) k d lt))
+
+pub object_there : (o : Outline) (ks : List ResolvedConstraint) (t : List ℤ) (index : ℕ) (object : Option ℕ) → IsWrongConstraint o ks t index object → IsThere o object
+object_there o ks t index object w = mid (IsThere o) (stated_for o w.constraint.class) w.earlier w.first_object.after object (stated_there o w.constraint.class) w.first_object.split
+
+-- a configuration with full sets has no set of another size
+pub no_wrong_set : (o : Outline) (t : List ℤ) (cell : ℕ) → HasFullSets o t → IsWrongSet o t cell → ⊥
+no_wrong_set o t cell sets w = w.first.not (mid (IsFull o t) (leaves_in (walk o)) w.before w.first.after w.set sets w.first.split)
+
+place_at : (cs : List AConstraint) (before : List ResolvedConstraint) (k : ResolvedConstraint) (after : List ResolvedConstraint) (d : AConstraint) → map constraint_view cs ≡ before ++ k ∷ after → (slice_index_or cs (length before) d).place ≡ k.place
+place_at [] [] k after d e = absurd cc
+place_at [] (b ∷ bs) k after d e = absurd cc
+place_at (x ∷ xs) [] k after d e =
+    let first : constraint_view x ≡ k = cc in
+    ap (λ (z : ResolvedConstraint). z.place) first
+place_at (x ∷ xs) (b ∷ bs) k after d e =
+    let rest : map constraint_view xs ≡ bs ++ k ∷ after = cc in
+    place_at xs bs k after d rest
+
+some_constraint : (cs : List AConstraint) (before : List ResolvedConstraint) (k : ResolvedConstraint) (after : List ResolvedConstraint) → map constraint_view cs ≡ before ++ k ∷ after → AConstraint
+some_constraint [] [] k after e = absurd cc
+some_constraint [] (b ∷ bs) k after e = absurd cc
+some_constraint (x ∷ xs) before k after e = x
+
+module _ (o : Outline) (cs : List AConstraint) (bytes : List ℕ) (t : List ℤ) (index : ℕ) (object : Option ℕ) (is : IsConfigOf o bytes t) (w : IsWrongConstraint o (map constraint_view cs) t index object) where
+  named_place : (d : AConstraint) (place : ℕ) (text : List ℕ) → IsBrokenStatus (slice_index_or cs index d).place (stated_path o object) (status.Broken (Some place) text) → IsBroken o (map constraint_view cs) bytes place text
+  named_place d place text p =
+      record {
+        config = t;
+        is = is;
+        broken = record {
+          index = index;
+          object = object;
+          wrong = w;
+          place_is = p.0 ∙ (ap (λ i. (slice_index_or cs i d).place) w.number ∙ place_at cs w.before w.constraint w.first.after d w.first.split);
+          path_is = p.1;
+        };
+      }
+
+  at_constraint : (d : AConstraint) (s : Status) → IsBrokenStatus (slice_index_or cs index d).place (stated_path o object) s → IsUnsatisfied o (map constraint_view cs) bytes s
+  at_constraint d (status.Broken (Some place) text) p = named_place d place text p
+  at_constraint d (status.Broken None text) p = absurd p
+  at_constraint d status.Memory p = tt
+  at_constraint d status.Done p = absurd p
+  at_constraint d status.NoneExists p = absurd p
+  at_constraint d (status.Syntax place) p = absurd p
+  at_constraint d (status.Meaning fault place) p = absurd p
+  at_constraint d (status.Limit k place) p = absurd p
+  at_constraint d status.Usage p = absurd p
+  at_constraint d status.ReadFault p = absurd p
+  at_constraint d status.WriteFault p = absurd p
+  at_constraint d (status.Former why) p = absurd p
+  at_constraint d status.NotBuilt p = absurd p
+
+  pub broken_refused : (s : Status) → ((d : AConstraint) → IsBrokenStatus (slice_index_or cs index d).place (stated_path o object) s) → IsUnsatisfied o (map constraint_view cs) bytes s
+  broken_refused s p = let d = some_constraint cs w.before w.constraint w.first.after w.first.split in at_constraint d s (p d)

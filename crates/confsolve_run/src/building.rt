@@ -1,0 +1,135 @@
+//! From a model's tree to its table, its resolved expressions and its objects, each with its refusals.
+ghost use Rattle.std.specs.Prelude.{◌≡◌, ◌≤◌, [], map, length, IfOk, IfErr, OnOk};
+ghost use Rattle.conf_syntax.specs.Trees.{program_tokens, nesting};
+ghost use Rattle.conf_types.specs.Programs.{constraint_view, goal_view};
+ghost use Rattle.conf_types.specs.Typing.{IsTypedModel};
+ghost use Rattle.conf_eval.specs.Limits.{IsWithinMeasures, IsLimitRefused};
+ghost use Rattle.object_alloc.specs.Limits.{IsWithinLimits, IsRefused};
+ghost use Rattle.confsolve_run.specs.Building.{IsDeclared, IsUnallocated, IsUnmeasured};
+ghost use Rattle.confsolve_run.specs.Meaning.{IsTyped};
+ghost use Rattle.confsolve_run.specs.Models.{outline_of, constraints_of, goals_of};
+ghost use Rattle.confsolve_run.specs.Refusing.{declared, expressed, allocated, measured};
+ghost use Rattle.confsolve_run.specs.Refusal.{IsRefusedFor};
+
+use crate::status::{Fault, LimitKind, Status};
+use class_table::{ClassTable, TableFault};
+use conf_eval::{LimitFault, limits};
+use conf_syntax::Program;
+use conf_types::{TypeFault, TypedModel, check};
+use object_alloc::{AllocFault, Objects, allocate};
+use std::alloc::Global;
+
+/// The status of a fault of declarations.
+fn declared(fault: TableFault) -> Status
+    ensures { result ≡ declared fault }
+{
+    let (fault, place) = match fault {
+        TableFault::Duplicate(place) => (Fault::Duplicate, place),
+        TableFault::Unknown(place) => (Fault::Unknown, place),
+        TableFault::NotAClass(place) => (Fault::NotAClass, place),
+        TableFault::InheritCycle(place) => (Fault::InheritCycle, place),
+        TableFault::ContainCycle(place) => (Fault::ContainCycle, place),
+        TableFault::AbstractObject(place) => (Fault::AbstractObject, place),
+        TableFault::EmptyRange(place) => (Fault::EmptyRange, place),
+        TableFault::Memory => return Status::Memory,
+    };
+    Status::Meaning { fault, place }
+}
+
+/// The status of a fault of expressions.
+fn expressed(fault: TypeFault) -> Status
+    ensures { result ≡ expressed fault }
+{
+    let (fault, place) = match fault {
+        TypeFault::Unknown(place) => (Fault::Unknown, place),
+        TypeFault::WrongType(place) => (Fault::WrongType, place),
+        TypeFault::NonLinear(place) => (Fault::NonLinear, place),
+        TypeFault::Shadow(place) => (Fault::Shadow, place),
+        TypeFault::Memory => return Status::Memory,
+    };
+    Status::Meaning { fault, place }
+}
+
+/// The status of objects and cells above a limit.
+fn allocated(fault: AllocFault) -> Status
+    ensures { result ≡ allocated fault }
+{
+    let kind = match fault {
+        AllocFault::TooManyObjects => LimitKind::Objects,
+        AllocFault::TooDeep => LimitKind::Depth,
+        AllocFault::TooManyCells => LimitKind::Cells,
+        AllocFault::Memory => return Status::Memory,
+    };
+    Status::Limit { kind, place: None }
+}
+
+/// The status of expressions above a limit.
+fn measured(fault: LimitFault) -> Status
+    ensures { result ≡ measured fault }
+{
+    let kind = match fault {
+        LimitFault::TooHeavy => LimitKind::Weight,
+        LimitFault::TooWide => LimitKind::Width,
+    };
+    Status::Limit { kind, place: None }
+}
+
+/// The table of a model.
+pub(crate) fn table_of(alloc: Global, program: &Program) -> Result<ClassTable, Status>
+    requires tokens { length (program_tokens program.now) ≤ 1048576 }
+    ensures table { IfOk result (λ table. table ≡ outline_of program.now) }
+    ensures declared { OnOk result (IsDeclared program.now) }
+    ensures refused { IfErr result (λ s. IsRefusedFor s program.now) }
+{
+    match ClassTable::build(alloc, program) {
+        Ok(table) => Ok(table),
+        Err(fault) => Err(declared(fault)),
+    }
+}
+
+/// The resolved constraints and objectives of a model with this table.
+pub(crate) fn typed_model(
+    alloc: Global,
+    program: &Program,
+    table: &ClassTable,
+) -> Result<TypedModel, Status>
+    requires table { table.now ≡ outline_of program.now }
+    requires declared { IsDeclared program.now }
+    requires tokens { length (program_tokens program.now) ≤ 1048576 }
+    requires nested { nesting program.now ≤ 200 }
+    ensures constraints { IfOk result (λ m. map constraint_view m.constraints ≡ constraints_of program.now) }
+    ensures goals { IfOk result (λ m. map goal_view m.goals ≡ goals_of program.now) }
+    ensures typed { IfOk result (λ m. IsTypedModel table.now (map constraint_view m.constraints) (map goal_view m.goals)) }
+    ensures few { IfOk result (λ m. length m.constraints ≤ 1048576) }
+    ensures right { OnOk result (IsTyped program.now) }
+    ensures refused { IfErr result (λ s. IsRefusedFor s program.now) }
+{
+    match check(alloc, program, table) {
+        Ok(model) => Ok(model),
+        Err(fault) => Err(expressed(fault)),
+    }
+}
+
+/// The objects and cells of a model with this table.
+pub(crate) fn objects_of<'t>(alloc: Global, table: &'t ClassTable) -> Result<Objects<'t>, Status>
+    ensures objects { IfOk result (λ objects. objects ≡ table.now) }
+    ensures limits { OnOk result (IsWithinLimits table.now) }
+    ensures refused { IfErr result (IsUnallocated table.now) }
+{
+    match allocate(alloc, table) {
+        Ok(objects) => Ok(objects),
+        Err(fault) => Err(allocated(fault)),
+    }
+}
+
+/// Whether the expressions of a model are within the limits, or the status of the first that isn't.
+pub(crate) fn within(model: &TypedModel, objects: &Objects<'_>) -> Result<(), Status>
+    requires typed { IsTypedModel objects.now (map constraint_view model.now.constraints) (map goal_view model.now.goals) }
+    ensures within { OnOk result (IsWithinMeasures objects.now (map constraint_view model.now.constraints) (map goal_view model.now.goals)) }
+    ensures refused { IfErr result (IsUnmeasured objects.now (map constraint_view model.now.constraints) (map goal_view model.now.goals)) }
+{
+    match limits(model, objects) {
+        Ok(()) => Ok(()),
+        Err(fault) => Err(measured(fault)),
+    }
+}

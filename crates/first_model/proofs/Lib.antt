@@ -1,6 +1,0 @@
-pub mod Configurations
-pub mod Members
-pub mod Names
-pub mod Sizes
-pub mod Tried
-pub mod Widths

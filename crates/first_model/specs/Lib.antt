@@ -1,4 +1,0 @@
-pub mod Bounds
-pub mod Digits
-pub mod Line
-pub mod Meaning

@@ -1,0 +1,4 @@
+pub mod Choices
+pub mod Picking
+pub mod Best
+pub mod Trials
