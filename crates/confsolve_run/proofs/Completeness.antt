@@ -65,7 +65,7 @@ module _ (files : Files) (d : Change) (text : List ℕ) (no_read : HasRisen d.re
 
   of_verify : (model config : List ℕ) → IsRestGiven files (Verify model config) → (s : Status) → EndsText (Some files) (Verify model config) d text s → IsOfRequest (Verify model config) s
   of_verify model config given status.Done h = tt
-  of_verify model config given status.NoneExists (inl h) = absurd h.2.2.2
+  of_verify model config given status.NoneExists (inl h) = absurd h.2.2.2.1
   of_verify model config given status.NoneExists (inr h) = absurd h.0
   of_verify model config given (status.Syntax place) h = tt
   of_verify model config given (status.Meaning fault place) h = tt

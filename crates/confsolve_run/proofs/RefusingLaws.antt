@@ -10,7 +10,7 @@ use Rattle.confsolve_run.specs.Ending.{Refuses}
 use Rattle.confsolve_run.specs.Meaning.{IsTyped}
 use Rattle.confsolve_run.specs.Models.{IsWithin, outline_of, constraints_of, goals_of}
 use Rattle.confsolve_run.specs.Refusal.{IsRefusedFor, IsRefusedOf}
-use Rattle.confsolve_run.specs.Request.{Asked, Best, Satisfied, OfAsked}
+use Rattle.confsolve_run.specs.Request.{Asked, Best, Satisfied, OfAsked, IsShort}
 use Rattle.confsolve_run.specs.Solving.{IsUntried, IsUnsatisfied, IsUnverified, IsUnanswered}
 use Rattle.confsolve_run.specs.declared.request.Request.{Request}
 use Rattle.confsolve_run.specs.declared.request.Request.TheVariants.{Solve, Verify}
@@ -118,13 +118,13 @@ untried told model p before after within status.WriteFault h = absurd h
 untried told model p before after within (status.Former why) h = absurd h
 untried told model p before after within (status.Broken place path) h = absurd h
 
-not_former : (p : Program) (bytes : List ℕ) (why : _) → IsWithin p → IsUnsatisfied (outline_of p) (constraints_of p) bytes (status.Former why) → IsRefusedOf (Satisfied bytes) p (status.Former why)
-not_former p bytes former.NotJson within h = (within, h)
-not_former p bytes former.NotObject within h = (within, h)
+not_former : (p : Program) (bytes : List ℕ) (why : _) → IsWithin p → IsShort bytes × IsUnsatisfied (outline_of p) (constraints_of p) bytes (status.Former why) → IsRefusedOf (Satisfied bytes) p (status.Former why)
+not_former p bytes former.NotJson within h = (within, h.0, h.1)
+not_former p bytes former.NotObject within h = (within, h.0, h.1)
 
-is_broken : (p : Program) (bytes : List ℕ) (place : Option ℕ) (path : List ℕ) → IsWithin p → IsUnsatisfied (outline_of p) (constraints_of p) bytes (status.Broken place path) → IsRefusedOf (Satisfied bytes) p (status.Broken place path)
-is_broken p bytes None path within h = (within, h)
-is_broken p bytes (Some place) path within h = (within, h)
+is_broken : (p : Program) (bytes : List ℕ) (place : Option ℕ) (path : List ℕ) → IsWithin p → IsShort bytes × IsUnsatisfied (outline_of p) (constraints_of p) bytes (status.Broken place path) → IsRefusedOf (Satisfied bytes) p (status.Broken place path)
+is_broken p bytes None path within h = (within, h.0, h.1)
+is_broken p bytes (Some place) path within h = (within, h.0, h.1)
 
 unverified : (told : Option Files) (model config : List ℕ) (p : Program) (before after : ℕ) → IsWithin p → (s : Status) → IsUnverified told config (outline_of p) (constraints_of p) before after s → Refuses told (Verify model config) p before after s
 unverified told model config p before after within status.ReadFault h = h

@@ -15,7 +15,7 @@ use Rattle.object_alloc.specs.Configurations.{IsConfiguration}
 use Rattle.serde_json.specs.Data.{Data}
 use Rattle.try_all.specs.Best.{IsBest, HasNone}
 use Rattle.confsolve_run.specs.Models.{IsWithin, outline_of, constraints_of, goals_of}
-use Rattle.confsolve_run.specs.Request.{Asked, Best, Satisfied}
+use Rattle.confsolve_run.specs.Request.{Asked, Best, Satisfied, IsShort}
 use Rattle.confsolve_run.specs.declared.status.Status.{Status}
 use Rattle.confsolve_run.specs.declared.status.Status.TheVariants as status
 
@@ -57,7 +57,7 @@ IsSatisfiedAnswer o ks gs bytes status text = ⊥
 
 abbrev pub IsModelAnswer : Outline → List ResolvedConstraint → List ResolvedGoal → Asked → Status → List ℕ → Type 0
 IsModelAnswer o ks gs Best status text = IsBestAnswer o ks gs status text
-IsModelAnswer o ks gs (Satisfied bytes) status text = IsSatisfiedAnswer o ks gs bytes status text
+IsModelAnswer o ks gs (Satisfied bytes) status text = IsShort bytes × IsSatisfiedAnswer o ks gs bytes status text
 
 abbrev pub IsAnswer : Asked → Program → Status → List ℕ → Type 0
 IsAnswer asked p status text = IsModelAnswer (outline_of p) (constraints_of p) (goals_of p) asked status text

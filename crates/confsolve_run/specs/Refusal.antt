@@ -19,7 +19,7 @@ use Rattle.try_all.specs.Choices.{configuration_count, most}
 use Rattle.confsolve_run.specs.Answer.{IsConfigOf}
 use Rattle.confsolve_run.specs.Meaning.{IsFaultOf, IsTyped}
 use Rattle.confsolve_run.specs.Models.{IsWithin, outline_of, constraints_of, goals_of, weight_limit}
-use Rattle.confsolve_run.specs.Request.{Asked, Best, Satisfied, HasModel, config_limit}
+use Rattle.confsolve_run.specs.Request.{Asked, Best, Satisfied, HasModel, IsShort, config_limit}
 use Rattle.confsolve_run.specs.declared.status.FormerKind.TheVariants as former
 use Rattle.confsolve_run.specs.declared.status.LimitKind.TheVariants as kind
 use Rattle.confsolve_run.specs.declared.status.Status.{Status}
@@ -89,8 +89,8 @@ abbrev pub IsRefusedOf : Asked → Program → Status → Type 0
 IsRefusedOf Best p status.NotBuilt = IsWithin p × (most < configuration_count (outline_of p))
 IsRefusedOf Best p status = ⊥
 IsRefusedOf (Satisfied bytes) p (status.Limit kind.Former None) = IsWithin p × (config_limit < length bytes)
-IsRefusedOf (Satisfied bytes) p (status.Former former.NotJson) = IsWithin p × (value_read bytes ≡ None)
-IsRefusedOf (Satisfied bytes) p (status.Former former.NotObject) = IsWithin p × IsOther bytes
-IsRefusedOf (Satisfied bytes) p (status.Broken None path_text) = IsWithin p × IsMissing (outline_of p) bytes path_text
-IsRefusedOf (Satisfied bytes) p (status.Broken (Some place) path_text) = IsWithin p × IsBroken (outline_of p) (constraints_of p) bytes place path_text
+IsRefusedOf (Satisfied bytes) p (status.Former former.NotJson) = IsWithin p × IsShort bytes × (value_read bytes ≡ None)
+IsRefusedOf (Satisfied bytes) p (status.Former former.NotObject) = IsWithin p × IsShort bytes × IsOther bytes
+IsRefusedOf (Satisfied bytes) p (status.Broken None path_text) = IsWithin p × IsShort bytes × IsMissing (outline_of p) bytes path_text
+IsRefusedOf (Satisfied bytes) p (status.Broken (Some place) path_text) = IsWithin p × IsShort bytes × IsBroken (outline_of p) (constraints_of p) bytes place path_text
 IsRefusedOf (Satisfied bytes) p status = ⊥

@@ -18,6 +18,10 @@ model_limit = 1048576
 abbrev pub config_limit : ℕ
 config_limit = 16777216
 
+-- these bytes aren't too long for a configuration's text
+abbrev pub IsShort : List ℕ → Type 0
+IsShort bytes = length bytes ≤ config_limit
+
 -- a word that is no option
 abbrev pub is_plain : List ℕ → Bool
 is_plain word = not (starts_with nat_eq word (codes "-"))

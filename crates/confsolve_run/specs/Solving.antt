@@ -14,7 +14,7 @@ use Rattle.object_alloc.specs.Named.{IsNamed}
 use Rattle.object_alloc.specs.Walk.{walk, leaves_in}
 use Rattle.try_all.specs.Choices.{configuration_count, most}
 use Rattle.confsolve_run.specs.Refusal.{IsMissing, IsBroken}
-use Rattle.confsolve_run.specs.Request.{config_limit}
+use Rattle.confsolve_run.specs.Request.{IsShort, config_limit}
 use Rattle.confsolve_run.specs.declared.request.Request.{Request}
 use Rattle.confsolve_run.specs.declared.request.Request.TheVariants.{Solve, Verify}
 use Rattle.confsolve_run.specs.declared.status.FormerKind.TheVariants as former
@@ -67,8 +67,8 @@ abbrev pub IsUnverified : Option Files → List ℕ → Outline → List Resolve
 IsUnverified told name o ks before after status.ReadFault = HasRisen before after
 IsUnverified told name o ks before after status.Memory = Unit {0}
 IsUnverified told name o ks before after (status.Limit kind.Former None) = OfFile told name (λ bytes. config_limit < length bytes)
-IsUnverified told name o ks before after (status.Former why) = OfFile told name (λ bytes. IsUnsatisfied o ks bytes (status.Former why))
-IsUnverified told name o ks before after (status.Broken place path) = OfFile told name (λ bytes. IsUnsatisfied o ks bytes (status.Broken place path))
+IsUnverified told name o ks before after (status.Former why) = OfFile told name (λ bytes. IsShort bytes × IsUnsatisfied o ks bytes (status.Former why))
+IsUnverified told name o ks before after (status.Broken place path) = OfFile told name (λ bytes. IsShort bytes × IsUnsatisfied o ks bytes (status.Broken place path))
 IsUnverified told name o ks before after status = ⊥
 
 -- why a request of a model within the limits has no answer

@@ -10,7 +10,7 @@ ghost use Rattle.confsolve_run.specs.Answer.{IsSatisfiedAnswer, IsModelAnswer};
 ghost use Rattle.confsolve_run.specs.Ending.{Answers, Refuses, Ends, EndsText, change};
 ghost use Rattle.confsolve_run.specs.Refusal.{IsSyntaxAt, IsNestingAt};
 ghost use Rattle.confsolve_run.specs.Refusing.{refusal_of};
-ghost use Rattle.confsolve_run.specs.Request.{IsConfigFile, IsOfSomeText, OfAsked};
+ghost use Rattle.confsolve_run.specs.Request.{IsConfigFile, IsOfSomeText, IsShort, OfAsked};
 ghost use Rattle.confsolve_run.specs.Solving.{IsReady, IsUnverified, IsUnanswered};
 ghost use Rattle.confsolve_run.specs.Status.{IsAnswered, IsUnlessFault};
 
@@ -61,7 +61,7 @@ fn verify<D: Desk>(
     requires may_read { IsTrue (D.may_read desk.old config.now) }
     requires ready { IsReady table.now objects.now (map constraint_view model.now.constraints) (map goal_view model.now.goals) }
     ensures status { IfOk result (λ a. a.status ≡ Status.Done) }
-    ensures answer { IfOk result (λ a. OfFile (D.files desk.old) config.now (λ bytes. IsSatisfiedAnswer objects.now (map constraint_view model.now.constraints) (map goal_view model.now.goals) bytes a.status a.text.items)) }
+    ensures answer { IfOk result (λ a. OfFile (D.files desk.old) config.now (λ bytes. IsShort bytes × IsSatisfiedAnswer objects.now (map constraint_view model.now.constraints) (map goal_view model.now.goals) bytes a.status a.text.items)) }
     ensures refused { IfErr result (IsUnverified (D.files desk.old) config.now objects.now (map constraint_view model.now.constraints) (D.read_faults desk.old) (D.read_faults desk.new)) }
     ensures files { D.files desk.new ≡ D.files desk.old }
     ensures printed { D.printed desk.new ≡ D.printed desk.old }
