@@ -14,6 +14,7 @@ pub mod Leaps
 pub mod CutLaws
 pub mod Covering
 pub mod CrowdLaws
+pub mod FewPlaces
 pub mod Agreeing
 pub mod Reasoning
 pub mod Keeping
@@ -26,3 +27,4 @@ pub mod PlanLaws
 pub mod FlagPlans
 pub mod VarsAt
 pub mod Twice
+pub mod UpTo

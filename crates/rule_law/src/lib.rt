@@ -7,6 +7,7 @@
 //! - `law`: a refuted constraint has no solution in the boxes.
 //! - `propagator`, `kit`: the face of what prunes by constraints, and kits that have a member for every kind.
 //! - `differing`: whether a variable stands twice in a constraint, and what is kept of that.
+//! - `within`: the test that boxes are such as a propagator asks for.
 //! - `explain`: clauses made of reasons. `plain_probe`: probing that explains what it finds, for every kind.
 #![tactic(auto)]
 
@@ -34,6 +35,7 @@ mod tests;
 mod values;
 mod variables;
 mod view;
+mod within;
 
 pub use cut::is_rest_inside;
 pub use differing::{Differing, has_var};
@@ -44,3 +46,4 @@ pub use plain_probe::probe;
 pub use planned::{planned_pruning, truth};
 pub use probing::{justified, quiet, refutes};
 pub use propagator::Propagator;
+pub use within::are_boxes_within;

@@ -41,12 +41,14 @@ fn is_more(count: usize, a: Number, b: Number) -> bool
     a.value <= b.value && 0 < count && b.value.abs_diff(a.value) < count as u64 - 1
 }
 
-/// Whether more places than `a..b` has numbers have a box within it.
+/// Whether more places than `a..b` has numbers have a box within it. Only where there are more places than numbers are they
+/// counted.
+#[tactic(auto, using(crate::proofs::FewPlaces::no_more))]
 fn is_crowded<V: View>(view: &V, vars: &[u32], a: Number, b: Number) -> bool
     requires { All (λ x. x < length (V.boxes view.now)) vars.now }
     ensures { result ≡ crowded a.value b.value vars.now (V.boxes view.now) }
 {
-    is_more(count_in(view, vars, a, b), a, b)
+    is_more(vars.len(), a, b) && is_more(count_in(view, vars, a, b), a, b)
 }
 
 /// Whether that is so from `a` to where some box ends.
