@@ -3,4 +3,3 @@ pub mod MemberLaws
 pub mod ConjunctionQuiet
 pub mod ConjunctionReasons
 pub mod Asked
-pub mod UpTo

@@ -2,9 +2,7 @@
 //! all boxes within small domains, made by a loop.
 ghost use Rattle.std.specs.Prelude.{◌≡◌, ◌<◌, true, false, length, slice_get, IfOk, IfSome};
 ghost use Rattle.std.specs.List.{All};
-ghost use Rattle.signed_clause.specs.Ranges.{is_nil, IsValid};
-ghost use Rattle.signed_clause.specs.SetAlgebra.{inside};
-ghost use Rattle.signed_clause.specs.Clauses.{box_of};
+ghost use Rattle.signed_clause.specs.Ranges.{IsValid};
 ghost use Rattle.ground_form.specs.Kinds as kinds;
 ghost use Rattle.ground_form.specs.WellMade.{IsWellMade, IsWellMadeCon};
 ghost use Rattle.rule_law.specs.Answers.{AreBoxesWithin, IsAnswer};
@@ -13,38 +11,9 @@ ghost use Rattle.bool_prop.specs.Handled.{is_boolean};
 use crate::BoolProp;
 use crate::propagator::prune_one;
 use ground_form::{Con, Cons, Domains, Goals, Ground, Kind, Parts};
-use rule_law::{Differing, Propagator, justified, probe};
+use rule_law::{Differing, Propagator, are_boxes_within, justified, probe};
 use signed_clause::{Clause, IntSet};
 use std::alloc::{AllocError, Global};
-
-/// Whether the box isn't empty and lies within its domain.
-fn is_part(domains: &[IntSet], boxes: &[IntSet], x: usize) -> bool
-    requires boxes { x < length boxes.now }
-    requires domains { x < length domains.now }
-    ensures within { result ≡ true → inside (box_of boxes.now x) (box_of domains.now x) ≡ true }
-    ensures some { result ≡ true → is_nil (box_of boxes.now x) ≡ false }
-    ensures valid { IsValid (box_of boxes.now x) }
-{
-    boxes[x].ranges();
-    boxes[x].within(&domains[x]) && !boxes[x].is_empty()
-}
-
-/// Whether no box is empty, and each lies within its domain.
-fn are_within(domains: &[IntSet], boxes: &[IntSet]) -> bool
-    ensures { result ≡ true → AreBoxesWithin domains.now boxes.now }
-{
-    if boxes.len() != domains.len() {
-        return false;
-    }
-    let mut x = 0;
-    while x < boxes.len() {
-        if !is_part(domains, boxes, x) {
-            return false;
-        }
-        x += 1;
-    }
-    true
-}
 
 /// What the propagator says, or plain probing.
 fn answer(
@@ -119,7 +88,7 @@ fn settle(
     requires sets { All (λ d. IsValid d) domains.now }
 {
     for _ in 0..40u32 {
-        if !are_within(domains, boxes.as_slice()) {
+        if !are_boxes_within(domains, boxes.as_slice()) {
             return Ok(None);
         }
         match ask(differing, con, domains, boxes.as_slice(), plain, alloc)? {
@@ -171,7 +140,7 @@ fn agrees(
     let mut cases = 0u32;
     for n in 0..count {
         let boxes = nth_boxes(alloc, domains, n)?;
-        if are_within(domains, boxes.as_slice()) {
+        if are_boxes_within(domains, boxes.as_slice()) {
             let quick = settle(differing, con, domains, boxes, false, alloc)?;
             let plain = settle(
                 differing,
@@ -317,7 +286,7 @@ fn the_face_is_as_its_kinds(rt: HostRuntime) -> Result<(), AllocError> {
     ];
     assert!(rt; kinds.iter().filter(|k| p.handles(**k)).count() == 3);
     let boxes = g.domains.items();
-    assert!(rt; are_within(boxes, boxes));
+    assert!(rt; are_boxes_within(boxes, boxes));
     assert!(rt; p.prune(&g, 0, boxes)?.is_none());
     Ok(())
 }

@@ -11,5 +11,4 @@ pub mod Quieting
 pub mod KindLaws
 pub mod QuietKinds
 pub mod KindAnswers
-pub mod UpTo
 pub mod TestRows

@@ -3,8 +3,7 @@
 //! same number.
 ghost use Rattle.std.specs.Prelude.{◌≡◌, ◌<◌, ◌≤◌, ◌^◌, ◌*◌, ◌≤ℤ◌, pos, true, false, length, unsigned_abs, IfOk, IfSome};
 ghost use Rattle.std.specs.List.{All};
-ghost use Rattle.signed_clause.specs.Ranges.{is_nil, IsValid};
-ghost use Rattle.signed_clause.specs.SetAlgebra.{inside};
+ghost use Rattle.signed_clause.specs.Ranges.{IsValid};
 ghost use Rattle.signed_clause.specs.Clauses.{box_of};
 ghost use Rattle.ground_form.specs.Meaning.{term_vars};
 ghost use Rattle.ground_form.specs.Bounds.{low_of, high_of, reach_of, term_weight, weight_of};
@@ -15,39 +14,9 @@ use crate::LinearProp;
 use crate::explain::set_at;
 use crate::propagator::answer_of;
 use ground_form::{Con, Kind, Terms, copy_sets, ends_of};
-use rule_law::{Differing, Propagator, justified, probe};
+use rule_law::{Differing, Propagator, are_boxes_within, justified, probe};
 use signed_clause::{Clause, IntSet};
 use std::alloc::{AllocError, Global};
-
-/// Whether the box isn't empty and lies within its domain.
-fn is_part(domains: &[IntSet], boxes: &[IntSet], x: usize) -> bool
-    requires boxes { x < length boxes.now }
-    requires domains { x < length domains.now }
-    ensures within { result ≡ true → inside (box_of boxes.now x) (box_of domains.now x) ≡ true }
-    ensures some { result ≡ true → is_nil (box_of boxes.now x) ≡ false }
-    ensures valid { IsValid (box_of boxes.now x) }
-{
-    boxes[x].ranges();
-    boxes[x].within(&domains[x]) && !boxes[x].is_empty()
-}
-
-/// Whether no box is empty, and each lies within its domain.
-#[tactic(auto, using(crate::proofs::UpTo::next_part, crate::proofs::UpTo::all_parts))]
-fn are_within(domains: &[IntSet], boxes: &[IntSet]) -> bool
-    ensures { result ≡ true → AreBoxesWithin domains.now boxes.now }
-{
-    if boxes.len() != domains.len() {
-        return false;
-    }
-    let mut x = 0;
-    while x < boxes.len() {
-        if !is_part(domains, boxes, x) {
-            return false;
-        }
-        x += 1;
-    }
-    true
-}
 
 /// The absolute value of a coefficient.
 fn size_of(t: (i64, u32)) -> u128
@@ -166,7 +135,7 @@ fn settle(
     requires sets { All (λ d. IsValid d) domains.now }
 {
     for _ in 0..40u32 {
-        if !are_within(domains, boxes.as_slice()) {
+        if !are_boxes_within(domains, boxes.as_slice()) {
             return Ok(None);
         }
         match ask(differing, con, domains, boxes.as_slice(), plain, alloc)? {
@@ -217,7 +186,7 @@ fn agrees(
     let mut cases = 0u32;
     for n in 0..512u32 {
         let boxes = nth_boxes(alloc, domains, n)?;
-        if are_within(domains, boxes.as_slice()) {
+        if are_boxes_within(domains, boxes.as_slice()) {
             let quick = settle(differing, con, domains, boxes, false, alloc)?;
             let plain = settle(
                 differing,
