@@ -46,4 +46,5 @@ pub use plain_probe::probe;
 pub use planned::{planned_pruning, truth};
 pub use probing::{justified, quiet, refutes};
 pub use propagator::Propagator;
+pub use variables::all_vars;
 pub use within::are_boxes_within;
