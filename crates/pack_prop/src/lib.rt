@@ -17,6 +17,7 @@ mod packing;
 mod propagator;
 mod room;
 mod slots;
+mod survey;
 mod sweep;
 #[cfg(test)]
 mod tests;
