@@ -165,7 +165,7 @@ fn behind(first: Number, d: usize) -> Number
 
 /// What a walk from place to place comes to.
 #[derive(Clone, Copy)]
-pub enum Walk {
+enum Walk {
     /// The item doesn't fit at the value.
     Misfit(Number, (u32, u32, u32)),
     /// All fit, and the rooms that stay whichever box is narrowed add up to this at least.
