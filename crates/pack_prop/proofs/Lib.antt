@@ -13,6 +13,10 @@ pub mod TotalRoom
 pub mod PackQuiet
 pub mod PackWalks
 pub mod Roomy
+pub mod SurveySpots
+pub mod SurveyCounts
+pub mod SurveyFits
+pub mod SurveyWalk
 pub mod Covered
 pub mod OverReason
 pub mod UpTo

@@ -85,7 +85,7 @@ seconds_one first items boxes =
 out_absurd : (v low high : ℤ) → low ≤ℤ v → v ≤ℤ high → (v <ℤ low ⊎ high <ℤ v) → ⊥
 out_absurd v low high h k o = elim o [ inl l ↦ omega (arith, ints) | inr m ↦ omega (arith, ints) ]
 
-fixed_has : (s : Ranges) (v : ℤ) → IsValid s → fixed_at s v ≡ true → has s v ≡ true
+pub fixed_has : (s : Ranges) (v : ℤ) → IsValid s → fixed_at s v ≡ true → has s v ≡ true
 fixed_has s v f h =
     let a = and_parts (not (is_nil s)) (int_eq (low_of s) v && int_eq (high_of s) v) h in
     let b = and_parts (int_eq (low_of s) v) (int_eq (high_of s) v) a.1 in

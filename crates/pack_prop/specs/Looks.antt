@@ -1,12 +1,24 @@
 -- What a look at items to be packed shows.
-use Rattle.std.specs.Prelude.{ℕ, List}
+use Rattle.std.specs.Prelude.{ℕ, ◌≡◌, ◌≤ℤ◌, ◌<ℤ◌, true, List, ℤ, pos, ◌+ℤ◌}
 use Rattle.signed_clause.specs.Clauses.{Boxes}
 use Rattle.pack_prop.specs.declared.room.Look.{Look}
 use Rattle.pack_prop.specs.declared.room.Look.TheVariants.{Roomy, Misfit, Unsure}
+use Rattle.pack_prop.specs.declared.room.Walk.{Walk}
+use Rattle.pack_prop.specs.declared.room.Walk.TheVariants as walk
 use Rattle.rule_law.specs.Named.{IsItemNamed}
-use Rattle.pack_prop.specs.Packing.{AllFit, HasEnough}
+use Rattle.pack_prop.specs.Packing.{all_fit, seconds_from, AllFit, HasEnough}
 
 abbrev pub IsSeen : Look → List (ℕ × ℕ × ℕ) → Boxes → Type 0
 IsSeen Roomy items boxes = AllFit items boxes × HasEnough items boxes
 IsSeen (Misfit at item) items boxes = IsItemNamed item boxes
-IsSeen Unsure items boxes = Unit {0}
+IsSeen Unsure items boxes = AllFit items boxes
+
+-- all items fit at each of the n values from first on, and the second greatest rooms of these add up to the sum at least
+pub record AreRooms (sum : ℤ) (n : ℕ) (first : ℤ) (items : List (ℕ × ℕ × ℕ)) (boxes : Boxes) : Type 0 where
+  pub fit : (v : ℤ) → first ≤ℤ v → v <ℤ (first +ℤ pos n) → all_fit v items items boxes ≡ true
+  pub room : sum ≤ℤ seconds_from n first items boxes
+
+-- what a walk over these values comes to
+abbrev pub IsWalked : Walk → ℕ → ℤ → List (ℕ × ℕ × ℕ) → Boxes → Type 0
+IsWalked (walk.Misfit at item) n first items boxes = IsItemNamed item boxes
+IsWalked (walk.Room sum) n first items boxes = AreRooms sum.value n first items boxes

@@ -3,8 +3,8 @@
 //! - `propagator`: `PackProp`, and what a constraint answers.
 //! - `differing`: places that differ. `sweep` finds crowded and full intervals with the counters of `slots`, `explain` says
 //!   why, by the boxes within them; `interval` answers small questions.
-//! - `packing`: items to be packed. `room` shows with the numbers of `loads` that they are roomy, or finds an item that doesn't
-//!   fit; `misfits` and `overfull` say what such an item takes away, and why.
+//! - `packing`: items to be packed. `room` shows, with what a `survey` counts at each place by the numbers of `loads`, that they
+//!   are roomy, or finds an item that doesn't fit; `misfits` and `overfull` say what such an item takes away, and why.
 #![tactic(auto)]
 
 mod differing;
@@ -17,6 +17,7 @@ mod packing;
 mod propagator;
 mod room;
 mod slots;
+mod survey;
 mod sweep;
 #[cfg(test)]
 mod tests;

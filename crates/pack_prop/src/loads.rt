@@ -1,5 +1,5 @@
 //! Loads of places and the rooms that are there, over the boxes of items.
-ghost use Rattle.std.specs.Prelude.{◌≡◌, ◌<◌, ◌≤ℤ◌, ◌^◌, ◌-◌, ◌&&◌, ◌+ℤ◌, ◌-ℤ◌, cond, pos, int_le, IfSome, length};
+ghost use Rattle.std.specs.Prelude.{◌≡◌, ◌<◌, ◌≤ℤ◌, ◌^◌, ◌-◌, ◌&&◌, ◌+ℤ◌, ◌-ℤ◌, true, cond, pos, int_le, IfSome, length};
 ghost use Rattle.std.specs.Int.{int_max, int_min};
 ghost use Rattle.signed_clause.specs.Ranges.{has};
 ghost use Rattle.signed_clause.specs.Clauses.{box_of};
@@ -75,6 +75,16 @@ impl Total {
         ensures { result ≡ int_le self.value o.value }
     {
         self.value <= o.value
+    }
+
+    /// Whether both sums together are at most the number, where they are a number of 128 bits.
+    pub fn are_upto(self, o: Total, n: Number) -> bool
+        ensures { result ≡ true → (self.value +ℤ o.value) ≤ℤ n.value }
+    {
+        match self.with(o) {
+            Some(both) => both.is_upto(n),
+            None => false,
+        }
     }
 
     /// Whether it is at most what the first number has above the second.

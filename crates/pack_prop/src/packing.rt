@@ -1,10 +1,10 @@
 //! Items to be packed.
 //!
 //! Of each item (place, size, room), the sizes at its place add up to at most its room; and all sizes to at most the best rooms
-//! of the places that are open to them. `room` shows in one pass over places and items that neither rule has anything to say,
+//! of the places that are open to them. `room` shows in one pass over items and places that neither rule has anything to say,
 //! or finds an item that doesn't fit, which `misfits` explains; where neither can, the rule is probed.
 //!
-//! Cost: the number of places times that of items, where they are roomy.
+//! Cost: the number of items, of the ranges of their places' boxes and of places, where they are roomy.
 ghost use Rattle.std.specs.Prelude.{◌≡◌, ◌<◌, true, false, IfOk, length};
 ghost use Rattle.std.specs.List.{All};
 ghost use Rattle.signed_clause.specs.Ranges.{is_nil, IsValid};
@@ -18,6 +18,7 @@ ghost use Rattle.rule_law.specs.Quiet.{quiet};
 ghost use Rattle.pack_prop.specs.Packing.{AllFit, HasEnough};
 
 use crate::misfits::prune_misfit;
+use crate::propagator::Kept;
 use crate::room::{Look, look_at_items};
 use ground_form::{Con, Number};
 use rule_law::{Differing, probe};
@@ -84,7 +85,7 @@ fn prune_by_item(
 #[tactic(auto, using(crate::proofs::Roomy::pack_named, crate::proofs::Roomy::pack_some))]
 pub fn prune_packing(
     alloc: Global,
-    differing: &mut Differing,
+    kept: &mut Kept,
     k: u32,
     con: &Con,
     items: &[(u32, u32, u32)],
@@ -97,8 +98,8 @@ pub fn prune_packing(
     requires sets { All (λ d. IsValid d) domains.now }
     ensures { IfOk result (λ a. IsAnswer con.now domains.now boxes.now a) }
 {
-    match look_at_items(items, boxes) {
-        Look::Roomy => prune_roomy(alloc, differing, k, con, items, domains, boxes),
+    match look_at_items(&mut kept.survey, items, boxes)? {
+        Look::Roomy => prune_roomy(alloc, &mut kept.differing, k, con, items, domains, boxes),
         Look::Misfit(at, i) => prune_by_item(alloc, con, items, domains, boxes, at, i),
         Look::Unsure => probe(con, domains, boxes, alloc),
     }

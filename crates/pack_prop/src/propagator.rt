@@ -9,6 +9,7 @@ ghost use Rattle.pack_prop.specs.Handled.{is_handled};
 
 use crate::differing::prune_differing;
 use crate::packing::prune_packing;
+use crate::survey::Survey;
 use crate::sweep::Slots;
 use ground_form::{Con, Ground, Kind};
 use rule_law::{Differing, Propagator, probe};
@@ -22,6 +23,8 @@ pub struct Kept {
     pub slots: Slots,
     /// Which variables of a constraint stand twice.
     pub differing: Differing,
+    /// What is counted of items to be packed.
+    pub survey: Survey,
 }
 
 impl Kept {
@@ -29,6 +32,9 @@ impl Kept {
     pub fn new(alloc: Global) -> Kept
         ensures no_starts { result.slots.starts.items ≡ [] }
         ensures no_ends { result.slots.ends.items ≡ [] }
+        ensures no_spots { result.survey.spots.items ≡ [] }
+        ensures no_begun { result.survey.begun.items ≡ [] }
+        ensures no_ended { result.survey.ended.items ≡ [] }
     {
         Kept {
             slots: Slots {
@@ -36,6 +42,7 @@ impl Kept {
                 ends: Vec::new(alloc),
             },
             differing: Differing::new(alloc),
+            survey: Survey::new(alloc),
         }
     }
 }
@@ -53,6 +60,9 @@ impl PackProp {
         ensures alloc { result.alloc ≡ alloc }
         ensures no_starts { result.kept.slots.starts.items ≡ [] }
         ensures no_ends { result.kept.slots.ends.items ≡ [] }
+        ensures no_spots { result.kept.survey.spots.items ≡ [] }
+        ensures no_begun { result.kept.survey.begun.items ≡ [] }
+        ensures no_ended { result.kept.survey.ended.items ≡ [] }
     {
         PackProp {
             alloc,
@@ -79,15 +89,7 @@ pub fn answer(
         Con::AllDiff { vars } => {
             prune_differing(alloc, kept, k, con, vars.items(), domains, boxes)
         }
-        Con::Pack { items } => prune_packing(
-            alloc,
-            &mut kept.differing,
-            k,
-            con,
-            items.items(),
-            domains,
-            boxes,
-        ),
+        Con::Pack { items } => { prune_packing(alloc, kept, k, con, items.items(), domains, boxes) }
         _ => probe(con, domains, boxes, alloc),
     }
 }
@@ -106,6 +108,7 @@ impl Propagator for PackProp {
         self.kept.slots.starts.clear();
         self.kept.slots.ends.clear();
         self.kept.differing.forget();
+        self.kept.survey.clear();
     }
 
     fn prune(

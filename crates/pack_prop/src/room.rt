@@ -1,27 +1,32 @@
 //! Whether items to be packed are roomy: whether each fits wherever it may be put, and there is room enough in all.
 //!
-//! Place by place, from the first to the last that some box has: the load that is fixed there and the tightest room leave a
-//! test of two numbers to each item. Nothing takes memory.
-ghost use Rattle.std.specs.Prelude.{◌≡◌, ◌<◌, ◌≤ℤ◌, ◌<ℤ◌, ◌+◌, ◌+ℤ◌, ◌-ℤ◌, ◌&&◌, ℕ, ℤ, true, false, cond, pos, int_le, IfSome, IfNone, length};
-ghost use Rattle.std.specs.Int.{int_max};
+//! A `Survey` counts them place by place. From the first place to the last (`look_over`) its numbers decide nearly always that all
+//! items fit there; only where they don't is there a walk over the items. On the way the rooms add up of the places whose room
+//! stays whichever box is narrowed.
+//!
+//! Cost: the number of items, of the ranges of their places' boxes and of places, where the items are roomy.
+ghost use Rattle.std.specs.Prelude.{◌≡◌, ◌<◌, ◌≤ℤ◌, ◌<ℤ◌, ◌+◌, ◌+ℤ◌, ◌-ℤ◌, ◌||◌, ◌&&◌, ℕ, ℤ, true, false, cond, pos, int_le, nat_lt, nat_le, IfSome, IfNone, IfOk, length};
+ghost use Rattle.std.specs.Int.{int_max, int_min};
 ghost use Rattle.std.specs.List.{All};
-ghost use Rattle.signed_clause.specs.Ranges.{has, is_nil, IsValid};
+ghost use Rattle.signed_clause.specs.Ranges.{is_nil, IsValid};
 ghost use Rattle.signed_clause.specs.Clauses.{box_of};
 ghost use Rattle.ground_form.specs.Meaning.{item_vars};
 ghost use Rattle.ground_form.specs.Bounds.{low_of, high_of};
 ghost use Rattle.rule_law.specs.Refuted.{fixed_load, first_place, last_place, least_sizes};
 ghost use Rattle.rule_law.specs.Named.{AreItemsNamed, IsItemNamed};
 ghost use Rattle.rule_law.specs.Repeats.{is_one};
-ghost use Rattle.pack_prop.specs.Packing.{tight_room, fits, all_fit, put, two_rooms, seconds_from, growth, HasEnough};
-ghost use Rattle.pack_prop.specs.Looks.{IsSeen};
+ghost use Rattle.pack_prop.specs.Packing.{tight_room, fits, all_fit, growth, HasEnough};
+ghost use Rattle.pack_prop.specs.Survey.{IsSpot, IsSettled, AreSpots, AreBegun, AreEnded, all_gone_on, hits, open_size, room_floor};
+ghost use Rattle.pack_prop.specs.Looks.{IsSeen, IsWalked};
 
 use crate::interval::ends_in_order;
 use crate::loads::{
-    Total, greater, greatest, is_fixed, is_single, least, load_at, may_be, sizes_of, smaller,
-    tight_at,
+    Total, greater, greatest, is_fixed, is_single, least, may_be, sizes_of, smaller,
 };
+use crate::survey::{Spot, Survey, with_growth};
 use ground_form::Number;
 use signed_clause::IntSet;
+use std::alloc::AllocError;
 
 /// Whether the item fits at the value, of which the load and the tightest room are given.
 fn does_fit(boxes: &[IntSet], i: (u32, u32, u32), at: Number, load: Total, tight: Number) -> bool
@@ -37,14 +42,20 @@ fn does_fit(boxes: &[IntSet], i: (u32, u32, u32), at: Number, load: Total, tight
     }
 }
 
-/// The first item that doesn't fit at the value, where there is one.
-fn misfit_at(items: &[(u32, u32, u32)], boxes: &[IntSet], at: Number) -> Option<(u32, u32, u32)>
-    requires { AreItemsNamed items.now boxes.now }
+/// The first item that doesn't fit at the value, of which the load and the tightest room are given, where there is one.
+fn misfit_at(
+    items: &[(u32, u32, u32)],
+    boxes: &[IntSet],
+    at: Number,
+    load: Total,
+    tight: Number,
+) -> Option<(u32, u32, u32)>
+    requires named { AreItemsNamed items.now boxes.now }
+    requires load { load.value ≡ fixed_load at.value items.now boxes.now }
+    requires tight { tight.value ≡ tight_room at.value items.now boxes.now }
     ensures some { IfSome result (λ i. IsItemNamed i boxes.now) }
     ensures none { IfNone result (all_fit at.value items.now items.now boxes.now ≡ true) }
 {
-    let load = load_at(items, boxes, at);
-    let tight = tight_at(items, boxes, at);
     for i in items {
         if !does_fit(boxes, *i, at, load, tight) {
             return Some(*i);
@@ -53,114 +64,150 @@ fn misfit_at(items: &[(u32, u32, u32)], boxes: &[IntSet], at: Number) -> Option<
     None
 }
 
-/// The next number, below `last`.
-fn next(n: Number, last: Number) -> Number
-    requires { n.value <ℤ last.value }
-    ensures { result.value ≡ n.value +ℤ pos 1 }
-{
-    Number { value: n.value + 1 }
+/// Bounds on the numbers of all items.
+#[derive(Clone, Copy)]
+struct Limits {
+    /// The greatest least size of those whose place is open, at least 0.
+    size: Number,
+    /// The least of the greatest rooms.
+    floor: Number,
 }
 
-/// A value from `first` to `last` at which some item doesn't fit, and that item, where there is one.
-pub fn misfit(
-    items: &[(u32, u32, u32)],
-    boxes: &[IntSet],
-    first: Number,
-    last: Number,
-) -> Option<(Number, (u32, u32, u32))>
-    requires items { AreItemsNamed items.now boxes.now }
-    requires order { first.value ≤ℤ last.value }
-    ensures some { IfSome result (λ found. IsItemNamed found.1 boxes.now) }
-    ensures none { IfNone result ((v : ℤ) → first.value ≤ℤ v → v ≤ℤ last.value → all_fit v items.now items.now boxes.now ≡ true) }
-{
-    let mut at = first;
-    loop {
-        if let Some(i) = misfit_at(items, boxes, at) {
-            return Some((at, i));
-        }
-        if last.value <= at.value {
-            return None;
-        }
-        at = next(at, last);
-    }
-}
-
-/// The two greatest rooms, with that of an item that may be at the value.
-fn with_room(two: (i64, i64), i: (u32, u32, u32), boxes: &[IntSet], at: Number) -> (i64, i64)
-    requires { IsItemNamed i boxes.now }
-    ensures { result ≡ cond (has (box_of boxes.now i.0) at.value) (put (high_of (box_of boxes.now i.2)) (is_one (box_of boxes.now i.0) && is_one (box_of boxes.now i.2)) two) two }
-{
-    if !may_be(boxes, i.0, at) {
-        return two;
-    }
-    let room = greatest(boxes, i.2);
-    let first = Number { value: two.0 };
-    let beside = if is_single(boxes, i.0) && is_single(boxes, i.2) {
-        room
-    } else {
-        smaller(first, room)
-    };
-    (
-        greater(first, room).value,
-        greater(Number { value: two.1 }, beside).value,
-    )
-}
-
-/// The greatest and the second greatest room at the value, each at least 0.
-fn two_at(items: &[(u32, u32, u32)], boxes: &[IntSet], at: Number) -> (i64, i64)
+/// The greatest least size of the items whose place is open, at least 0.
+fn open_size(items: &[(u32, u32, u32)], boxes: &[IntSet]) -> Number
     requires { AreItemsNamed items.now boxes.now }
-    ensures { result ≡ two_rooms at.value items.now boxes.now }
+    ensures { result.value ≡ open_size items.now boxes.now }
 {
-    let mut two = (0, 0);
+    let mut size = Number { value: 0 };
     let mut k = items.len();
     while 0 < k {
         k -= 1;
-        two = with_room(two, items[k], boxes, at);
+        if !is_single(boxes, items[k].0) {
+            size = greater(least(boxes, items[k].1), size);
+        }
     }
-    two
+    size
 }
 
-/// The second greatest room at the value.
-fn second_at(items: &[(u32, u32, u32)], boxes: &[IntSet], at: Number) -> Number
+/// The least of the greatest rooms of the items.
+fn room_floor(items: &[(u32, u32, u32)], boxes: &[IntSet]) -> Number
     requires { AreItemsNamed items.now boxes.now }
-    ensures { result.value ≡ (two_rooms at.value items.now boxes.now).1 }
+    ensures { result.value ≡ room_floor items.now boxes.now }
+{
+    let mut floor = Number { value: i64::MAX };
+    let mut k = items.len();
+    while 0 < k {
+        k -= 1;
+        floor = smaller(greatest(boxes, items[k].2), floor);
+    }
+    floor
+}
+
+/// Whether the spot's numbers show that all items fit there, those that are fixed and, where `is_open`, others that may be there.
+fn is_settled(spot: Spot, is_open: bool, limits: Limits) -> bool
+    ensures { result ≡ true → IsSettled spot is_open limits.size.value limits.floor.value }
+{
+    let size = Total::of(limits.size);
+    spot.load.are_upto(spot.growth, spot.tight)
+        && spot.load.is_upto(spot.room)
+        && (!is_open
+            || (spot.load.are_upto(size, spot.tight) && spot.load.are_upto(size, limits.floor)))
+}
+
+/// The first item that doesn't fit at the value, where `count` items may be, and where there is one.
+#[tactic(auto, using(crate::proofs::SurveyFits::settled_fit))]
+fn misfit_here(
+    items: &[(u32, u32, u32)],
+    boxes: &[IntSet],
+    at: Number,
+    spot: Spot,
+    count: usize,
+    limits: Limits,
+) -> Option<(u32, u32, u32)>
+    requires named { AreItemsNamed items.now boxes.now }
+    requires sets { All (λ s. IsValid s) boxes.now }
+    requires spot { IsSpot spot at.value items.now boxes.now }
+    requires count { count ≡ hits at.value items.now boxes.now }
+    requires size { limits.size.value ≡ open_size items.now boxes.now }
+    requires floor { limits.floor.value ≡ room_floor items.now boxes.now }
+    ensures some { IfSome result (λ i. IsItemNamed i boxes.now) }
+    ensures none { IfNone result (all_fit at.value items.now items.now boxes.now ≡ true) }
+{
+    if is_settled(spot, spot.count < count, limits) {
+        return None;
+    }
+    misfit_at(items, boxes, at, spot.load, spot.tight)
+}
+
+/// The sum, with the least of the greatest rooms where the room of the place counts twice: where two items may be there, or one
+/// stands there whose room is single.
+fn with_room(sum: Total, spot: Spot, count: usize, floor: Number) -> Total
+    requires low { pos 0 ≤ℤ sum.value }
+    requires high { sum.value ≤ℤ pos 170141183460469231722463931679029329920 }
+    ensures { result.value ≡ cond (spot.frozen || nat_le 2 count) (sum.value +ℤ int_max (pos 0) floor.value) sum.value }
+{
+    if spot.frozen || 2 <= count {
+        sum.plus(greater(Number { value: 0 }, floor))
+    } else {
+        sum
+    }
+}
+
+/// The number `d` behind the first.
+fn behind(first: Number, d: usize) -> Number
+    requires { (first.value +ℤ pos d) ≤ℤ pos 9223372036854775807 }
+    ensures { result.value ≡ first.value +ℤ pos d }
 {
     Number {
-        value: two_at(items, boxes, at).1,
+        value: first.value.saturating_add_unsigned(d as u64),
     }
 }
 
-/// Whether the second greatest rooms from `first` to `last` add up to at least `need`; it stops as soon as they do.
-fn are_enough(
+/// What a walk from place to place comes to.
+#[derive(Clone, Copy)]
+enum Walk {
+    /// The item doesn't fit at the value.
+    Misfit(Number, (u32, u32, u32)),
+    /// All fit, and the rooms that stay whichever box is narrowed add up to this at least.
+    Room(Total),
+}
+
+/// Walks from place to place, of which the survey tells what is there.
+fn look_over(
+    survey: &Survey,
     items: &[(u32, u32, u32)],
     boxes: &[IntSet],
     first: Number,
-    last: Number,
-    need: Total,
-) -> bool
-    requires items { AreItemsNamed items.now boxes.now }
-    requires order { first.value ≤ℤ last.value }
-    ensures { result ≡ true → (n : ℕ) × (need.value ≤ℤ seconds_from n first.value items.now boxes.now) }
+    limits: Limits,
+) -> Walk
+    requires named { AreItemsNamed items.now boxes.now }
+    requires sets { All (λ s. IsValid s) boxes.now }
+    requires few { length items.now < 18446744073709551616 }
+    requires begun_size { length survey.now.begun.items ≡ length survey.now.spots.items }
+    requires ended_size { length survey.now.ended.items ≡ length survey.now.spots.items }
+    requires within { (first.value +ℤ pos (length survey.now.spots.items)) ≤ℤ pos 9223372036854775808 }
+    requires spots { AreSpots survey.now.spots.items first.value items.now boxes.now }
+    requires begun { AreBegun survey.now.begun.items first.value items.now boxes.now }
+    requires ended { AreEnded survey.now.ended.items first.value items.now boxes.now }
+    requires start { all_gone_on first.value items.now boxes.now ≡ 0 }
+    requires size { limits.size.value ≡ open_size items.now boxes.now }
+    requires floor { limits.floor.value ≡ room_floor items.now boxes.now }
+    ensures { IsWalked result (length survey.now.spots.items) first.value items.now boxes.now }
 {
-    let mut at = first;
-    let mut sum = Total { value: 0 }.plus(second_at(items, boxes, at));
-    while !need.is_at_most(sum) {
-        if last.value <= at.value {
-            return false;
+    let mut sum = Total { value: 0 };
+    let mut carried = 0;
+    let mut d = 0;
+    while d < survey.spots.len() {
+        let count = carried + survey.begun[d];
+        let at = behind(first, d);
+        if let Some(i) = misfit_here(items, boxes, at, survey.spots[d], count, limits) {
+            return Walk::Misfit(at, i);
         }
-        at = next(at, last);
-        sum = sum.plus(second_at(items, boxes, at));
+        sum = with_room(sum, survey.spots[d], count, limits.floor);
+        carried = count - survey.ended[d];
+        d += 1;
     }
-    true
-}
-
-/// The greatest growth so far, with that of the item's size.
-fn with_growth(most: Total, i: (u32, u32, u32), boxes: &[IntSet]) -> Total
-    requires { IsItemNamed i boxes.now }
-    ensures { result.value ≡ int_max most.value (high_of (box_of boxes.now i.1) -ℤ low_of (box_of boxes.now i.1)) }
-{
-    let grows = Total::of(greatest(boxes, i.1)).less(least(boxes, i.1));
-    if grows.is_at_most(most) { most } else { grows }
+    Walk::Room(sum)
 }
 
 /// The greatest that a size can grow.
@@ -234,14 +281,13 @@ fn need_of(items: &[(u32, u32, u32)], boxes: &[IntSet]) -> Option<Total>
     sizes_of(items, boxes).with(growth_of(items, boxes))
 }
 
-/// Whether there is room enough in all.
-fn has_enough(items: &[(u32, u32, u32)], boxes: &[IntSet], first: Number, last: Number) -> bool
-    requires items { AreItemsNamed items.now boxes.now }
-    requires order { first.value ≤ℤ last.value }
-    ensures { result ≡ true → HasEnough items.now boxes.now }
+/// Whether the rooms, which add up to this at least, are enough for all.
+fn is_enough(items: &[(u32, u32, u32)], boxes: &[IntSet], sum: Total) -> bool
+    requires { AreItemsNamed items.now boxes.now }
+    ensures { result ≡ true → (least_sizes items.now boxes.now +ℤ growth items.now boxes.now) ≤ℤ sum.value }
 {
     match need_of(items, boxes) {
-        Some(need) => are_enough(items, boxes, first, last, need),
+        Some(need) => need.is_at_most(sum),
         None => false,
     }
 }
@@ -253,41 +299,58 @@ pub enum Look {
     Roomy,
     /// The item doesn't fit at the value.
     Misfit(Number, (u32, u32, u32)),
-    /// There may be too little room in all.
+    /// Each fits; there may be too little room in all.
     Unsure,
 }
 
-/// What is seen of the items, whose places begin and end at the numbers.
-fn look_between(items: &[(u32, u32, u32)], boxes: &[IntSet], head: (u32, u32, u32)) -> Look
+/// What is seen of the items, of which the first is given.
+fn look_between(
+    survey: &mut Survey,
+    items: &[(u32, u32, u32)],
+    boxes: &[IntSet],
+    head: (u32, u32, u32),
+) -> Result<Look, AllocError>
     requires items { AreItemsNamed items.now boxes.now }
+    requires few { length items.now < 18446744073709551616 }
     requires head { IsItemNamed head boxes.now }
     requires some { All (λ x. is_nil (box_of boxes.now x) ≡ false) (item_vars items.now) }
     requires sets { All (λ s. IsValid s) boxes.now }
-    ensures { IsSeen result items.now boxes.now }
+    ensures { IfOk result (λ look. IsSeen look items.now boxes.now) }
 {
-    let places = places_of(items, boxes, head);
-    match misfit(items, boxes, places.0, places.1) {
-        Some(found) => Look::Misfit(found.0, found.1),
-        None => {
-            if has_enough(items, boxes, places.0, places.1) {
-                Look::Roomy
+    let (first, last) = places_of(items, boxes, head);
+    survey.fill(items, boxes, first, last)?;
+    let limits = Limits {
+        size: open_size(items, boxes),
+        floor: room_floor(items, boxes),
+    };
+    match look_over(survey, items, boxes, first, limits) {
+        Walk::Misfit(at, i) => Ok(Look::Misfit(at, i)),
+        Walk::Room(sum) => {
+            if is_enough(items, boxes, sum) {
+                Ok(Look::Roomy)
             } else {
-                Look::Unsure
+                Ok(Look::Unsure)
             }
         }
     }
 }
 
-/// What is seen of the items.
-pub fn look_at_items(items: &[(u32, u32, u32)], boxes: &[IntSet]) -> Look
+/// What is seen of the items. It takes memory where there were never as many places.
+///
+/// # Errors
+/// Want of memory.
+pub fn look_at_items(
+    survey: &mut Survey,
+    items: &[(u32, u32, u32)],
+    boxes: &[IntSet],
+) -> Result<Look, AllocError>
     requires items { AreItemsNamed items.now boxes.now }
     requires some { All (λ x. is_nil (box_of boxes.now x) ≡ false) (item_vars items.now) }
     requires sets { All (λ s. IsValid s) boxes.now }
-    ensures { IsSeen result items.now boxes.now }
+    ensures { IfOk result (λ look. IsSeen look items.now boxes.now) }
 {
     if items.is_empty() {
-        Look::Unsure
-    } else {
-        look_between(items, boxes, items[0])
+        return Ok(Look::Unsure);
     }
+    look_between(survey, items, boxes, items[0])
 }

@@ -1,10 +1,11 @@
 use Rattle.std.proofs.Common.{◌≡◌, ◌≤◌, drop, length}
-use Rattle.pack_prop.specs.Packing.{two_rooms}
-use Rattle.pack_prop.proofs.room.two_at.Given as goal
+use Rattle.pack_prop.specs.Survey.{AreSpots}
+use Rattle.pack_prop.proofs.survey.add_items.Given as goal
 
 abbrev pub invariant-loop-k : goal.invariant-loop-k
 invariant-loop-k l = record {
-  two : l.two ≡ two_rooms l.at.value (drop l.k l.items) l.boxes;
+  size : length l.spots ≡ length l.fn.spots;
+  behind : AreSpots l.spots l.first.value (drop l.k l.items) l.boxes;
   upto : l.k ≤ length l.items;
 }
 

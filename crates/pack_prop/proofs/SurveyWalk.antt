@@ -1,0 +1,88 @@
+-- What a walk from place to place does in one step.
+use Rattle.std.proofs.Common.{◌≡◌, ℕ, zero, suc, ◌+◌, ◌-◌, ◌*◌, ◌<◌, ◌≤◌, Bool, true, false, ◌||◌, cond, List, [], ◌∷◌, slice_index_or, refl, ℤ, pos, ◌+ℤ◌, ◌≤ℤ◌, ◌<ℤ◌, length, arith, subst, sym, ap, ◌∙◌, All}
+use Rattle.std.specs.Prelude.{nat_le}
+use Rattle.std.specs.Int.{int_max}
+use Rattle.std.proofs.lemmas.Int.{ints}
+use Rattle.signed_clause.specs.Ranges.{IsValid}
+use Rattle.signed_clause.specs.Clauses.{Boxes}
+use Rattle.rule_law.specs.Refuted.{width}
+use Rattle.rule_law.proofs.EndLaws.{are_sets}
+use Rattle.pack_prop.specs.declared.survey.Spot.{Spot}
+use Rattle.pack_prop.specs.Packing.{all_fit, seconds_from}
+use Rattle.pack_prop.specs.Survey.{IsSpot, AreSpots, AreBegun, AreEnded, all_begun, all_ended, all_gone_on, hits, room_floor}
+use Rattle.pack_prop.proofs.PackWalks.{upto_next, seconds_next}
+use Rattle.pack_prop.proofs.SurveyCounts.{all_in, all_out, hits_few}
+use Rattle.pack_prop.proofs.SurveyFits.{room_more}
+
+-- what stands in a slot, whatever would stand for one that isn't there
+same_slot : (ns : List ℕ) (d a b : ℕ) → d < length ns → slice_index_or ns d a ≡ slice_index_or ns d b
+same_slot [] d a b h = absurd (omega arith)
+same_slot (n ∷ ns) zero a b h = refl
+same_slot (n ∷ ns) (suc d) a b h = same_slot ns d a b (omega arith)
+
+pub begun_slot : (n : ℕ) (counts : List ℕ) (d : ℕ) (first : ℤ) (items : List (ℕ × ℕ × ℕ)) (boxes : Boxes) → n ≡ slice_index_or counts d n → d < length counts → AreBegun counts first items boxes → n ≡ all_begun (first +ℤ pos d) items boxes
+begun_slot n counts d first items boxes e lt h = e ∙ same_slot counts d n 0 lt ∙ h d lt
+
+pub ended_slot : (n : ℕ) (counts : List ℕ) (d : ℕ) (first : ℤ) (items : List (ℕ × ℕ × ℕ)) (boxes : Boxes) → n ≡ slice_index_or counts d n → d < length counts → AreEnded counts first items boxes → n ≡ all_ended (first +ℤ pos d) items boxes
+ended_slot n counts d first items boxes e lt h = e ∙ same_slot counts d n 0 lt ∙ h d lt
+
+pub spot_slot : (s : Spot) (spots : List Spot) (d : ℕ) (first : ℤ) (items : List (ℕ × ℕ × ℕ)) (boxes : Boxes) → s ≡ slice_index_or spots d s → d < length spots → AreSpots spots first items boxes → IsSpot s (first +ℤ pos d) items boxes
+spot_slot s spots d first items boxes e lt h = subst (λ (z : Spot). IsSpot z (first +ℤ pos d) items boxes) (sym e) (h s d lt)
+
+-- how many items may be at the place
+pub count_here : (carried begun : ℕ) (v : ℤ) (items : List (ℕ × ℕ × ℕ)) (boxes : Boxes) → All (λ s. IsValid s) boxes → carried ≡ all_gone_on v items boxes → begun ≡ all_begun v items boxes →
+    carried + begun ≡ hits v items boxes
+count_here carried begun v items boxes s h k = let all = all_in v items boxes (are_sets boxes s) in omega arith
+
+pub count_fits : (carried begun : ℕ) (v : ℤ) (items : List (ℕ × ℕ × ℕ)) (boxes : Boxes) → All (λ s. IsValid s) boxes → length items < 18446744073709551616 → carried ≡ all_gone_on v items boxes → begun ≡ all_begun v items boxes →
+    carried + begun < 18446744073709551616
+count_fits carried begun v items boxes s few h k = let all = count_here carried begun v items boxes s h k in let most = hits_few v items boxes in omega arith
+
+-- and how many of them may be at the next one too
+pub count_goes : (count ended : ℕ) (v : ℤ) (items : List (ℕ × ℕ × ℕ)) (boxes : Boxes) → All (λ s. IsValid s) boxes → count ≡ hits v items boxes → ended ≡ all_ended v items boxes → ended ≤ count
+count_goes count ended v items boxes s h k = let all = all_out v items boxes (are_sets boxes s) in omega arith
+
+next_place : (first : ℤ) (d : ℕ) → (first +ℤ pos d) +ℤ pos 1 ≡ first +ℤ pos (d + 1)
+next_place first d = omega (arith, ints)
+
+pub count_next : (count ended : ℕ) (first : ℤ) (d : ℕ) (items : List (ℕ × ℕ × ℕ)) (boxes : Boxes) → All (λ s. IsValid s) boxes → count ≡ hits (first +ℤ pos d) items boxes → ended ≡ all_ended (first +ℤ pos d) items boxes →
+    count - ended ≡ all_gone_on (first +ℤ pos (d + 1)) items boxes
+count_next count ended first d items boxes s h k =
+    let all = all_out (first +ℤ pos d) items boxes (are_sets boxes s) in
+    let is : all_gone_on ((first +ℤ pos d) +ℤ pos 1) items boxes ≡ all_gone_on (first +ℤ pos (d + 1)) items boxes = ap (λ (v : ℤ). all_gone_on v items boxes) (next_place first d) in
+    omega arith
+
+-- ---- what holds of the places so far
+
+pub fit_next : (first : ℤ) (d : ℕ) (items : List (ℕ × ℕ × ℕ)) (boxes : Boxes) → ((v : ℤ) → first ≤ℤ v → v <ℤ (first +ℤ pos d) → all_fit v items items boxes ≡ true) → all_fit (first +ℤ pos d) items items boxes ≡ true →
+    (v : ℤ) → first ≤ℤ v → v <ℤ (first +ℤ pos (d + 1)) → all_fit v items items boxes ≡ true
+fit_next first d items boxes h k = upto_next (λ v. all_fit v items items boxes ≡ true) first (first +ℤ pos d) (first +ℤ pos (d + 1)) (sym (next_place first d)) h k
+
+pub room_next : (spot : Spot) (first : ℤ) (d : ℕ) (items : List (ℕ × ℕ × ℕ)) (boxes : Boxes) (count : ℕ) (floor sum next : ℤ) → All (λ s. IsValid s) boxes → IsSpot spot (first +ℤ pos d) items boxes → count ≡ hits (first +ℤ pos d) items boxes →
+    floor ≡ room_floor items boxes → next ≡ cond (spot.frozen || nat_le 2 count) (sum +ℤ int_max (pos 0) floor) sum → sum ≤ℤ seconds_from d first items boxes → next ≤ℤ seconds_from (d + 1) first items boxes
+room_next spot first d items boxes count floor sum next s is c f e h =
+    let here = room_more spot (first +ℤ pos d) items boxes count floor sum next s is c f e in
+    let more = seconds_next d first items boxes in
+    let n : d + 1 ≡ suc d = omega arith in
+    let at : seconds_from (d + 1) first items boxes ≡ seconds_from (suc d) first items boxes = ap (λ (m : ℕ). seconds_from m first items boxes) n in
+    omega (arith, ints)
+
+pub sum_low : (f : Bool) (floor sum next : ℤ) → next ≡ cond f (sum +ℤ int_max (pos 0) floor) sum → pos 0 ≤ℤ sum → pos 0 ≤ℤ next
+sum_low true floor sum next e h = grind (arith, ints)
+sum_low false floor sum next e h = omega (arith, ints)
+
+pub floor_upto : (is : List (ℕ × ℕ × ℕ)) (boxes : Boxes) → room_floor is boxes ≤ℤ pos 9223372036854775807
+floor_upto [] boxes = omega (arith, ints)
+floor_upto (i ∷ is) boxes = let more = floor_upto is boxes in grind (arith, ints)
+
+pub sum_high : (f : Bool) (floor sum next : ℤ) (d : ℕ) → next ≡ cond f (sum +ℤ int_max (pos 0) floor) sum → floor ≤ℤ pos 9223372036854775807 → sum ≤ℤ pos (d * 9223372036854775807) → next ≤ℤ pos ((d + 1) * 9223372036854775807)
+sum_high true floor sum next d e k h =
+    let most : int_max (pos 0) floor ≤ℤ pos 9223372036854775807 = grind (arith, ints) in omega (arith, ints)
+sum_high false floor sum next d e k h = omega (arith, ints)
+
+pub seconds_enough : (n : ℕ) (first : ℤ) (items : List (ℕ × ℕ × ℕ)) (boxes : Boxes) (need sum : ℤ) → need ≤ℤ sum → sum ≤ℤ seconds_from n first items boxes → need ≤ℤ seconds_from n first items boxes
+seconds_enough n first items boxes need sum h k = omega (arith, ints)
+
+-- the last of the places
+pub width_end : (first last v : ℤ) (n : ℕ) → n ≡ width first last → first ≤ℤ last → v ≤ℤ last → v <ℤ (first +ℤ pos n)
+width_end first last v n e o h = omega (arith, ints)
