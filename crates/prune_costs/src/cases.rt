@@ -7,7 +7,7 @@ use std::alloc::{AllocError, Global};
 
 /// A constraint, and boxes of its variables.
 #[derive(Drop)]
-pub struct Case {
+pub(crate) struct Case {
     /// What the row of the table is called.
     pub name: &'static str,
     /// The constraint.
@@ -361,7 +361,7 @@ fn tight(alloc: Global, n: u32) -> Result<Case, AllocError> {
 }
 
 /// The case of a row of the table, which has `ROWS`.
-pub fn nth_case(alloc: Global, row: u32, n: u32) -> Result<Case, AllocError> {
+pub(crate) fn nth_case(alloc: Global, row: u32, n: u32) -> Result<Case, AllocError> {
     match row {
         0 => clause(alloc, n),
         1 => bound(alloc, n),
@@ -381,4 +381,4 @@ pub fn nth_case(alloc: Global, row: u32, n: u32) -> Result<Case, AllocError> {
 }
 
 /// How many rows there are.
-pub const ROWS: u32 = 14;
+pub(crate) const ROWS: u32 = 14;

@@ -24,7 +24,7 @@ fn call(kit: &mut Kit, g: &Ground, boxes: &[IntSet], times: u32) -> Result<bool,
 }
 
 /// Whether the constraint says something in the boxes.
-pub fn does_say(kit: &mut Kit, g: &Ground, boxes: &[IntSet]) -> Result<bool, AllocError>
+pub(crate) fn does_say(kit: &mut Kit, g: &Ground, boxes: &[IntSet]) -> Result<bool, AllocError>
     requires well_made { IsWellMade g.now }
     requires con { 0 < length g.now.cons }
     requires boxes { AreBoxesWithin g.now.domains boxes.now }
@@ -55,7 +55,7 @@ fn spent<R: Runtime>(
 }
 
 /// How many nanoseconds a call takes, over so many calls that they take 50 milliseconds or so.
-pub fn nanoseconds<R: Runtime>(
+pub(crate) fn nanoseconds<R: Runtime>(
     rt: &R,
     kit: &mut Kit,
     g: &Ground,

@@ -157,7 +157,7 @@ fn is_well_made(con: &Con, domains: &[IntSet], alloc: Global) -> Result<bool, Al
 
 /// Whether a problem of one constraint, all of whose variables are searched and have values, is well made; it may say no where it is.
 #[tactic(auto, using(crate::proofs::Problems::made_problem))]
-pub fn is_problem(g: &Ground, alloc: Global) -> Result<bool, AllocError>
+pub(crate) fn is_problem(g: &Ground, alloc: Global) -> Result<bool, AllocError>
     ensures made { IfOk result (λ made. made ≡ true → IsWellMade g.now) }
     ensures one { IfOk result (λ made. made ≡ true → 0 < length g.now.cons) }
 {
