@@ -3,33 +3,31 @@
 use Rattle.std.proofs.Common.{◌≡◌, ℕ, zero, suc, ◌<◌, ◌≤◌, Bool, true, false, not, ◌&&◌, ◌||◌, cond, List, [], ◌∷◌, ℤ, length, get_or, refl, arith, subst, sym, ap, ◌∙◌, inl, inr}
 use Rattle.std.specs.Prelude.{◌==◌, ◌⊎◌}
 use Rattle.std.specs.Ordering.{int_eq}
-use Rattle.std.proofs.lemmas.Int.{ints}
 use Rattle.std.proofs.lemmas.Bool.{and_parts, or_cases, cases_eq, false_from_ne_true}
 use Rattle.std.proofs.lemmas.Bool.Decides.{nat_tests, Decides-int_eq}
-use Rattle.signed_clause.specs.Ranges.{Ranges, has, is_nil, count_of, IsValid}
-use Rattle.signed_clause.specs.SetAlgebra.{misses, inside, less}
+use Rattle.signed_clause.specs.Ranges.{Ranges, has, count_of, IsValid}
+use Rattle.signed_clause.specs.SetAlgebra.{misses, inside}
 use Rattle.signed_clause.specs.Clauses.{Boxes, box_of}
-use Rattle.signed_clause.proofs.RangeSteps.{IsValid-less, has-less_valid}
-use Rattle.signed_clause.proofs.CountLaws.{count-part, count-some}
 use Rattle.signed_clause.proofs.SetFacts.{inside_law}
 use Rattle.ground_form.specs.declared.con.Con.{Con}
 use Rattle.ground_form.specs.declared.con.Con.TheVariants.{ElementDef}
 use Rattle.ground_form.specs.Meaning.{term_vars, vars_of}
-use Rattle.ground_form.specs.WellMade.{IsWellMadeCon, lacks_value, distinct_values}
+use Rattle.ground_form.specs.WellMade.{IsWellMadeCon, lacks_value}
 use Rattle.rule_law.specs.Refuted.{none_picked}
 use Rattle.rule_law.specs.Quiet.{fixing, probed, quiet}
 use Rattle.rule_law.specs.Reasons.{has_number}
 use Rattle.rule_law.specs.Repeats.{stands_twice}
 use Rattle.ground_form.specs.Bounds.{low_of}
-use Rattle.rule_law.proofs.EndLaws.{AreSets, single_has}
+use Rattle.rule_law.proofs.EndLaws.{AreSets}
 use Rattle.rule_law.proofs.SetLaws.{fixing_same, fixing_other}
 use Rattle.rule_law.proofs.FlagLaws.{single-misses, misses-single}
 use Rattle.rule_law.proofs.QuietLaws.{has_low}
 use Rattle.rule_law.proofs.QuietFrom.{Each, each_probed}
-use Rattle.rule_law.proofs.Leaving.{value_valid, one_inside, has_one}
+use Rattle.rule_law.proofs.Leaving.{value_valid, has_one}
 use Rattle.element_prop.specs.declared.element.Further.TheVariants.{Outside}
 use Rattle.element_prop.specs.Elements.{count_possible, all_meet, some_with, some_other, some_offers, all_offered, AreHeadsApart, IsIdle, IsFurther}
 use Rattle.element_prop.proofs.OfferLaws.{each_offered}
+use Rattle.element_prop.proofs.ItemCount.{each_value}
 use Rattle.element_prop.proofs.ProbedQuiet.{each_then, quiet_probed}
 use Rattle.element_prop.proofs.ElementLaws.{IsElement}
 
@@ -38,64 +36,6 @@ first_false a b h = rw h refl
 
 second_false : (a b : Bool) → b ≡ false → (a && b) ≡ false
 second_false a b h = grind arith
-
--- ---- each value of the index is an item's
-
-some_value : (s : Ranges) (v : ℤ) → has s v ≡ true → is_nil s ≡ false
-some_value [] v h = absurd (grind arith)
-some_value (r ∷ rs) v h = refl
-
-one_count : (v : ℤ) → count_of ((v, v) ∷ []) ≡ 1
-one_count v = omega (arith, ints)
-
-turned : (a b : ℤ) → int_eq b a ≡ false → int_eq a b ≡ false
-turned a b k = false_from_ne_true (int_eq a b) (λ q. let e = (Decides-int_eq a b).0 q in let y = (Decides-int_eq b a).1 (sym e) in grind arith)
-
-lacks_more : (v : ℤ) (t : ℤ × ℕ) (ts : List (ℤ × ℕ)) → lacks_value v (t ∷ ts) ≡ true → lacks_value v ts ≡ true
-lacks_more v t ts h =
-    let P : Bool → Type 0 = λ b. cond b false (lacks_value v ts) ≡ true → lacks_value v ts ≡ true in
-    (elim (int_eq t.0 v) as P [ true ↦ λ k. absurd (let f : false ≡ true = k in grind arith) | false ↦ λ k. k ]) h
-
-lacks_head : (v : ℤ) (t : ℤ × ℕ) (ts : List (ℤ × ℕ)) → lacks_value v (t ∷ ts) ≡ true → int_eq t.0 v ≡ false
-lacks_head v t ts h =
-    let P : Bool → Type 0 = λ b. cond b false (lacks_value v ts) ≡ true → b ≡ false in
-    (elim (int_eq t.0 v) as P [ true ↦ λ k. absurd (let f : false ≡ true = k in grind arith) | false ↦ λ k. refl ]) h
-
--- a value that no item has doesn't matter to the count
-same_count : (w : ℤ) (items : List (ℤ × ℕ)) (s : Ranges) → IsValid s → IsValid ((w, w) ∷ []) → lacks_value w items ≡ true → count_possible items (less s ((w, w) ∷ [])) ≡ count_possible items s
-same_count w [] s f g h = refl
-same_count w (t ∷ ts) s f g h =
-    let other : has ((w, w) ∷ []) t.0 ≡ false = single_has w t.0 ∙ turned w t.0 (lacks_head w t ts h) in
-    let same : has (less s ((w, w) ∷ [])) t.0 ≡ has s t.0 = has-less_valid s ((w, w) ∷ []) f g t.0 ∙ kept_one (has s t.0) (has ((w, w) ∷ []) t.0) other in
-    let more = same_count w ts s f g (lacks_more w t ts h) in
-    rw (same, more) refl
-  where
-    kept_one : (a b : Bool) → b ≡ false → (a && not b) ≡ a
-    kept_one a b k = grind arith
-
-pub each_value : (items : List (ℤ × ℕ)) (s : Ranges) (v : ℤ) → IsValid s → distinct_values items ≡ true → count_of s ≤ count_possible items s → has s v ≡ true → lacks_value v items ≡ false
-each_value [] s v f d c h = let n = count-some s (some_value s v h) in absurd (omega arith)
-each_value (t ∷ ts) s v f d c h =
-    let parts = and_parts (lacks_value t.0 ts) (distinct_values ts) d in
-    let P : Bool → Type 0 = λ b. int_eq t.0 v ≡ b → cond b false (lacks_value v ts) ≡ false in
-    (elim (int_eq t.0 v) as P [
-      | true ↦ λ e. refl
-      | false ↦ λ e.
-          let Q : Bool → Type 0 = λ b. has s t.0 ≡ b → count_of s ≤ cond b (suc (count_possible ts s)) (count_possible ts s) → lacks_value v ts ≡ false in
-          (elim (has s t.0) as Q [
-            | true ↦ λ k m.
-                let one = value_valid s t.0 f k in
-                let rest = less s ((t.0, t.0) ∷ []) in
-                let valid = IsValid-less s ((t.0, t.0) ∷ []) f one in
-                let split = count-part ((t.0, t.0) ∷ []) s one f (one_inside s t.0 f one k) in
-                let single = one_count t.0 in
-                let same = same_count t.0 ts s f one parts.0 in
-                let other : has ((t.0, t.0) ∷ []) v ≡ false = single_has t.0 v ∙ e in
-                let there : has rest v ≡ true = has-less_valid s ((t.0, t.0) ∷ []) f one v ∙ rw (h, other) refl in
-                each_value ts rest v valid parts.1 (omega (arith, split, single, same, m)) there
-            | false ↦ λ k m. each_value ts s v f parts.1 m h
-          ]) refl c
-    ]) refl
 
 -- ---- what can be picked
 

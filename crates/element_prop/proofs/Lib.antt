@@ -10,3 +10,4 @@ pub mod OutLaws
 pub mod OfferLaws
 pub mod ProbedQuiet
 pub mod OutsideLaws
+pub mod ItemCount

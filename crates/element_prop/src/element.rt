@@ -227,8 +227,8 @@ fn without_items(items: &[(i64, u32)], set: &IntSet, alloc: Global) -> Result<In
     Ok(rest)
 }
 
-/// What an element says of an index that seems to have values of no item: that it is one of the items' values. The domain of the
-/// index is all that explains it.
+/// What an element says of an index that has more values than items can have: that it is one of the items' values. The domain of
+/// the index is all that explains it.
 fn prune_index(
     con: &Con,
     vars: (u32, u32),
@@ -236,24 +236,19 @@ fn prune_index(
     domains: &[IntSet],
     boxes: &[IntSet],
     alloc: Global,
-) -> Result<Option<Clause>, AllocError>
+) -> Result<Clause, AllocError>
     requires is { con.now ≡ ElementDef vars.0 vars.1 items.now }
     requires well_made { IsWellMadeCon domains.now con.now }
     requires boxes { AreBoxesWithin domains.now boxes.now }
     requires sets { All (λ d. IsValid d) domains.now }
     requires domain { vars.1 < length domains.now }
     requires index { vars.1 < length boxes.now }
-    ensures answer { IfOk result (λ a. IsAnswer con.now domains.now boxes.now a) }
+    requires more { count_possible items.now (box_of boxes.now vars.1) < count_of (box_of boxes.now vars.1) }
+    ensures pruning { IfOk result (λ c. IsPruning con.now domains.now boxes.now c) }
 {
-    let index = vars.1;
-    let domain = &domains[index as usize];
-    let rest = without_items(items, domain, alloc)?;
-    let values = domain.less(&rest)?;
-    if boxes[index as usize].within(&values) {
-        return probe(con, domains, boxes, alloc);
-    }
-    let clause = planned_pruning(con, domains, boxes, &[(index, rest)], alloc)?;
-    Ok(Some(clause))
+    let rest = without_items(items, &domains[vars.1 as usize], alloc)?;
+    let clause = planned_pruning(con, domains, boxes, &[(vars.1, rest)], alloc)?;
+    Ok(clause)
 }
 
 /// The set without the item's values, where the index can have its value.
@@ -389,7 +384,8 @@ fn prune_open(
 {
     let index = &boxes[vars.1 as usize];
     if !index.at_most(possible_items(items, index) as u64) {
-        return prune_index(con, vars, items, domains, boxes, alloc);
+        let clause = prune_index(con, vars, items, domains, boxes, alloc)?;
+        return Ok(Some(clause));
     }
     let once = differing.do_stand_once(k, con, vars.0, vars.1)?;
     if !once {
