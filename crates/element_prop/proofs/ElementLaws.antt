@@ -4,7 +4,7 @@ use Rattle.std.specs.Ordering.{int_eq}
 use Rattle.std.proofs.lemmas.Bool.{and_parts, and_from, false_from_ne_true}
 use Rattle.std.proofs.lemmas.Bool.Decides.{Decides-int_eq}
 use Rattle.signed_clause.specs.Ranges.{Ranges, has, IsValid}
-use Rattle.signed_clause.specs.SetAlgebra.{misses, less}
+use Rattle.signed_clause.specs.SetAlgebra.{misses, inside, less}
 use Rattle.signed_clause.specs.Clauses.{Boxes, box_of}
 use Rattle.signed_clause.proofs.RangeSteps.{IsValid-less}
 use Rattle.ground_form.specs.declared.con.Con.{Con}
@@ -69,7 +69,7 @@ only_here out (t ∷ ts) (suc i) d boxes lt h m =
     turned : (a b : ℤ) → int_eq b a ≡ false → int_eq a b ≡ false
     turned a b k = false_from_ne_true (int_eq a b) (λ q. let e = (Decides-int_eq a b).0 q in let y = (Decides-int_eq b a).1 (sym e) in grind arith)
 
--- ---- the index isn't v, or a has a value that b's box has, or b is outside its box
+-- ---- the index has no value of a set, or a has a value that b's box has, or b is outside its box
 
 pub record IsPick (domains boxes : Boxes) (x a b : ℕ) : Type 0 where
   pub good : AreGood domains boxes
@@ -84,33 +84,52 @@ can_pick : (index box other : Ranges) (v : ℤ) → IsValid index → HasToPick 
 can_pick index box other v f (inl h) = h.0
 can_pick index box other v f (inr h) = fixed_has index v f h.0
 
-pick_acts : (domains boxes : Boxes) (x a b : ℕ) (v : ℤ) → IsPick domains boxes x a b → IsValid ((v, v) ∷ []) → ArePlanned domains (length boxes) (pick_plan domains boxes x v a b) → HasToPick (box_of boxes x) v (box_of boxes a) (box_of boxes b) →
-    Acts boxes (literals_of domains (pick_plan domains boxes x v a b))
+-- the index is in the set, and the one box isn't inside the other
+lies_acts : (domains boxes : Boxes) (x a b : ℕ) (s : Ranges) → IsPick domains boxes x a b → ArePlanned domains (length boxes) (pick_plan domains boxes x s a b) → inside (box_of boxes x) s ≡ true → inside (box_of boxes a) (box_of boxes b) ≡ false →
+    Acts boxes (literals_of domains (pick_plan domains boxes x s a b))
+lies_acts domains boxes x a b s t p h k =
+    let g = t.good in let d = box_of domains a in let r = box_of boxes a in let o = box_of boxes b in
+    plan_acts_tail domains boxes (length boxes) (x, s) ((a, less d o) ∷ (b, o) ∷ []) g.wide g.narrow p h
+    (plan_acts_over domains boxes (length boxes) (a, less d o) ((b, o) ∷ []) g.wide g.narrow p.3
+    (left_over d (less d o) r o (g.wide a) (IsValid-less d o (g.wide a) (g.narrow b)) (g.narrow a) (g.narrow b) (in_other d o (g.wide a) (g.narrow b)) k)
+    (inside_itself o (g.narrow b), tt))
+
+pick_acts : (domains boxes : Boxes) (x a b : ℕ) (v : ℤ) → IsPick domains boxes x a b → IsValid ((v, v) ∷ []) → ArePlanned domains (length boxes) (pick_plan domains boxes x ((v, v) ∷ []) a b) → HasToPick (box_of boxes x) v (box_of boxes a) (box_of boxes b) →
+    Acts boxes (literals_of domains (pick_plan domains boxes x ((v, v) ∷ []) a b))
 pick_acts domains boxes x a b v t one p (inl h) =
     let g = t.good in let d = box_of domains a in let s = box_of boxes a in let o = box_of boxes b in
     plan_acts_head domains boxes (length boxes) (x, (v, v) ∷ []) ((a, less d o) ∷ (b, o) ∷ []) v g.wide g.narrow p h.0 (has_one v)
     (missing_inside s d o (g.narrow a) (g.wide a) (g.narrow b) (g.within a t.first) h.1, (inside_itself o (g.narrow b), tt))
-pick_acts domains boxes x a b v t one p (inr h) =
-    let g = t.good in let d = box_of domains a in let s = box_of boxes a in let o = box_of boxes b in
-    plan_acts_tail domains boxes (length boxes) (x, (v, v) ∷ []) ((a, less d o) ∷ (b, o) ∷ []) g.wide g.narrow p (lies_in_one (box_of boxes x) v (g.narrow x) one h.0)
-    (plan_acts_over domains boxes (length boxes) (a, less d o) ((b, o) ∷ []) g.wide g.narrow p.3
-    (left_over d (less d o) s o (g.wide a) (IsValid-less d o (g.wide a) (g.narrow b)) (g.narrow a) (g.narrow b) (in_other d o (g.wide a) (g.narrow b)) h.1)
-    (inside_itself o (g.narrow b), tt))
+pick_acts domains boxes x a b v t one p (inr h) = lies_acts domains boxes x a b ((v, v) ∷ []) t p (lies_in_one (box_of boxes x) v (t.good.narrow x) one h.0) h.1
+
+pick_planned : (domains boxes : Boxes) (x a b : ℕ) (s : Ranges) → IsPick domains boxes x a b → IsValid s → inside s (box_of domains x) ≡ true → ArePlanned domains (length boxes) (pick_plan domains boxes x s a b)
+pick_planned domains boxes x a b s t f h =
+    let g = t.good in let d = box_of domains a in let o = box_of boxes b in (
+      t.index,
+      f,
+      h,
+      (t.first, IsValid-less d o (g.wide a) (g.narrow b), less_inside d o (g.wide a) (g.narrow b), (t.second, g.narrow b, g.within b t.second, tt)),
+    )
 
 pick_reason : (con : Con) (domains boxes : Boxes) (x a b : ℕ) (v : ℤ) → IsPick domains boxes x a b → HasToPick (box_of boxes x) v (box_of boxes a) (box_of boxes b) →
     ((rest : Boxes) → box_of rest x ≡ (v, v) ∷ [] → box_of rest a ≡ less (box_of domains a) (box_of boxes b) → box_of rest b ≡ box_of boxes b → excluded con rest ≡ true) →
-    IsReason con domains boxes (literals_of domains (pick_plan domains boxes x v a b))
+    IsReason con domains boxes (literals_of domains (pick_plan domains boxes x ((v, v) ∷ []) a b))
 pick_reason con domains boxes x a b v t h e =
     let g = t.good in let d = box_of domains a in let o = box_of boxes b in
     let can = can_pick (box_of boxes x) (box_of boxes a) o v (g.narrow x) h in
     let one = value_valid (box_of boxes x) v (g.narrow x) can in
-    let planned : ArePlanned domains (length boxes) (pick_plan domains boxes x v a b) = (
-      t.index,
-      one,
-      one_inside (box_of domains x) v (g.wide x) one (in_domain domains boxes x v g t.index can),
-      (t.first, IsValid-less d o (g.wide a) (g.narrow b), less_inside d o (g.wide a) (g.narrow b), (t.second, g.narrow b, g.within b t.second, tt)),
-    ) in
-    plan_reason con domains boxes (pick_plan domains boxes x v a b) g.wide planned (all_differ x a b t.first_differs t.second_differs t.apart) (λ rest l. e rest l.0 l.1.0 l.1.1.0) (pick_acts domains boxes x a b v t one planned h)
+    let planned = pick_planned domains boxes x a b ((v, v) ∷ []) t one (one_inside (box_of domains x) v (g.wide x) one (in_domain domains boxes x v g t.index can)) in
+    plan_reason con domains boxes (pick_plan domains boxes x ((v, v) ∷ []) a b) g.wide planned (all_differ x a b t.first_differs t.second_differs t.apart) (λ rest l. e rest l.0 l.1.0 l.1.1.0) (pick_acts domains boxes x a b v t one planned h)
+
+-- of the whole box of the index
+pub lies_reason : (con : Con) (domains boxes : Boxes) (x a b : ℕ) → IsPick domains boxes x a b → inside (box_of boxes a) (box_of boxes b) ≡ false →
+    ((rest : Boxes) → box_of rest x ≡ box_of boxes x → box_of rest a ≡ less (box_of domains a) (box_of boxes b) → box_of rest b ≡ box_of boxes b → excluded con rest ≡ true) →
+    IsReason con domains boxes (literals_of domains (pick_plan domains boxes x (box_of boxes x) a b))
+lies_reason con domains boxes x a b t h e =
+    let g = t.good in let index = box_of boxes x in
+    let planned = pick_planned domains boxes x a b index t (g.narrow x) (g.within x t.index) in
+    plan_reason con domains boxes (pick_plan domains boxes x index a b) g.wide planned (all_differ x a b t.first_differs t.second_differs t.apart) (λ rest l. e rest l.0 l.1.0 l.1.1.0)
+    (lies_acts domains boxes x a b index t planned (inside_itself index (g.narrow x)) h)
 
 -- ---- the two clauses of an item
 
@@ -136,24 +155,24 @@ pick_rule out index items i d rest lt h e m = subst (λ (s : Ranges). none_picke
 
 pub item_reason : (con : Con) (domains boxes : Boxes) (o x : ℕ) (items : List (ℤ × ℕ)) (i : ℕ) (d : ℤ × ℕ) → IsElement con domains boxes o x items → i < length items → (get_or items i d).1 < length domains →
     ((get_or items i d).1 ≡ x → ⊥) → (o ≡ x → ⊥) → (o ≡ (get_or items i d).1 → ⊥) → HasToPick (box_of boxes x) (get_or items i d).0 (box_of boxes (get_or items i d).1) (box_of boxes o) →
-    IsReason con domains boxes (literals_of domains (pick_plan domains boxes x (get_or items i d).0 (get_or items i d).1 o))
+    IsReason con domains boxes (literals_of domains (pick_plan domains boxes x (((get_or items i d).0, (get_or items i d).0) ∷ []) (get_or items i d).1 o))
 item_reason con domains boxes o x items i d t lt named yx ox oy h =
     let v = (get_or items i d).0 in let y = (get_or items i d).1 in
     let g = t.good in let size = g.size in
     let pick : IsPick domains boxes x y o = record { good = g; index = t.index; first = omega arith; second = t.out; first_differs = yx; second_differs = ox; apart = oy } in
-    subst (λ (k : Con). IsReason k domains boxes (literals_of domains (pick_plan domains boxes x v y o))) (sym t.is)
+    subst (λ (k : Con). IsReason k domains boxes (literals_of domains (pick_plan domains boxes x ((v, v) ∷ []) y o))) (sym t.is)
     (pick_reason (ElementDef o x items) domains boxes x y o v pick h (λ rest e f k.
     pick_rule (box_of rest o) (box_of rest x) items i d rest lt t.distinct e
     (ap (λ (z : Ranges). misses z (box_of rest o)) f ∙ ap (λ (z : Ranges). misses (less (box_of domains y) (box_of boxes o)) z) k ∙ less_misses (box_of domains y) (box_of boxes o) (g.wide y) (g.narrow o))))
 
 pub out_reason : (con : Con) (domains boxes : Boxes) (o x : ℕ) (items : List (ℤ × ℕ)) (i : ℕ) (d : ℤ × ℕ) → IsElement con domains boxes o x items → i < length items → (get_or items i d).1 < length domains →
     ((get_or items i d).1 ≡ x → ⊥) → (o ≡ x → ⊥) → (o ≡ (get_or items i d).1 → ⊥) → HasToPick (box_of boxes x) (get_or items i d).0 (box_of boxes o) (box_of boxes (get_or items i d).1) →
-    IsReason con domains boxes (literals_of domains (pick_plan domains boxes x (get_or items i d).0 o (get_or items i d).1))
+    IsReason con domains boxes (literals_of domains (pick_plan domains boxes x (((get_or items i d).0, (get_or items i d).0) ∷ []) o (get_or items i d).1))
 out_reason con domains boxes o x items i d t lt named yx ox oy h =
     let v = (get_or items i d).0 in let y = (get_or items i d).1 in
     let g = t.good in let size = g.size in
     let pick : IsPick domains boxes x o y = record { good = g; index = t.index; first = t.out; second = omega arith; first_differs = ox; second_differs = yx; apart = λ e. oy (sym e) } in
-    subst (λ (k : Con). IsReason k domains boxes (literals_of domains (pick_plan domains boxes x v o y))) (sym t.is)
+    subst (λ (k : Con). IsReason k domains boxes (literals_of domains (pick_plan domains boxes x ((v, v) ∷ []) o y))) (sym t.is)
     (pick_reason (ElementDef o x items) domains boxes x o y v pick h (λ rest e f k.
     pick_rule (box_of rest o) (box_of rest x) items i d rest lt t.distinct e
     (ap (λ (z : Ranges). misses z (box_of rest o)) k ∙ ap (λ (z : Ranges). misses (box_of boxes y) z) f ∙ missed_by_rest (box_of domains o) (box_of boxes y) (g.wide o) (g.narrow y))))

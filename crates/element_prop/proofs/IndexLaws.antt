@@ -1,10 +1,10 @@
 -- The index of an element is the value of an item.
-use Rattle.std.proofs.Common.{◌≡◌, ℕ, zero, suc, Bool, true, false, not, ◌&&◌, cond, List, [], ◌∷◌, ℤ, length, All, refl, arith, subst, sym, ap, ◌∙◌}
+use Rattle.std.proofs.Common.{◌≡◌, ℕ, zero, suc, ◌<◌, Bool, true, false, not, ◌&&◌, cond, List, [], ◌∷◌, ℤ, length, All, refl, arith, subst, sym, ap, ◌∙◌}
 use Rattle.std.proofs.lemmas.Bool.{false_from_ne_true}
-use Rattle.signed_clause.specs.Ranges.{Ranges, has, IsValid}
+use Rattle.signed_clause.specs.Ranges.{Ranges, has, count_of, IsValid}
 use Rattle.signed_clause.specs.SetAlgebra.{inside, less}
 use Rattle.signed_clause.specs.Clauses.{Boxes, box_of}
-use Rattle.signed_clause.proofs.RangeSteps.{IsValid-less, has-less_valid}
+use Rattle.signed_clause.proofs.RangeSteps.{has-less_valid}
 use Rattle.signed_clause.proofs.SetFacts.{inside_law}
 use Rattle.ground_form.specs.declared.con.Con.{Con}
 use Rattle.ground_form.specs.declared.con.Con.TheVariants.{ElementDef}
@@ -13,13 +13,9 @@ use Rattle.rule_law.specs.Reasons.{IsReason}
 use Rattle.rule_law.specs.Plans.{literals_of}
 use Rattle.rule_law.proofs.Leaving.{value_valid, has_one}
 use Rattle.rule_law.proofs.PlanLaws.{ArePlanned, plan_reason, plan_acts_over}
-use Rattle.element_prop.specs.Elements.{without_one, without_items, index_plan}
+use Rattle.element_prop.specs.Elements.{without_one, without_items, count_possible, index_plan}
+use Rattle.element_prop.proofs.ItemCount.{one_valid, some_without}
 use Rattle.element_prop.proofs.ElementLaws.{IsElement}
-
-one_valid : (v : ℤ) (s : Ranges) → IsValid s → IsValid (without_one v s)
-one_valid v s f =
-    let P : Bool → Type 0 = λ b. has s v ≡ b → IsValid (cond b (less s ((v, v) ∷ [])) s) in
-    (elim (has s v) as P [ true ↦ λ h. IsValid-less s ((v, v) ∷ []) f (value_valid s v f h) | false ↦ λ h. f ]) refl
 
 one_gone : (v : ℤ) (s : Ranges) → IsValid s → has (without_one v s) v ≡ false
 one_gone v s f =
@@ -40,7 +36,7 @@ one_less v w s f =
     first_of_both : (a b : Bool) → (a && b) ≡ true → a ≡ true
     first_of_both a b k = grind arith
 
-items_valid : (items : List (ℤ × ℕ)) (s : Ranges) → IsValid s → IsValid (without_items items s)
+pub items_valid : (items : List (ℤ × ℕ)) (s : Ranges) → IsValid s → IsValid (without_items items s)
 items_valid [] s f = f
 items_valid (t ∷ ts) s f = items_valid ts (without_one t.0 s) (one_valid t.0 s f)
 
@@ -81,11 +77,10 @@ index_reason con domains boxes o x items t open_left =
     (plan_acts_over domains boxes (length boxes) (x, rest) [] g.wide g.narrow planned open_left tt))
 
 -- what the code computes
-pub index_asked : (con : Con) (domains boxes : Boxes) (o x : ℕ) (items : List (ℤ × ℕ)) (d b rest values : Ranges) → IsElement con domains boxes o x items → d ≡ box_of domains x → b ≡ box_of boxes x →
-    rest ≡ without_items items d → values ≡ less d rest → inside b values ≡ false → IsReason con domains boxes (literals_of domains ((x, rest) ∷ []))
-index_asked con domains boxes o x items d b rest values t ed eb er ev h =
-    let whole = box_of domains x in
+pub index_asked : (con : Con) (domains boxes : Boxes) (o x : ℕ) (items : List (ℤ × ℕ)) (d rest : Ranges) → IsElement con domains boxes o x items → d ≡ box_of domains x → rest ≡ without_items items d →
+    count_possible items (box_of boxes x) < count_of (box_of boxes x) → IsReason con domains boxes (literals_of domains ((x, rest) ∷ []))
+index_asked con domains boxes o x items d rest t ed er more =
+    let g = t.good in let whole = box_of domains x in
     let is : rest ≡ without_items items whole = er ∙ ap (λ (z : Ranges). without_items items z) ed in
-    let same : inside b values ≡ inside (box_of boxes x) (less whole (without_items items whole)) =
-    ap (λ (z : Ranges). inside z values) eb ∙ ap (λ (z : Ranges). inside (box_of boxes x) z) ev ∙ ap (λ (z : Ranges). inside (box_of boxes x) (less z rest)) ed ∙ ap (λ (z : Ranges). inside (box_of boxes x) (less whole z)) is in
-    subst (λ (z : Ranges). IsReason con domains boxes (literals_of domains ((x, z) ∷ []))) (sym is) (index_reason con domains boxes o x items t (sym same ∙ h))
+    subst (λ (z : Ranges). IsReason con domains boxes (literals_of domains ((x, z) ∷ []))) (sym is)
+    (index_reason con domains boxes o x items t (some_without items (box_of boxes x) whole (g.narrow x) (g.wide x) (items_valid items whole (g.wide x)) (g.within x t.index) t.distinct (λ le. omega arith)))

@@ -7,3 +7,7 @@ pub mod UpTo
 pub mod ElementQuiet
 pub mod IndexLaws
 pub mod OutLaws
+pub mod OfferLaws
+pub mod ProbedQuiet
+pub mod OutsideLaws
+pub mod ItemCount

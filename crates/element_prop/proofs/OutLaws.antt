@@ -15,8 +15,9 @@ use Rattle.rule_law.specs.Reasons.{IsReason, has_number, no_repeat}
 use Rattle.rule_law.specs.Plans.{literals_of}
 use Rattle.rule_law.proofs.EndLaws.{AreSets}
 use Rattle.rule_law.proofs.Leaving.{less_inside, less_misses, missing_inside}
-use Rattle.rule_law.proofs.PlanLaws.{ArePlanned, Leaves, AllLeft, plan_reason, plan_acts_over}
-use Rattle.element_prop.specs.Elements.{without_boxes, items_plan, out_plan}
+use Rattle.rule_law.proofs.PlanLaws.{ArePlanned, Leaves, AllLeft, plan_reason, plan_acts_head}
+use Rattle.rule_law.proofs.FlagPlans.{in_domain}
+use Rattle.element_prop.specs.Elements.{without_boxes, items_plan, out_plan, some_offers}
 use Rattle.element_prop.proofs.Triples.{inside_itself}
 use Rattle.element_prop.proofs.ElementLaws.{IsElement}
 
@@ -57,6 +58,18 @@ boxes_gone : (ts : List (ℤ × ℕ)) (index : Ranges) (boxes : Boxes) (s : Rang
 boxes_gone [] index boxes s b f k d lt = absurd (omega arith)
 boxes_gone (t ∷ ts) index boxes s b f zero d lt = λ can w h. step_gone t index boxes s w b f can (boxes_less ts index boxes (step t index boxes s) w b (step_valid t index boxes s b f) h)
 boxes_gone (t ∷ ts) index boxes s b f (suc k) d lt = boxes_gone ts index boxes (step t index boxes s) b (step_valid t index boxes s b f) k d (omega arith)
+
+-- a value that none of them has stays
+boxes_kept : (ts : List (ℤ × ℕ)) (index : Ranges) (boxes : Boxes) (s : Ranges) (v : ℤ) → AreSets boxes → IsValid s → has s v ≡ true → some_offers ts v index boxes ≡ false → has (without_boxes ts index boxes s) v ≡ true
+boxes_kept [] index boxes s v b f h n = h
+boxes_kept (t ∷ ts) index boxes s v b f h n =
+    let here : (has index t.0 && has (box_of boxes t.1) v) ≡ false = grind arith in
+    let more : some_offers ts v index boxes ≡ false = grind arith in
+    let P : Bool → Type 0 = λ c. (c && has (box_of boxes t.1) v) ≡ false → has (cond c (less s (box_of boxes t.1)) s) v ≡ true in
+    boxes_kept ts index boxes (step t index boxes s) v b (step_valid t index boxes s b f) ((elim (has index t.0) as P [
+      | true ↦ λ k. has-less_valid s (box_of boxes t.1) f (b t.1) v ∙ rw (h, k) refl
+      | false ↦ λ k. h
+    ]) here) more
 
 -- ---- what is left of the items
 
@@ -129,10 +142,9 @@ pub record IsOutPlanned (con : Con) (domains boxes : Boxes) (plan : Literals) : 
   pub named : All (λ e. e.0 < length domains) plan
   pub reason : IsReason con domains boxes (literals_of domains plan)
 
-pub out_reason : (con : Con) (domains boxes : Boxes) (o x : ℕ) (items : List (ℤ × ℕ)) → IsElement con domains boxes o x items → All (λ t. t.1 < length boxes) items → no_repeat (vars_of con) ≡ true →
-    inside (box_of boxes o) (less (box_of domains o) (without_boxes items (box_of boxes x) boxes (box_of domains o))) ≡ false →
-    IsOutPlanned con domains boxes (out_plan items domains boxes o x (without_boxes items (box_of boxes x) boxes (box_of domains o)))
-out_reason con domains boxes o x items t named differ open_left =
+pub out_reason : (con : Con) (domains boxes : Boxes) (o x : ℕ) (items : List (ℤ × ℕ)) (v : ℤ) → IsElement con domains boxes o x items → All (λ t. t.1 < length boxes) items → no_repeat (vars_of con) ≡ true →
+    has (box_of boxes o) v ≡ true → some_offers items v (box_of boxes x) boxes ≡ false → IsOutPlanned con domains boxes (out_plan items domains boxes o x (without_boxes items (box_of boxes x) boxes (box_of domains o)))
+out_reason con domains boxes o x items v t named differ member none =
     let g = t.good in
     let index = box_of boxes x in
     let d = box_of domains o in
@@ -142,7 +154,7 @@ out_reason con domains boxes o x items t named differ open_left =
     let planned : ArePlanned domains (length boxes) (out_plan items domains boxes o x s) = (
       t.out,
       valid,
-      (inside_law s d valid (g.wide o)).1 (λ v h. boxes_less items index boxes d v g.narrow (g.wide o) h),
+      (inside_law s d valid (g.wide o)).1 (λ w h. boxes_less items index boxes d w g.narrow (g.wide o) h),
       (t.index, g.narrow x, g.within x t.index, items_planned items index domains (length boxes) s g.wide valid named),
     ) in
     let all : no_repeat (o ∷ x ∷ term_vars items) ≡ true = sym (ap (λ (k : Con). no_repeat (vars_of k)) t.is) ∙ differ in
@@ -160,17 +172,14 @@ out_reason con domains boxes o x items t named differ open_left =
           (plan_reason (ElementDef o x items) domains boxes (out_plan items domains boxes o x s) g.wide planned (rw (apart, out_apart, index_apart, others) refl)
           (λ left l. subst (λ (z : Ranges). none_picked z (box_of left x) items left ≡ true) (sym l.0)
           (subst (λ (z : Ranges). none_picked s z items left ≡ true) (sym l.1.0) (none_left items index domains left s g.wide valid l.1.1)))
-          (plan_acts_over domains boxes (length boxes) (o, s) ((x, index) ∷ rest) g.wide g.narrow planned open_left
+          (plan_acts_head domains boxes (length boxes) (o, s) ((x, index) ∷ rest) v g.wide g.narrow planned member (boxes_kept items index boxes d v g.narrow (g.wide o) (in_domain domains boxes o v g t.out member) none)
           (inside_itself index (g.narrow x), items_left items index domains boxes s g.wide g.narrow valid (λ k e lt. g.within _ (named k e lt)) (boxes_gone items index boxes d g.narrow (g.wide o)))));
     }
 
 -- what the code computes
-pub out_asked : (con : Con) (domains boxes : Boxes) (o x : ℕ) (items : List (ℤ × ℕ)) (d b index rest values : Ranges) (plan : Literals) → IsElement con domains boxes o x items → All (λ t. t.1 < length boxes) items → no_repeat (vars_of con) ≡ true →
-    d ≡ box_of domains o → b ≡ box_of boxes o → index ≡ box_of boxes x → rest ≡ without_boxes items index boxes d → values ≡ less d rest → plan ≡ out_plan items domains boxes o x rest → inside b values ≡ false → IsOutPlanned con domains boxes plan
-out_asked con domains boxes o x items d b index rest values plan t named differ ed eb ex er ev ep h =
-    let whole = box_of domains o in
-    let all = without_boxes items (box_of boxes x) boxes whole in
+pub out_asked : (con : Con) (domains boxes : Boxes) (o x : ℕ) (items : List (ℤ × ℕ)) (v : ℤ) (d index rest : Ranges) (plan : Literals) → IsElement con domains boxes o x items → All (λ t. t.1 < length boxes) items → no_repeat (vars_of con) ≡ true →
+    has (box_of boxes o) v ≡ true → some_offers items v (box_of boxes x) boxes ≡ false → d ≡ box_of domains o → index ≡ box_of boxes x → rest ≡ without_boxes items index boxes d → plan ≡ out_plan items domains boxes o x rest → IsOutPlanned con domains boxes plan
+out_asked con domains boxes o x items v d index rest plan t named differ member none ed ex er ep =
+    let all = without_boxes items (box_of boxes x) boxes (box_of domains o) in
     let is : rest ≡ all = er ∙ ap (λ (z : Ranges). without_boxes items z boxes d) ex ∙ ap (λ (z : Ranges). without_boxes items (box_of boxes x) boxes z) ed in
-    let same : inside b values ≡ inside (box_of boxes o) (less whole all) =
-    ap (λ (z : Ranges). inside z values) eb ∙ ap (λ (z : Ranges). inside (box_of boxes o) z) ev ∙ ap (λ (z : Ranges). inside (box_of boxes o) (less z rest)) ed ∙ ap (λ (z : Ranges). inside (box_of boxes o) (less whole z)) is in
-    subst (λ (p : Literals). IsOutPlanned con domains boxes p) (sym (ep ∙ ap (λ (z : Ranges). out_plan items domains boxes o x z) is)) (out_reason con domains boxes o x items t named differ (sym same ∙ h))
+    subst (λ (p : Literals). IsOutPlanned con domains boxes p) (sym (ep ∙ ap (λ (z : Ranges). out_plan items domains boxes o x z) is)) (out_reason con domains boxes o x items v t named differ member none)

@@ -1,5 +1,5 @@
--- What the walk over an element's items finds. What a reader believes after this file: which clauses of three literals an element
--- has to state in the boxes, where its variables are different.
+-- What is found of an element in the boxes. What a reader believes after this file: which clauses an element has to state there,
+-- where its variables are different, and when it has nothing to state.
 use Rattle.std.specs.Prelude.{◌≡◌, ℕ, suc, ◌<◌, ◌≤◌, Bool, true, false, not, ◌&&◌, ◌||◌, cond, ◌==◌, List, [], ◌∷◌, ℤ, length, slice_index_or, ◌⊎◌}
 use Rattle.signed_clause.specs.Ranges.{Ranges, has, count_of}
 use Rattle.signed_clause.specs.SetAlgebra.{misses, inside, less}
@@ -7,7 +7,10 @@ use Rattle.signed_clause.specs.Clauses.{Boxes, Literals, box_of}
 use Rattle.ground_form.specs.Meaning.{term_vars}
 use Rattle.rule_law.specs.Refuted.{fixed_at}
 use Rattle.rule_law.specs.Reasons.{has_number}
+use Rattle.rule_law.specs.Quiet.{probed}
 use Rattle.element_prop.specs.declared.element.Finding.{Finding}
+use Rattle.element_prop.specs.declared.element.Further.{Further}
+use Rattle.element_prop.specs.declared.element.Further.TheVariants.{Idle, Unoffered, Outside}
 use Rattle.element_prop.specs.declared.element.Finding.TheVariants.{Open, Item, Out}
 
 -- the index can be the value though the boxes have no common value, or is it though the one box isn't inside the other
@@ -15,9 +18,9 @@ abbrev pub HasToPick : Ranges → ℤ → Ranges → Ranges → Type 0
 HasToPick index v box other =
     ((has index v ≡ true) × (misses box other ≡ true)) ⊎ ((fixed_at index v ≡ true) × (inside box other ≡ false))
 
--- what the clause leaves that says that the index isn't v, or a has a value that b's box has, or b is outside its box
-abbrev pub pick_plan : Boxes → Boxes → ℕ → ℤ → ℕ → ℕ → Literals
-pick_plan domains boxes x v a b = (x, (v, v) ∷ []) ∷ (a, less (box_of domains a) (box_of boxes b)) ∷ (b, box_of boxes b) ∷ []
+-- what the clause leaves that says that the index has no value of the set, or a has a value that b's box has, or b is outside its box
+abbrev pub pick_plan : Boxes → Boxes → ℕ → Ranges → ℕ → ℕ → Literals
+pick_plan domains boxes x s a b = (x, s) ∷ (a, less (box_of domains a) (box_of boxes b)) ∷ (b, box_of boxes b) ∷ []
 
 -- ---- values of the index
 
@@ -56,6 +59,11 @@ abbrev pub some_offers : List (ℤ × ℕ) → ℤ → Ranges → Boxes → Bool
 some_offers [] v index boxes = false
 some_offers (t ∷ ts) v index boxes = (has index t.0 && has (box_of boxes t.1) v) || some_offers ts v index boxes
 
+-- each value of the list is in the box of one of them
+abbrev pub all_offered : List ℤ → List (ℤ × ℕ) → Ranges → Boxes → Bool
+all_offered [] items index boxes = true
+all_offered (v ∷ vs) items index boxes = some_offers items v index boxes && all_offered vs items index boxes
+
 -- ---- an element that has nothing to say
 
 -- how many items' values the index can be
@@ -91,18 +99,26 @@ pub record AreHeadsApart (o x : ℕ) (items : List (ℤ × ℕ)) : Type 0 where
   pub out_apart : has_number o (term_vars items) ≡ false
   pub index_apart : has_number x (term_vars items) ≡ false
 
--- the variables are different, each value of the index is an item's, one item's box has all of out's, and two items of different
--- variables can be picked
+-- the variables are different, each value of the index is an item's and that item can be out, each value of out that is probed is
+-- offered, and two items of different variables can be picked, or of the variable of one that can be picked no value is outside
+-- out's box
 pub record IsIdle (items : List (ℤ × ℕ)) (o x : ℕ) (boxes : Boxes) : Type 0 where
-  pub differ : o ≡ x → ⊥
-  pub out_apart : has_number o (term_vars items) ≡ false
-  pub index_apart : has_number x (term_vars items) ≡ false
+  pub apart : AreHeadsApart o x items
   pub met : all_meet items (box_of boxes o) (box_of boxes x) boxes ≡ true
   pub full : count_of (box_of boxes x) ≤ count_possible items (box_of boxes x)
-  pub covered : some_covers items (box_of boxes o) (box_of boxes x) boxes ≡ true
+  pub offered : all_offered (probed (box_of boxes o)) items (box_of boxes x) boxes ≡ true
   pub var : ℕ
   pub one : some_with items var (box_of boxes o) (box_of boxes x) boxes ≡ true
-  pub another : some_other items var (box_of boxes o) (box_of boxes x) boxes ≡ true
+  pub free : (some_other items var (box_of boxes o) (box_of boxes x) boxes ≡ true) ⊎ (inside (box_of boxes var) (box_of boxes o) ≡ true)
+
+-- what is found of an element of which no single item tells anything
+abbrev pub IsFurther : List (ℤ × ℕ) → ℕ → ℕ → Boxes → Further → Type 0
+IsFurther items o x boxes Idle = IsIdle items o x boxes
+IsFurther items o x boxes (Unoffered v) =
+    (has (box_of boxes o) v.value ≡ true) × (some_offers items v.value (box_of boxes x) boxes ≡ false)
+IsFurther items o x boxes (Outside y) =
+    (some_with items y (box_of boxes o) (box_of boxes x) boxes ≡ true)
+    × (some_other items y (box_of boxes o) (box_of boxes x) boxes ≡ false) × (inside (box_of boxes y) (box_of boxes o) ≡ false)
 
 -- what a finding says
 abbrev pub Says : List (ℤ × ℕ) → Ranges → Ranges → Boxes → Finding → Type 0

@@ -3,23 +3,27 @@
 //! One walk over the items finds the first whose value the index can have though its variable and out have no common value, or
 //! whose value the index has though one of both has a value that the other lacks. Then the index isn't that value, or these two
 //! have a common value: a clause of three literals. Where no item tells anything, an index that may have values of no item is told
-//! to be an item's value, and out of which a value is offered by no item is told to have another one. Where neither is so, it mostly
-//! is plain that there is nothing to say: one item can be whatever out can, and two can be picked. Else plain probing tells.
-ghost use Rattle.std.specs.Prelude.{◌≡◌, ◌<◌, ◌≤◌, ◌&&◌, ◌||◌, ◌++◌, ◌∷◌, not, cond, true, false, IfOk, OnOk, IfSome, length, slice_index_or};
+//! to be an item's value, out of which a value is offered by no item is told to have another one, and the only variable that can be
+//! picked is told to have a value that out can have. Where none of these is so, there is nothing to say, and nothing is probed.
+//! Plain probing tells only of elements in which a variable stands twice.
+ghost use Rattle.std.specs.Prelude.{◌≡◌, ◌<◌, ◌≤◌, ◌&&◌, ◌||◌, ◌++◌, ◌∷◌, [], not, cond, true, false, IfOk, OnOk, IfSome, IfNone, length, slice_index_or};
 ghost use Rattle.std.specs.List.{All};
-ghost use Rattle.signed_clause.specs.Ranges.{has, count_of, IsValid};
-ghost use Rattle.signed_clause.specs.SetAlgebra.{misses, inside, less};
+ghost use Rattle.signed_clause.specs.Ranges.{has, is_nil, count_of, IsValid};
+ghost use Rattle.signed_clause.specs.SetAlgebra.{misses, less};
 ghost use Rattle.signed_clause.specs.Clauses.{Literals, box_of};
 ghost use Rattle.ground_form.specs.declared.con.Con.TheVariants.{ElementDef};
 ghost use Rattle.ground_form.specs.Meaning.{vars_of};
 ghost use Rattle.ground_form.specs.WellMade.{IsWellMadeCon};
 ghost use Rattle.rule_law.specs.Answers.{AreBoxesWithin, IsAnswer, IsPruning};
 ghost use Rattle.rule_law.specs.Reasons.{IsReason, no_repeat};
+ghost use Rattle.rule_law.specs.Refuted.{none_picked};
+ghost use Rattle.rule_law.specs.Quiet.{probed};
 ghost use Rattle.rule_law.specs.Plans.{literals_of};
-ghost use Rattle.element_prop.specs.Elements.{HasToPick, pick_plan, Says, all_meet, count_possible, some_covers, some_other, without_one, without_items, without_boxes, out_plan, some_offers, AreHeadsApart, IsIdle};
+ghost use Rattle.element_prop.specs.Elements.{HasToPick, pick_plan, Says, all_meet, count_possible, some_other, without_one, without_items, without_boxes, out_plan, some_offers, all_offered, AreHeadsApart, IsFurther};
 
 use crate::equality::{alone, is_value};
-use ground_form::{Con, Number, ends_of};
+use crate::offers::unoffered;
+use ground_form::{Con, Number};
 use rule_law::{Differing, keep_out, planned_pruning, probe, pruning};
 use signed_clause::{Clause, IntSet};
 use std::alloc::{AllocError, Global};
@@ -33,6 +37,17 @@ pub enum Finding {
     Item(usize),
     /// The same, with out and the item exchanged.
     Out(usize),
+}
+
+/// What is found where no single item tells anything.
+#[derive(Clone, Copy)]
+pub enum Further {
+    /// Nothing.
+    Idle,
+    /// Out can be a value that no item offers.
+    Unoffered(Number),
+    /// Only items of this variable can be picked, and it can be what out can't.
+    Outside(u32),
 }
 
 /// Whether the index can be the item's value though its box and that of out have no common value, or is it though the item's
@@ -88,14 +103,6 @@ fn can_pick(t: (i64, u32), out: &IntSet, index: &IntSet, boxes: &[IntSet]) -> bo
     index.contains(t.0) && !boxes[t.1 as usize].disjoint(out)
 }
 
-/// Whether the index can be the item's value, and the item can be whatever out can.
-fn does_cover(t: (i64, u32), out: &IntSet, index: &IntSet, boxes: &[IntSet]) -> bool
-    requires { t.1 < length boxes.now }
-    ensures { result ≡ (has index.now t.0 && inside out.now (box_of boxes.now t.1)) }
-{
-    index.contains(t.0) && out.within(&boxes[t.1 as usize])
-}
-
 /// How many items' values the index can be.
 fn possible_items(items: &[(i64, u32)], index: &IntSet) -> usize
     ensures { result ≡ count_possible items.now index.now }
@@ -111,23 +118,11 @@ fn possible_items(items: &[(i64, u32)], index: &IntSet) -> usize
     count
 }
 
-/// Whether one of them can be whatever out can.
-fn is_covered(items: &[(i64, u32)], out: &IntSet, index: &IntSet, boxes: &[IntSet]) -> bool
-    requires { All (λ t. t.1 < length boxes.now) items.now }
-    ensures { result ≡ some_covers items.now out.now index.now boxes.now }
-{
-    for t in items {
-        if does_cover(*t, out, index, boxes) {
-            return true;
-        }
-    }
-    false
-}
-
 /// The place of the first item that can be picked.
 fn first_pick(items: &[(i64, u32)], out: &IntSet, index: &IntSet, boxes: &[IntSet]) -> Option<usize>
     requires { All (λ t. t.1 < length boxes.now) items.now }
     ensures within { IfSome result (λ i. i < length items.now) }
+    ensures none { IfNone result (none_picked out.now index.now items.now boxes.now ≡ true) }
     ensures can { IfSome result (λ i. (d : _) → (has index.now (slice_index_or items.now i d).0
         && not (misses (box_of boxes.now (slice_index_or items.now i d).1) out.now)) ≡ true) }
 {
@@ -154,25 +149,58 @@ fn has_another(items: &[(i64, u32)], x: u32, out: &IntSet, index: &IntSet, boxes
     false
 }
 
-/// Whether it is plain that there is nothing to say of an index each of whose values is an item's: one item can be whatever out
-/// can, and two items of different variables can be picked.
-fn is_idle(items: &[(i64, u32)], vars: (u32, u32), boxes: &[IntSet]) -> bool
+/// What there is to find where each value of out that is probed is offered: whether two items of different variables can be picked,
+/// or the only variable's box lies within that of out.
+fn find_outside(items: &[(i64, u32)], vars: (u32, u32), boxes: &[IntSet]) -> Further
     requires out { vars.0 < length boxes.now }
     requires index { vars.1 < length boxes.now }
     requires items { All (λ t. t.1 < length boxes.now) items.now }
     requires apart { AreHeadsApart vars.0 vars.1 items.now }
-    requires full { count_of (box_of boxes.now vars.1) ≤ count_possible items.now (box_of boxes.now vars.1) }
     requires met { all_meet items.now (box_of boxes.now vars.0) (box_of boxes.now vars.1) boxes.now ≡ true }
-    ensures { result ≡ true → IsIdle items.now vars.0 vars.1 boxes.now }
+    requires full { count_of (box_of boxes.now vars.1) ≤ count_possible items.now (box_of boxes.now vars.1) }
+    requires open { none_picked (box_of boxes.now vars.0) (box_of boxes.now vars.1) items.now boxes.now ≡ false }
+    requires offered { all_offered (probed (box_of boxes.now vars.0)) items.now (box_of boxes.now vars.1) boxes.now ≡ true }
+    ensures { IsFurther items.now vars.0 vars.1 boxes.now result }
 {
     let out = &boxes[vars.0 as usize];
     let index = &boxes[vars.1 as usize];
-    if !is_covered(items, out, index, boxes) {
-        return false;
-    }
     match first_pick(items, out, index, boxes) {
-        Some(i) => has_another(items, items[i].1, out, index, boxes),
-        None => false,
+        Some(i) => {
+            let x = items[i].1;
+            if has_another(items, x, out, index, boxes) {
+                return Further::Idle;
+            }
+            if boxes[x as usize].within(out) {
+                Further::Idle
+            } else {
+                Further::Outside(x)
+            }
+        }
+        None => unreachable!(),
+    }
+}
+
+/// What there is to find where each value of the index is an item's that can be out.
+fn find_further(items: &[(i64, u32)], vars: (u32, u32), boxes: &[IntSet]) -> Further
+    requires out { vars.0 < length boxes.now }
+    requires index { vars.1 < length boxes.now }
+    requires items { All (λ t. t.1 < length boxes.now) items.now }
+    requires some { is_nil (box_of boxes.now vars.0) ≡ false }
+    requires sets { All (λ s. IsValid s) boxes.now }
+    requires apart { AreHeadsApart vars.0 vars.1 items.now }
+    requires met { all_meet items.now (box_of boxes.now vars.0) (box_of boxes.now vars.1) boxes.now ≡ true }
+    requires full { count_of (box_of boxes.now vars.1) ≤ count_possible items.now (box_of boxes.now vars.1) }
+    requires open { none_picked (box_of boxes.now vars.0) (box_of boxes.now vars.1) items.now boxes.now ≡ false }
+    ensures { IsFurther items.now vars.0 vars.1 boxes.now result }
+{
+    match unoffered(
+        items,
+        &boxes[vars.0 as usize],
+        &boxes[vars.1 as usize],
+        boxes,
+    ) {
+        Some(v) => Further::Unoffered(v),
+        None => find_outside(items, vars, boxes),
     }
 }
 
@@ -199,8 +227,8 @@ fn without_items(items: &[(i64, u32)], set: &IntSet, alloc: Global) -> Result<In
     Ok(rest)
 }
 
-/// What an element says of an index that seems to have values of no item: that it is one of the items' values. The domain of the
-/// index is all that explains it.
+/// What an element says of an index that has more values than items can have: that it is one of the items' values. The domain of
+/// the index is all that explains it.
 fn prune_index(
     con: &Con,
     vars: (u32, u32),
@@ -208,24 +236,19 @@ fn prune_index(
     domains: &[IntSet],
     boxes: &[IntSet],
     alloc: Global,
-) -> Result<Option<Clause>, AllocError>
+) -> Result<Clause, AllocError>
     requires is { con.now ≡ ElementDef vars.0 vars.1 items.now }
     requires well_made { IsWellMadeCon domains.now con.now }
     requires boxes { AreBoxesWithin domains.now boxes.now }
     requires sets { All (λ d. IsValid d) domains.now }
     requires domain { vars.1 < length domains.now }
     requires index { vars.1 < length boxes.now }
-    ensures answer { IfOk result (λ a. IsAnswer con.now domains.now boxes.now a) }
+    requires more { count_possible items.now (box_of boxes.now vars.1) < count_of (box_of boxes.now vars.1) }
+    ensures pruning { IfOk result (λ c. IsPruning con.now domains.now boxes.now c) }
 {
-    let index = vars.1;
-    let domain = &domains[index as usize];
-    let rest = without_items(items, domain, alloc)?;
-    let values = domain.less(&rest)?;
-    if boxes[index as usize].within(&values) {
-        return probe(con, domains, boxes, alloc);
-    }
-    let clause = planned_pruning(con, domains, boxes, &[(index, rest)], alloc)?;
-    Ok(Some(clause))
+    let rest = without_items(items, &domains[vars.1 as usize], alloc)?;
+    let clause = planned_pruning(con, domains, boxes, &[(vars.1, rest)], alloc)?;
+    Ok(clause)
 }
 
 /// The set without the item's values, where the index can have its value.
@@ -303,16 +326,17 @@ fn plan_out(
     Ok(plan)
 }
 
-/// What an element of different variables says of out that seems to have values of no item: that it has one of a possible item's.
+/// What an element of different variables says of out that can be a value which no item offers: that it has one of a possible item's.
 /// The index and the domains of these items explain it.
 fn prune_out(
     alloc: Global,
     con: &Con,
     vars: (u32, u32),
     items: &[(i64, u32)],
+    at: Number,
     domains: &[IntSet],
     boxes: &[IntSet],
-) -> Result<Option<Clause>, AllocError>
+) -> Result<Clause, AllocError>
     requires is { con.now ≡ ElementDef vars.0 vars.1 items.now }
     requires well_made { IsWellMadeCon domains.now con.now }
     requires boxes { AreBoxesWithin domains.now boxes.now }
@@ -323,83 +347,15 @@ fn prune_out(
     requires items { All (λ t. t.1 < length boxes.now) items.now }
     requires domain_items { All (λ t. t.1 < length domains.now) items.now }
     requires differ { no_repeat (vars_of con.now) ≡ true }
-    ensures answer { IfOk result (λ a. IsAnswer con.now domains.now boxes.now a) }
+    requires member { has (box_of boxes.now vars.0) at.value ≡ true }
+    requires unoffered { some_offers items.now at.value (box_of boxes.now vars.1) boxes.now ≡ false }
+    ensures pruning { IfOk result (λ c. IsPruning con.now domains.now boxes.now c) }
 {
     let domain = &domains[vars.0 as usize];
     let rest = without_boxes(items, &boxes[vars.1 as usize], boxes, domain)?;
-    let values = domain.less(&rest)?;
-    if boxes[vars.0 as usize].within(&values) {
-        return probe(con, domains, boxes, alloc);
-    }
     let plan = plan_out(alloc, vars, items, domains, boxes, &rest)?;
     let clause = planned_pruning(con, domains, boxes, plan.as_slice(), alloc)?;
-    Ok(Some(clause))
-}
-
-/// Whether the box of an item whose value the index can have has the value.
-fn is_offered(items: &[(i64, u32)], v: Number, index: &IntSet, boxes: &[IntSet]) -> bool
-    requires { All (λ t. t.1 < length boxes.now) items.now }
-    ensures { result ≡ some_offers items.now v.value index.now boxes.now }
-{
-    for t in items {
-        if does_offer(*t, v, index, boxes) {
-            return true;
-        }
-    }
-    false
-}
-
-/// Whether the item's box has the value and the index can have its own.
-fn does_offer(t: (i64, u32), v: Number, index: &IntSet, boxes: &[IntSet]) -> bool
-    requires { t.1 < length boxes.now }
-    ensures { result ≡ (has index.now t.0 && has (box_of boxes.now t.1) v.value) }
-{
-    index.contains(t.0) && boxes[t.1 as usize].contains(v.value)
-}
-
-/// The first value of the range that no item offers.
-fn unoffered_in(
-    items: &[(i64, u32)],
-    range: (i64, i64),
-    index: &IntSet,
-    boxes: &[IntSet],
-) -> Option<Number>
-    requires { All (λ t. t.1 < length boxes.now) items.now }
-    ensures { IfSome result (λ v. some_offers items.now v.value index.now boxes.now ≡ false) }
-{
-    for v in range.0..range.1 {
-        let at = Number { value: v };
-        if !is_offered(items, at, index, boxes) {
-            return Some(at);
-        }
-    }
-    let last = Number { value: range.1 };
-    if is_offered(items, last, index, boxes) {
-        None
-    } else {
-        Some(last)
-    }
-}
-
-/// The first value of out that no item offers, of all values where they are few, else of the least and the greatest.
-fn unoffered(items: &[(i64, u32)], out: &IntSet, index: &IntSet, boxes: &[IntSet]) -> Option<Number>
-    requires { All (λ t. t.1 < length boxes.now) items.now }
-    ensures { IfSome result (λ v. some_offers items.now v.value index.now boxes.now ≡ false) }
-{
-    if !out.at_most(64) {
-        let ends = ends_of(out);
-        let least = Number { value: ends.0 };
-        if !is_offered(items, least, index, boxes) {
-            return Some(least);
-        }
-        return unoffered_in(items, (ends.1, ends.1), index, boxes);
-    }
-    for r in out.ranges() {
-        if let Some(v) = unoffered_in(items, *r, index, boxes) {
-            return Some(v);
-        }
-    }
-    None
+    Ok(clause)
 }
 
 /// What an element of which no single item tells anything has to say.
@@ -428,46 +384,51 @@ fn prune_open(
 {
     let index = &boxes[vars.1 as usize];
     if !index.at_most(possible_items(items, index) as u64) {
-        return prune_index(con, vars, items, domains, boxes, alloc);
+        let clause = prune_index(con, vars, items, domains, boxes, alloc)?;
+        return Ok(Some(clause));
     }
     let once = differing.do_stand_once(k, con, vars.0, vars.1)?;
-    if once && is_idle(items, vars, boxes) {
-        return Ok(None);
+    if !once {
+        return probe(con, domains, boxes, alloc);
     }
-    if unoffered(items, &boxes[vars.0 as usize], index, boxes).is_some() {
-        let differ = differing.do_differ(k, con)?;
-        if differ {
-            return prune_out(alloc, con, vars, items, domains, boxes);
+    match find_further(items, vars, boxes) {
+        Further::Idle => Ok(None),
+        Further::Outside(x) => {
+            let clause = explain_pick(con, vars.1, index, x, vars.0, domains, boxes, alloc)?;
+            Ok(Some(clause))
+        }
+        Further::Unoffered(v) => {
+            let differ = differing.do_differ(k, con)?;
+            if !differ {
+                return probe(con, domains, boxes, alloc);
+            }
+            let clause = prune_out(alloc, con, vars, items, v, domains, boxes)?;
+            Ok(Some(clause))
         }
     }
-    probe(con, domains, boxes, alloc)
 }
 
-/// The clause that the index isn't the value, or `var` has a value that the box of `other` has, or that other is outside it.
+/// The clause that the index has no value of the set, or `var` has a value that the box of `other` has, or that other is outside it.
 fn explain_pick(
     con: &Con,
-    index: (u32, Number),
+    index: u32,
+    values: &IntSet,
     var: u32,
     other: u32,
     domains: &[IntSet],
     boxes: &[IntSet],
     alloc: Global,
 ) -> Result<Clause, AllocError>
-    requires index { index.0 < length domains.now }
+    requires index { index < length domains.now }
     requires var { var < length domains.now }
     requires other { other < length domains.now }
     requires size { length boxes.now ≡ length domains.now }
-    requires reason { IsReason con.now domains.now boxes.now (literals_of domains.now (pick_plan domains.now boxes.now index.0 index.1.value var other)) }
+    requires reason { IsReason con.now domains.now boxes.now (literals_of domains.now (pick_plan domains.now boxes.now index values.now var other)) }
     ensures pruning { IfOk result (λ c. IsPruning con.now domains.now boxes.now c) }
 {
     let outside = domains[var as usize].less(&boxes[other as usize])?;
     let mut literals = Vec::new(alloc);
-    keep_out(
-        &mut literals,
-        index.0,
-        &domains[index.0 as usize],
-        &alone(alloc, index.1),
-    )?;
+    keep_out(&mut literals, index, &domains[index as usize], values)?;
     keep_out(&mut literals, var, &domains[var as usize], &outside)?;
     keep_out(
         &mut literals,
@@ -483,6 +444,13 @@ fn value_of(t: (i64, u32)) -> Number
     ensures { result.value ≡ t.0 }
 {
     Number { value: t.0 }
+}
+
+/// The item's value alone.
+fn item_alone(t: (i64, u32), alloc: Global) -> IntSet
+    ensures { result ≡ (t.0, t.0) ∷ [] }
+{
+    alone(alloc, value_of(t))
 }
 
 /// Whether three variables are different.
@@ -525,8 +493,8 @@ pub fn prune_element(
             if !are_different(index, t.1, out) {
                 return probe(con, domains, boxes, alloc);
             }
-            let at = value_of(t);
-            let clause = explain_pick(con, (index, at), t.1, out, domains, boxes, alloc)?;
+            let at = item_alone(t, alloc);
+            let clause = explain_pick(con, index, &at, t.1, out, domains, boxes, alloc)?;
             Ok(Some(clause))
         }
         Finding::Out(i) => {
@@ -534,8 +502,8 @@ pub fn prune_element(
             if !are_different(index, t.1, out) {
                 return probe(con, domains, boxes, alloc);
             }
-            let value = value_of(t);
-            let clause = explain_pick(con, (index, value), out, t.1, domains, boxes, alloc)?;
+            let value = item_alone(t, alloc);
+            let clause = explain_pick(con, index, &value, out, t.1, domains, boxes, alloc)?;
             Ok(Some(clause))
         }
     }

@@ -155,6 +155,41 @@ fn are_same(a: &[IntSet], b: &[IntSet]) -> bool {
     a.len() == b.len() && a.iter().zip(b).all(|(s, t)| s.same(t))
 }
 
+/// Whether the propagator and plain probing come to the same from the boxes.
+fn settles_alike(
+    alloc: Global,
+    differing: &mut Differing,
+    con: &Con,
+    domains: &[IntSet],
+    boxes: &[IntSet],
+) -> Result<bool, AllocError>
+    requires well_made { IsWellMadeCon domains.now con.now }
+    requires sets { All (λ d. IsValid d) domains.now }
+{
+    let quick = settle(
+        differing,
+        con,
+        domains,
+        copy_sets(alloc, boxes)?,
+        false,
+        alloc,
+    )?;
+    let plain = settle(
+        differing,
+        con,
+        domains,
+        copy_sets(alloc, boxes)?,
+        true,
+        alloc,
+    )?;
+    let same = match (&quick, &plain) {
+        (Some(a), Some(b)) => are_same(a.as_slice(), b.as_slice()),
+        (None, None) => true,
+        _ => false,
+    };
+    Ok(same)
+}
+
 /// Whether the propagator and plain probing come to the same from all boxes within the domains, and how many cases there are.
 fn agrees(
     alloc: Global,
@@ -170,21 +205,7 @@ fn agrees(
     for n in 0..count {
         let boxes = nth_boxes(alloc, domains, n)?;
         if are_within(domains, boxes.as_slice()) {
-            let quick = settle(differing, con, domains, boxes, false, alloc)?;
-            let plain = settle(
-                differing,
-                con,
-                domains,
-                nth_boxes(alloc, domains, n)?,
-                true,
-                alloc,
-            )?;
-            let same = match (&quick, &plain) {
-                (Some(a), Some(b)) => are_same(a.as_slice(), b.as_slice()),
-                (None, None) => true,
-                _ => false,
-            };
-            if !same {
+            if !settles_alike(alloc, differing, con, domains, boxes.as_slice())? {
                 return Ok(0);
             }
             cases = cases.saturating_add(1);
@@ -246,6 +267,53 @@ fn elements(rt: HostRuntime) -> Result<(), AllocError> {
             items: Terms::of(vec![in alloc; (0i64, first), (1i64, second)]?),
         };
         assert!(rt; agrees(alloc, &mut differing, &con, domains.as_slice(), 4096)? == 2401);
+    }
+    Ok(())
+}
+
+/// The set of the numbers from the one to the other.
+fn numbers(alloc: Global, ends: (i64, i64)) -> IntSet
+    ensures { IsValid result }
+{
+    if ends.0 <= ends.1 {
+        IntSet::range(alloc, ends.0, ends.1)
+    } else {
+        IntSet::empty(alloc)
+    }
+}
+
+/// Of large boxes the ends alone are asked about; two items offer what neither does alone.
+#[test]
+fn elements_of_large_boxes(rt: HostRuntime) -> Result<(), AllocError> {
+    let alloc = rt.alloc();
+    let mut differing = Differing::new(alloc);
+    for (out, first, second) in [
+        ((0i64, 100i64), (0i64, 50i64), (51i64, 100i64)),
+        ((0, 120), (0, 50), (51, 100)),
+        ((0, 100), (0, 40), (60, 100)),
+        ((-5, 105), (0, 50), (20, 110)),
+    ] {
+        let domains = vec![in alloc;
+            numbers(alloc, out),
+            IntSet::range(alloc, 0, 1),
+            numbers(alloc, first),
+            numbers(alloc, second),
+        ]?;
+        let con = Con::ElementDef {
+            out: 0,
+            index: 1,
+            items: Terms::of(vec![in alloc; (0i64, 2u32), (1i64, 3u32)]?),
+        };
+        let boxes = copy_sets(alloc, domains.as_slice())?;
+        assert!(rt;
+            settles_alike(
+                alloc,
+                &mut differing,
+                &con,
+                domains.as_slice(),
+                boxes.as_slice()
+            )?
+        );
     }
     Ok(())
 }

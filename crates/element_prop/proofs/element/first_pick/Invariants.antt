@@ -1,8 +1,12 @@
-use Rattle.std.proofs.Common.{◌≤◌, ◌-◌, length}
+use Rattle.std.proofs.Common.{◌≡◌, ◌≤◌, ◌-◌, drop, length}
+use Rattle.rule_law.specs.Refuted.{none_picked}
 use Rattle.element_prop.proofs.element.first_pick.Given as goal
 
 abbrev pub invariant-loop-i : goal.invariant-loop-i
-invariant-loop-i l = l.i ≤ length l.items
+invariant-loop-i l = record {
+  within : l.i ≤ length l.items;
+  none : none_picked l.out l.index (drop l.i l.items) l.boxes ≡ none_picked l.out l.index l.items l.boxes;
+}
 
 abbrev pub decreases-loop-i : goal.decreases-loop-i
 decreases-loop-i l = length l.items - l.i

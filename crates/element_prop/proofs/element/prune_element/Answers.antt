@@ -1,4 +1,4 @@
-use Rattle.std.proofs.Common.{◌≡◌, ℤ, pos, get_or, arith, refl, subst, sym}
+use Rattle.std.proofs.Common.{◌≡◌, pos, get_or, arith, refl, subst, sym}
 use Rattle.std.proofs.lemmas.Grind.{common_steps}
 use Rattle.signed_clause.specs.Ranges.{Ranges}
 use Rattle.signed_clause.specs.Clauses.{box_of}
@@ -19,7 +19,7 @@ explain_pick-requires-clause-reason c =
     let picks : HasToPick (box_of boxes vars.1) t.0 (box_of boxes t.1) (box_of boxes vars.0) =
     subst (λ (s : Ranges). HasToPick s t.0 (box_of boxes t.1) (box_of boxes vars.0)) index (subst (λ (s : Ranges). HasToPick c.index-boxes-index.result t.0 (box_of boxes t.1) s) out (said.1 (pos 0, 0))) in
     let differ = c.if-not-are_different.ensures in
-    subst (λ (v : ℤ). IsReason con domains boxes (literals_of domains (pick_plan domains boxes vars.1 v t.1 vars.0))) (sym c.value_of-at.ensures)
+    subst (λ (s : Ranges). IsReason con domains boxes (literals_of domains (pick_plan domains boxes vars.1 s t.1 vars.0))) (sym c.item_alone-at.ensures)
     (item_reason con domains boxes vars.0 vars.1 items i (pos 0, 0) (element con domains boxes vars.0 vars.1 items c.requires.is c.requires.well_made c.requires.boxes c.requires.sets) said.0 (c.requires.items i (pos 0, 0) said.0)
     (differ.first refl) (differ.second refl) (differ.third refl) picks)
 
@@ -34,6 +34,6 @@ explain_pick-requires-in-Out-clause-reason c =
     let picks : HasToPick (box_of boxes vars.1) t.0 (box_of boxes vars.0) (box_of boxes t.1) =
     subst (λ (s : Ranges). HasToPick s t.0 (box_of boxes vars.0) (box_of boxes t.1)) index (subst (λ (s : Ranges). HasToPick c.index-boxes-index.result t.0 s (box_of boxes t.1)) out (said.1 (pos 0, 0))) in
     let differ = c.if-not-are_different-2.ensures in
-    subst (λ (v : ℤ). IsReason con domains boxes (literals_of domains (pick_plan domains boxes vars.1 v vars.0 t.1))) (sym c.value_of-value.ensures)
+    subst (λ (s : Ranges). IsReason con domains boxes (literals_of domains (pick_plan domains boxes vars.1 s vars.0 t.1))) (sym c.item_alone-value.ensures)
     (out_reason con domains boxes vars.0 vars.1 items i (pos 0, 0) (element con domains boxes vars.0 vars.1 items c.requires.is c.requires.well_made c.requires.boxes c.requires.sets) said.0 (c.requires.items i (pos 0, 0) said.0)
     (differ.first refl) (differ.second refl) (differ.third refl) picks)

@@ -1,4 +1,4 @@
-use Rattle.std.proofs.Common.{◌≡◌, arith, sym, ◌∙◌}
+use Rattle.std.proofs.Common.{◌≡◌, arith}
 use Rattle.std.proofs.lemmas.Grind.{common_steps}
 use Rattle.signed_clause.specs.Clauses.{box_of}
 use Rattle.element_prop.proofs.ElementLaws.{element}
@@ -8,7 +8,6 @@ use Rattle.element_prop.proofs.element.prune_index.Goals as goal
 pub planned_pruning-requires-clause-reason : goal.planned_pruning-requires-clause-reason
 planned_pruning-requires-clause-reason c =
     let con = c.args.con.now in let domains = c.args.domains.now in let boxes = c.args.boxes.now in let vars = c.args.vars in let items = c.args.items.now in
-    let domain : c.index-domains-index.result ≡ box_of domains vars.1 = grind (arith, common_steps) in
-    let index : c.index-boxes-index.result ≡ box_of boxes vars.1 = grind (arith, common_steps) in
-    index_asked con domains boxes vars.0 vars.1 items c.index-domains-index.result c.index-boxes-index.result c.in_ok-rest.rest c.in_ok-values.values
-    (element con domains boxes vars.0 vars.1 items c.requires.is c.requires.well_made c.requires.boxes c.requires.sets) domain index c.in_ok-rest.ensures c.in_ok-values.ensures.list (sym c.within.ensures.list ∙ c.if-within.false)
+    let domain : c.index-domains-vars.result ≡ box_of domains vars.1 = grind (arith, common_steps) in
+    index_asked con domains boxes vars.0 vars.1 items c.index-domains-vars.result c.in_ok-rest.rest
+    (element con domains boxes vars.0 vars.1 items c.requires.is c.requires.well_made c.requires.boxes c.requires.sets) domain c.in_ok-rest.ensures c.requires.more

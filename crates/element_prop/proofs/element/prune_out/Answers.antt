@@ -1,4 +1,4 @@
-use Rattle.std.proofs.Common.{◌≡◌, arith, sym, ◌∙◌}
+use Rattle.std.proofs.Common.{◌≡◌, arith, ◌∙◌}
 use Rattle.std.proofs.lemmas.Grind.{common_steps}
 use Rattle.signed_clause.specs.Clauses.{box_of}
 use Rattle.element_prop.proofs.ElementLaws.{element}
@@ -10,10 +10,9 @@ planned c =
     let con = c.args.con.now in let domains = c.args.domains.now in let boxes = c.args.boxes.now in let vars = c.args.vars in let items = c.args.items.now in
     let domain : c.index-domains-vars.result ≡ box_of domains vars.0 = grind (arith, common_steps) in
     let index : c.index-boxes-vars.result ≡ box_of boxes vars.1 = grind (arith, common_steps) in
-    let out : c.index-boxes-vars-2.result ≡ box_of boxes vars.0 = grind (arith, common_steps) in
-    out_asked con domains boxes vars.0 vars.1 items c.index-domains-vars.result c.index-boxes-vars-2.result c.index-boxes-vars.result c.in_ok-rest.rest c.in_ok-values.values c.as_slice.result.now
-    (element con domains boxes vars.0 vars.1 items c.requires.is c.requires.well_made c.requires.boxes c.requires.sets) c.requires.items c.requires.differ domain out index
-    c.in_ok-rest.ensures c.in_ok-values.ensures.list (c.as_slice.ensures.value ∙ c.in_ok-plan.ensures) (sym c.within.ensures.list ∙ c.if-within.false)
+    out_asked con domains boxes vars.0 vars.1 items c.args.at.value c.index-domains-vars.result c.index-boxes-vars.result c.in_ok-rest.rest c.as_slice.result.now
+    (element con domains boxes vars.0 vars.1 items c.requires.is c.requires.well_made c.requires.boxes c.requires.sets) c.requires.items c.requires.differ c.requires.member c.requires.unoffered domain index
+    c.in_ok-rest.ensures (c.as_slice.ensures.value ∙ c.in_ok-plan.ensures)
 
 pub planned_pruning-requires-clause-reason : goal.planned_pruning-requires-clause-reason
 planned_pruning-requires-clause-reason c = (planned c).reason
