@@ -10,9 +10,13 @@ pub mod Taking
 pub mod Spots
 pub mod OneBox
 pub mod TotalRoom
+pub mod PackLoads
+pub mod PackTotal
 pub mod PackQuiet
+pub mod TightTotal
 pub mod PackWalks
 pub mod Roomy
 pub mod Covered
 pub mod OverReason
+pub mod TightRows
 pub mod UpTo

@@ -6,3 +6,4 @@ pub mod Handled
 pub mod Packing
 pub mod Looks
 pub mod Sources
+pub mod Tight

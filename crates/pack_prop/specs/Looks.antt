@@ -9,4 +9,4 @@ use Rattle.pack_prop.specs.Packing.{AllFit, HasEnough}
 abbrev pub IsSeen : Look → List (ℕ × ℕ × ℕ) → Boxes → Type 0
 IsSeen Roomy items boxes = AllFit items boxes × HasEnough items boxes
 IsSeen (Misfit at item) items boxes = IsItemNamed item boxes
-IsSeen Unsure items boxes = Unit {0}
+IsSeen Unsure items boxes = AllFit items boxes

@@ -7,6 +7,7 @@
 //!   fit; `misfits` and `overfull` say what such an item takes away, and why.
 #![tactic(auto)]
 
+mod bests;
 mod differing;
 mod explain;
 mod interval;
@@ -20,5 +21,7 @@ mod slots;
 mod sweep;
 #[cfg(test)]
 mod tests;
+mod tight;
+mod total;
 
 pub use propagator::PackProp;

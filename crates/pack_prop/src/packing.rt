@@ -18,7 +18,9 @@ ghost use Rattle.rule_law.specs.Quiet.{quiet};
 ghost use Rattle.pack_prop.specs.Packing.{AllFit, HasEnough};
 
 use crate::misfits::prune_misfit;
+use crate::propagator::Kept;
 use crate::room::{Look, look_at_items};
+use crate::tight::prune_tight;
 use ground_form::{Con, Number};
 use rule_law::{Differing, probe};
 use signed_clause::{Clause, IntSet};
@@ -77,6 +79,32 @@ fn prune_by_item(
     probe(con, domains, boxes, alloc)
 }
 
+/// What items answer of which each fits wherever it may be.
+fn prune_unsure(
+    alloc: Global,
+    kept: &mut Kept,
+    k: u32,
+    con: &Con,
+    items: &[(u32, u32, u32)],
+    domains: &[IntSet],
+    boxes: &[IntSet],
+) -> Result<Option<Clause>, AllocError>
+    requires con { con.now ≡ Pack items.now }
+    requires items { AreItemsNamed items.now boxes.now }
+    requires well_made { IsWellMadeCon domains.now con.now }
+    requires boxes { AreBoxesWithin domains.now boxes.now }
+    requires sets { All (λ d. IsValid d) domains.now }
+    requires fit { AllFit items.now boxes.now }
+    ensures { IfOk result (λ a. IsAnswer con.now domains.now boxes.now a) }
+{
+    let differ = kept.differing.do_open_differ(k, con, boxes)?;
+    if differ {
+        prune_tight(alloc, &mut kept.bests, con, items, domains, boxes)
+    } else {
+        probe(con, domains, boxes, alloc)
+    }
+}
+
 /// A clause that items to be packed justify and that takes something away; None where they are quiet.
 ///
 /// # Errors
@@ -84,7 +112,7 @@ fn prune_by_item(
 #[tactic(auto, using(crate::proofs::Roomy::pack_named, crate::proofs::Roomy::pack_some))]
 pub fn prune_packing(
     alloc: Global,
-    differing: &mut Differing,
+    kept: &mut Kept,
     k: u32,
     con: &Con,
     items: &[(u32, u32, u32)],
@@ -98,8 +126,8 @@ pub fn prune_packing(
     ensures { IfOk result (λ a. IsAnswer con.now domains.now boxes.now a) }
 {
     match look_at_items(items, boxes) {
-        Look::Roomy => prune_roomy(alloc, differing, k, con, items, domains, boxes),
+        Look::Roomy => { prune_roomy(alloc, &mut kept.differing, k, con, items, domains, boxes) }
         Look::Misfit(at, i) => prune_by_item(alloc, con, items, domains, boxes, at, i),
-        Look::Unsure => probe(con, domains, boxes, alloc),
+        Look::Unsure => prune_unsure(alloc, kept, k, con, items, domains, boxes),
     }
 }

@@ -7,6 +7,7 @@ ghost use Rattle.ground_form.specs.WellMade.{IsWellMade, IsWellMadeCon};
 ghost use Rattle.rule_law.specs.Answers.{AreBoxesWithin, IsAnswer};
 ghost use Rattle.pack_prop.specs.Handled.{is_handled};
 
+use crate::bests::Bests;
 use crate::differing::prune_differing;
 use crate::packing::prune_packing;
 use crate::sweep::Slots;
@@ -20,6 +21,8 @@ use std::alloc::{AllocError, Global};
 pub struct Kept {
     /// Counters for a sweep.
     pub slots: Slots,
+    /// The greatest rooms of values.
+    pub bests: Bests,
     /// Which variables of a constraint stand twice.
     pub differing: Differing,
 }
@@ -29,12 +32,14 @@ impl Kept {
     pub fn new(alloc: Global) -> Kept
         ensures no_starts { result.slots.starts.items ≡ [] }
         ensures no_ends { result.slots.ends.items ≡ [] }
+        ensures no_bests { result.bests.rows.items ≡ [] }
     {
         Kept {
             slots: Slots {
                 starts: Vec::new(alloc),
                 ends: Vec::new(alloc),
             },
+            bests: Bests::new(alloc),
             differing: Differing::new(alloc),
         }
     }
@@ -53,6 +58,7 @@ impl PackProp {
         ensures alloc { result.alloc ≡ alloc }
         ensures no_starts { result.kept.slots.starts.items ≡ [] }
         ensures no_ends { result.kept.slots.ends.items ≡ [] }
+        ensures no_bests { result.kept.bests.rows.items ≡ [] }
     {
         PackProp {
             alloc,
@@ -79,15 +85,7 @@ pub fn answer(
         Con::AllDiff { vars } => {
             prune_differing(alloc, kept, k, con, vars.items(), domains, boxes)
         }
-        Con::Pack { items } => prune_packing(
-            alloc,
-            &mut kept.differing,
-            k,
-            con,
-            items.items(),
-            domains,
-            boxes,
-        ),
+        Con::Pack { items } => { prune_packing(alloc, kept, k, con, items.items(), domains, boxes) }
         _ => probe(con, domains, boxes, alloc),
     }
 }

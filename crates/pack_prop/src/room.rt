@@ -15,6 +15,7 @@ ghost use Rattle.rule_law.specs.Repeats.{is_one};
 ghost use Rattle.pack_prop.specs.Packing.{tight_room, fits, all_fit, put, two_rooms, seconds_from, growth, HasEnough};
 ghost use Rattle.pack_prop.specs.Looks.{IsSeen};
 
+use crate::bests::two_at;
 use crate::interval::ends_in_order;
 use crate::loads::{
     Total, greater, greatest, is_fixed, is_single, least, load_at, may_be, sizes_of, smaller,
@@ -54,7 +55,7 @@ fn misfit_at(items: &[(u32, u32, u32)], boxes: &[IntSet], at: Number) -> Option<
 }
 
 /// The next number, below `last`.
-fn next(n: Number, last: Number) -> Number
+pub fn next(n: Number, last: Number) -> Number
     requires { n.value <ℤ last.value }
     ensures { result.value ≡ n.value +ℤ pos 1 }
 {
@@ -83,41 +84,6 @@ pub fn misfit(
         }
         at = next(at, last);
     }
-}
-
-/// The two greatest rooms, with that of an item that may be at the value.
-fn with_room(two: (i64, i64), i: (u32, u32, u32), boxes: &[IntSet], at: Number) -> (i64, i64)
-    requires { IsItemNamed i boxes.now }
-    ensures { result ≡ cond (has (box_of boxes.now i.0) at.value) (put (high_of (box_of boxes.now i.2)) (is_one (box_of boxes.now i.0) && is_one (box_of boxes.now i.2)) two) two }
-{
-    if !may_be(boxes, i.0, at) {
-        return two;
-    }
-    let room = greatest(boxes, i.2);
-    let first = Number { value: two.0 };
-    let beside = if is_single(boxes, i.0) && is_single(boxes, i.2) {
-        room
-    } else {
-        smaller(first, room)
-    };
-    (
-        greater(first, room).value,
-        greater(Number { value: two.1 }, beside).value,
-    )
-}
-
-/// The greatest and the second greatest room at the value, each at least 0.
-fn two_at(items: &[(u32, u32, u32)], boxes: &[IntSet], at: Number) -> (i64, i64)
-    requires { AreItemsNamed items.now boxes.now }
-    ensures { result ≡ two_rooms at.value items.now boxes.now }
-{
-    let mut two = (0, 0);
-    let mut k = items.len();
-    while 0 < k {
-        k -= 1;
-        two = with_room(two, items[k], boxes, at);
-    }
-    two
 }
 
 /// The second greatest room at the value.
@@ -202,7 +168,7 @@ fn last_place(items: &[(u32, u32, u32)], boxes: &[IntSet], from: Number) -> Numb
 }
 
 /// The least and the greatest value of the box of `x`.
-fn ends_at(boxes: &[IntSet], x: u32) -> (Number, Number)
+pub fn ends_at(boxes: &[IntSet], x: u32) -> (Number, Number)
     requires { x < length boxes.now }
     ensures low { result.0.value ≡ low_of (box_of boxes.now x) }
     ensures high { result.1.value ≡ high_of (box_of boxes.now x) }
@@ -213,7 +179,11 @@ fn ends_at(boxes: &[IntSet], x: u32) -> (Number, Number)
 }
 
 /// Where the items' places begin and end.
-fn places_of(items: &[(u32, u32, u32)], boxes: &[IntSet], head: (u32, u32, u32)) -> (Number, Number)
+pub fn places_of(
+    items: &[(u32, u32, u32)],
+    boxes: &[IntSet],
+    head: (u32, u32, u32),
+) -> (Number, Number)
     requires items { AreItemsNamed items.now boxes.now }
     requires head { IsItemNamed head boxes.now }
     ensures first { result.0.value ≡ first_place (low_of (box_of boxes.now head.0)) items.now boxes.now }
@@ -253,7 +223,7 @@ pub enum Look {
     Roomy,
     /// The item doesn't fit at the value.
     Misfit(Number, (u32, u32, u32)),
-    /// There may be too little room in all.
+    /// Each fits, and there may be too little room in all.
     Unsure,
 }
 

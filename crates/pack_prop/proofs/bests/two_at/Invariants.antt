@@ -1,6 +1,6 @@
 use Rattle.std.proofs.Common.{◌≡◌, ◌≤◌, drop, length}
 use Rattle.pack_prop.specs.Packing.{two_rooms}
-use Rattle.pack_prop.proofs.room.two_at.Given as goal
+use Rattle.pack_prop.proofs.bests.two_at.Given as goal
 
 abbrev pub invariant-loop-k : goal.invariant-loop-k
 invariant-loop-k l = record {
