@@ -15,7 +15,7 @@ use Rattle.rule_law.proofs.EndLaws.{AreSets, above_low, below_high, single_has}
 use Rattle.rule_law.proofs.PackLaws.{best_room-ge}
 use Rattle.rule_law.proofs.SetLaws.{fixing_same}
 use Rattle.pack_prop.specs.declared.bests.Best.{Best}
-use Rattle.pack_prop.specs.Tight.{IsBest, AreBests, firsts, left_at, lefts, may_grow, may_be_at, may_be_in, may_move, may_shrink, is_loose, all_loose, IsBetween, HasEach}
+use Rattle.pack_prop.specs.Tight.{IsBest, AreBests, firsts, left_at, lefts, may_grow, may_be_at, may_be_in, may_move, may_shrink, all_grow, all_loose, IsBetween, HasEach}
 use Rattle.pack_prop.proofs.Spots.{Role, Place, Size, Room}
 use Rattle.pack_prop.proofs.OneBox.{other_box, best_away, sizes_away, sizes_split}
 use Rattle.pack_prop.proofs.TotalRoom.{first_is, second_without, in_all}
@@ -154,17 +154,21 @@ rest_same w front i back boxes x v r = best_away w (front ++ back) boxes x v (va
 -- ---- what is tested of the item
 
 record IsLoose (need : ℤ) (rows : List Best) (i : ℕ × ℕ × ℕ) (boxes : Boxes) : Type 0 where
-  grow : may_grow need rows i boxes ≡ true
   move : may_move need rows i boxes ≡ true
   shrink : may_shrink need rows i boxes ≡ true
 
+grow_at : (need all : ℤ) (front : List (ℕ × ℕ × ℕ)) (i : ℕ × ℕ × ℕ) (back : List (ℕ × ℕ × ℕ)) (boxes : Boxes) → all_grow need all (front ++ i ∷ back) boxes ≡ true → may_grow need all i boxes ≡ true
+grow_at need all [] i back boxes h = (and_parts (may_grow need all i boxes) (all_grow need all back boxes) h).0
+grow_at need all (j ∷ front) i back boxes h = grow_at need all front i back boxes (and_parts (may_grow need all j boxes) (all_grow need all (front ++ i ∷ back) boxes) h).1
+
 loose_at : (need : ℤ) (rows : List Best) (front : List (ℕ × ℕ × ℕ)) (i : ℕ × ℕ × ℕ) (back : List (ℕ × ℕ × ℕ)) (boxes : Boxes) → all_loose need rows (front ++ i ∷ back) boxes ≡ true → IsLoose need rows i boxes
 loose_at need rows [] i back boxes h =
-    let p = and_parts (is_loose need rows i boxes) (all_loose need rows back boxes) h in
-    let q = and_parts (may_grow need rows i boxes) (may_move need rows i boxes && may_shrink need rows i boxes) p.0 in
-    let r = and_parts (may_move need rows i boxes) (may_shrink need rows i boxes) q.1 in
-    record { grow = q.0; move = r.0; shrink = r.1 }
-loose_at need rows (j ∷ front) i back boxes h = loose_at need rows front i back boxes (and_parts (is_loose need rows j boxes) (all_loose need rows (front ++ i ∷ back) boxes) h).1
+    let p = and_parts (may_move need rows i boxes) (may_shrink need rows i boxes && all_loose need rows back boxes) h in
+    let q = and_parts (may_shrink need rows i boxes) (all_loose need rows back boxes) p.1 in record { move = p.0; shrink = q.0 }
+loose_at need rows (j ∷ front) i back boxes h =
+    let rest = all_loose need rows (front ++ i ∷ back) boxes in
+    let p = and_parts (may_move need rows j boxes) (may_shrink need rows j boxes && rest) h in
+    loose_at need rows front i back boxes (and_parts (may_shrink need rows j boxes) rest p.1).1
 
 between_at : (a b : ℤ) (front : List (ℕ × ℕ × ℕ)) (i : ℕ × ℕ × ℕ) (back : List (ℕ × ℕ × ℕ)) (boxes : Boxes) → All (λ j. IsBetween a b j boxes) (front ++ i ∷ back) → IsBetween a b i boxes
 between_at a b [] i back boxes h = h 0 i (omega arith)
@@ -177,7 +181,7 @@ record Rows (items : List (ℕ × ℕ × ℕ)) (i : ℕ × ℕ × ℕ) (boxes : 
   rows : List Best
   rooms : AreBests start rows items boxes
   place : IsBetween start (start +ℤ pos (length rows)) i boxes
-  enough : least_sizes items boxes ≤ℤ firsts rows
+  grow : may_grow (least_sizes items boxes) (firsts rows) i boxes ≡ true
   loose : IsLoose (least_sizes items boxes) rows i boxes
 
 size_later : (front : List (ℕ × ℕ × ℕ)) (i : ℕ × ℕ × ℕ) (back : List (ℕ × ℕ × ℕ)) (boxes : Boxes) (x : ℕ) (v : ℤ) → Roomy front i back boxes x v → (i.1 == x) ≡ false → least_sizes (front ++ i ∷ back) (fixing boxes x v) ≡ least_sizes (front ++ i ∷ back) boxes
@@ -211,7 +215,7 @@ size_total front i back boxes x v r t e f g =
     let there : has (box_of boxes i.1) v ≡ true = subst (λ (z : ℕ). has (box_of boxes z) v ≡ true) (sym f) r.member in
     let below = below_high (box_of boxes i.1) v (r.sets i.1) there in
     let change = sizes_change front i back boxes x v r in
-    let grow = le_from (least_sizes items boxes +ℤ (high_of (box_of boxes i.1) -ℤ low_of (box_of boxes i.1))) (firsts t.rows) t.loose.grow in
+    let grow = le_from (least_sizes items boxes +ℤ (high_of (box_of boxes i.1) -ℤ low_of (box_of boxes i.1))) (firsts t.rows) t.grow in
     let rooms = firsts_le t.start t.rows items boxes later (λ w. best_same w front i back boxes x v r.not_front r.not_back e g) t.rooms in
     let all = in_all (length t.rows) t.start items later (fixed_sets boxes x v r.sets r.named r.member) in omega (arith, ints, size, below, change, grow, rooms, all)
 
@@ -272,7 +276,7 @@ rows_at front i back boxes h = record {
   rows = h.rows;
   rooms = h.rooms;
   place = between_at h.start (h.start +ℤ pos (length h.rows)) front i back boxes h.places;
-  enough = h.enough;
+  grow = grow_at (least_sizes (front ++ i ∷ back) boxes) (firsts h.rows) front i back boxes h.grow;
   loose = loose_at (least_sizes (front ++ i ∷ back) boxes) h.rows front i back boxes h.loose;
 }
 

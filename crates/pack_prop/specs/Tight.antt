@@ -29,6 +29,11 @@ abbrev pub firsts : List Best → ℤ
 firsts [] = pos 0
 firsts (b ∷ bs) = b.first.value +ℤ firsts bs
 
+-- the second greatest rooms, added up
+abbrev pub seconds : List Best → ℤ
+seconds [] = pos 0
+seconds (b ∷ bs) = b.second.value +ℤ seconds bs
+
 -- ---- what is left where one box is narrowed
 
 -- of the greatest room, where that of item i counts as `room` only, or not at all where that is 0
@@ -43,15 +48,20 @@ lefts (b ∷ bs) room i boxes = left_at b room i boxes +ℤ lefts bs room i boxe
 
 -- ---- whether there is room for the need
 
--- where the size of the item is any
-abbrev pub may_grow : ℤ → List Best → ℕ × ℕ × ℕ → Boxes → Bool
-may_grow need bests i boxes = int_le (need +ℤ (high_of (box_of boxes i.1) -ℤ low_of (box_of boxes i.1))) (firsts bests)
+-- of which there is `all`, where the size of the item is any
+abbrev pub may_grow : ℤ → ℤ → ℕ × ℕ × ℕ → Boxes → Bool
+may_grow need all i boxes = int_le (need +ℤ (high_of (box_of boxes i.1) -ℤ low_of (box_of boxes i.1))) all
 
--- where its place is that of b, if it may be, and `sum` is left without the item
+-- where any one size of the list is any
+abbrev pub all_grow : ℤ → ℤ → List (ℕ × ℕ × ℕ) → Boxes → Bool
+all_grow need all [] boxes = true
+all_grow need all (i ∷ is) boxes = may_grow need all i boxes && all_grow need all is boxes
+
+-- where the place of the item is that of b, if it may be, and `sum` is left without the item
 abbrev pub may_be_at : ℤ → ℤ → Best → ℕ × ℕ × ℕ → Boxes → Bool
 may_be_at need sum b i boxes = not (has (box_of boxes i.0) b.at.value) || int_le need (sum +ℤ (b.first.value -ℤ left_at b (pos 0) i boxes))
 
--- where its place is that of any of the list
+-- where it is that of any of the list
 abbrev pub may_be_in : ℤ → ℤ → List Best → ℕ × ℕ × ℕ → Boxes → Bool
 may_be_in need sum [] i boxes = true
 may_be_in need sum (b ∷ bs) i boxes = may_be_at need sum b i boxes && may_be_in need sum bs i boxes
@@ -65,14 +75,10 @@ may_move need bests i boxes =
 abbrev pub may_shrink : ℤ → List Best → ℕ × ℕ × ℕ → Boxes → Bool
 may_shrink need bests i boxes = is_one (box_of boxes i.2) || int_le need (lefts bests (low_of (box_of boxes i.2)) i boxes)
 
--- where any one box of the item is narrowed
-abbrev pub is_loose : ℤ → List Best → ℕ × ℕ × ℕ → Boxes → Bool
-is_loose need bests i boxes = may_grow need bests i boxes && (may_move need bests i boxes && may_shrink need bests i boxes)
-
--- that of any item of the list
+-- where any one place or room of the list is any
 abbrev pub all_loose : ℤ → List Best → List (ℕ × ℕ × ℕ) → Boxes → Bool
 all_loose need bests [] boxes = true
-all_loose need bests (i ∷ is) boxes = is_loose need bests i boxes && all_loose need bests is boxes
+all_loose need bests (i ∷ is) boxes = may_move need bests i boxes && (may_shrink need bests i boxes && all_loose need bests is boxes)
 
 -- the place's box lies from v to below `end`
 pub record IsBetween (v end : ℤ) (i : ℕ × ℕ × ℕ) (boxes : Boxes) : Type 0 where
@@ -86,4 +92,5 @@ pub record HasEach (items : List (ℕ × ℕ × ℕ)) (boxes : Boxes) : Type 0 w
   pub rooms : AreBests start rows items boxes
   pub places : All (λ i. IsBetween start (start +ℤ pos (length rows)) i boxes) items
   pub enough : least_sizes items boxes ≤ℤ firsts rows
+  pub grow : all_grow (least_sizes items boxes) (firsts rows) items boxes ≡ true
   pub loose : all_loose (least_sizes items boxes) rows items boxes ≡ true

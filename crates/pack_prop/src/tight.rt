@@ -19,7 +19,7 @@ ghost use Rattle.rule_law.specs.Reasons.{no_repeat};
 ghost use Rattle.rule_law.specs.Refuted.{least_sizes};
 ghost use Rattle.rule_law.specs.Repeats.{open_vars};
 ghost use Rattle.pack_prop.specs.Packing.{AllFit};
-ghost use Rattle.pack_prop.specs.Tight.{firsts, left_at, lefts, may_grow, may_be_at, may_move, may_shrink, is_loose, all_loose, HasEach};
+ghost use Rattle.pack_prop.specs.Tight.{AreBests, firsts, seconds, left_at, lefts, may_grow, all_grow, may_be_at, may_move, may_shrink, all_loose, HasEach};
 
 use crate::bests::{Best, Bests};
 use crate::loads::{Total, greater, greatest, is_single, least, may_be, sizes_of};
@@ -51,6 +51,24 @@ fn firsts_of(bests: &[Best]) -> Total
     sum
 }
 
+/// The second greatest room of the value.
+fn second_at(b: Best) -> Number
+    ensures { result.value ≡ b.second.value }
+{
+    b.second
+}
+
+/// The second greatest rooms, added up.
+fn seconds_of(bests: &[Best]) -> Total
+    ensures { result.value ≡ seconds bests.now }
+{
+    let mut sum = Total { value: 0 };
+    for b in bests {
+        sum = sum.plus(second_at(*b));
+    }
+    sum
+}
+
 /// What is left of the greatest room, where that of the item counts as `room` only.
 fn left_at(boxes: &[IntSet], i: (u32, u32, u32), b: Best, room: Number) -> Number
     requires { IsItemNamed i boxes.now }
@@ -75,20 +93,29 @@ fn lefts_of(boxes: &[IntSet], i: (u32, u32, u32), bests: &[Best], room: Number) 
     sum
 }
 
-// ---- one box
+// ---- sizes
 
-/// The sizes of the item that are too much, where there are some.
+/// Whether the sum is at least the need with some more.
+fn does_reach(sum: Total, need: Total, more: Total) -> bool
+    ensures { result ≡ true → (need.value +ℤ more.value) ≤ℤ sum.value }
+{
+    match need.with(more) {
+        Some(most) => most.is_at_most(sum),
+        None => false,
+    }
+}
+
+/// The sizes of the item that take too much of all room, where there are some.
 fn excess_of_size(
     boxes: &[IntSet],
     i: (u32, u32, u32),
-    bests: &[Best],
     need: Total,
+    all: Total,
 ) -> Option<Trial>
     requires { IsItemNamed i boxes.now }
     ensures some { IfSome result (λ t. t.var < length boxes.now) }
-    ensures none { IfNone result (may_grow need.value bests.now i boxes.now ≡ true) }
+    ensures none { IfNone result (may_grow need.value all.value i boxes.now ≡ true) }
 {
-    let all = firsts_of(bests);
     let low = least(boxes, i.1);
     if does_reach(all, need, Total::of(greatest(boxes, i.1)).less(low)) {
         return None;
@@ -101,15 +128,27 @@ fn excess_of_size(
     })
 }
 
-/// Whether the sum is at least the need with some more.
-fn does_reach(sum: Total, need: Total, more: Total) -> bool
-    ensures { result ≡ true → (need.value +ℤ more.value) ≤ℤ sum.value }
+/// The sizes of an item that take too much of all room, where there are some.
+fn excess_of_sizes(
+    items: &[(u32, u32, u32)],
+    boxes: &[IntSet],
+    need: Total,
+    all: Total,
+) -> Option<Trial>
+    requires { AreItemsNamed items.now boxes.now }
+    ensures some { IfSome result (λ t. t.var < length boxes.now) }
+    ensures none { IfNone result (all_grow need.value all.value items.now boxes.now ≡ true) }
 {
-    match need.with(more) {
-        Some(most) => most.is_at_most(sum),
-        None => false,
+    for i in items {
+        let found = excess_of_size(boxes, *i, need, all);
+        if found.is_some() {
+            return found;
+        }
     }
+    None
 }
+
+// ---- places and rooms
 
 /// Whether there is room enough where the place of the item is that of `b`, and `sum` is left without the item.
 fn is_enough_at(boxes: &[IntSet], i: (u32, u32, u32), b: Best, sum: Total, need: Total) -> bool
@@ -214,27 +253,8 @@ fn excess_of_room(
     })
 }
 
-// ---- all boxes
-
-/// What takes too much room of one box of the item, where something does.
-fn excess_of(boxes: &[IntSet], i: (u32, u32, u32), bests: &[Best], need: Total) -> Option<Trial>
-    requires { IsItemNamed i boxes.now }
-    ensures some { IfSome result (λ t. t.var < length boxes.now) }
-    ensures none { IfNone result (is_loose need.value bests.now i boxes.now ≡ true) }
-{
-    let size = excess_of_size(boxes, i, bests, need);
-    if size.is_some() {
-        return size;
-    }
-    let place = excess_of_place(boxes, i, bests, need);
-    if place.is_some() {
-        return place;
-    }
-    excess_of_room(boxes, i, bests, need)
-}
-
-/// What takes too much room of one box, where something does.
-fn excess_of_one(
+/// What takes too much room of the place or the room of an item, where something does.
+fn excess_of_places(
     items: &[(u32, u32, u32)],
     boxes: &[IntSet],
     bests: &[Best],
@@ -245,35 +265,54 @@ fn excess_of_one(
     ensures none { IfNone result (all_loose need.value bests.now items.now boxes.now ≡ true) }
 {
     for i in items {
-        let found = excess_of(boxes, *i, bests, need);
-        if found.is_some() {
-            return found;
+        let place = excess_of_place(boxes, *i, bests, need);
+        if place.is_some() {
+            return place;
+        }
+        let room = excess_of_room(boxes, *i, bests, need);
+        if room.is_some() {
+            return room;
         }
     }
     None
 }
 
-/// What takes too much room, where something does: all of a place's box, where the least sizes do.
+// ---- all boxes
+
+/// What takes too much room, where something does: all of a place's box, where the least sizes do. Where the second greatest rooms
+/// are enough, no place or room takes too much.
+#[tactic(auto, using(crate::proofs::TightRows::sure_loose))]
 fn excess(
     items: &[(u32, u32, u32)],
     boxes: &[IntSet],
     bests: &[Best],
     head: (u32, u32, u32),
+    first: Number,
 ) -> Option<Trial>
     requires items { AreItemsNamed items.now boxes.now }
     requires head { IsItemNamed head boxes.now }
+    requires rooms { AreBests first.value bests.now items.now boxes.now }
     ensures some { IfSome result (λ t. t.var < length boxes.now) }
     ensures enough { IfNone result (least_sizes items.now boxes.now ≤ℤ firsts bests.now) }
+    ensures grow { IfNone result (all_grow (least_sizes items.now boxes.now) (firsts bests.now) items.now boxes.now ≡ true) }
     ensures loose { IfNone result (all_loose (least_sizes items.now boxes.now) bests.now items.now boxes.now ≡ true) }
 {
     let need = sizes_of(items, boxes);
-    if !need.is_at_most(firsts_of(bests)) {
+    let all = firsts_of(bests);
+    if !need.is_at_most(all) {
         return Some(Trial {
             var: head.0,
             span: (i64::MIN, i64::MAX),
         });
     }
-    excess_of_one(items, boxes, bests, need)
+    let size = excess_of_sizes(items, boxes, need, all);
+    if size.is_some() {
+        return size;
+    }
+    if need.is_at_most(seconds_of(bests)) {
+        return None;
+    }
+    excess_of_places(items, boxes, bests, need)
 }
 
 // ---- what is answered
@@ -345,7 +384,7 @@ fn find_excess(
 {
     let places = places_of(items, boxes, head);
     let rows = bests.find(items, boxes, places.0, places.1)?;
-    Ok(excess(items, boxes, rows, head))
+    Ok(excess(items, boxes, rows, head, places.0))
 }
 
 /// What items answer of which each fits wherever it may be, and no open variable stands twice.

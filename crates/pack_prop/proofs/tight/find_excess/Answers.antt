@@ -7,4 +7,4 @@ pub returns-clause-none : goal.returns-clause-none
 returns-clause-none c =
     each_enough c.excess.result c.args.items.now c.args.boxes.now (low_of (box_of c.args.boxes.now c.args.head.0)) (high_of (box_of c.args.boxes.now c.args.head.0))
     c.places_of-places.result.0.value c.places_of-places.result.1.value c.in_ok-rows.rows.now c.places_of-places.ensures.first c.places_of-places.ensures.last
-    c.in_ok-rows.ensures.rooms c.in_ok-rows.ensures.all c.excess.ensures.enough c.excess.ensures.loose
+    c.in_ok-rows.ensures.rooms c.in_ok-rows.ensures.all c.excess.ensures.enough c.excess.ensures.grow c.excess.ensures.loose
