@@ -4,7 +4,8 @@
 //! - `differing`: places that differ. `sweep` finds crowded and full intervals with the counters of `slots`, `explain` says
 //!   why, by the boxes within them; `interval` answers small questions.
 //! - `packing`: items to be packed. `room` shows with the numbers of `loads` that they are roomy, or finds an item that doesn't
-//!   fit; `misfits` and `overfull` say what such an item takes away, and why.
+//!   fit; `misfits` and `overfull` say what such an item takes away, and why. Where all fit, `tight` finds with the rooms of
+//!   `bests` what takes too much of all room, and `total` says why.
 #![tactic(auto)]
 
 mod bests;

@@ -2,9 +2,10 @@
 //!
 //! Of each item (place, size, room), the sizes at its place add up to at most its room; and all sizes to at most the best rooms
 //! of the places that are open to them. `room` shows in one pass over places and items that neither rule has anything to say,
-//! or finds an item that doesn't fit, which `misfits` explains; where neither can, the rule is probed.
+//! or finds an item that doesn't fit, which `misfits` explains; where each fits and there may be too little room in all, `tight`
+//! looks at each box in turn. What they find to take too much, and cannot explain, is probed.
 //!
-//! Cost: the number of places times that of items, where they are roomy.
+//! Cost: the number of places times that of items.
 ghost use Rattle.std.specs.Prelude.{◌≡◌, ◌<◌, true, false, IfOk, length};
 ghost use Rattle.std.specs.List.{All};
 ghost use Rattle.signed_clause.specs.Ranges.{is_nil, IsValid};

@@ -106,12 +106,7 @@ fn does_reach(sum: Total, need: Total, more: Total) -> bool
 }
 
 /// The sizes of the item that take too much of all room, where there are some.
-fn excess_of_size(
-    boxes: &[IntSet],
-    i: (u32, u32, u32),
-    need: Total,
-    all: Total,
-) -> Option<Trial>
+fn excess_of_size(boxes: &[IntSet], i: (u32, u32, u32), need: Total, all: Total) -> Option<Trial>
     requires { IsItemNamed i boxes.now }
     ensures some { IfSome result (λ t. t.var < length boxes.now) }
     ensures none { IfNone result (may_grow need.value all.value i boxes.now ≡ true) }
@@ -370,7 +365,7 @@ fn prune_or_probe(
 }
 
 /// What takes too much room of the items, where something does.
-fn find_excess(
+pub fn find_excess(
     bests: &mut Bests,
     items: &[(u32, u32, u32)],
     boxes: &[IntSet],
