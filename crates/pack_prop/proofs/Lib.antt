@@ -10,7 +10,10 @@ pub mod Taking
 pub mod Spots
 pub mod OneBox
 pub mod TotalRoom
+pub mod PackLoads
+pub mod PackTotal
 pub mod PackQuiet
+pub mod TightTotal
 pub mod PackWalks
 pub mod Roomy
 pub mod SurveySpots
@@ -19,4 +22,5 @@ pub mod SurveyFits
 pub mod SurveyWalk
 pub mod Covered
 pub mod OverReason
+pub mod TightRows
 pub mod UpTo

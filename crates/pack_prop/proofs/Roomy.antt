@@ -12,8 +12,12 @@ use Rattle.rule_law.specs.Named.{AreItemsNamed}
 use Rattle.rule_law.specs.Quiet.{quiet}
 use Rattle.rule_law.specs.Reasons.{no_repeat}
 use Rattle.rule_law.specs.Repeats.{open_vars}
-use Rattle.pack_prop.specs.Packing.{AllFit, HasEnough, AreRoomy}
-use Rattle.pack_prop.proofs.PackQuiet.{roomy_quiet}
+use Rattle.rule_law.proofs.EndLaws.{are_sets}
+use Rattle.pack_prop.specs.Packing.{AllFit, HasEnough, AreRoomy, opens}
+use Rattle.pack_prop.specs.Tight.{HasEach}
+use Rattle.pack_prop.proofs.PackTotal.{HasRoom, enough_room}
+use Rattle.pack_prop.proofs.TightTotal.{each_room}
+use Rattle.pack_prop.proofs.PackQuiet.{room_quiet}
 
 pub roomy_from : (con : Con) (items : List (ℕ × ℕ × ℕ)) (boxes : Boxes) → con ≡ Pack items → AllFit items boxes → HasEnough items boxes → no_repeat (open_vars (vars_of con) boxes) ≡ true → AreRoomy items boxes
 roomy_from con items boxes is f e n = record { once = subst (λ (k : Con). no_repeat (open_vars (vars_of k) boxes) ≡ true) is n; fit = f; enough = e }
@@ -34,9 +38,18 @@ pack_named con domains boxes items e w b = items_named items boxes (vars_named c
 pub pack_some : (con : Con) (domains boxes : Boxes) (items : List (ℕ × ℕ × ℕ)) → con ≡ Pack items → IsWellMadeCon domains con → AreBoxesWithin domains boxes → All (λ x. is_nil (box_of boxes x) ≡ false) (item_vars items)
 pack_some con domains boxes items e w b k d lt = b.some _ (vars_named con domains boxes items e w b k d lt)
 
+with_room : (con : Con) (domains boxes : Boxes) (items : List (ℕ × ℕ × ℕ)) → con ≡ Pack items → IsWellMadeCon domains con → AreBoxesWithin domains boxes → no_repeat (opens items boxes) ≡ true → AllFit items boxes → HasRoom items boxes → quiet con boxes ≡ true
+with_room con domains boxes items e w b once fit room =
+    subst (λ (z : Con). quiet z boxes ≡ true) (sym e) (room_quiet domains boxes items b (vars_named con domains boxes items e w b) once fit room)
+
 pub pack_quiet : (con : Con) (domains boxes : Boxes) (items : List (ℕ × ℕ × ℕ)) → con ≡ Pack items → IsWellMadeCon domains con → AreBoxesWithin domains boxes → AreRoomy items boxes → quiet con boxes ≡ true
-pack_quiet con domains boxes items e w b r =
-    subst (λ (z : Con). quiet z boxes ≡ true) (sym e) (roomy_quiet domains boxes items b (vars_named con domains boxes items e w b) r)
+pack_quiet con domains boxes items e w b r = with_room con domains boxes items e w b r.once r.fit (enough_room items boxes (are_sets boxes b.sets) r.enough)
+
+pub tight_quiet : (con : Con) (domains boxes : Boxes) (items : List (ℕ × ℕ × ℕ)) → con ≡ Pack items → IsWellMadeCon domains con → AreBoxesWithin domains boxes →
+    no_repeat (open_vars (vars_of con) boxes) ≡ true → AllFit items boxes → HasEach items boxes → quiet con boxes ≡ true
+tight_quiet con domains boxes items e w b n fit each =
+    let once : no_repeat (opens items boxes) ≡ true = subst (λ (k : Con). no_repeat (open_vars (vars_of k) boxes) ≡ true) e n in
+    with_room con domains boxes items e w b once fit (each_room items boxes (are_sets boxes b.sets) each)
 
 pub pack_sizes : (con : Con) (domains : Boxes) (items : List (ℕ × ℕ × ℕ)) → con ≡ Pack items → IsWellMadeCon domains con → All (λ i. pos 0 ≤ℤ low_of (box_of domains i.1)) items
 pack_sizes con domains items e w = (subst (λ (z : Con). IsBounded z domains) e w.bounded).sizes

@@ -15,7 +15,7 @@ use Rattle.pack_prop.specs.Packing.{put, two_rooms, seconds_from}
 
 -- ---- the greatest and the second greatest room
 
-first_is : (w : ℤ) (is : List (ℕ × ℕ × ℕ)) (boxes : Boxes) → (two_rooms w is boxes).0 ≡ best_room w is boxes
+pub first_is : (w : ℤ) (is : List (ℕ × ℕ × ℕ)) (boxes : Boxes) → (two_rooms w is boxes).0 ≡ best_room w is boxes
 first_is w [] boxes = refl
 first_is w (i ∷ is) boxes =
     let more = first_is w is boxes in
@@ -144,7 +144,7 @@ none_above w v (i ∷ is) boxes s h =
 width_end : (u t : ℤ) → u ≤ℤ t → u +ℤ pos (width u t) ≡ t +ℤ pos 1
 width_end u t h = omega (arith, ints)
 
-in_all : (n : ℕ) (v : ℤ) (items : List (ℕ × ℕ × ℕ)) (boxes : Boxes) → AreSets boxes → rooms_from n v items boxes ≤ℤ all_room items boxes
+pub in_all : (n : ℕ) (v : ℤ) (items : List (ℕ × ℕ × ℕ)) (boxes : Boxes) → AreSets boxes → rooms_from n v items boxes ≤ℤ all_room items boxes
 in_all n v [] boxes s = let none = rooms_none n v v [] boxes (omega (arith, ints)) (λ w l. refl) in omega (arith, ints)
 in_all n v (i ∷ is) boxes s =
     let box = box_of boxes i.0 in

@@ -7,3 +7,4 @@ pub mod Packing
 pub mod Looks
 pub mod Sources
 pub mod Survey
+pub mod Tight

@@ -4,9 +4,11 @@
 //! - `differing`: places that differ. `sweep` finds crowded and full intervals with the counters of `slots`, `explain` says
 //!   why, by the boxes within them; `interval` answers small questions.
 //! - `packing`: items to be packed. `room` shows, with what a `survey` counts at each place by the numbers of `loads`, that they
-//!   are roomy, or finds an item that doesn't fit; `misfits` and `overfull` say what such an item takes away, and why.
+//!   are roomy, or finds an item that doesn't fit; `misfits` and `overfull` say what such an item takes away, and why. Where all
+//!   fit, `tight` finds with the rooms of `bests` what takes too much of all room, and `total` says why.
 #![tactic(auto)]
 
+mod bests;
 mod differing;
 mod explain;
 mod interval;
@@ -21,5 +23,7 @@ mod survey;
 mod sweep;
 #[cfg(test)]
 mod tests;
+mod tight;
+mod total;
 
 pub use propagator::PackProp;

@@ -21,15 +21,15 @@ use std::alloc::{AllocError, Global};
 
 /// A variable, and the numbers of its box that are tried.
 #[derive(Clone, Copy)]
-struct Trial {
+pub struct Trial {
     /// The variable.
-    var: u32,
+    pub var: u32,
     /// The least and the greatest number.
-    span: (i64, i64),
+    pub span: (i64, i64),
 }
 
 /// The number, or the nearest one of 64 bits.
-fn clamped(n: i128) -> i64 {
+pub fn clamped(n: i128) -> i64 {
     if n < i128::from(i64::MIN) {
         i64::MIN
     } else {
@@ -67,7 +67,12 @@ fn trial_of(items: &[(u32, u32, u32)], boxes: &[IntSet], i: (u32, u32, u32), at:
 
 /// The values of the box of `x` in the range, which isn't empty.
 #[tactic(auto, using(crate::proofs::OverReason::meet_inside))]
-fn part_of(alloc: Global, boxes: &[IntSet], x: u32, span: (i64, i64)) -> Result<IntSet, AllocError>
+pub fn part_of(
+    alloc: Global,
+    boxes: &[IntSet],
+    x: u32,
+    span: (i64, i64),
+) -> Result<IntSet, AllocError>
     requires var { x < length boxes.now }
     requires order { span.0 ≤ℤ span.1 }
     ensures valid { IfOk result (λ s. IsValid s) }

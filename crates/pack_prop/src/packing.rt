@@ -2,9 +2,11 @@
 //!
 //! Of each item (place, size, room), the sizes at its place add up to at most its room; and all sizes to at most the best rooms
 //! of the places that are open to them. `room` shows in one pass over items and places that neither rule has anything to say,
-//! or finds an item that doesn't fit, which `misfits` explains; where neither can, the rule is probed.
+//! or finds an item that doesn't fit, which `misfits` explains; where each fits and there may be too little room in all, `tight`
+//! looks at each box in turn. What they find to take too much, and cannot explain, is probed.
 //!
-//! Cost: the number of items, of the ranges of their places' boxes and of places, where they are roomy.
+//! Cost: the number of items, of the ranges of their places' boxes and of places, where they are roomy; where they are tight, the
+//! number of places times that of items.
 ghost use Rattle.std.specs.Prelude.{◌≡◌, ◌<◌, true, false, IfOk, length};
 ghost use Rattle.std.specs.List.{All};
 ghost use Rattle.signed_clause.specs.Ranges.{is_nil, IsValid};
@@ -20,6 +22,7 @@ ghost use Rattle.pack_prop.specs.Packing.{AllFit, HasEnough};
 use crate::misfits::prune_misfit;
 use crate::propagator::Kept;
 use crate::room::{Look, look_at_items};
+use crate::tight::prune_tight;
 use ground_form::{Con, Number};
 use rule_law::{Differing, probe};
 use signed_clause::{Clause, IntSet};
@@ -78,6 +81,32 @@ fn prune_by_item(
     probe(con, domains, boxes, alloc)
 }
 
+/// What items answer of which each fits wherever it may be.
+fn prune_unsure(
+    alloc: Global,
+    kept: &mut Kept,
+    k: u32,
+    con: &Con,
+    items: &[(u32, u32, u32)],
+    domains: &[IntSet],
+    boxes: &[IntSet],
+) -> Result<Option<Clause>, AllocError>
+    requires con { con.now ≡ Pack items.now }
+    requires items { AreItemsNamed items.now boxes.now }
+    requires well_made { IsWellMadeCon domains.now con.now }
+    requires boxes { AreBoxesWithin domains.now boxes.now }
+    requires sets { All (λ d. IsValid d) domains.now }
+    requires fit { AllFit items.now boxes.now }
+    ensures { IfOk result (λ a. IsAnswer con.now domains.now boxes.now a) }
+{
+    let differ = kept.differing.do_open_differ(k, con, boxes)?;
+    if differ {
+        prune_tight(alloc, &mut kept.bests, con, items, domains, boxes)
+    } else {
+        probe(con, domains, boxes, alloc)
+    }
+}
+
 /// A clause that items to be packed justify and that takes something away; None where they are quiet.
 ///
 /// # Errors
@@ -101,6 +130,6 @@ pub fn prune_packing(
     match look_at_items(&mut kept.survey, items, boxes)? {
         Look::Roomy => prune_roomy(alloc, &mut kept.differing, k, con, items, domains, boxes),
         Look::Misfit(at, i) => prune_by_item(alloc, con, items, domains, boxes, at, i),
-        Look::Unsure => probe(con, domains, boxes, alloc),
+        Look::Unsure => prune_unsure(alloc, kept, k, con, items, domains, boxes),
     }
 }

@@ -7,6 +7,7 @@ ghost use Rattle.ground_form.specs.WellMade.{IsWellMade, IsWellMadeCon};
 ghost use Rattle.rule_law.specs.Answers.{AreBoxesWithin, IsAnswer};
 ghost use Rattle.pack_prop.specs.Handled.{is_handled};
 
+use crate::bests::Bests;
 use crate::differing::prune_differing;
 use crate::packing::prune_packing;
 use crate::survey::Survey;
@@ -21,6 +22,8 @@ use std::alloc::{AllocError, Global};
 pub struct Kept {
     /// Counters for a sweep.
     pub slots: Slots,
+    /// The greatest rooms of values.
+    pub bests: Bests,
     /// Which variables of a constraint stand twice.
     pub differing: Differing,
     /// What is counted of items to be packed.
@@ -35,12 +38,14 @@ impl Kept {
         ensures no_spots { result.survey.spots.items ≡ [] }
         ensures no_begun { result.survey.begun.items ≡ [] }
         ensures no_ended { result.survey.ended.items ≡ [] }
+        ensures no_bests { result.bests.rows.items ≡ [] }
     {
         Kept {
             slots: Slots {
                 starts: Vec::new(alloc),
                 ends: Vec::new(alloc),
             },
+            bests: Bests::new(alloc),
             differing: Differing::new(alloc),
             survey: Survey::new(alloc),
         }
@@ -63,6 +68,7 @@ impl PackProp {
         ensures no_spots { result.kept.survey.spots.items ≡ [] }
         ensures no_begun { result.kept.survey.begun.items ≡ [] }
         ensures no_ended { result.kept.survey.ended.items ≡ [] }
+        ensures no_bests { result.kept.bests.rows.items ≡ [] }
     {
         PackProp {
             alloc,

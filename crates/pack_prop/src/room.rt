@@ -19,6 +19,7 @@ ghost use Rattle.pack_prop.specs.Packing.{tight_room, fits, all_fit, growth, Has
 ghost use Rattle.pack_prop.specs.Survey.{IsSpot, IsSettled, AreSpots, AreBegun, AreEnded, all_gone_on, hits, open_size, room_floor};
 ghost use Rattle.pack_prop.specs.Looks.{IsSeen, IsWalked};
 
+use crate::bests::two_at;
 use crate::interval::ends_in_order;
 use crate::loads::{
     Total, greater, greatest, is_fixed, is_single, least, may_be, sizes_of, smaller,
@@ -249,7 +250,7 @@ fn last_place(items: &[(u32, u32, u32)], boxes: &[IntSet], from: Number) -> Numb
 }
 
 /// The least and the greatest value of the box of `x`.
-fn ends_at(boxes: &[IntSet], x: u32) -> (Number, Number)
+pub fn ends_at(boxes: &[IntSet], x: u32) -> (Number, Number)
     requires { x < length boxes.now }
     ensures low { result.0.value ≡ low_of (box_of boxes.now x) }
     ensures high { result.1.value ≡ high_of (box_of boxes.now x) }
@@ -260,7 +261,11 @@ fn ends_at(boxes: &[IntSet], x: u32) -> (Number, Number)
 }
 
 /// Where the items' places begin and end.
-fn places_of(items: &[(u32, u32, u32)], boxes: &[IntSet], head: (u32, u32, u32)) -> (Number, Number)
+pub fn places_of(
+    items: &[(u32, u32, u32)],
+    boxes: &[IntSet],
+    head: (u32, u32, u32),
+) -> (Number, Number)
     requires items { AreItemsNamed items.now boxes.now }
     requires head { IsItemNamed head boxes.now }
     ensures first { result.0.value ≡ first_place (low_of (box_of boxes.now head.0)) items.now boxes.now }

@@ -5,10 +5,14 @@ ghost use Rattle.std.specs.List.{All};
 ghost use Rattle.signed_clause.specs.Ranges.{is_nil, IsValid};
 ghost use Rattle.signed_clause.specs.SetAlgebra.{inside};
 ghost use Rattle.signed_clause.specs.Clauses.{box_of};
+ghost use Rattle.ground_form.specs.declared.con.Con.TheVariants.{Pack};
 ghost use Rattle.ground_form.specs.WellMade.{IsWellMadeCon};
 ghost use Rattle.rule_law.specs.Answers.{AreBoxesWithin, IsAnswer};
 
+use crate::bests::Bests;
+use crate::misfits::part_of;
 use crate::propagator::{Kept, answer};
+use crate::tight::find_excess;
 use ground_form::{Con, PackItems, VarList};
 use rule_law::{justified, probe};
 use signed_clause::{Clause, IntSet};
@@ -133,19 +137,30 @@ fn settle(
     Ok(None)
 }
 
-/// Of each domain the values 0 to 3 whose bits are set in a digit of `n`.
+/// The values 0 to 3 whose bits are set in the number.
+fn bits_of(alloc: Global, n: u32) -> Result<IntSet, AllocError> {
+    let mut rest = n;
+    let mut set = IntSet::empty(alloc);
+    for v in 0..4i64 {
+        if rest % 2 == 1 {
+            set = set.join(&IntSet::range(alloc, v, v))?;
+        }
+        rest /= 2;
+    }
+    Ok(set)
+}
+
+/// Of each domain the values 0 to 3 whose bits are set in a digit of `n`, and all of a domain of one value.
 fn nth_boxes(alloc: Global, domains: &[IntSet], n: u32) -> Result<Vec<IntSet>, AllocError> {
     let mut rest = n;
     let mut boxes = Vec::new(alloc);
     for d in domains {
-        let mut part = IntSet::empty(alloc);
-        for v in 0..4i64 {
-            if rest % 2 == 1 {
-                part = part.join(&IntSet::range(alloc, v, v))?;
-            }
-            rest /= 2;
+        if d.is_single() {
+            boxes.push(d.copy()?)?;
+        } else {
+            boxes.push(d.meet(&bits_of(alloc, rest % 16)?)?)?;
+            rest /= 16;
         }
-        boxes.push(d.meet(&part)?)?;
     }
     Ok(boxes)
 }
@@ -155,13 +170,17 @@ fn are_same(a: &[IntSet], b: &[IntSet]) -> bool {
     a.len() == b.len() && a.iter().zip(b).all(|(s, t)| s.same(t))
 }
 
-/// The values of a point: the digits of `n` to the base 4.
-fn nth_point(alloc: Global, n: u32, variables: usize) -> Result<Vec<i64>, AllocError> {
+/// The values of a point: the digits of `n` to the base 4, and the value of a domain that has one alone.
+fn nth_point(alloc: Global, n: u32, domains: &[IntSet]) -> Result<Vec<i64>, AllocError> {
     let mut rest = n;
     let mut values = Vec::new(alloc);
-    for _ in 0..variables {
-        values.push(i64::from(rest % 4))?;
-        rest /= 4;
+    for d in domains {
+        if d.is_single() {
+            values.push(d.least().unwrap_or(0))?;
+        } else {
+            values.push(i64::from(rest % 4))?;
+            rest /= 4;
+        }
     }
     Ok(values)
 }
@@ -219,11 +238,12 @@ fn is_inside(boxes: &[IntSet], point: &[i64]) -> bool {
 fn keeps_points(
     alloc: Global,
     con: &Con,
+    domains: &[IntSet],
     boxes: &[IntSet],
     left: Option<&[IntSet]>,
 ) -> Result<bool, AllocError> {
     for n in 0..256u32 {
-        let point = nth_point(alloc, n, boxes.len())?;
+        let point = nth_point(alloc, n, domains)?;
         if is_inside(boxes, &point) && is_true(con, &point) {
             let is_kept = match left {
                 Some(left) => is_inside(left, &point),
@@ -268,10 +288,87 @@ fn agrees(alloc: Global, con: &Con, domains: &[IntSet], count: u32) -> Result<u3
                 None => None,
             };
             let whole = nth_boxes(alloc, domains, n)?;
-            if !same || !keeps_points(alloc, con, &whole, left)? {
+            if !same || !keeps_points(alloc, con, domains, &whole, left)? {
                 return Ok(0);
             }
             cases = cases.saturating_add(1);
+        }
+    }
+    Ok(cases)
+}
+
+/// The box of `y`, with the part in place of that of `x`.
+fn set_at<'a>(boxes: &'a [IntSet], x: u32, part: &'a IntSet, y: u32) -> &'a IntSet {
+    match boxes.get(y as usize) {
+        Some(set) if y != x => set,
+        _ => part,
+    }
+}
+
+/// Whether all least sizes are more than all room, with the part in place of the box of `x`, by what that says of places 0 to 3.
+fn is_too_much(items: &[(u32, u32, u32)], boxes: &[IntSet], x: u32, part: &IntSet) -> bool {
+    let mut sizes = 0i64;
+    for i in items {
+        let least = set_at(boxes, x, part, i.1).least().unwrap_or(0);
+        sizes = sizes.saturating_add(least);
+    }
+    let mut rooms = 0i64;
+    for v in 0..4i64 {
+        let mut best = 0i64;
+        for i in items {
+            if set_at(boxes, x, part, i.0).contains(v) {
+                best = best.max(set_at(boxes, x, part, i.2).greatest().unwrap_or(0));
+            }
+        }
+        rooms = rooms.saturating_add(best);
+    }
+    rooms < sizes
+}
+
+/// Whether what is found to take too much room does so, where something is found.
+#[tactic(auto, using(crate::proofs::Roomy::pack_named))]
+fn is_found_right(
+    alloc: Global,
+    con: &Con,
+    items: &[(u32, u32, u32)],
+    domains: &[IntSet],
+    boxes: &[IntSet],
+) -> Result<Option<bool>, AllocError>
+    requires con { con.now ≡ Pack items.now }
+    requires well_made { IsWellMadeCon domains.now con.now }
+    requires boxes { AreBoxesWithin domains.now boxes.now }
+{
+    if items.is_empty() {
+        return Ok(None);
+    }
+    let mut bests = Bests::new(alloc);
+    let Some(trial) = find_excess(&mut bests, items, boxes, items[0])? else {
+        return Ok(None);
+    };
+    if trial.span.1 < trial.span.0 {
+        return Ok(Some(false));
+    }
+    let part = part_of(alloc, boxes, trial.var, trial.span)?;
+    let is_right = !part.is_empty() && is_too_much(items, boxes, trial.var, &part);
+    Ok(Some(is_right))
+}
+
+/// In how many boxes within the domains something is found to take too much room, and does.
+fn count_found(alloc: Global, con: &Con, domains: &[IntSet], count: u32) -> Result<u32, AllocError>
+    requires well_made { IsWellMadeCon domains.now con.now }
+{
+    let Con::Pack { items } = con else {
+        return Ok(0);
+    };
+    let mut cases = 0u32;
+    for k in 0..count {
+        let boxes = nth_boxes(alloc, domains, k.saturating_mul(11))?;
+        if are_within(domains, boxes.as_slice()) {
+            match is_found_right(alloc, con, items.items(), domains, boxes.as_slice())? {
+                Some(true) => cases = cases.saturating_add(1),
+                Some(false) => return Ok(0),
+                None => {}
+            }
         }
     }
     Ok(cases)
@@ -351,6 +448,60 @@ fn items_to_be_packed(rt: HostRuntime) -> Result<(), AllocError> {
             items: PackItems::of(vec![in alloc; items[0], items[1], items[2]]?),
         };
         assert!(rt; agrees(alloc, &con, domains.as_slice(), 5400)? > 2500);
+    }
+    Ok(())
+}
+
+/// Whether the propagator agrees with plain probing, and finds what takes too much room in some boxes.
+fn is_pruned_tight(alloc: Global, con: &Con, domains: &[IntSet]) -> Result<bool, AllocError>
+    requires well_made { IsWellMadeCon domains.now con.now }
+    requires sets { All (λ d. IsValid d) domains.now }
+{
+    let cases = agrees(alloc, con, domains, 1400)?;
+    let found = count_found(alloc, con, domains, 1400)?;
+    Ok(cases > 500 && found > 100)
+}
+
+#[test]
+fn tight_packings(rt: HostRuntime) -> Result<(), AllocError> {
+    let alloc = rt.alloc();
+    let domains = vec![in alloc;
+        IntSet::range(alloc, 0, 2),
+        IntSet::range(alloc, 0, 2),
+        IntSet::range(alloc, 1, 3),
+        IntSet::range(alloc, 1, 1),
+    ]?;
+    // an item of size 1 or more and one of 1, and one fixed at 1, of room 1 each; and the first of more room
+    for items in [
+        [(0u32, 2u32, 3u32), (1, 3, 3), (3, 3, 3)],
+        [(0, 3, 2), (1, 3, 3), (3, 3, 3)],
+    ] {
+        let con = Con::Pack {
+            items: PackItems::of(vec![in alloc; items[0], items[1], items[2]]?),
+        };
+        assert!(rt; is_pruned_tight(alloc, &con, domains.as_slice())?);
+    }
+    Ok(())
+}
+
+#[test]
+fn tight_packings_of_different_rooms(rt: HostRuntime) -> Result<(), AllocError> {
+    let alloc = rt.alloc();
+    let domains = vec![in alloc;
+        IntSet::range(alloc, 0, 2),
+        IntSet::range(alloc, 0, 2),
+        IntSet::range(alloc, 0, 3),
+        IntSet::range(alloc, 2, 2),
+    ]?;
+    // three sizes of 2 in three places of room 2 each, of which one may be less; and room for one more
+    for items in [
+        [(0u32, 3u32, 3u32), (1, 3, 3), (3, 3, 2)],
+        [(0, 2, 3), (1, 3, 3), (3, 3, 3)],
+    ] {
+        let con = Con::Pack {
+            items: PackItems::of(vec![in alloc; items[0], items[1], items[2]]?),
+        };
+        assert!(rt; is_pruned_tight(alloc, &con, domains.as_slice())?);
     }
     Ok(())
 }

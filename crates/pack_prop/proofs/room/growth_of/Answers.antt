@@ -1,6 +1,6 @@
 use Rattle.std.proofs.Common.{get_or, refl, arith}
 use Rattle.std.proofs.lemmas.Int.{ints}
-use Rattle.pack_prop.proofs.PackQuiet.{growth_ge}
+use Rattle.pack_prop.proofs.PackTotal.{growth_ge}
 use Rattle.pack_prop.proofs.PackWalks.{growth_step, growth_low}
 use Rattle.pack_prop.proofs.room.growth_of.Goals as goal
 

@@ -1,0 +1,415 @@
+//! Packings in which there may be too little room in all.
+//!
+//! With the greatest and the second greatest room of each value it is told of each box of an item whether a value of it takes too
+//! much room: whether there is room enough where the size is greatest, where the place is each that it may be, and where the room
+//! is least. What would take too much is tried, and explained by `total`.
+//!
+//! Cost: the number of places times that of items.
+ghost use Rattle.std.specs.Prelude.{◌≡◌, ◌<◌, ◌≤ℤ◌, ◌<ℤ◌, ◌+ℤ◌, pos, true, false, IfOk, IfSome, IfNone, length};
+ghost use Rattle.std.specs.List.{All};
+ghost use Rattle.signed_clause.specs.Ranges.{IsValid};
+ghost use Rattle.signed_clause.specs.Clauses.{box_of};
+ghost use Rattle.ground_form.specs.declared.con.Con.TheVariants.{Pack};
+ghost use Rattle.ground_form.specs.Bounds.{low_of, high_of};
+ghost use Rattle.ground_form.specs.Meaning.{vars_of};
+ghost use Rattle.ground_form.specs.WellMade.{IsWellMadeCon};
+ghost use Rattle.rule_law.specs.Answers.{AreBoxesWithin, IsAnswer, IsPruning};
+ghost use Rattle.rule_law.specs.Named.{AreItemsNamed, IsItemNamed};
+ghost use Rattle.rule_law.specs.Reasons.{no_repeat};
+ghost use Rattle.rule_law.specs.Refuted.{least_sizes};
+ghost use Rattle.rule_law.specs.Repeats.{open_vars};
+ghost use Rattle.pack_prop.specs.Packing.{AllFit};
+ghost use Rattle.pack_prop.specs.Tight.{AreBests, firsts, seconds, left_at, lefts, may_grow, all_grow, may_be_at, may_move, may_shrink, all_loose, HasEach};
+
+use crate::bests::{Best, Bests};
+use crate::loads::{Total, greater, greatest, is_single, least, may_be, sizes_of};
+use crate::misfits::{Trial, clamped, part_of};
+use crate::room::{ends_at, places_of};
+use crate::total::explain_total;
+use ground_form::{Con, Number};
+use rule_law::probe;
+use signed_clause::{Clause, IntSet};
+use std::alloc::{AllocError, Global};
+
+// ---- what is left
+
+/// The greatest room of the value.
+fn first_at(b: Best) -> Number
+    ensures { result.value ≡ b.first.value }
+{
+    b.first
+}
+
+/// The greatest rooms, added up.
+fn firsts_of(bests: &[Best]) -> Total
+    ensures { result.value ≡ firsts bests.now }
+{
+    let mut sum = Total { value: 0 };
+    for b in bests {
+        sum = sum.plus(first_at(*b));
+    }
+    sum
+}
+
+/// The second greatest room of the value.
+fn second_at(b: Best) -> Number
+    ensures { result.value ≡ b.second.value }
+{
+    b.second
+}
+
+/// The second greatest rooms, added up.
+fn seconds_of(bests: &[Best]) -> Total
+    ensures { result.value ≡ seconds bests.now }
+{
+    let mut sum = Total { value: 0 };
+    for b in bests {
+        sum = sum.plus(second_at(*b));
+    }
+    sum
+}
+
+/// What is left of the greatest room, where that of the item counts as `room` only.
+fn left_at(boxes: &[IntSet], i: (u32, u32, u32), b: Best, room: Number) -> Number
+    requires { IsItemNamed i boxes.now }
+    ensures { result.value ≡ left_at b room.value i boxes.now }
+{
+    if may_be(boxes, i.0, b.at) && b.first.value <= greatest(boxes, i.2).value {
+        greater(b.second, room)
+    } else {
+        b.first
+    }
+}
+
+/// What is left of all, added up.
+fn lefts_of(boxes: &[IntSet], i: (u32, u32, u32), bests: &[Best], room: Number) -> Total
+    requires { IsItemNamed i boxes.now }
+    ensures { result.value ≡ lefts bests.now room.value i boxes.now }
+{
+    let mut sum = Total { value: 0 };
+    for b in bests {
+        sum = sum.plus(left_at(boxes, i, *b, room));
+    }
+    sum
+}
+
+// ---- sizes
+
+/// Whether the sum is at least the need with some more.
+fn does_reach(sum: Total, need: Total, more: Total) -> bool
+    ensures { result ≡ true → (need.value +ℤ more.value) ≤ℤ sum.value }
+{
+    match need.with(more) {
+        Some(most) => most.is_at_most(sum),
+        None => false,
+    }
+}
+
+/// The sizes of the item that take too much of all room, where there are some.
+fn excess_of_size(boxes: &[IntSet], i: (u32, u32, u32), need: Total, all: Total) -> Option<Trial>
+    requires { IsItemNamed i boxes.now }
+    ensures some { IfSome result (λ t. t.var < length boxes.now) }
+    ensures none { IfNone result (may_grow need.value all.value i boxes.now ≡ true) }
+{
+    let low = least(boxes, i.1);
+    if does_reach(all, need, Total::of(greatest(boxes, i.1)).less(low)) {
+        return None;
+    }
+    let spare = all.value.saturating_sub(need.value);
+    let most = spare.saturating_add(i128::from(low.value));
+    Some(Trial {
+        var: i.1,
+        span: (clamped(most.saturating_add(1)), i64::MAX),
+    })
+}
+
+/// The sizes of an item that take too much of all room, where there are some.
+fn excess_of_sizes(
+    items: &[(u32, u32, u32)],
+    boxes: &[IntSet],
+    need: Total,
+    all: Total,
+) -> Option<Trial>
+    requires { AreItemsNamed items.now boxes.now }
+    ensures some { IfSome result (λ t. t.var < length boxes.now) }
+    ensures none { IfNone result (all_grow need.value all.value items.now boxes.now ≡ true) }
+{
+    for i in items {
+        let found = excess_of_size(boxes, *i, need, all);
+        if found.is_some() {
+            return found;
+        }
+    }
+    None
+}
+
+// ---- places and rooms
+
+/// Whether there is room enough where the place of the item is that of `b`, and `sum` is left without the item.
+fn is_enough_at(boxes: &[IntSet], i: (u32, u32, u32), b: Best, sum: Total, need: Total) -> bool
+    requires { IsItemNamed i boxes.now }
+    ensures { result ≡ true → may_be_at need.value sum.value b i boxes.now ≡ true }
+{
+    if !may_be(boxes, i.0, b.at) {
+        return true;
+    }
+    let left = left_at(boxes, i, b, Number { value: 0 });
+    match sum.with(Total::of(b.first).less(left)) {
+        Some(gained) => need.is_at_most(gained),
+        None => false,
+    }
+}
+
+/// The value of the item's place, which is open, at which it takes too much room, where there is one.
+fn excess_of_place(
+    boxes: &[IntSet],
+    i: (u32, u32, u32),
+    bests: &[Best],
+    need: Total,
+) -> Option<Trial>
+    requires { IsItemNamed i boxes.now }
+    ensures some { IfSome result (λ t. t.var < length boxes.now) }
+    ensures none { IfNone result (may_move need.value bests.now i boxes.now ≡ true) }
+{
+    if is_single(boxes, i.0) {
+        return None;
+    }
+    let sum = lefts_of(boxes, i, bests, Number { value: 0 });
+    if need.is_at_most(sum) {
+        return None;
+    }
+    for b in bests {
+        if !is_enough_at(boxes, i, *b, sum, need) {
+            return Some(Trial {
+                var: i.0,
+                span: (b.at.value, b.at.value),
+            });
+        }
+    }
+    None
+}
+
+/// A number between two.
+fn middle(low: Number, high: Number) -> Number
+    requires { (low.value +ℤ pos 1) <ℤ high.value }
+    ensures above { low.value <ℤ result.value }
+    ensures below { result.value <ℤ high.value }
+{
+    let half = high.value.abs_diff(low.value) / 2;
+    Number {
+        value: low.value.saturating_add_unsigned(half),
+    }
+}
+
+/// The greatest room of the item that is too little; `ends` are one that is too little and one that isn't.
+fn most_too_little(
+    boxes: &[IntSet],
+    i: (u32, u32, u32),
+    bests: &[Best],
+    need: Total,
+    ends: (Number, Number),
+) -> Number
+    requires item { IsItemNamed i boxes.now }
+    requires order { ends.0.value ≤ℤ ends.1.value }
+    ensures { ends.0.value ≤ℤ result.value }
+{
+    let mut low = ends.0;
+    let mut high = ends.1;
+    while i128::from(low.value) + 1 < i128::from(high.value) {
+        let at = middle(low, high);
+        if need.is_at_most(lefts_of(boxes, i, bests, at)) {
+            high = at;
+        } else {
+            low = at;
+        }
+    }
+    low
+}
+
+/// The rooms of the item, which are open, that are too little, where there are some.
+fn excess_of_room(
+    boxes: &[IntSet],
+    i: (u32, u32, u32),
+    bests: &[Best],
+    need: Total,
+) -> Option<Trial>
+    requires item { IsItemNamed i boxes.now }
+    ensures some { IfSome result (λ t. t.var < length boxes.now) }
+    ensures none { IfNone result (may_shrink need.value bests.now i boxes.now ≡ true) }
+{
+    let ends = ends_at(boxes, i.2);
+    if is_single(boxes, i.2) || need.is_at_most(lefts_of(boxes, i, bests, ends.0)) {
+        return None;
+    }
+    let most = most_too_little(boxes, i, bests, need, ends);
+    Some(Trial {
+        var: i.2,
+        span: (i64::MIN, most.value),
+    })
+}
+
+/// What takes too much room of the place or the room of an item, where something does.
+fn excess_of_places(
+    items: &[(u32, u32, u32)],
+    boxes: &[IntSet],
+    bests: &[Best],
+    need: Total,
+) -> Option<Trial>
+    requires { AreItemsNamed items.now boxes.now }
+    ensures some { IfSome result (λ t. t.var < length boxes.now) }
+    ensures none { IfNone result (all_loose need.value bests.now items.now boxes.now ≡ true) }
+{
+    for i in items {
+        let place = excess_of_place(boxes, *i, bests, need);
+        if place.is_some() {
+            return place;
+        }
+        let room = excess_of_room(boxes, *i, bests, need);
+        if room.is_some() {
+            return room;
+        }
+    }
+    None
+}
+
+// ---- all boxes
+
+/// What takes too much room, where something does: all of a place's box, where the least sizes do. Where the second greatest rooms
+/// are enough, no place or room takes too much.
+#[tactic(auto, using(crate::proofs::TightRows::sure_loose))]
+fn excess(
+    items: &[(u32, u32, u32)],
+    boxes: &[IntSet],
+    bests: &[Best],
+    head: (u32, u32, u32),
+    first: Number,
+) -> Option<Trial>
+    requires items { AreItemsNamed items.now boxes.now }
+    requires head { IsItemNamed head boxes.now }
+    requires rooms { AreBests first.value bests.now items.now boxes.now }
+    ensures some { IfSome result (λ t. t.var < length boxes.now) }
+    ensures enough { IfNone result (least_sizes items.now boxes.now ≤ℤ firsts bests.now) }
+    ensures grow { IfNone result (all_grow (least_sizes items.now boxes.now) (firsts bests.now) items.now boxes.now ≡ true) }
+    ensures loose { IfNone result (all_loose (least_sizes items.now boxes.now) bests.now items.now boxes.now ≡ true) }
+{
+    let need = sizes_of(items, boxes);
+    let all = firsts_of(bests);
+    if !need.is_at_most(all) {
+        return Some(Trial {
+            var: head.0,
+            span: (i64::MIN, i64::MAX),
+        });
+    }
+    let size = excess_of_sizes(items, boxes, need, all);
+    if size.is_some() {
+        return size;
+    }
+    if need.is_at_most(seconds_of(bests)) {
+        return None;
+    }
+    excess_of_places(items, boxes, bests, need)
+}
+
+// ---- what is answered
+
+/// The clause of what takes too much room, where one is found.
+fn prune_excess(
+    alloc: Global,
+    con: &Con,
+    items: &[(u32, u32, u32)],
+    domains: &[IntSet],
+    boxes: &[IntSet],
+    trial: Trial,
+) -> Result<Option<Clause>, AllocError>
+    requires con { con.now ≡ Pack items.now }
+    requires items { AreItemsNamed items.now boxes.now }
+    requires var { trial.var < length boxes.now }
+    requires sizes { All (λ i. pos 0 ≤ℤ low_of (box_of domains.now i.1)) items.now }
+    requires boxes { AreBoxesWithin domains.now boxes.now }
+    requires sets { All (λ d. IsValid d) domains.now }
+    ensures { IfOk result (λ r. IfSome r (λ c. IsPruning con.now domains.now boxes.now c)) }
+{
+    if trial.span.1 < trial.span.0 {
+        return Ok(None);
+    }
+    let part = part_of(alloc, boxes, trial.var, trial.span)?;
+    if part.is_empty() {
+        return Ok(None);
+    }
+    explain_total(alloc, con, items, domains, boxes, trial.var, &part)
+}
+
+/// What something that takes too much room answers.
+#[tactic(auto, using(crate::proofs::Roomy::pack_sizes))]
+fn prune_or_probe(
+    alloc: Global,
+    con: &Con,
+    items: &[(u32, u32, u32)],
+    domains: &[IntSet],
+    boxes: &[IntSet],
+    trial: Trial,
+) -> Result<Option<Clause>, AllocError>
+    requires con { con.now ≡ Pack items.now }
+    requires items { AreItemsNamed items.now boxes.now }
+    requires var { trial.var < length boxes.now }
+    requires well_made { IsWellMadeCon domains.now con.now }
+    requires boxes { AreBoxesWithin domains.now boxes.now }
+    requires sets { All (λ d. IsValid d) domains.now }
+    ensures { IfOk result (λ a. IsAnswer con.now domains.now boxes.now a) }
+{
+    let pruned = prune_excess(alloc, con, items, domains, boxes, trial)?;
+    if pruned.is_some() {
+        return Ok(pruned);
+    }
+    probe(con, domains, boxes, alloc)
+}
+
+/// What takes too much room of the items, where something does.
+pub fn find_excess(
+    bests: &mut Bests,
+    items: &[(u32, u32, u32)],
+    boxes: &[IntSet],
+    head: (u32, u32, u32),
+) -> Result<Option<Trial>, AllocError>
+    requires items { AreItemsNamed items.now boxes.now }
+    requires head { IsItemNamed head boxes.now }
+    requires sets { All (λ s. IsValid s) boxes.now }
+    ensures some { IfOk result (λ r. IfSome r (λ t. t.var < length boxes.now)) }
+    ensures none { IfOk result (λ r. IfNone r (HasEach items.now boxes.now)) }
+{
+    let places = places_of(items, boxes, head);
+    let rows = bests.find(items, boxes, places.0, places.1)?;
+    Ok(excess(items, boxes, rows, head, places.0))
+}
+
+/// What items answer of which each fits wherever it may be, and no open variable stands twice.
+///
+/// # Errors
+/// Want of memory.
+#[tactic(auto, using(crate::proofs::Roomy::tight_quiet))]
+pub fn prune_tight(
+    alloc: Global,
+    bests: &mut Bests,
+    con: &Con,
+    items: &[(u32, u32, u32)],
+    domains: &[IntSet],
+    boxes: &[IntSet],
+) -> Result<Option<Clause>, AllocError>
+    requires con { con.now ≡ Pack items.now }
+    requires items { AreItemsNamed items.now boxes.now }
+    requires well_made { IsWellMadeCon domains.now con.now }
+    requires boxes { AreBoxesWithin domains.now boxes.now }
+    requires sets { All (λ d. IsValid d) domains.now }
+    requires fit { AllFit items.now boxes.now }
+    requires once { no_repeat (open_vars (vars_of con.now) boxes.now) ≡ true }
+    ensures { IfOk result (λ a. IsAnswer con.now domains.now boxes.now a) }
+{
+    if items.is_empty() {
+        return probe(con, domains, boxes, alloc);
+    }
+    let excess = find_excess(bests, items, boxes, items[0])?;
+    match excess {
+        None => Ok(None),
+        Some(trial) => prune_or_probe(alloc, con, items, domains, boxes, trial),
+    }
+}
