@@ -160,7 +160,7 @@ fn is_enough_at(boxes: &[IntSet], i: (u32, u32, u32), b: Best, sum: Total, need:
     }
 }
 
-/// The value of the item's place, which is open, at which it takes too much room, where there is one.
+/// A value of the item's place at which it takes too much room, where there is one.
 fn excess_of_place(
     boxes: &[IntSet],
     i: (u32, u32, u32),
@@ -226,7 +226,7 @@ fn most_too_little(
     low
 }
 
-/// The rooms of the item, which are open, that are too little, where there are some.
+/// The rooms of the item that are too little, where there are some.
 fn excess_of_room(
     boxes: &[IntSet],
     i: (u32, u32, u32),
