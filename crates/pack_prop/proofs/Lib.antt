@@ -16,3 +16,8 @@ pub mod Roomy
 pub mod Covered
 pub mod OverReason
 pub mod UpTo
+pub mod Collecting
+pub mod RowLaws
+pub mod CutBoxes
+pub mod TotalReason
+pub mod TotalWalk

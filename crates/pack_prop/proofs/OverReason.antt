@@ -28,12 +28,12 @@ use Rattle.pack_prop.proofs.Covered.{Covers, covers_more, covered_has, covered_k
 
 -- ---- the boxes with a part of one
 
-part_same : (boxes : Boxes) (x : ℕ) (s : Ranges) → x < length boxes → box_of (parted boxes x s) x ≡ s
+pub part_same : (boxes : Boxes) (x : ℕ) (s : Ranges) → x < length boxes → box_of (parted boxes x s) x ≡ s
 part_same [] x s h = absurd (omega arith)
 part_same (b ∷ boxes) zero s h = refl
 part_same (b ∷ boxes) (suc x) s h = part_same boxes x s (omega arith)
 
-part_other : (boxes : Boxes) (x y : ℕ) (s : Ranges) → (y ≡ x → ⊥) → box_of (parted boxes x s) y ≡ box_of boxes y
+pub part_other : (boxes : Boxes) (x y : ℕ) (s : Ranges) → (y ≡ x → ⊥) → box_of (parted boxes x s) y ≡ box_of boxes y
 part_other [] x y s n = refl
 part_other (b ∷ boxes) zero zero s n = absurd (n refl)
 part_other (b ∷ boxes) zero (suc y) s n = refl
@@ -49,7 +49,7 @@ part_box boxes x y s h =
 
 -- ---- what the explanation stands on
 
-part_valid : (domains boxes : Boxes) (items : List (ℕ × ℕ × ℕ)) (x : ℕ) (s : Ranges) → IsPart domains boxes items x s → (y : ℕ) → IsValid (box_of (parted boxes x s) y)
+pub part_valid : (domains boxes : Boxes) (items : List (ℕ × ℕ × ℕ)) (x : ℕ) (s : Ranges) → IsPart domains boxes items x s → (y : ℕ) → IsValid (box_of (parted boxes x s) y)
 part_valid domains boxes items x s p y =
     subst (λ (b : Ranges). IsValid b) (sym (part_box boxes x y s p.var))
     (elim (y == x) as (λ t. IsValid (cond t s (box_of boxes y))) [ true ↦ p.valid | false ↦ are_sets boxes p.boxes_within.sets y ])
@@ -57,7 +57,7 @@ part_valid domains boxes items x s p y =
 inside_on : (a b c : Ranges) → IsValid a → IsValid b → IsValid c → inside a b ≡ true → inside b c ≡ true → inside a c ≡ true
 inside_on a b c f g h i j = (inside_law a c f h).1 (λ v m. (inside_law b c g h).0 j v ((inside_law a b f g).0 i v m))
 
-part_within : (domains boxes : Boxes) (items : List (ℕ × ℕ × ℕ)) (x : ℕ) (s : Ranges) → IsPart domains boxes items x s → (y : ℕ) → y < length boxes → inside (box_of (parted boxes x s) y) (box_of domains y) ≡ true
+pub part_within : (domains boxes : Boxes) (items : List (ℕ × ℕ × ℕ)) (x : ℕ) (s : Ranges) → IsPart domains boxes items x s → (y : ℕ) → y < length boxes → inside (box_of (parted boxes x s) y) (box_of domains y) ≡ true
 part_within domains boxes items x s p y n =
     let w = p.boxes_within in
     subst (λ (b : Ranges). inside b (box_of domains y) ≡ true) (sym (part_box boxes x y s p.var))
@@ -152,11 +152,11 @@ sizes_cut (i ∷ is) domains c s f h = (
   sizes_cut is domains c s f (λ k d lt. h (suc k) d (omega arith)),
 )
 
-or_right : (x y : Bool) → y ≡ true → (x || y) ≡ true
+pub or_right : (x y : Bool) → y ≡ true → (x || y) ≡ true
 or_right true y h = refl
 or_right false y h = h
 
-or_left : (x y : Bool) → x ≡ true → (x || y) ≡ true
+pub or_left : (x y : Bool) → x ≡ true → (x || y) ≡ true
 or_left x y h = rw h refl
 
 one_named : (n x : ℕ) → x < n → All (λ y. y < n) (x ∷ [])

@@ -6,3 +6,6 @@ pub mod Handled
 pub mod Packing
 pub mod Looks
 pub mod Sources
+pub mod Collected
+pub mod RoomRows
+pub mod TotalSteps

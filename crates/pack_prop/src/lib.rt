@@ -4,9 +4,11 @@
 //! - `differing`: places that differ. `sweep` finds crowded and full intervals with the counters of `slots`, `explain` says
 //!   why, by the boxes within them; `interval` answers small questions.
 //! - `packing`: items to be packed. `room` shows with the numbers of `loads` that they are roomy, or finds an item that doesn't
-//!   fit; `misfits` and `overfull` say what such an item takes away, and why.
+//!   fit; `misfits` and `overfull` say what such an item takes away, and why. `total` says why all sizes are more than all room,
+//!   with rows of rooms (`room_row`). `collected` joins the literals, `parted` reads boxes with a part of one in its place.
 #![tactic(auto)]
 
+mod collected;
 mod differing;
 mod explain;
 mod interval;
@@ -14,11 +16,14 @@ mod loads;
 mod misfits;
 mod overfull;
 mod packing;
+mod parted;
 mod propagator;
 mod room;
+mod room_row;
 mod slots;
 mod sweep;
 #[cfg(test)]
 mod tests;
+mod total;
 
 pub use propagator::PackProp;

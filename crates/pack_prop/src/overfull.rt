@@ -17,53 +17,11 @@ ghost use Rattle.rule_law.specs.Reasons.{kept_one, kept, no_repeat};
 ghost use Rattle.pack_prop.specs.Sources.{parted, add_new, covered, sources, IsPart, IsOverfilled};
 
 use crate::loads::Total;
-use ground_form::{Con, Number, ends_of};
+use crate::parted::{box_at, greatest, is_fixed, least};
+use ground_form::{Con, Number};
 use rule_law::{has_var, keep_out, pruning};
 use signed_clause::{Clause, IntSet};
 use std::alloc::{AllocError, Global};
-
-/// The box of `y`, with the part in place of that of `x`.
-#[tactic(auto, using(crate::proofs::OverReason::part_box))]
-fn box_at<'a>(boxes: &'a [IntSet], x: u32, part: &'a IntSet, y: u32) -> &'a IntSet
-    requires var { x < length boxes.now }
-    requires named { y < length boxes.now }
-    ensures { result.now ≡ box_of (parted boxes.now x part.now) y }
-{
-    if y == x { part } else { &boxes[y as usize] }
-}
-
-/// Whether the box of `y` is the value alone.
-fn is_fixed(boxes: &[IntSet], x: u32, part: &IntSet, y: u32, at: Number) -> bool
-    requires var { x < length boxes.now }
-    requires named { y < length boxes.now }
-    ensures { result ≡ fixed_at (box_of (parted boxes.now x part.now) y) at.value }
-{
-    let set = box_at(boxes, x, part, y);
-    let ends = ends_of(set);
-    !set.is_empty() && (ends.0 == at.value && ends.1 == at.value)
-}
-
-/// The least value of the box of `y`.
-fn least(boxes: &[IntSet], x: u32, part: &IntSet, y: u32) -> Number
-    requires var { x < length boxes.now }
-    requires named { y < length boxes.now }
-    ensures { result.value ≡ low_of (box_of (parted boxes.now x part.now) y) }
-{
-    Number {
-        value: ends_of(box_at(boxes, x, part, y)).0,
-    }
-}
-
-/// The greatest value of the box of `y`.
-fn greatest(boxes: &[IntSet], x: u32, part: &IntSet, y: u32) -> Number
-    requires var { x < length boxes.now }
-    requires named { y < length boxes.now }
-    ensures { result.value ≡ high_of (box_of (parted boxes.now x part.now) y) }
-{
-    Number {
-        value: ends_of(box_at(boxes, x, part, y)).1,
-    }
-}
 
 /// The load with the item's least size, where its place is fixed at the value.
 fn with_load(
