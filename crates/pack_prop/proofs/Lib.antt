@@ -13,7 +13,6 @@ pub mod TotalRoom
 pub mod PackQuiet
 pub mod PackWalks
 pub mod Roomy
-pub mod Covered
 pub mod OverReason
 pub mod UpTo
 pub mod Collecting
@@ -21,3 +20,5 @@ pub mod RowLaws
 pub mod CutBoxes
 pub mod TotalReason
 pub mod TotalWalk
+pub mod LoadReason
+pub mod LoadWalk

@@ -9,3 +9,4 @@ pub mod Sources
 pub mod Collected
 pub mod RoomRows
 pub mod TotalSteps
+pub mod LoadSteps

@@ -5,12 +5,15 @@
 //!   why, by the boxes within them; `interval` answers small questions.
 //! - `packing`: items to be packed. `room` shows with the numbers of `loads` that they are roomy, or finds an item that doesn't
 //!   fit; `misfits` and `overfull` say what such an item takes away, and why. `total` says why all sizes are more than all room,
-//!   with rows of rooms (`room_row`). `collected` joins the literals, `parted` reads boxes with a part of one in its place.
+//!   with rows of rooms (`room_row`). `said` and `collected` make the literals, `parted` reads boxes with a part of one in
+//!   its place.
 #![tactic(auto)]
 
 mod collected;
 mod differing;
 mod explain;
+#[cfg(test)]
+mod explained_tests;
 mod interval;
 mod loads;
 mod misfits;
@@ -20,6 +23,7 @@ mod parted;
 mod propagator;
 mod room;
 mod room_row;
+mod said;
 mod slots;
 mod sweep;
 #[cfg(test)]

@@ -17,10 +17,11 @@ ghost use Rattle.pack_prop.specs.Collected.{AreCollected, SaysMore};
 ghost use Rattle.pack_prop.specs.Sources.{parted, IsPart};
 ghost use Rattle.pack_prop.specs.TotalSteps.{AreTotalled, AreWeighed, IsWindow};
 
-use crate::collected::{above, below, say};
+use crate::collected::{below, say};
 use crate::loads::{Total, greater, greatest, least, smaller};
 use crate::parted;
 use crate::room_row::{best_row, raise, short_values, sum_of};
+use crate::said::{domain_at, say_room};
 use ground_form::{Con, Number};
 use rule_law::pruning;
 use signed_clause::{Clause, IntSet};
@@ -28,14 +29,6 @@ use std::alloc::{AllocError, Global};
 
 /// The greatest value that a place of a well made problem has.
 const LAST_PLACE: i64 = 9999;
-
-/// The domain of `y`.
-fn domain_at<'a>(domains: &'a [IntSet], y: u32) -> &'a IntSet
-    requires { y < length domains.now }
-    ensures { result.now ≡ box_of domains.now y }
-{
-    &domains[y as usize]
-}
 
 /// The least value that a place has in its domain.
 fn first_place(items: &[(u32, u32, u32)], domains: &[IntSet]) -> Number
@@ -98,32 +91,6 @@ fn sizes_of(items: &[(u32, u32, u32)], boxes: &[IntSet], x: u32, part: &IntSet) 
     sum
 }
 
-/// Says of an item's room that it is at most the greatest value of its box, and gives that value.
-fn say_room(
-    alloc: Global,
-    literals: &mut Vec<(u32, IntSet)>,
-    items: &[(u32, u32, u32)],
-    k: usize,
-    domains: &[IntSet],
-    boxes: &[IntSet],
-    x: u32,
-    part: &IntSet,
-) -> Result<Number, AllocError>
-    requires ground { IsPart domains.now boxes.now items.now x part.now }
-    requires there { k < length items.now }
-    requires literals { AreCollected (parted boxes.now x part.now) literals.old.items }
-    ensures literals { IfOk result (λ h. AreCollected (parted boxes.now x part.now) literals.new.items) }
-    ensures more { IfOk result (λ h. SaysMore literals.old.items literals.new.items) }
-    ensures high { IfOk result (λ h. h.value ≡ high_of (box_of (parted boxes.now x part.now) (slice_index_or items.now k (0, 0, 0)).2)) }
-    ensures upto { IfOk result (λ h. high_of (box_of (cut domains.now literals.new.items) (slice_index_or items.now k (0, 0, 0)).2) ≤ℤ h.value) }
-{
-    let y = items[k].2;
-    let high = parted::greatest(boxes, x, part, y);
-    let over = above(alloc, domain_at(domains, y), high)?;
-    say(literals, y, over)?;
-    Ok(high)
-}
-
 /// Says what has to be said of the place and the room of item `k`, and gives the row with which it is counted.
 fn seat(
     alloc: Global,
@@ -181,7 +148,7 @@ fn seat_all(
 }
 
 /// What the first number has above the second.
-fn difference(a: Number, b: Number) -> Number
+pub fn difference(a: Number, b: Number) -> Number
     requires low { pos 0 ≤ℤ b.value }
     requires order { b.value ≤ℤ a.value }
     ensures { result.value ≡ a.value -ℤ b.value }
@@ -192,7 +159,7 @@ fn difference(a: Number, b: Number) -> Number
 }
 
 /// By how much more the sizes are above the rooms than by one, as far as 64 bits tell.
-fn spare_of(sizes: Total, rooms: Total) -> Number
+pub fn spare_of(sizes: Total, rooms: Total) -> Number
     requires { rooms.value <ℤ sizes.value }
     ensures some { pos 0 ≤ℤ result.value }
     ensures fits { ((rooms.value +ℤ pos 1) +ℤ result.value) ≤ℤ sizes.value }

@@ -1,7 +1,7 @@
 use Rattle.pack_prop.specs.Sources.{parted}
 use Rattle.pack_prop.proofs.TotalWalk.{IsRoomSaid, room_is_said}
 use Rattle.std.specs.Prelude.{slice_index_or}
-use Rattle.pack_prop.proofs.total.say_room.Goals as goal
+use Rattle.pack_prop.proofs.said.say_room.Goals as goal
 
 is_said : (c : goal.In_ok-say) → IsRoomSaid c.args.domains.now (parted c.args.boxes.now c.args.x c.args.part.now) (slice_index_or c.args.items.now c.args.k (0, 0, 0)).2 c.greatest-high.result.value c.args.literals.now.items c.say.new.literals.items
 is_said c =
