@@ -20,7 +20,13 @@ pub mod SurveySpots
 pub mod SurveyCounts
 pub mod SurveyFits
 pub mod SurveyWalk
-pub mod Covered
 pub mod OverReason
 pub mod TightRows
 pub mod UpTo
+pub mod Collecting
+pub mod RowLaws
+pub mod CutBoxes
+pub mod TotalReason
+pub mod TotalWalk
+pub mod LoadReason
+pub mod LoadWalk

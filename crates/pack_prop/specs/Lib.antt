@@ -8,3 +8,7 @@ pub mod Looks
 pub mod Sources
 pub mod Survey
 pub mod Tight
+pub mod Collected
+pub mod RoomRows
+pub mod TotalSteps
+pub mod LoadSteps

@@ -1,5 +1,5 @@
--- What an overfull place is explained by.
-use Rattle.std.specs.Prelude.{ℕ, ◌≡◌, ◌<◌, true, false, pos, ◌≤ℤ◌, cond, List, [], ◌∷◌, ◌++◌, ℤ, slice_set, slice_index_or, int_lt, length}
+-- What an overfull place is, and what its explanation stands on.
+use Rattle.std.specs.Prelude.{ℕ, ◌≡◌, ◌<◌, true, false, pos, ◌≤ℤ◌, List, ℤ, slice_set, slice_index_or, int_lt, length}
 use Rattle.std.specs.List.{All}
 use Rattle.signed_clause.specs.Ranges.{Ranges, is_nil, IsValid}
 use Rattle.signed_clause.specs.SetAlgebra.{inside}
@@ -8,24 +8,10 @@ use Rattle.ground_form.specs.Bounds.{low_of, high_of}
 use Rattle.rule_law.specs.Refuted.{fixed_at, fixed_load}
 use Rattle.rule_law.specs.Answers.{AreBoxesWithin}
 use Rattle.rule_law.specs.Named.{AreItemsNamed}
-use Rattle.rule_law.specs.Reasons.{has_number}
 
 -- the boxes with a part of that of x in its place
 abbrev pub parted : Boxes → ℕ → Ranges → Boxes
 parted boxes x part = slice_set boxes x part
-
--- the variable behind the others, where it isn't one of them
-abbrev pub add_new : ℕ → List ℕ → List ℕ
-add_new y ps = cond (has_number y ps) ps (ps ++ y ∷ [])
-
--- and the places and sizes of the items that are fixed at v
-abbrev pub covered : ℤ → List (ℕ × ℕ × ℕ) → Boxes → List ℕ → List ℕ
-covered v [] boxes ps = ps
-covered v (i ∷ is) boxes ps = covered v is boxes (cond (fixed_at (box_of boxes i.0) v) (add_new i.1 (add_new i.0 ps)) ps)
-
--- x, those, and a room
-abbrev pub sources : ℤ → List (ℕ × ℕ × ℕ) → Boxes → ℕ → ℕ → List ℕ
-sources v items boxes x room = add_new room (covered v items boxes (x ∷ []))
 
 -- item k is fixed at v, and the load there is more than its greatest room
 pub record IsOverfilled (v : ℤ) (items : List (ℕ × ℕ × ℕ)) (boxes : Boxes) (k : ℕ) : Type 0 where

@@ -1,69 +1,28 @@
 //! Places that would be overfull, and why.
 //!
 //! An item that doesn't fit at a value gives a part of some box: the value in its place, the greater ones of its size, or the
-//! smaller ones of its room. With that part in the place of the box the value is overfull. The literals say of the places and
-//! sizes that make the load, and of the room that is too small, that they are outside their boxes.
-ghost use Rattle.std.specs.Prelude.{◌≡◌, ◌<◌, ◌≤◌, ◌≤ℤ◌, ◌^◌, ◌-◌, ◌+ℤ◌, ◌++◌, ℕ, true, false, cond, pos, [], ◌∷◌, IfOk, OnOk, IfSome, List, slice_index_or, int_lt, length};
-ghost use Rattle.std.specs.List.{All};
-ghost use Rattle.signed_clause.specs.Ranges.{is_nil, IsValid};
-ghost use Rattle.signed_clause.specs.SetAlgebra.{less, inside};
+//! smaller ones of its room. With that part in the place of the box the value is overfull. The literals say of the room that is
+//! too small that it is at most what its box has, of the places that make the load that they aren't the value, and of their
+//! sizes that they are at least what their boxes have. Items that the load has to spare are left out, the first ones first.
+ghost use Rattle.std.specs.Prelude.{◌≡◌, ◌<◌, ◌+◌, ◌≤ℤ◌, ◌^◌, ◌-◌, ◌+ℤ◌, true, cond, pos, IfOk, IfSome, int_lt, length};
 ghost use Rattle.signed_clause.specs.Clauses.{box_of};
 ghost use Rattle.ground_form.specs.declared.con.Con.TheVariants.{Pack};
 ghost use Rattle.ground_form.specs.Bounds.{low_of, high_of};
-ghost use Rattle.rule_law.specs.Answers.{AreBoxesWithin, IsPruning};
+ghost use Rattle.rule_law.specs.Answers.{IsPruning};
 ghost use Rattle.rule_law.specs.Named.{AreItemsNamed, IsItemNamed};
 ghost use Rattle.rule_law.specs.Refuted.{fixed_at, fixed_load};
-ghost use Rattle.rule_law.specs.Reasons.{kept_one, kept, no_repeat};
-ghost use Rattle.pack_prop.specs.Sources.{parted, add_new, covered, sources, IsPart, IsOverfilled};
+ghost use Rattle.pack_prop.specs.LoadSteps.{AreOverfull};
+ghost use Rattle.pack_prop.specs.Sources.{parted, IsPart, IsOverfilled};
 
+use crate::collected::{below, say};
 use crate::loads::Total;
-use ground_form::{Con, Number, ends_of};
-use rule_law::{has_var, keep_out, pruning};
+use crate::parted::{greatest, is_fixed, least};
+use crate::said::{domain_at, say_place, say_room};
+use crate::total::{difference, spare_of};
+use ground_form::{Con, Number};
+use rule_law::pruning;
 use signed_clause::{Clause, IntSet};
 use std::alloc::{AllocError, Global};
-
-/// The box of `y`, with the part in place of that of `x`.
-#[tactic(auto, using(crate::proofs::OverReason::part_box))]
-fn box_at<'a>(boxes: &'a [IntSet], x: u32, part: &'a IntSet, y: u32) -> &'a IntSet
-    requires var { x < length boxes.now }
-    requires named { y < length boxes.now }
-    ensures { result.now ≡ box_of (parted boxes.now x part.now) y }
-{
-    if y == x { part } else { &boxes[y as usize] }
-}
-
-/// Whether the box of `y` is the value alone.
-fn is_fixed(boxes: &[IntSet], x: u32, part: &IntSet, y: u32, at: Number) -> bool
-    requires var { x < length boxes.now }
-    requires named { y < length boxes.now }
-    ensures { result ≡ fixed_at (box_of (parted boxes.now x part.now) y) at.value }
-{
-    let set = box_at(boxes, x, part, y);
-    let ends = ends_of(set);
-    !set.is_empty() && (ends.0 == at.value && ends.1 == at.value)
-}
-
-/// The least value of the box of `y`.
-fn least(boxes: &[IntSet], x: u32, part: &IntSet, y: u32) -> Number
-    requires var { x < length boxes.now }
-    requires named { y < length boxes.now }
-    ensures { result.value ≡ low_of (box_of (parted boxes.now x part.now) y) }
-{
-    Number {
-        value: ends_of(box_at(boxes, x, part, y)).0,
-    }
-}
-
-/// The greatest value of the box of `y`.
-fn greatest(boxes: &[IntSet], x: u32, part: &IntSet, y: u32) -> Number
-    requires var { x < length boxes.now }
-    requires named { y < length boxes.now }
-    ensures { result.value ≡ high_of (box_of (parted boxes.now x part.now) y) }
-{
-    Number {
-        value: ends_of(box_at(boxes, x, part, y)).1,
-    }
-}
 
 /// The load with the item's least size, where its place is fixed at the value.
 fn with_load(
@@ -142,97 +101,77 @@ pub fn overfilled(
     None
 }
 
-/// Adds the variable behind the others, where it isn't one of them.
-fn push_new(vars: &mut Vec<u32>, y: u32) -> Result<(), AllocError>
-    ensures { OnOk result (vars.new.items ≡ add_new y vars.old.items) }
+/// Whether item `m` is left out: its least size is to spare, and it isn't the one whose room is too small.
+fn is_left_out(m: usize, k: usize, low: Number, spare: Number) -> bool
+    ensures { result ≡ true → low.value ≤ℤ spare.value }
 {
-    if !has_var(vars.as_slice(), y) {
-        vars.push(y)?;
-    }
-    Ok(())
+    m != k && low.value <= spare.value
 }
 
-/// Adds the place and the size of the item, where it is fixed at the value.
-fn push_item(
-    vars: &mut Vec<u32>,
-    i: (u32, u32, u32),
-    boxes: &[IntSet],
-    x: u32,
-    part: &IntSet,
-    at: Number,
-) -> Result<(), AllocError>
-    requires var { x < length boxes.now }
-    requires item { IsItemNamed i boxes.now }
-    ensures { OnOk result (vars.new.items ≡ cond (fixed_at (box_of (parted boxes.now x part.now) i.0) at.value) (add_new i.1 (add_new i.0 vars.old.items)) vars.old.items) }
-{
-    if is_fixed(boxes, x, part, i.0, at) {
-        push_new(vars, i.0)?;
-        push_new(vars, i.1)?;
-    }
-    Ok(())
-}
-
-/// The variables that explain that the room is too small.
-fn source_vars(
+/// Says what has to be said of item `m`, and gives what is left to spare: nothing where its place isn't fixed at the value, or
+/// where it is left out. The room of item `k` is too small.
+fn say_item(
     alloc: Global,
-    items: &[(u32, u32, u32)],
-    boxes: &[IntSet],
-    x: u32,
-    part: &IntSet,
-    at: Number,
-    room: u32,
-) -> Result<Vec<u32>, AllocError>
-    requires var { x < length boxes.now }
-    requires items { AreItemsNamed items.now boxes.now }
-    ensures { IfOk result (λ vars. vars.items ≡ sources at.value items.now (parted boxes.now x part.now) x room) }
-{
-    let mut vars = vec![in alloc; x]?;
-    for i in items {
-        push_item(&mut vars, *i, boxes, x, part, at)?;
-    }
-    push_new(&mut vars, room)?;
-    Ok(vars)
-}
-
-/// Adds the literal that `y` is outside its box.
-fn keep_out_of_box(
     literals: &mut Vec<(u32, IntSet)>,
+    items: &[(u32, u32, u32)],
+    m: usize,
+    k: usize,
     domains: &[IntSet],
     boxes: &[IntSet],
     x: u32,
     part: &IntSet,
-    y: u32,
-) -> Result<(), AllocError>
-    requires domain { y < length domains.now }
-    requires var { x < length boxes.now }
-    requires named { y < length boxes.now }
-    ensures { OnOk result (literals.new.items ≡ literals.old.items ++ kept_one y (less (box_of domains.now y) (box_of (parted boxes.now x part.now) y)) []) }
+    at: Number,
+    spare: Number,
+) -> Result<Number, AllocError>
+    requires ground { IsPart domains.now boxes.now items.now x part.now }
+    requires there { m < length items.now }
+    requires so_far { AreOverfull at.value items.now domains.now (parted boxes.now x part.now) m spare.value literals.old.items }
+    ensures { IfOk result (λ left. AreOverfull at.value items.now domains.now (parted boxes.now x part.now) (m + 1) left.value literals.new.items) }
 {
-    keep_out(literals, y, &domains[y as usize], box_at(boxes, x, part, y))
+    let i = items[m];
+    if !is_fixed(boxes, x, part, i.0, at) {
+        return Ok(spare);
+    }
+    let low = least(boxes, x, part, i.1);
+    if is_left_out(m, k, low, spare) {
+        return Ok(difference(spare, low));
+    }
+    say_place(literals, items, m, domains, boxes, x, part)?;
+    let under = below(alloc, domain_at(domains, i.1), low)?;
+    say(literals, i.1, under)?;
+    Ok(spare)
 }
 
-/// That each of the variables is outside its box.
-fn literals_of(
+/// Says what has to be said of the items, and gives what is left to spare. The room of item `k` is too small.
+fn say_load(
     alloc: Global,
-    vars: &[u32],
+    literals: &mut Vec<(u32, IntSet)>,
+    items: &[(u32, u32, u32)],
+    k: usize,
     domains: &[IntSet],
     boxes: &[IntSet],
     x: u32,
     part: &IntSet,
-) -> Result<Vec<(u32, IntSet)>, AllocError>
-    requires domains { All (λ y. y < length domains.now) vars.now }
-    requires var { x < length boxes.now }
-    requires named { All (λ y. y < length boxes.now) vars.now }
-    ensures { IfOk result (λ ls. ls.items ≡ kept domains.now (λ y. box_of (parted boxes.now x part.now) y) vars.now) }
+    at: Number,
+    spare: Number,
+) -> Result<Number, AllocError>
+    requires ground { IsPart domains.now boxes.now items.now x part.now }
+    requires so_far { AreOverfull at.value items.now domains.now (parted boxes.now x part.now) 0 spare.value literals.old.items }
+    ensures { IfOk result (λ left. AreOverfull at.value items.now domains.now (parted boxes.now x part.now) (length items.now) left.value literals.new.items) }
 {
-    let mut literals = Vec::new(alloc);
-    for y in vars {
-        keep_out_of_box(&mut literals, domains, boxes, x, part, *y)?;
+    let mut left = spare;
+    for m in 0..items.len() {
+        left = say_item(
+            alloc, literals, items, m, k, domains, boxes, x, part, at, left,
+        )?;
     }
-    Ok(literals)
+    Ok(left)
 }
 
 /// The clause of a part of a box that makes item `k` overfull.
+///
+/// # Errors
+/// Want of memory.
 pub fn explain_part(
     alloc: Global,
     con: &Con,
@@ -249,8 +188,22 @@ pub fn explain_part(
     requires over { IsOverfilled at.value items.now (parted boxes.now x part.now) k }
     ensures { IfOk result (λ c. IsPruning con.now domains.now boxes.now c) }
 {
-    let room = items[k].2;
-    let vars = source_vars(alloc, items, boxes, x, part, at, room)?;
-    let literals = literals_of(alloc, vars.as_slice(), domains, boxes, x, part)?;
+    let load = load_at(items, boxes, x, part, at);
+    let mut literals = Vec::new(alloc);
+    let room = say_room(alloc, &mut literals, items, k, domains, boxes, x, part)?;
+    say_place(&mut literals, items, k, domains, boxes, x, part)?;
+    let spare = spare_of(load, Total::of(room));
+    say_load(
+        alloc,
+        &mut literals,
+        items,
+        k,
+        domains,
+        boxes,
+        x,
+        part,
+        at,
+        spare,
+    )?;
     Ok(pruning(con, domains, boxes, literals))
 }

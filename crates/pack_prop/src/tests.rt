@@ -32,7 +32,7 @@ fn is_part(domains: &[IntSet], boxes: &[IntSet], x: usize) -> bool
 
 /// Whether no box is empty, and each lies within its domain.
 #[tactic(auto, using(crate::proofs::UpTo::next_part, crate::proofs::UpTo::all_parts))]
-fn are_within(domains: &[IntSet], boxes: &[IntSet]) -> bool
+pub fn are_within(domains: &[IntSet], boxes: &[IntSet]) -> bool
     ensures { result ≡ true → AreBoxesWithin domains.now boxes.now }
 {
     if boxes.len() != domains.len() {

@@ -1,16 +1,233 @@
 //! Why all sizes are more than all room.
-ghost use Rattle.std.specs.Prelude.{◌≡◌, IfOk, IfSome};
+//!
+//! Of a room the literals say that it is at most what its box has; of a size that it is at least that; of a place that it is
+//! none of the values of its domain whose best room is less than the item's. What the sizes have more than is needed is spent:
+//! a place needs no literal where its domain's values may have the item's room as well, and then they are counted with it; and
+//! a size may be less.
+ghost use Rattle.std.specs.Prelude.{◌≡◌, ◌<◌, ◌≤◌, ◌+◌, ◌^◌, ◌≤ℤ◌, ◌<ℤ◌, ◌+ℤ◌, ◌-ℤ◌, ℤ, List, pos, IfOk, IfSome, length, slice_index_or};
+ghost use Rattle.std.specs.List.{All};
+ghost use Rattle.signed_clause.specs.Clauses.{box_of};
 ghost use Rattle.ground_form.specs.declared.con.Con.TheVariants.{Pack};
+ghost use Rattle.ground_form.specs.Bounds.{low_of, high_of};
 ghost use Rattle.rule_law.specs.Answers.{IsPruning};
-ghost use Rattle.pack_prop.specs.Sources.{IsPart};
+ghost use Rattle.rule_law.specs.Justified.{cut};
+ghost use Rattle.rule_law.specs.Named.{AreItemsNamed};
+ghost use Rattle.rule_law.specs.Refuted.{least_sizes, first_place, last_place};
+ghost use Rattle.pack_prop.specs.Collected.{AreCollected, SaysMore};
+ghost use Rattle.pack_prop.specs.Sources.{parted, IsPart};
+ghost use Rattle.pack_prop.specs.TotalSteps.{AreTotalled, AreWeighed, IsWindow};
 
-use ground_form::Con;
+use crate::collected::{below, say};
+use crate::loads::{Total, greater, greatest, least, smaller};
+use crate::parted;
+use crate::room_row::{best_row, raise, short_values, sum_of};
+use crate::said::{domain_at, say_room};
+use ground_form::{Con, Number};
+use rule_law::pruning;
 use signed_clause::{Clause, IntSet};
 use std::alloc::{AllocError, Global};
 
-/// The clause of a part of a box that makes all sizes more than all room, where one is found.
+/// The greatest value that a place of a well made problem has.
+const LAST_PLACE: i64 = 9999;
+
+/// The least value that a place has in its domain.
+fn first_place(items: &[(u32, u32, u32)], domains: &[IntSet]) -> Number
+    requires { AreItemsNamed items.now domains.now }
+    ensures { result.value ≡ first_place (pos 9999) items.now domains.now }
+{
+    let mut first = Number { value: LAST_PLACE };
+    for i in items {
+        first = smaller(first, least(domains, i.0));
+    }
+    first
+}
+
+/// The greatest value that a place has in its domain.
+fn last_place(items: &[(u32, u32, u32)], domains: &[IntSet]) -> Number
+    requires { AreItemsNamed items.now domains.now }
+    ensures { result.value ≡ last_place (pos 0) items.now domains.now }
+{
+    let mut last = Number { value: 0 };
+    for i in items {
+        last = greater(last, greatest(domains, i.0));
+    }
+    last
+}
+
+/// How many values there are from the first to the last.
+fn count_of(first: Number, last: Number) -> usize
+    requires low { pos 0 ≤ℤ first.value }
+    requires order { first.value ≤ℤ last.value }
+    requires high { last.value ≤ℤ pos 9999 }
+    ensures { first.value +ℤ pos result ≡ last.value +ℤ pos 1 }
+{
+    (last.value - first.value) as usize + 1
+}
+
+/// The first value that a place has in its domain, and how many there are up to the last; None where they aren't those of a
+/// well made problem.
+fn window(items: &[(u32, u32, u32)], domains: &[IntSet]) -> Option<(Number, usize)>
+    requires { AreItemsNamed items.now domains.now }
+    ensures { IfSome result (λ w. IsWindow w.0.value w.1 items.now domains.now) }
+{
+    let first = first_place(items, domains);
+    let last = last_place(items, domains);
+    if first.value < 0 || last.value < first.value || LAST_PLACE < last.value {
+        return None;
+    }
+    Some((first, count_of(first, last)))
+}
+
+/// All least sizes, added up.
+fn sizes_of(items: &[(u32, u32, u32)], boxes: &[IntSet], x: u32, part: &IntSet) -> Total
+    requires var { x < length boxes.now }
+    requires items { AreItemsNamed items.now boxes.now }
+    ensures { result.value ≡ least_sizes items.now (parted boxes.now x part.now) }
+{
+    let mut sum = Total { value: 0 };
+    for i in items {
+        sum = sum.plus(parted::least(boxes, x, part, i.1));
+    }
+    sum
+}
+
+/// Says what has to be said of the place and the room of item `k`, and gives the row with which it is counted.
+fn seat(
+    alloc: Global,
+    literals: &mut Vec<(u32, IntSet)>,
+    items: &[(u32, u32, u32)],
+    k: usize,
+    domains: &[IntSet],
+    boxes: &[IntSet],
+    x: u32,
+    part: &IntSet,
+    row: Vec<(i64, i64)>,
+    sizes: Total,
+) -> Result<Vec<(i64, i64)>, AllocError>
+    requires ground { IsPart domains.now boxes.now items.now x part.now }
+    requires there { k < length items.now }
+    requires sizes { sizes.value ≡ least_sizes items.now (parted boxes.now x part.now) }
+    requires so_far { AreTotalled items.now domains.now (parted boxes.now x part.now) k 0 row.items (pos 0) literals.old.items }
+    ensures { IfOk result (λ r. AreTotalled items.now domains.now (parted boxes.now x part.now) (k + 1) 0 r.items (pos 0) literals.new.items) }
+{
+    let y = items[k].0;
+    let high = say_room(alloc, literals, items, k, domains, boxes, x, part)?;
+    let more = raise(alloc, row.as_slice(), domain_at(domains, y), high)?;
+    if !sizes.is_at_most(sum_of(more.as_slice())) {
+        return Ok(more);
+    }
+    let short = short_values(alloc, row.as_slice(), domain_at(domains, y), high)?;
+    say(literals, y, short)?;
+    Ok(row)
+}
+
+/// Says what has to be said of the places and rooms, and gives the row with which they are counted.
+fn seat_all(
+    alloc: Global,
+    literals: &mut Vec<(u32, IntSet)>,
+    items: &[(u32, u32, u32)],
+    domains: &[IntSet],
+    boxes: &[IntSet],
+    x: u32,
+    part: &IntSet,
+    row: Vec<(i64, i64)>,
+    sizes: Total,
+) -> Result<Vec<(i64, i64)>, AllocError>
+    requires ground { IsPart domains.now boxes.now items.now x part.now }
+    requires sizes { sizes.value ≡ least_sizes items.now (parted boxes.now x part.now) }
+    requires so_far { AreTotalled items.now domains.now (parted boxes.now x part.now) 0 0 row.items (pos 0) literals.old.items }
+    ensures { IfOk result (λ r. AreTotalled items.now domains.now (parted boxes.now x part.now) (length items.now) 0 r.items (pos 0) literals.new.items) }
+{
+    let mut seated = row;
+    for k in 0..items.len() {
+        seated = seat(
+            alloc, literals, items, k, domains, boxes, x, part, seated, sizes,
+        )?;
+    }
+    Ok(seated)
+}
+
+/// What the first number has above the second.
+pub fn difference(a: Number, b: Number) -> Number
+    requires low { pos 0 ≤ℤ b.value }
+    requires order { b.value ≤ℤ a.value }
+    ensures { result.value ≡ a.value -ℤ b.value }
+{
+    Number {
+        value: a.value - b.value,
+    }
+}
+
+/// By how much more the sizes are above the rooms than by one, as far as 64 bits tell.
+pub fn spare_of(sizes: Total, rooms: Total) -> Number
+    requires { rooms.value <ℤ sizes.value }
+    ensures some { pos 0 ≤ℤ result.value }
+    ensures fits { ((rooms.value +ℤ pos 1) +ℤ result.value) ≤ℤ sizes.value }
+{
+    match sizes.value.checked_sub(rooms.value) {
+        Some(more) => Number {
+            value: i64::try_from(more - 1).unwrap_or(i64::MAX),
+        },
+        None => Number { value: 0 },
+    }
+}
+
+/// Says what has to be said of the size of item `m`, and gives what is left to spare.
+fn weigh(
+    alloc: Global,
+    literals: &mut Vec<(u32, IntSet)>,
+    items: &[(u32, u32, u32)],
+    m: usize,
+    domains: &[IntSet],
+    boxes: &[IntSet],
+    x: u32,
+    part: &IntSet,
+    spare: Number,
+) -> Result<Number, AllocError>
+    requires ground { IsPart domains.now boxes.now items.now x part.now }
+    requires there { m < length items.now }
+    requires so_far { AreWeighed items.now domains.now (parted boxes.now x part.now) m spare.value literals.old.items }
+    ensures { IfOk result (λ left. AreWeighed items.now domains.now (parted boxes.now x part.now) (m + 1) left.value literals.new.items) }
+{
+    let y = items[m].1;
+    let low = parted::least(boxes, x, part, y);
+    let fall = difference(low, least(domains, y));
+    if fall.value <= spare.value {
+        return Ok(difference(spare, fall));
+    }
+    let under = below(alloc, domain_at(domains, y), difference(low, spare))?;
+    say(literals, y, under)?;
+    Ok(Number { value: 0 })
+}
+
+/// Says what has to be said of the sizes, and gives what is left to spare.
+fn weigh_all(
+    alloc: Global,
+    literals: &mut Vec<(u32, IntSet)>,
+    items: &[(u32, u32, u32)],
+    domains: &[IntSet],
+    boxes: &[IntSet],
+    x: u32,
+    part: &IntSet,
+    spare: Number,
+) -> Result<Number, AllocError>
+    requires ground { IsPart domains.now boxes.now items.now x part.now }
+    requires so_far { AreWeighed items.now domains.now (parted boxes.now x part.now) 0 spare.value literals.old.items }
+    ensures { IfOk result (λ left. AreWeighed items.now domains.now (parted boxes.now x part.now) (length items.now) left.value literals.new.items) }
+{
+    let mut left = spare;
+    for m in 0..items.len() {
+        left = weigh(alloc, literals, items, m, domains, boxes, x, part, left)?;
+    }
+    Ok(left)
+}
+
+/// The clause of a part of a box with which all sizes are more than all room; None where they aren't.
+///
+/// # Errors
+/// Want of memory.
 pub fn explain_total(
-    _alloc: Global,
+    alloc: Global,
     con: &Con,
     items: &[(u32, u32, u32)],
     domains: &[IntSet],
@@ -22,5 +239,27 @@ pub fn explain_total(
     requires ground { IsPart domains.now boxes.now items.now x part.now }
     ensures { IfOk result (λ r. IfSome r (λ c. IsPruning con.now domains.now boxes.now c)) }
 {
-    Ok(None)
+    let Some((first, n)) = window(items, domains) else {
+        return Ok(None);
+    };
+    let best = best_row(alloc, items, boxes, x, part, first, n)?;
+    let sizes = sizes_of(items, boxes, x, part);
+    if sizes.is_at_most(sum_of(best.as_slice())) {
+        return Ok(None);
+    }
+    let mut literals = Vec::new(alloc);
+    let row = seat_all(
+        alloc,
+        &mut literals,
+        items,
+        domains,
+        boxes,
+        x,
+        part,
+        best,
+        sizes,
+    )?;
+    let spare = spare_of(sizes, sum_of(row.as_slice()));
+    weigh_all(alloc, &mut literals, items, domains, boxes, x, part, spare)?;
+    Ok(Some(pruning(con, domains, boxes, literals)))
 }

@@ -1,19 +1,27 @@
-use Rattle.std.proofs.Common.{length, refl, ◌∙◌}
-use Rattle.pack_prop.proofs.OverReason.{sources_named, all_same, over_pruning}
+use Rattle.std.proofs.Common.{arith, subst, sym}
+use Rattle.signed_clause.specs.Clauses.{Literals}
+use Rattle.pack_prop.specs.Collected.{AreCollected}
+use Rattle.pack_prop.specs.Sources.{parted}
+use Rattle.pack_prop.proofs.Collecting.{collected_none}
+use Rattle.pack_prop.proofs.LoadWalk.{over_begins, over_less, over_reason}
+use Rattle.std.proofs.lemmas.Int.{ints}
 use Rattle.pack_prop.proofs.overfull.explain_part.Goals as goal
 
-pub literals_of-requires-clause-domains : goal.literals_of-requires-clause-domains
-literals_of-requires-clause-domains c =
-    all_same (length c.args.boxes.now) (length c.args.domains.now) _ _ (c.as_slice.ensures.value ∙ c.in_ok-vars.ensures) c.requires.ground.boxes_within.size
-    (sources_named c.args.domains.now c.args.boxes.now c.args.items.now c.args.x c.args.part.now c.args.at.value c.args.k c.requires.ground c.requires.over)
+pub say_room-requires-clause-literals : goal.say_room-requires-clause-literals
+say_room-requires-clause-literals c =
+    subst (λ (z : Literals). AreCollected (parted c.args.boxes.now c.args.x c.args.part.now) z) (sym c.new-literals.ensures.items) (collected_none (parted c.args.boxes.now c.args.x c.args.part.now))
 
-pub literals_of-requires-clause-named : goal.literals_of-requires-clause-named
-literals_of-requires-clause-named c =
-    all_same (length c.args.boxes.now) (length c.args.boxes.now) _ _ (c.as_slice.ensures.value ∙ c.in_ok-vars.ensures) refl
-    (sources_named c.args.domains.now c.args.boxes.now c.args.items.now c.args.x c.args.part.now c.args.at.value c.args.k c.requires.ground c.requires.over)
+pub spare_of-spare-requires : goal.spare_of-spare-requires
+spare_of-spare-requires c =
+    over_less c.args.at.value c.args.items.now (parted c.args.boxes.now c.args.x c.args.part.now) c.args.k c.in_ok-room.room.value c.of.result.value c.load_at-load.result.value c.requires.over c.in_ok-room.ensures.high
+    c.of.ensures c.load_at-load.ensures
+
+pub say_load-requires-clause-so_far : goal.say_load-requires-clause-so_far
+say_load-requires-clause-so_far c =
+    over_begins c.args.domains.now c.args.boxes.now c.args.items.now c.args.x c.args.k c.args.part.now c.args.at.value c.of.result.value c.load_at-load.result.value c.spare_of-spare.result.value
+    c.say_room.new.literals.items c.say_place.new.literals.items c.requires.ground c.requires.over c.in_ok-room.ensures.literals (let e = c.of.ensures in let h = c.in_ok-room.ensures.upto in omega (arith, ints)) c.in_ok-say_place.ensures c.load_at-load.ensures c.spare_of-spare.ensures.some c.spare_of-spare.ensures.fits
 
 pub pruning-requires : goal.pruning-requires
 pruning-requires c = record {
-  reason = over_pruning c.args.con.now c.args.domains.now c.args.boxes.now c.args.items.now c.args.x c.args.part.now c.args.at.value c.args.k c.in_ok-vars.vars.items c.as_slice.result.now c.in_ok-literals.literals.items
-      c.requires.con c.requires.ground c.requires.over c.as_slice.ensures.value c.in_ok-vars.ensures c.in_ok-literals.ensures;
+  reason = over_reason c.args.con.now c.args.domains.now c.args.boxes.now c.args.items.now c.args.x c.args.part.now c.args.at.value _ c.say_load.new.literals.items c.requires.con c.requires.ground c.in_ok-say_load.ensures;
 }
