@@ -276,19 +276,20 @@ fn items(alloc: Global, n: u32) -> Result<PackItems, AllocError> {
     Ok(PackItems::of(items))
 }
 
-/// Adds sizes of 1, but that the last may be up to `most`, and rooms.
+/// Adds sizes of 1, but that the last may be up to `most`, and rooms, every second of them the other of the two.
 fn push_sizes(
     boxes: &mut Vec<IntSet>,
     alloc: Global,
     n: u32,
     most: i64,
-    room: i64,
+    rooms: (i64, i64),
 ) -> Result<(), AllocError> {
     for _ in 1..n {
         boxes.push(IntSet::range(alloc, 1, 1))?;
     }
     boxes.push(IntSet::range(alloc, 1, most.max(1)))?;
-    for _ in 0..n {
+    for i in 0..n {
+        let room = if i % 2 == 0 { rooms.0 } else { rooms.1 };
         boxes.push(IntSet::range(alloc, room, room))?;
     }
     Ok(())
@@ -298,11 +299,28 @@ fn push_sizes(
 fn roomy(alloc: Global, n: u32) -> Result<Case, AllocError> {
     let last = i64::from((n / 2).saturating_sub(1)).max(0);
     let mut idle = ranges(alloc, n, (0, last), (0, last))?;
-    push_sizes(&mut idle, alloc, n, 1, 4)?;
+    push_sizes(&mut idle, alloc, n, 1, (4, 4))?;
     let mut acting = ranges(alloc, n, (0, last), (0, 0))?;
-    push_sizes(&mut acting, alloc, n, 9, 4)?;
+    push_sizes(&mut acting, alloc, n, 9, (4, 4))?;
     Ok(Case {
         name: "Pack, roomy",
+        con: Con::Pack {
+            items: items(alloc, n)?,
+        },
+        idle,
+        acting,
+    })
+}
+
+/// The same with rooms of 4 and 1 in turn.
+fn unlike(alloc: Global, n: u32) -> Result<Case, AllocError> {
+    let last = i64::from((n / 2).saturating_sub(1)).max(0);
+    let mut idle = ranges(alloc, n, (0, last), (0, last))?;
+    push_sizes(&mut idle, alloc, n, 1, (4, 1))?;
+    let mut acting = ranges(alloc, n, (0, last), (0, 0))?;
+    push_sizes(&mut acting, alloc, n, 9, (4, 1))?;
+    Ok(Case {
+        name: "Pack, unlike rooms",
         con: Con::Pack {
             items: items(alloc, n)?,
         },
@@ -330,9 +348,9 @@ fn half_placed(alloc: Global, n: u32, first: u32) -> Result<Vec<IntSet>, AllocEr
 fn half_packed(alloc: Global, n: u32) -> Result<Case, AllocError> {
     let free = (n / 2).saturating_add(4) / 2;
     let mut idle = half_placed(alloc, n, free)?;
-    push_sizes(&mut idle, alloc, n, 1, 2)?;
+    push_sizes(&mut idle, alloc, n, 1, (2, 2))?;
     let mut acting = half_placed(alloc, n, 0)?;
-    push_sizes(&mut acting, alloc, n, 1, 2)?;
+    push_sizes(&mut acting, alloc, n, 1, (2, 2))?;
     Ok(Case {
         name: "Pack, half packed",
         con: Con::Pack {
@@ -347,9 +365,9 @@ fn half_packed(alloc: Global, n: u32) -> Result<Case, AllocError> {
 fn tight(alloc: Global, n: u32) -> Result<Case, AllocError> {
     let last = i64::from((n / 2).saturating_sub(1)).max(0);
     let mut idle = ranges(alloc, n, (0, last), (0, last))?;
-    push_sizes(&mut idle, alloc, n, 1, 2)?;
+    push_sizes(&mut idle, alloc, n, 1, (2, 2))?;
     let mut acting = ranges(alloc, n, (0, last), (0, last))?;
-    push_sizes(&mut acting, alloc, n, 2, 2)?;
+    push_sizes(&mut acting, alloc, n, 2, (2, 2))?;
     Ok(Case {
         name: "Pack, tight",
         con: Con::Pack {
@@ -375,10 +393,11 @@ pub(crate) fn nth_case(alloc: Global, row: u32, n: u32) -> Result<Case, AllocErr
         9 => conditional(alloc, n),
         10 => different(alloc, n),
         11 => roomy(alloc, n),
-        12 => half_packed(alloc, n),
+        12 => unlike(alloc, n),
+        13 => half_packed(alloc, n),
         _ => tight(alloc, n),
     }
 }
 
 /// How many rows there are.
-pub(crate) const ROWS: u32 = 14;
+pub(crate) const ROWS: u32 = 15;
