@@ -22,3 +22,4 @@ pub mod TotalReason
 pub mod TotalWalk
 pub mod LoadReason
 pub mod LoadWalk
+pub mod FitItems
