@@ -30,3 +30,4 @@ pub mod TotalReason
 pub mod TotalWalk
 pub mod LoadReason
 pub mod LoadWalk
+pub mod FitItems

@@ -1,11 +1,14 @@
 //! What no clause says: that explanations are as short as they can be told to be. Each expected clause is derived by hand.
-ghost use Rattle.std.specs.Prelude.{◌≡◌, ◌<◌, IfOk, IfSome, length};
+ghost use Rattle.std.specs.Prelude.{◌≡◌, ◌<◌, ◌≤ℤ◌, true, pos, length};
 ghost use Rattle.std.specs.List.{All};
 ghost use Rattle.signed_clause.specs.Ranges.{IsValid};
+ghost use Rattle.signed_clause.specs.Clauses.{box_of};
 ghost use Rattle.ground_form.specs.declared.con.Con.TheVariants.{Pack};
-ghost use Rattle.ground_form.specs.WellMade.{IsWellMadeCon};
-ghost use Rattle.rule_law.specs.Answers.{AreBoxesWithin, IsPruning};
+ghost use Rattle.ground_form.specs.Bounds.{low_of};
+ghost use Rattle.rule_law.specs.Answers.{AreBoxesWithin};
+ghost use Rattle.rule_law.specs.Named.{AreItemsNamed, IsItemNamed};
 
+use crate::loads::least;
 use crate::overfull::{explain_part, overfilled};
 use crate::tests::are_within;
 use crate::total::explain_total;
@@ -13,8 +16,45 @@ use ground_form::{Con, Number, PackItems};
 use signed_clause::{Clause, IntSet};
 use std::alloc::{AllocError, Global};
 
+/// Whether the item's variables have boxes.
+fn is_named(i: (u32, u32, u32), boxes: &[IntSet]) -> bool
+    ensures { result ≡ true → IsItemNamed i boxes.now }
+{
+    (i.0 as usize) < boxes.len() && (i.1 as usize) < boxes.len() && (i.2 as usize) < boxes.len()
+}
+
+/// Whether the item's size has a domain, which has no value below 0.
+fn is_sized(i: (u32, u32, u32), domains: &[IntSet]) -> bool
+    ensures { result ≡ true → pos 0 ≤ℤ low_of (box_of domains.now i.1) }
+{
+    (i.1 as usize) < domains.len() && 0 <= least(domains, i.1).value
+}
+
+/// Whether that is so.
+fn is_fit(i: (u32, u32, u32), domains: &[IntSet], boxes: &[IntSet]) -> bool
+    ensures named { result ≡ true → IsItemNamed i boxes.now }
+    ensures sized { result ≡ true → pos 0 ≤ℤ low_of (box_of domains.now i.1) }
+{
+    is_named(i, boxes) && is_sized(i, domains)
+}
+
+/// Whether that is so of each item.
+#[tactic(auto, using(crate::proofs::FitItems::next_fit, crate::proofs::FitItems::all_named, crate::proofs::FitItems::all_sized))]
+fn are_fit(items: &[(u32, u32, u32)], domains: &[IntSet], boxes: &[IntSet]) -> bool
+    ensures named { result ≡ true → AreItemsNamed items.now boxes.now }
+    ensures sized { result ≡ true → All (λ i. pos 0 ≤ℤ low_of (box_of domains.now i.1)) items.now }
+{
+    let mut k = 0;
+    while k < items.len() {
+        if !is_fit(items[k], domains, boxes) {
+            return false;
+        }
+        k += 1;
+    }
+    true
+}
+
 /// The explanation of the total of the items, where the part is one of the box of `x`.
-#[tactic(auto, using(crate::proofs::Roomy::pack_named, crate::proofs::Roomy::pack_sizes))]
 fn total_of_items(
     alloc: Global,
     con: &Con,
@@ -25,11 +65,13 @@ fn total_of_items(
     part: &IntSet,
 ) -> Result<Option<Clause>, AllocError>
     requires con { con.now ≡ Pack items.now }
-    requires well_made { IsWellMadeCon domains.now con.now }
     requires boxes { AreBoxesWithin domains.now boxes.now }
     requires sets { All (λ d. IsValid d) domains.now }
 {
     part.ranges();
+    if !are_fit(items, domains, boxes) {
+        return Ok(None);
+    }
     if (x as usize) < boxes.len() && !part.is_empty() && part.within(&boxes[x as usize]) {
         explain_total(alloc, con, items, domains, boxes, x, part)
     } else {
@@ -46,7 +88,6 @@ fn total_of(
     x: u32,
     part: &IntSet,
 ) -> Result<Option<Clause>, AllocError>
-    requires well_made { IsWellMadeCon domains.now con.now }
     requires sets { All (λ d. IsValid d) domains.now }
 {
     if !are_within(domains, boxes) {
@@ -163,7 +204,6 @@ fn sizes_to_spare(rt: HostRuntime) -> Result<(), AllocError> {
 }
 
 /// The explanation of an overfull place of the items, where the part is one of the box of `x`.
-#[tactic(auto, using(crate::proofs::Roomy::pack_named, crate::proofs::Roomy::pack_sizes))]
 fn over_of_items(
     alloc: Global,
     con: &Con,
@@ -175,11 +215,13 @@ fn over_of_items(
     at: Number,
 ) -> Result<Option<Clause>, AllocError>
     requires con { con.now ≡ Pack items.now }
-    requires well_made { IsWellMadeCon domains.now con.now }
     requires boxes { AreBoxesWithin domains.now boxes.now }
     requires sets { All (λ d. IsValid d) domains.now }
 {
     part.ranges();
+    if !are_fit(items, domains, boxes) {
+        return Ok(None);
+    }
     if (x as usize) >= boxes.len() || part.is_empty() || !part.within(&boxes[x as usize]) {
         return Ok(None);
     }
@@ -200,7 +242,6 @@ fn over_of(
     part: &IntSet,
     at: Number,
 ) -> Result<Option<Clause>, AllocError>
-    requires well_made { IsWellMadeCon domains.now con.now }
     requires sets { All (λ d. IsValid d) domains.now }
 {
     if !are_within(domains, boxes) {
