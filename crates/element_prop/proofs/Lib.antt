@@ -3,7 +3,6 @@ pub mod EqualityLaws
 pub mod ConditionalLaws
 pub mod Asked
 pub mod ElementLaws
-pub mod UpTo
 pub mod ElementQuiet
 pub mod IndexLaws
 pub mod OutLaws

@@ -1,48 +1,17 @@
 //! What no clause says: that pruning until there is nothing to say comes to the same boxes as plain probing does. Each table is
 //! all boxes within small domains, made by a loop.
-ghost use Rattle.std.specs.Prelude.{◌≡◌, ◌<◌, true, false, length, IfOk};
+ghost use Rattle.std.specs.Prelude.{◌<◌, true, false, IfOk};
 ghost use Rattle.std.specs.List.{All};
-ghost use Rattle.signed_clause.specs.Ranges.{is_nil, IsValid};
-ghost use Rattle.signed_clause.specs.SetAlgebra.{inside};
-ghost use Rattle.signed_clause.specs.Clauses.{box_of};
+ghost use Rattle.signed_clause.specs.Ranges.{IsValid};
 ghost use Rattle.ground_form.specs.WellMade.{IsWellMadeCon};
 ghost use Rattle.rule_law.specs.Answers.{AreBoxesWithin, IsAnswer};
 
 use crate::ElementProp;
 use crate::propagator::prune_one;
 use ground_form::{Con, Kind, Terms, copy_sets};
-use rule_law::{Differing, Propagator, justified, probe};
+use rule_law::{Differing, Propagator, are_boxes_within, justified, probe};
 use signed_clause::{Clause, IntSet};
 use std::alloc::{AllocError, Global};
-
-/// Whether the box isn't empty and lies within its domain.
-fn is_part(domains: &[IntSet], boxes: &[IntSet], x: usize) -> bool
-    requires boxes { x < length boxes.now }
-    requires domains { x < length domains.now }
-    ensures within { result ≡ true → inside (box_of boxes.now x) (box_of domains.now x) ≡ true }
-    ensures some { result ≡ true → is_nil (box_of boxes.now x) ≡ false }
-    ensures valid { IsValid (box_of boxes.now x) }
-{
-    boxes[x].ranges();
-    boxes[x].within(&domains[x]) && !boxes[x].is_empty()
-}
-
-/// Whether no box is empty, and each lies within its domain.
-fn are_within(domains: &[IntSet], boxes: &[IntSet]) -> bool
-    ensures { result ≡ true → AreBoxesWithin domains.now boxes.now }
-{
-    if boxes.len() != domains.len() {
-        return false;
-    }
-    let mut x = 0;
-    while x < boxes.len() {
-        if !is_part(domains, boxes, x) {
-            return false;
-        }
-        x += 1;
-    }
-    true
-}
 
 /// What the propagator says, or plain probing.
 fn answer(
@@ -117,7 +86,7 @@ fn settle(
     requires sets { All (λ d. IsValid d) domains.now }
 {
     for _ in 0..40u32 {
-        if !are_within(domains, boxes.as_slice()) {
+        if !are_boxes_within(domains, boxes.as_slice()) {
             return Ok(None);
         }
         match ask(differing, con, domains, boxes.as_slice(), plain, alloc)? {
@@ -204,7 +173,7 @@ fn agrees(
     let mut cases = 0u32;
     for n in 0..count {
         let boxes = nth_boxes(alloc, domains, n)?;
-        if are_within(domains, boxes.as_slice()) {
+        if are_boxes_within(domains, boxes.as_slice()) {
             if !settles_alike(alloc, differing, con, domains, boxes.as_slice())? {
                 return Ok(0);
             }

@@ -22,7 +22,6 @@ pub mod SurveyFits
 pub mod SurveyWalk
 pub mod OverReason
 pub mod TightRows
-pub mod UpTo
 pub mod Collecting
 pub mod RowLaws
 pub mod CutBoxes

@@ -1,5 +1,5 @@
 //! What no clause says: that explanations are as short as they can be told to be. Each expected clause is derived by hand.
-ghost use Rattle.std.specs.Prelude.{◌≡◌, ◌<◌, ◌≤ℤ◌, true, pos, length};
+ghost use Rattle.std.specs.Prelude.{◌≡◌, ◌<◌, ◌≤ℤ◌, true, pos};
 ghost use Rattle.std.specs.List.{All};
 ghost use Rattle.signed_clause.specs.Ranges.{IsValid};
 ghost use Rattle.signed_clause.specs.Clauses.{box_of};
@@ -10,9 +10,9 @@ ghost use Rattle.rule_law.specs.Named.{AreItemsNamed, IsItemNamed};
 
 use crate::loads::least;
 use crate::overfull::{explain_part, overfilled};
-use crate::tests::are_within;
 use crate::total::explain_total;
 use ground_form::{Con, Number, PackItems};
+use rule_law::are_boxes_within;
 use signed_clause::{Clause, IntSet};
 use std::alloc::{AllocError, Global};
 
@@ -90,7 +90,7 @@ fn total_of(
 ) -> Result<Option<Clause>, AllocError>
     requires sets { All (λ d. IsValid d) domains.now }
 {
-    if !are_within(domains, boxes) {
+    if !are_boxes_within(domains, boxes) {
         return Ok(None);
     }
     match con {
@@ -244,7 +244,7 @@ fn over_of(
 ) -> Result<Option<Clause>, AllocError>
     requires sets { All (λ d. IsValid d) domains.now }
 {
-    if !are_within(domains, boxes) {
+    if !are_boxes_within(domains, boxes) {
         return Ok(None);
     }
     match con {

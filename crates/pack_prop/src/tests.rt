@@ -1,10 +1,8 @@
 //! What no clause says: that pruning until there is nothing to say comes to the same boxes as plain probing does. Each table is
 //! all boxes within small domains, made by a loop.
-ghost use Rattle.std.specs.Prelude.{◌≡◌, ◌<◌, true, false, length, IfOk, IfErr};
+ghost use Rattle.std.specs.Prelude.{◌≡◌, ◌<◌, true, false, IfOk};
 ghost use Rattle.std.specs.List.{All};
-ghost use Rattle.signed_clause.specs.Ranges.{is_nil, IsValid};
-ghost use Rattle.signed_clause.specs.SetAlgebra.{inside};
-ghost use Rattle.signed_clause.specs.Clauses.{box_of};
+ghost use Rattle.signed_clause.specs.Ranges.{IsValid};
 ghost use Rattle.ground_form.specs.declared.con.Con.TheVariants.{Pack};
 ghost use Rattle.ground_form.specs.WellMade.{IsWellMadeCon};
 ghost use Rattle.rule_law.specs.Answers.{AreBoxesWithin, IsAnswer};
@@ -14,39 +12,9 @@ use crate::misfits::part_of;
 use crate::propagator::{Kept, answer};
 use crate::tight::find_excess;
 use ground_form::{Con, PackItems, VarList};
-use rule_law::{justified, probe};
+use rule_law::{are_boxes_within, justified, probe};
 use signed_clause::{Clause, IntSet};
 use std::alloc::{AllocError, Global};
-
-/// Whether the box isn't empty and lies within its domain.
-fn is_part(domains: &[IntSet], boxes: &[IntSet], x: usize) -> bool
-    requires boxes { x < length boxes.now }
-    requires domains { x < length domains.now }
-    ensures within { result ≡ true → inside (box_of boxes.now x) (box_of domains.now x) ≡ true }
-    ensures some { result ≡ true → is_nil (box_of boxes.now x) ≡ false }
-    ensures valid { IsValid (box_of boxes.now x) }
-{
-    boxes[x].ranges();
-    boxes[x].within(&domains[x]) && !boxes[x].is_empty()
-}
-
-/// Whether no box is empty, and each lies within its domain.
-#[tactic(auto, using(crate::proofs::UpTo::next_part, crate::proofs::UpTo::all_parts))]
-pub fn are_within(domains: &[IntSet], boxes: &[IntSet]) -> bool
-    ensures { result ≡ true → AreBoxesWithin domains.now boxes.now }
-{
-    if boxes.len() != domains.len() {
-        return false;
-    }
-    let mut x = 0;
-    while x < boxes.len() {
-        if !is_part(domains, boxes, x) {
-            return false;
-        }
-        x += 1;
-    }
-    true
-}
 
 /// What the propagator says, or plain probing.
 fn answer_or_probe(
@@ -121,7 +89,7 @@ fn settle(
     requires sets { All (λ d. IsValid d) domains.now }
 {
     for _ in 0..40u32 {
-        if !are_within(domains, boxes.as_slice()) {
+        if !are_boxes_within(domains, boxes.as_slice()) {
             return Ok(None);
         }
         match ask(kept, con, domains, boxes.as_slice(), plain, alloc)? {
@@ -268,7 +236,7 @@ fn agrees(alloc: Global, con: &Con, domains: &[IntSet], count: u32) -> Result<u3
     for k in 0..count {
         let n = k.saturating_mul(11);
         let boxes = nth_boxes(alloc, domains, n)?;
-        if are_within(domains, boxes.as_slice()) {
+        if are_boxes_within(domains, boxes.as_slice()) {
             let quick = settle(&mut kept, con, domains, boxes, false, alloc)?;
             let plain = settle(
                 &mut kept,
@@ -363,7 +331,7 @@ fn count_found(alloc: Global, con: &Con, domains: &[IntSet], count: u32) -> Resu
     let mut cases = 0u32;
     for k in 0..count {
         let boxes = nth_boxes(alloc, domains, k.saturating_mul(11))?;
-        if are_within(domains, boxes.as_slice()) {
+        if are_boxes_within(domains, boxes.as_slice()) {
             match is_found_right(alloc, con, items.items(), domains, boxes.as_slice())? {
                 Some(true) => cases = cases.saturating_add(1),
                 Some(false) => return Ok(0),
@@ -409,7 +377,7 @@ fn three_places_for_two_values(rt: HostRuntime) -> Result<(), AllocError> {
             vars: VarList::of(vec![in alloc; 0u32, 1, 2]?),
         };
         let mut kept = Kept::new(alloc);
-        if are_within(domains.as_slice(), boxes.as_slice()) {
+        if are_boxes_within(domains.as_slice(), boxes.as_slice()) {
             let turn = ask(
                 &mut kept,
                 &con,
