@@ -1,12 +1,12 @@
 -- What one more set does to collected literals.
 use Rattle.std.proofs.Common.{◌≡◌, ℕ, suc, ◌<◌, ◌==◌, Bool, true, false, not, ◌&&◌, ◌||◌, cond, [], ◌∷◌, ℤ, All, length, refl, arith, subst, negsuc, pos, ◌≤ℤ◌, ◌++◌, ◌+◌, ◌≤◌, int_lt, take, get_or, slice_set, zero, ap, ◌∙◌, sym, List}
 use Rattle.std.proofs.lemmas.Int.{ints}
-use Rattle.std.proofs.lemmas.Bool.{and_parts, and_from, false_from_ne_true}
+use Rattle.std.proofs.lemmas.Bool.{and_parts, false_from_ne_true}
 use Rattle.std.proofs.lemmas.Bool.Decides.{nat_tests}
 use Rattle.std.proofs.lemmas.List.Elements.{All-cons}
 use Rattle.signed_clause.specs.Ranges.{Ranges, has, is_nil, IsValid}
 use Rattle.signed_clause.specs.SetAlgebra.{misses, join}
-use Rattle.signed_clause.specs.Clauses.{Boxes, Literal, Literals, box_of, set_of, false_in}
+use Rattle.signed_clause.specs.Clauses.{Boxes, Literal, Literals, box_of, set_of}
 use Rattle.signed_clause.proofs.RangeSteps.{IsValid-join, has-join_valid}
 use Rattle.signed_clause.proofs.SetFacts.{misses_law}
 use Rattle.ground_form.specs.Meaning.{clause_vars}
@@ -141,15 +141,6 @@ collected_sets boxes ls h y = set_valid y ls (λ k d lt. (h.each k d lt).valid)
 
 pub collected_none : (boxes : Boxes) → AreCollected boxes []
 collected_none boxes = record { each = λ k d lt. absurd (omega arith); differ = refl }
-
--- ---- all are false
-
-each_false : (boxes : Boxes) (ls : Literals) → All (λ l. IsFalse boxes l) ls → false_in boxes ls ≡ true
-each_false boxes [] a = refl
-each_false boxes (l ∷ ls) a = and_from _ _ (a 0 l (omega arith)).missed (each_false boxes ls (λ k d lt. a (suc k) d (omega arith)))
-
-pub collected_false : (boxes : Boxes) (ls : Literals) → AreCollected boxes ls → false_in boxes ls ≡ true
-collected_false boxes ls h = each_false boxes ls h.each
 
 -- ---- values above and below a number
 

@@ -10,11 +10,10 @@ use Rattle.signed_clause.proofs.SetFacts.{misses_law, inside_law}
 use Rattle.signed_clause.proofs.RangeSteps.{has-less_valid, IsValid-less}
 use Rattle.ground_form.specs.declared.con.Con.{Con}
 use Rattle.ground_form.specs.Bounds.{low_of, high_of}
-use Rattle.rule_law.specs.Answers.{AreBoxesWithin}
 use Rattle.rule_law.specs.Justified.{cut, justified}
 use Rattle.rule_law.specs.Reasons.{IsReason, Acts}
 use Rattle.rule_law.proofs.CutLaws.{cut_box}
-use Rattle.rule_law.proofs.EndLaws.{AreSets, are_sets, above_low, below_high}
+use Rattle.rule_law.proofs.EndLaws.{AreSets, above_low, below_high}
 use Rattle.rule_law.proofs.QuietLaws.{has_low, has_high}
 use Rattle.pack_prop.specs.Collected.{IsFalse, AreCollected, SaysMore}
 use Rattle.pack_prop.proofs.Collecting.{collected_sets}
@@ -55,9 +54,6 @@ pub record AreOver (domains boxes : Boxes) : Type 0 where
   pub box_sets : AreSets boxes
   pub within : (y : ℕ) → y < length boxes → inside (box_of boxes y) (box_of domains y) ≡ true
   pub some : (y : ℕ) → y < length boxes → is_nil (box_of boxes y) ≡ false
-
-pub over_from : (domains boxes : Boxes) → AreBoxesWithin domains boxes → All (λ d. IsValid d) domains → AreOver domains boxes
-over_from domains boxes w f = record { domain_sets = are_sets domains f; box_sets = are_sets boxes w.sets; within = w.within; some = w.some }
 
 pub box_in : (domains boxes : Boxes) (y : ℕ) (v : ℤ) → AreOver domains boxes → y < length boxes → has (box_of boxes y) v ≡ true → has (box_of domains y) v ≡ true
 box_in domains boxes y v o n h = (inside_law (box_of boxes y) (box_of domains y) (o.box_sets y) (o.domain_sets y)).0 (o.within y n) v h
