@@ -1,6 +1,6 @@
 -- What the numbers of a spot tell: that all items fit there, and what its second greatest room is at least.
-use Rattle.std.proofs.Common.{◌≡◌, ℕ, suc, ◌<◌, ◌≤◌, Bool, true, false, not, ◌&&◌, ◌||◌, cond, List, [], ◌∷◌, ℤ, pos, ◌+ℤ◌, ◌≤ℤ◌, refl, arith, inl, inr, subst, sym, ◌∙◌, All}
-use Rattle.std.specs.Prelude.{nat_lt, nat_le}
+use Rattle.std.proofs.Common.{◌≡◌, ℕ, suc, ◌<◌, ◌≤◌, Bool, true, false, not, ◌&&◌, ◌||◌, cond, List, [], ◌∷◌, ℤ, pos, ◌+ℤ◌, ◌≤ℤ◌, ◌+◌, ◌-◌, refl, arith, inl, inr, subst, sym, ◌∙◌, All}
+use Rattle.std.specs.Prelude.{nat_lt, nat_le, int_le}
 use Rattle.std.specs.Int.{int_max, int_min}
 use Rattle.std.specs.Ordering.{int_eq}
 use Rattle.std.proofs.lemmas.Int.{ints}
@@ -14,7 +14,7 @@ use Rattle.rule_law.specs.Repeats.{is_one}
 use Rattle.rule_law.proofs.EndLaws.{AreSets, are_sets, fixed_value}
 use Rattle.pack_prop.specs.declared.survey.Spot.{Spot}
 use Rattle.pack_prop.specs.Packing.{tight_room, fits, all_fit, two_rooms}
-use Rattle.pack_prop.specs.Survey.{IsSpot, IsSettled, least_room, growth_at, fixed_count, some_frozen, hits, open_size, room_floor}
+use Rattle.pack_prop.specs.Survey.{IsSpot, IsSettled, least_room, growth_at, fixed_count, some_frozen, hits, open_size, open_floor, room_where, least_second}
 use Rattle.pack_prop.proofs.PackWalks.{fixed_has}
 
 -- ---- items that are fixed may be there
@@ -38,7 +38,7 @@ record AreSettled (v load tight : ℤ) (is : List (ℕ × ℕ × ℕ)) (boxes : 
   grown : (load +ℤ growth_at v is boxes) ≤ℤ tight
   least : load ≤ℤ least_room v is boxes
   size : fixed_count v is boxes < hits v is boxes → (load +ℤ open_size is boxes) ≤ℤ tight
-  most : fixed_count v is boxes < hits v is boxes → (load +ℤ open_size is boxes) ≤ℤ room_floor is boxes
+  most : fixed_count v is boxes < hits v is boxes → (load +ℤ open_size is boxes) ≤ℤ open_floor is boxes
 
 growth_tail : (f : Bool) (load more rest tight : ℤ) → (load +ℤ cond f (int_max more rest) rest) ≤ℤ tight → (load +ℤ rest) ≤ℤ tight
 growth_tail true load more rest tight h = grind (arith, ints)
@@ -58,8 +58,9 @@ size_tail : (o : Bool) (load low rest tight : ℤ) → (load +ℤ cond o rest (i
 size_tail true load low rest tight h = h
 size_tail false load low rest tight h = grind (arith, ints)
 
-floor_tail : (total room rest : ℤ) → total ≤ℤ int_min room rest → total ≤ℤ rest
-floor_tail total room rest h = grind (arith, ints)
+floor_tail : (o : Bool) (load low rest room floor : ℤ) → (load +ℤ cond o rest (int_max low rest)) ≤ℤ cond o floor (int_min room floor) → (load +ℤ rest) ≤ℤ floor
+floor_tail true load low rest room floor h = h
+floor_tail false load low rest room floor h = grind (arith, ints)
 
 settled_tail : (v load tight : ℤ) (i : ℕ × ℕ × ℕ) (is : List (ℕ × ℕ × ℕ)) (boxes : Boxes) → AreSets boxes → AreSettled v load tight (i ∷ is) boxes → AreSettled v load tight is boxes
 settled_tail v load tight i is boxes s h =
@@ -68,7 +69,7 @@ settled_tail v load tight i is boxes s h =
       grown = growth_tail (fixed_at (box_of boxes i.0) v) load _ _ tight h.grown;
       least = least_tail (fixed_at (box_of boxes i.0) v) load _ _ h.least;
       size = λ lt. size_tail (is_one (box_of boxes i.0)) load _ _ tight (h.size (count_tail (fixed_at (box_of boxes i.0) v) (has (box_of boxes i.0) v) _ _ there lt));
-      most = λ lt. floor_tail _ _ _ (size_tail (is_one (box_of boxes i.0)) load _ _ _ (h.most (count_tail (fixed_at (box_of boxes i.0) v) (has (box_of boxes i.0) v) _ _ there lt)));
+      most = λ lt. floor_tail (is_one (box_of boxes i.0)) load _ _ _ _ (h.most (count_tail (fixed_at (box_of boxes i.0) v) (has (box_of boxes i.0) v) _ _ there lt));
     }
 
 fixed_fits : (v load tight : ℤ) (i : ℕ × ℕ × ℕ) (is : List (ℕ × ℕ × ℕ)) (boxes : Boxes) → AreSettled v load tight (i ∷ is) boxes → fixed_at (box_of boxes i.0) v ≡ true → fits v load tight i boxes ≡ true
@@ -100,7 +101,7 @@ all_settled v (i ∷ is) items boxes s h =
     and_from _ _ (one_fits v load tight i is boxes s h) (all_settled v is items boxes s (settled_tail v load tight i is boxes s h))
 
 pub settled_fit : (spot : Spot) (v : ℤ) (items : List (ℕ × ℕ × ℕ)) (boxes : Boxes) (count : ℕ) (size floor : ℤ) → All (λ s. IsValid s) boxes → IsSpot spot v items boxes → count ≡ hits v items boxes →
-    size ≡ open_size items boxes → floor ≡ room_floor items boxes → IsSettled spot (nat_lt spot.count count) size floor → all_fit v items items boxes ≡ true
+    size ≡ open_size items boxes → floor ≡ open_floor items boxes → IsSettled spot (nat_lt spot.count count) size floor → all_fit v items items boxes ≡ true
 settled_fit spot v items boxes count size floor sets is c z f h =
     let load = is.load in let tight = is.tight in let room = is.room in let growth = is.growth in let n = is.count in
     let grown = h.grown in let least = h.least in
@@ -114,38 +115,116 @@ settled_fit spot v items boxes count size floor sets is c z f h =
 
 -- ---- the second greatest room
 
-floor_first : (v : ℤ) (is : List (ℕ × ℕ × ℕ)) (boxes : Boxes) → 0 < hits v is boxes → room_floor is boxes ≤ℤ (two_rooms v is boxes).0
-floor_first v [] boxes h = absurd (omega arith)
-floor_first v (i ∷ is) boxes h =
-    (elim (has (box_of boxes i.0) v) as (λ t. has (box_of boxes i.0) v ≡ t → room_floor (i ∷ is) boxes ≤ℤ (two_rooms v (i ∷ is) boxes).0) [
-      | true ↦ λ q. rw q (grind (arith, ints))
-      | false ↦ λ q. let more = floor_first v is boxes (rw q at h) in rw q (grind (arith, ints))
+-- how many of the items that may be at v have a room of b at least
+abbrev wide : ℤ → ℤ → List (ℕ × ℕ × ℕ) → Boxes → ℕ
+wide b v [] boxes = 0
+wide b v (i ∷ is) boxes = cond (has (box_of boxes i.0) v && int_le b (high_of (box_of boxes i.2))) (suc (wide b v is boxes)) (wide b v is boxes)
+
+le_test : (a b : ℤ) → a ≤ℤ b → int_le a b ≡ true
+le_test a b h = grind (arith, ints)
+
+le_from : (a b : ℤ) → int_le a b ≡ true → a ≤ℤ b
+le_from a b h = grind (arith, ints)
+
+-- one of them makes the greatest room as great, two of them the second greatest
+first_put : (w : Bool) (b room first : ℤ) (n : ℕ) → (w ≡ true → b ≤ℤ room) → (0 < n → b ≤ℤ first) → 0 < cond w (suc n) n → b ≤ℤ int_max first room
+first_put true b room first n h more k = let here = h refl in grind (arith, ints)
+first_put false b room first n h more k = let rest = more k in grind (arith, ints)
+
+first_wide : (b v : ℤ) (is : List (ℕ × ℕ × ℕ)) (boxes : Boxes) → 0 < wide b v is boxes → b ≤ℤ (two_rooms v is boxes).0
+first_wide b v [] boxes h = absurd (omega arith)
+first_wide b v (i ∷ is) boxes h =
+    let room = high_of (box_of boxes i.2) in let rest = two_rooms v is boxes in
+    (elim (has (box_of boxes i.0) v) as (λ t. has (box_of boxes i.0) v ≡ t → b ≤ℤ (two_rooms v (i ∷ is) boxes).0) [
+      | true ↦ λ q. rw q (first_put (int_le b room) b room rest.0 (wide b v is boxes) (le_from b room) (first_wide b v is boxes) (rw q at h))
+      | false ↦ λ q. rw q (first_wide b v is boxes (rw q at h))
     ]) refl
 
-second_put : (frozen : Bool) (room rest first second : ℤ) → rest ≤ℤ first → int_min room rest ≤ℤ int_max second (cond frozen room (int_min first room))
-second_put true room rest first second h = grind (arith, ints)
-second_put false room rest first second h = grind (arith, ints)
+second_kept : (frozen : Bool) (b room first second : ℤ) → b ≤ℤ second → b ≤ℤ int_max second (cond frozen room (int_min first room))
+second_kept true b room first second h = grind (arith, ints)
+second_kept false b room first second h = grind (arith, ints)
 
-second_kept : (frozen : Bool) (room rest first second : ℤ) → rest ≤ℤ second → int_min room rest ≤ℤ int_max second (cond frozen room (int_min first room))
-second_kept true room rest first second h = grind (arith, ints)
-second_kept false room rest first second h = grind (arith, ints)
+second_both : (frozen : Bool) (b room first second : ℤ) → b ≤ℤ room → b ≤ℤ first → b ≤ℤ int_max second (cond frozen room (int_min first room))
+second_both true b room first second h k = grind (arith, ints)
+second_both false b room first second h k = grind (arith, ints)
 
-second_single : (room rest second : ℤ) → int_min room rest ≤ℤ int_max second room
-second_single room rest second = grind (arith, ints)
+second_put : (w frozen : Bool) (b room first second : ℤ) (n : ℕ) → (w ≡ true → b ≤ℤ room) → (0 < n → b ≤ℤ first) → (1 < n → b ≤ℤ second) → 1 < cond w (suc n) n →
+    b ≤ℤ int_max second (cond frozen room (int_min first room))
+second_put true frozen b room first second n h one two k = second_both frozen b room first second (h refl) (one (omega arith))
+second_put false frozen b room first second n h one two k = second_kept frozen b room first second (two k)
 
-second_more : (frozen : Bool) (room first second : ℤ) → pos 0 ≤ℤ second → pos 0 ≤ℤ int_max second (cond frozen room (int_min first room))
-second_more true room first second h = grind (arith, ints)
-second_more false room first second h = grind (arith, ints)
-
--- where two items may be
-floor_second : (v : ℤ) (is : List (ℕ × ℕ × ℕ)) (boxes : Boxes) → 1 < hits v is boxes → room_floor is boxes ≤ℤ (two_rooms v is boxes).1
-floor_second v [] boxes h = absurd (omega arith)
-floor_second v (i ∷ is) boxes h =
-    (elim (has (box_of boxes i.0) v) as (λ t. has (box_of boxes i.0) v ≡ t → room_floor (i ∷ is) boxes ≤ℤ (two_rooms v (i ∷ is) boxes).1) [
-      | true ↦ λ q. let k : 1 < suc (hits v is boxes) = rw q at h in let first = floor_first v is boxes (omega arith) in
-          rw q (second_put (is_one (box_of boxes i.0) && is_one (box_of boxes i.2)) (high_of (box_of boxes i.2)) (room_floor is boxes) (two_rooms v is boxes).0 (two_rooms v is boxes).1 first)
-      | false ↦ λ q. let more = floor_second v is boxes (rw q at h) in rw q (grind (arith, ints))
+second_wide : (b v : ℤ) (is : List (ℕ × ℕ × ℕ)) (boxes : Boxes) → 1 < wide b v is boxes → b ≤ℤ (two_rooms v is boxes).1
+second_wide b v [] boxes h = absurd (omega arith)
+second_wide b v (i ∷ is) boxes h =
+    let room = high_of (box_of boxes i.2) in let rest = two_rooms v is boxes in
+    (elim (has (box_of boxes i.0) v) as (λ t. has (box_of boxes i.0) v ≡ t → b ≤ℤ (two_rooms v (i ∷ is) boxes).1) [
+      | true ↦ λ q.
+          rw q
+          (second_put (int_le b room) (is_one (box_of boxes i.0) && is_one (box_of boxes i.2)) b room rest.0 rest.1 (wide b v is boxes) (le_from b room) (first_wide b v is boxes) (second_wide b v is boxes) (rw q at h))
+      | false ↦ λ q. rw q (second_wide b v is boxes (rw q at h))
     ]) refl
+
+-- what is at most the least of the rooms is so without the first of them, and at most the first, which is that of an item of either kind
+tight_kept : (f : Bool) (b room rest : ℤ) → b ≤ℤ cond f (int_min room rest) rest → b ≤ℤ rest
+tight_kept true b room rest h = grind (arith, ints)
+tight_kept false b room rest h = h
+
+least_kept : (o : Bool) (b room rest : ℤ) → b ≤ℤ cond o rest (int_min room rest) → b ≤ℤ rest
+least_kept true b room rest h = h
+least_kept false b room rest h = grind (arith, ints)
+
+room_upto : (f o : Bool) (b room tight floor : ℤ) → (o ≡ true → f ≡ true) → b ≤ℤ cond f (int_min room tight) tight → b ≤ℤ cond o floor (int_min room floor) → b ≤ℤ room
+room_upto true o b room tight floor only h k = grind (arith, ints)
+room_upto false true b room tight floor only h k = absurd (let no = only refl in cc)
+room_upto false false b room tight floor only h k = grind (arith, ints)
+
+wide_more : (h w : Bool) (m all : ℕ) → (h ≡ true → w ≡ true) → all ≤ m → cond h (suc all) all ≤ cond (h && w) (suc m) m
+wide_more true w m all k few = let is = k refl in rw is (omega arith)
+wide_more false w m all k few = few
+
+-- those that are fixed there have the least of their rooms
+fixed_more : (f h w : Bool) (b room rest : ℤ) (n m : ℕ) → (f ≡ true → h ≡ true) → (b ≤ℤ room → w ≡ true) → b ≤ℤ cond f (int_min room rest) rest → (b ≤ℤ rest → n ≤ m) → cond f (suc n) n ≤ cond (h && w) (suc m) m
+fixed_more true h w b room rest n m there k e more =
+    let hit = there refl in let wide : w ≡ true = k (grind (arith, ints)) in let rest_upto : b ≤ℤ rest = grind (arith, ints) in
+    let few = more rest_upto in rw (hit, wide) (omega arith)
+fixed_more false h w b room rest n m there k e more = let few = more e in elim (h && w) as (λ t. n ≤ cond t (suc m) m) [ true ↦ omega arith | false ↦ omega arith ]
+
+fixed_wide : (b v : ℤ) (is : List (ℕ × ℕ × ℕ)) (boxes : Boxes) → AreSets boxes → b ≤ℤ tight_room v is boxes → fixed_count v is boxes ≤ wide b v is boxes
+fixed_wide b v [] boxes s h = omega arith
+fixed_wide b v (i ∷ is) boxes s h =
+    fixed_more (fixed_at (box_of boxes i.0) v) (has (box_of boxes i.0) v) (int_le b (high_of (box_of boxes i.2))) b (high_of (box_of boxes i.2)) (tight_room v is boxes) (fixed_count v is boxes) (wide b v is boxes)
+    (fixed_has (box_of boxes i.0) v (s i.0)) (le_test b (high_of (box_of boxes i.2))) h (fixed_wide b v is boxes s)
+
+-- the others have the least room of an item whose place is open
+open_more : (f h w o : Bool) (b room rest : ℤ) (n m all : ℕ) → (o ≡ true → h ≡ true → f ≡ true) → (b ≤ℤ room → w ≡ true) → b ≤ℤ cond o rest (int_min room rest) → (b ≤ℤ rest → all ≤ m + n) →
+    cond h (suc all) all ≤ cond (h && w) (suc m) m + cond f (suc n) n
+open_more true true w true b room rest n m all only k e more = let few = more e in elim w as (λ t. suc all ≤ cond t (suc m) m + suc n) [ true ↦ omega arith | false ↦ omega arith ]
+open_more false true w true b room rest n m all only k e more = absurd (let no = only refl refl in cc)
+open_more f true w false b room rest n m all only k e more =
+    let wide : w ≡ true = k (grind (arith, ints)) in let rest_upto : b ≤ℤ rest = grind (arith, ints) in let few = more rest_upto in
+    rw wide (elim f as (λ t. suc all ≤ suc m + cond t (suc n) n) [ true ↦ omega arith | false ↦ omega arith ])
+open_more f false w o b room rest n m all only k e more =
+    let rest_upto : b ≤ℤ rest = least_kept o b room rest e in let few = more rest_upto in elim f as (λ t. all ≤ m + cond t (suc n) n) [ true ↦ omega arith | false ↦ omega arith ]
+
+open_wide : (b v : ℤ) (is : List (ℕ × ℕ × ℕ)) (boxes : Boxes) → AreSets boxes → b ≤ℤ open_floor is boxes → hits v is boxes ≤ wide b v is boxes + fixed_count v is boxes
+open_wide b v [] boxes s h = omega arith
+open_wide b v (i ∷ is) boxes s h =
+    open_more (fixed_at (box_of boxes i.0) v) (has (box_of boxes i.0) v) (int_le b (high_of (box_of boxes i.2))) (is_one (box_of boxes i.0)) b (high_of (box_of boxes i.2)) (open_floor is boxes)
+    (fixed_count v is boxes) (wide b v is boxes) (hits v is boxes) (one_there (box_of boxes i.0) v (s i.0)) (le_test b (high_of (box_of boxes i.2))) h (open_wide b v is boxes s)
+
+-- and all of them the least of both
+both_more : (f h w o : Bool) (b room tight floor : ℤ) (m all : ℕ) → (o ≡ true → h ≡ true → f ≡ true) → (b ≤ℤ room → w ≡ true) → b ≤ℤ cond f (int_min room tight) tight → b ≤ℤ cond o floor (int_min room floor) →
+    (b ≤ℤ tight → b ≤ℤ floor → all ≤ m) → cond h (suc all) all ≤ cond (h && w) (suc m) m
+both_more f h w o b room tight floor m all only k e g more =
+    let tight_upto : b ≤ℤ tight = tight_kept f b room tight e in let floor_upto : b ≤ℤ floor = least_kept o b room floor g in let few = more tight_upto floor_upto in
+    let wide : h ≡ true → w ≡ true = λ q. k (room_upto f o b room tight floor (λ p. only p q) e g) in
+    wide_more h w m all wide few
+
+both_wide : (b v : ℤ) (is : List (ℕ × ℕ × ℕ)) (boxes : Boxes) → AreSets boxes → b ≤ℤ tight_room v is boxes → b ≤ℤ open_floor is boxes → hits v is boxes ≤ wide b v is boxes
+both_wide b v [] boxes s h k = omega arith
+both_wide b v (i ∷ is) boxes s h k =
+    both_more (fixed_at (box_of boxes i.0) v) (has (box_of boxes i.0) v) (int_le b (high_of (box_of boxes i.2))) (is_one (box_of boxes i.0)) b (high_of (box_of boxes i.2)) (tight_room v is boxes) (open_floor is boxes)
+    (wide b v is boxes) (hits v is boxes) (one_there (box_of boxes i.0) v (s i.0)) (le_test b (high_of (box_of boxes i.2))) h k (both_wide b v is boxes s)
 
 -- where one stands whose room is single
 fixed_one : (s : Ranges) (v : ℤ) → fixed_at s v ≡ true → is_one s ≡ true
@@ -154,23 +233,27 @@ fixed_one s v h =
     let b = and_parts (int_eq (low_of s) v) (int_eq (high_of s) v) a.1 in
     let low = (Decides-int_eq (low_of s) v).0 b.0 in subst (λ (z : ℤ). fixed_at s z ≡ true) (sym low) h
 
-floor_frozen : (v : ℤ) (is : List (ℕ × ℕ × ℕ)) (boxes : Boxes) → AreSets boxes → some_frozen v is boxes ≡ true → room_floor is boxes ≤ℤ (two_rooms v is boxes).1
-floor_frozen v [] boxes s h = absurd cc
-floor_frozen v (i ∷ is) boxes s h =
+second_single : (b room tight second : ℤ) → b ≤ℤ int_min room tight → b ≤ℤ int_max second room
+second_single b room tight second h = grind (arith, ints)
+
+second_frozen : (b v : ℤ) (is : List (ℕ × ℕ × ℕ)) (boxes : Boxes) → AreSets boxes → b ≤ℤ tight_room v is boxes → some_frozen v is boxes ≡ true → b ≤ℤ (two_rooms v is boxes).1
+second_frozen b v [] boxes s k h = absurd cc
+second_frozen b v (i ∷ is) boxes s k h =
     let room = high_of (box_of boxes i.2) in let rest = two_rooms v is boxes in
-    let P : Type 0 = room_floor (i ∷ is) boxes ≤ℤ (two_rooms v (i ∷ is) boxes).1 in
+    let P : Type 0 = b ≤ℤ (two_rooms v (i ∷ is) boxes).1 in
+    let tight_upto : b ≤ℤ tight_room v is boxes = tight_kept (fixed_at (box_of boxes i.0) v) b room (tight_room v is boxes) k in
     (elim (fixed_at (box_of boxes i.0) v) as (λ t. fixed_at (box_of boxes i.0) v ≡ t → P) [
       | true ↦ λ f.
           let there = fixed_has (box_of boxes i.0) v (s i.0) f in let single = fixed_one (box_of boxes i.0) v f in
           elim (or_cases (some_frozen v is boxes) (is_one (box_of boxes i.2)) (rw f at h)) [
-            | inl q ↦ let more = floor_frozen v is boxes s q in rw (there, single) (second_kept (is_one (box_of boxes i.2)) room (room_floor is boxes) rest.0 rest.1 more)
-            | inr q ↦ rw (there, single, q) (second_single room (room_floor is boxes) rest.1)
+            | inl q ↦ let more = second_frozen b v is boxes s tight_upto q in rw (there, single) (second_kept (is_one (box_of boxes i.2)) b room rest.0 rest.1 more)
+            | inr q ↦ rw (there, single, q) (second_single b room (tight_room v is boxes) rest.1 (rw f at k))
           ]
       | false ↦ λ f.
-          let more = floor_frozen v is boxes s (rw f at h) in
+          let more = second_frozen b v is boxes s tight_upto (rw f at h) in
           (elim (has (box_of boxes i.0) v) as (λ t. has (box_of boxes i.0) v ≡ t → P) [
-            | true ↦ λ t. rw t (second_kept (is_one (box_of boxes i.0) && is_one (box_of boxes i.2)) room (room_floor is boxes) rest.0 rest.1 more)
-            | false ↦ λ t. rw t (grind (arith, ints))
+            | true ↦ λ t. rw t (second_kept (is_one (box_of boxes i.0) && is_one (box_of boxes i.2)) b room rest.0 rest.1 more)
+            | false ↦ λ t. rw t more
           ]) refl
     ]) refl
 
@@ -179,20 +262,49 @@ second_low v [] boxes = omega (arith, ints)
 second_low v (i ∷ is) boxes =
     let more = second_low v is boxes in
     (elim (has (box_of boxes i.0) v) as (λ t. has (box_of boxes i.0) v ≡ t → pos 0 ≤ℤ (two_rooms v (i ∷ is) boxes).1) [
-      | true ↦ λ t. rw t (second_more (is_one (box_of boxes i.0) && is_one (box_of boxes i.2)) (high_of (box_of boxes i.2)) (two_rooms v is boxes).0 (two_rooms v is boxes).1 more)
+      | true ↦ λ t. rw t (second_kept (is_one (box_of boxes i.0) && is_one (box_of boxes i.2)) (pos 0) (high_of (box_of boxes i.2)) (two_rooms v is boxes).0 (two_rooms v is boxes).1 more)
       | false ↦ λ t. rw t more
     ]) refl
 
-pub room_more : (spot : Spot) (v : ℤ) (items : List (ℕ × ℕ × ℕ)) (boxes : Boxes) (count : ℕ) (floor sum next : ℤ) → All (λ s. IsValid s) boxes → IsSpot spot v items boxes → count ≡ hits v items boxes → floor ≡ room_floor items boxes →
-    next ≡ cond (spot.frozen || nat_le 2 count) (sum +ℤ int_max (pos 0) floor) sum → next ≤ℤ (sum +ℤ (two_rooms v items boxes).1)
-room_more spot v items boxes count floor sum next sets is c f e =
-    let low = second_low v items boxes in
-    let more : floor ≤ℤ (two_rooms v items boxes).1 → int_max (pos 0) floor ≤ℤ (two_rooms v items boxes).1 = λ k. grind (arith, ints) in
-    (elim (spot.frozen || nat_le 2 count) as (λ t. (spot.frozen || nat_le 2 count) ≡ t → next ≡ cond t (sum +ℤ int_max (pos 0) floor) sum → next ≤ℤ (sum +ℤ (two_rooms v items boxes).1)) [
-      | true ↦ λ q k.
-          let at : floor ≤ℤ (two_rooms v items boxes).1 = elim (or_cases spot.frozen (nat_le 2 count) q) [
-            | inl p ↦ let m = floor_frozen v items boxes (are_sets boxes sets) (sym is.frozen ∙ p) in omega (arith, ints)
-            | inr p ↦ let two : 1 < hits v items boxes = grind (arith, nat_tests) in let m = floor_second v items boxes two in omega (arith, ints)
-          ] in let up = more at in omega (arith, ints)
-      | false ↦ λ q k. omega (arith, ints)
-    ]) refl e
+-- what the numbers of a place show is no more than the second greatest room
+where_upto : (counts : Bool) (room most : ℤ) → pos 0 ≤ℤ most → (counts ≡ true → room ≤ℤ most) → room_where counts room ≤ℤ most
+where_upto true room most h k = let upto = k refl in grind (arith, ints)
+where_upto false room most h k = h
+
+where_low : (counts : Bool) (room : ℤ) → pos 0 ≤ℤ room_where counts room
+where_low true room = grind (arith, ints)
+where_low false room = omega (arith, ints)
+
+max_upto : (a b c most : ℤ) → a ≤ℤ most → b ≤ℤ most → c ≤ℤ most → int_max a (int_max b c) ≤ℤ most
+max_upto a b c most h k l = grind (arith, ints)
+
+max_least : (a b : ℤ) → pos 0 ≤ℤ a → pos 0 ≤ℤ int_max a b
+max_least a b h = grind (arith, ints)
+
+pub second_most : (spot : Spot) (others : ℕ) (floor most : ℤ) → pos 0 ≤ℤ most → floor ≤ℤ most → spot.tight.value ≤ℤ most → least_second spot others floor ≤ℤ most
+second_most spot others floor most low f t =
+    max_upto _ _ _ most (where_upto (nat_le 2 others) floor most low (λ q. f)) (where_upto (spot.frozen || nat_le 2 spot.count) spot.tight.value most low (λ q. t))
+    (where_upto (nat_le 1 others && nat_le 1 spot.count) (int_min floor spot.tight.value) most low (λ q. grind (arith, ints)))
+
+pub second_least : (spot : Spot) (others : ℕ) (floor : ℤ) → pos 0 ≤ℤ least_second spot others floor
+second_least spot others floor =
+    max_least (room_where (nat_le 2 others) floor) _ (where_low (nat_le 2 others) floor)
+
+pub second_upto : (spot : Spot) (v : ℤ) (items : List (ℕ × ℕ × ℕ)) (boxes : Boxes) (count : ℕ) (floor : ℤ) → All (λ s. IsValid s) boxes → IsSpot spot v items boxes → count ≡ hits v items boxes → floor ≡ open_floor items boxes →
+    least_second spot (count - spot.count) floor ≤ℤ (two_rooms v items boxes).1
+second_upto spot v items boxes count floor sets is c f =
+    let low = second_low v items boxes in let s = are_sets boxes sets in let n = is.count in let t = is.tight in
+    let tight : spot.tight.value ≤ℤ tight_room v items boxes = omega (arith, ints) in
+    let open_room : floor ≤ℤ open_floor items boxes = omega (arith, ints) in
+    let most = (two_rooms v items boxes).1 in
+    max_upto _ _ _ most
+    (where_upto (nat_le 2 (count - spot.count)) floor most low (λ q.
+    let all = open_wide floor v items boxes s open_room in second_wide floor v items boxes (grind (arith, nat_tests))))
+    (where_upto (spot.frozen || nat_le 2 spot.count) spot.tight.value most low (λ q. elim (or_cases spot.frozen (nat_le 2 spot.count) q) [
+      | inl p ↦ second_frozen spot.tight.value v items boxes s tight (sym is.frozen ∙ p)
+      | inr p ↦ let all = fixed_wide spot.tight.value v items boxes s tight in second_wide spot.tight.value v items boxes (grind (arith, nat_tests))
+    ]))
+    (where_upto (nat_le 1 (count - spot.count) && nat_le 1 spot.count) (int_min floor spot.tight.value) most low (λ q.
+    let b = int_min floor spot.tight.value in let p = and_parts (nat_le 1 (count - spot.count)) (nat_le 1 spot.count) q in let others = p.0 in let fixed = p.1 in
+    let to_tight : b ≤ℤ tight_room v items boxes = grind (arith, ints) in let to_floor : b ≤ℤ open_floor items boxes = grind (arith, ints) in
+    let all = both_wide b v items boxes s to_tight to_floor in second_wide b v items boxes (grind (arith, nat_tests))))

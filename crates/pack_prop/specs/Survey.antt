@@ -1,6 +1,6 @@
 -- What is counted of items to be packed, place by place. What a reader believes after this file: a few numbers of each place tell
--- whether all items fit there, and whether its room counts twice.
-use Rattle.std.specs.Prelude.{ℕ, suc, ◌≡◌, ◌<◌, ◌+◌, ◌==◌, ◌≤ℤ◌, Bool, true, false, ◌&&◌, ◌||◌, cond, List, [], ◌∷◌, Option, Some, None, ℤ, pos, ◌+ℤ◌, ◌-ℤ◌, int_le, int_lt, length, slice_index_or}
+-- whether all items fit there, and what its second greatest room is at least.
+use Rattle.std.specs.Prelude.{ℕ, suc, ◌≡◌, ◌<◌, ◌+◌, ◌==◌, ◌≤ℤ◌, Bool, true, false, ◌&&◌, ◌||◌, cond, List, [], ◌∷◌, Option, Some, None, ℤ, pos, ◌+ℤ◌, ◌-ℤ◌, int_le, int_lt, nat_le, length, slice_index_or}
 use Rattle.std.specs.Int.{int_max, int_min}
 use Rattle.std.specs.Ordering.{int_eq}
 use Rattle.signed_clause.specs.Ranges.{Ranges, has}
@@ -93,17 +93,19 @@ abbrev pub is_slot : Option ℕ → ℕ → Bool
 is_slot None e = false
 is_slot (Some d) e = d == e
 
--- ---- all items
+-- ---- the items whose place is open
 
--- the greatest least size of those whose place is open, at least 0
+-- the greatest of their least sizes, at least 0
 abbrev pub open_size : List (ℕ × ℕ × ℕ) → Boxes → ℤ
 open_size [] boxes = pos 0
 open_size (i ∷ is) boxes = cond (is_one (box_of boxes i.0)) (open_size is boxes) (int_max (low_of (box_of boxes i.1)) (open_size is boxes))
 
--- the least of the greatest rooms
-abbrev pub room_floor : List (ℕ × ℕ × ℕ) → Boxes → ℤ
-room_floor [] boxes = pos 9223372036854775807
-room_floor (i ∷ is) boxes = int_min (high_of (box_of boxes i.2)) (room_floor is boxes)
+-- the least of their greatest rooms
+abbrev pub open_floor : List (ℕ × ℕ × ℕ) → Boxes → ℤ
+open_floor [] boxes = pos 9223372036854775807
+open_floor (i ∷ is) boxes = cond (is_one (box_of boxes i.0)) (open_floor is boxes) (int_min (high_of (box_of boxes i.2)) (open_floor is boxes))
+
+-- ---- what the numbers of a place show
 
 -- the load leaves room for whatever the items that are fixed at the place grow by, and, where others may be there, for the greatest
 -- size that one of them has at least
@@ -112,3 +114,14 @@ pub record IsSettled (s : Spot) (is_open : Bool) (size floor : ℤ) : Type 0 whe
   pub least : s.load.value ≤ℤ s.room.value
   pub tight : is_open ≡ true → (s.load.value +ℤ size) ≤ℤ s.tight.value
   pub most : is_open ≡ true → (s.load.value +ℤ size) ≤ℤ floor
+
+-- the room, at least 0, where it counts, and 0 where it doesn't
+abbrev pub room_where : Bool → ℤ → ℤ
+room_where counts room = cond counts (int_max (pos 0) room) (pos 0)
+
+-- what the second greatest room is at least, where so many others may be there beside the items that are fixed, each with a room of
+-- floor at least: two others may be there; two are fixed, or one that counts twice; one may be there beside one that is fixed
+abbrev pub least_second : Spot → ℕ → ℤ → ℤ
+least_second s others floor =
+    int_max (room_where (nat_le 2 others) floor)
+    (int_max (room_where (s.frozen || nat_le 2 s.count) s.tight.value) (room_where (nat_le 1 others && nat_le 1 s.count) (int_min floor s.tight.value)))

@@ -1,11 +1,11 @@
 //! Whether items to be packed are roomy: whether each fits wherever it may be put, and there is room enough in all.
 //!
 //! A `Survey` counts them place by place. From the first place to the last (`look_over`) its numbers decide nearly always that all
-//! items fit there; only where they don't is there a walk over the items. On the way the rooms add up of the places whose room
-//! stays whichever box is narrowed.
+//! items fit there; only where they don't is there a walk over the items. On the way it adds up what room of each place stays
+//! whichever box is narrowed: its second greatest, of which the place's numbers show a lower bound (`least_second`).
 //!
 //! Cost: the number of items, of the ranges of their places' boxes and of places, where the items are roomy.
-ghost use Rattle.std.specs.Prelude.{◌≡◌, ◌<◌, ◌≤ℤ◌, ◌<ℤ◌, ◌+◌, ◌+ℤ◌, ◌-ℤ◌, ◌||◌, ◌&&◌, ℕ, ℤ, true, false, cond, pos, int_le, nat_lt, nat_le, IfSome, IfNone, IfOk, length};
+ghost use Rattle.std.specs.Prelude.{◌≡◌, ◌<◌, ◌≤◌, ◌≤ℤ◌, ◌+◌, ◌-◌, ◌+ℤ◌, ◌||◌, ◌&&◌, ℤ, true, false, cond, pos, IfSome, IfNone, IfOk, length};
 ghost use Rattle.std.specs.Int.{int_max, int_min};
 ghost use Rattle.std.specs.List.{All};
 ghost use Rattle.signed_clause.specs.Ranges.{is_nil, IsValid};
@@ -15,11 +15,10 @@ ghost use Rattle.ground_form.specs.Bounds.{low_of, high_of};
 ghost use Rattle.rule_law.specs.Refuted.{fixed_load, first_place, last_place, least_sizes};
 ghost use Rattle.rule_law.specs.Named.{AreItemsNamed, IsItemNamed};
 ghost use Rattle.rule_law.specs.Repeats.{is_one};
-ghost use Rattle.pack_prop.specs.Packing.{tight_room, fits, all_fit, growth, HasEnough};
-ghost use Rattle.pack_prop.specs.Survey.{IsSpot, IsSettled, AreSpots, AreBegun, AreEnded, all_gone_on, hits, open_size, room_floor};
+ghost use Rattle.pack_prop.specs.Packing.{tight_room, fits, all_fit, growth};
+ghost use Rattle.pack_prop.specs.Survey.{IsSpot, IsSettled, AreSpots, AreBegun, AreEnded, all_gone_on, hits, open_size, open_floor, room_where, least_second};
 ghost use Rattle.pack_prop.specs.Looks.{IsSeen, IsWalked};
 
-use crate::bests::two_at;
 use crate::interval::ends_in_order;
 use crate::loads::{
     Total, greater, greatest, is_fixed, is_single, least, may_be, sizes_of, smaller,
@@ -65,43 +64,46 @@ fn misfit_at(
     None
 }
 
-/// Bounds on the numbers of all items.
+/// Bounds on the numbers of the items whose place is open.
 #[derive(Clone, Copy)]
 struct Limits {
-    /// The greatest least size of those whose place is open, at least 0.
+    /// The greatest of their least sizes, at least 0.
     size: Number,
-    /// The least of the greatest rooms.
+    /// The least of their greatest rooms.
     floor: Number,
 }
 
-/// The greatest least size of the items whose place is open, at least 0.
-fn open_size(items: &[(u32, u32, u32)], boxes: &[IntSet]) -> Number
-    requires { AreItemsNamed items.now boxes.now }
-    ensures { result.value ≡ open_size items.now boxes.now }
+/// The bounds with one more item, if its place is open.
+fn with_limits(limits: Limits, i: (u32, u32, u32), boxes: &[IntSet]) -> Limits
+    requires { IsItemNamed i boxes.now }
+    ensures size { result.size.value ≡ cond (is_one (box_of boxes.now i.0)) limits.size.value (int_max (low_of (box_of boxes.now i.1)) limits.size.value) }
+    ensures floor { result.floor.value ≡ cond (is_one (box_of boxes.now i.0)) limits.floor.value (int_min (high_of (box_of boxes.now i.2)) limits.floor.value) }
 {
-    let mut size = Number { value: 0 };
-    let mut k = items.len();
-    while 0 < k {
-        k -= 1;
-        if !is_single(boxes, items[k].0) {
-            size = greater(least(boxes, items[k].1), size);
-        }
+    if is_single(boxes, i.0) {
+        return limits;
     }
-    size
+    Limits {
+        size: greater(least(boxes, i.1), limits.size),
+        floor: smaller(greatest(boxes, i.2), limits.floor),
+    }
 }
 
-/// The least of the greatest rooms of the items.
-fn room_floor(items: &[(u32, u32, u32)], boxes: &[IntSet]) -> Number
+/// The bounds on the items whose place is open.
+fn limits_of(items: &[(u32, u32, u32)], boxes: &[IntSet]) -> Limits
     requires { AreItemsNamed items.now boxes.now }
-    ensures { result.value ≡ room_floor items.now boxes.now }
+    ensures size { result.size.value ≡ open_size items.now boxes.now }
+    ensures floor { result.floor.value ≡ open_floor items.now boxes.now }
 {
-    let mut floor = Number { value: i64::MAX };
+    let mut limits = Limits {
+        size: Number { value: 0 },
+        floor: Number { value: i64::MAX },
+    };
     let mut k = items.len();
     while 0 < k {
         k -= 1;
-        floor = smaller(greatest(boxes, items[k].2), floor);
+        limits = with_limits(limits, items[k], boxes);
     }
-    floor
+    limits
 }
 
 /// Whether the spot's numbers show that all items fit there, those that are fixed and, where `is_open`, others that may be there.
@@ -130,7 +132,7 @@ fn misfit_here(
     requires spot { IsSpot spot at.value items.now boxes.now }
     requires count { count ≡ hits at.value items.now boxes.now }
     requires size { limits.size.value ≡ open_size items.now boxes.now }
-    requires floor { limits.floor.value ≡ room_floor items.now boxes.now }
+    requires floor { limits.floor.value ≡ open_floor items.now boxes.now }
     ensures some { IfSome result (λ i. IsItemNamed i boxes.now) }
     ensures none { IfNone result (all_fit at.value items.now items.now boxes.now ≡ true) }
 {
@@ -140,18 +142,25 @@ fn misfit_here(
     misfit_at(items, boxes, at, spot.load, spot.tight)
 }
 
-/// The sum, with the least of the greatest rooms where the room of the place counts twice: where two items may be there, or one
-/// stands there whose room is single.
-fn with_room(sum: Total, spot: Spot, count: usize, floor: Number) -> Total
-    requires low { pos 0 ≤ℤ sum.value }
-    requires high { sum.value ≤ℤ pos 170141183460469231722463931679029329920 }
-    ensures { result.value ≡ cond (spot.frozen || nat_le 2 count) (sum.value +ℤ int_max (pos 0) floor.value) sum.value }
+/// The room, at least 0, where it counts, and 0 where it doesn't.
+fn room_where(counts: bool, room: Number) -> Number
+    ensures { result.value ≡ room_where counts room.value }
 {
-    if spot.frozen || 2 <= count {
-        sum.plus(greater(Number { value: 0 }, floor))
-    } else {
-        sum
-    }
+    let none = Number { value: 0 };
+    if counts { greater(none, room) } else { none }
+}
+
+/// What the second greatest room of the place is at least, where `count` items may be, those that are fixed among them, and each of
+/// the others has a room of `floor` at least.
+fn least_second(spot: Spot, count: usize, floor: Number) -> Number
+    requires { spot.count ≤ count }
+    ensures { result.value ≡ least_second spot (count - spot.count) floor.value }
+{
+    let others = count - spot.count;
+    let of_others = room_where(2 <= others, floor);
+    let of_fixed = room_where(spot.frozen || 2 <= spot.count, spot.tight);
+    let of_both = room_where(1 <= others && 1 <= spot.count, smaller(floor, spot.tight));
+    greater(of_others, greater(of_fixed, of_both))
 }
 
 /// The number `d` behind the first.
@@ -192,7 +201,7 @@ fn look_over(
     requires ended { AreEnded survey.now.ended.items first.value items.now boxes.now }
     requires start { all_gone_on first.value items.now boxes.now ≡ 0 }
     requires size { limits.size.value ≡ open_size items.now boxes.now }
-    requires floor { limits.floor.value ≡ room_floor items.now boxes.now }
+    requires floor { limits.floor.value ≡ open_floor items.now boxes.now }
     ensures { IsWalked result (length survey.now.spots.items) first.value items.now boxes.now }
 {
     let mut sum = Total { value: 0 };
@@ -204,7 +213,7 @@ fn look_over(
         if let Some(i) = misfit_here(items, boxes, at, survey.spots[d], count, limits) {
             return Walk::Misfit(at, i);
         }
-        sum = with_room(sum, survey.spots[d], count, limits.floor);
+        sum = sum.plus(least_second(survey.spots[d], count, limits.floor));
         carried = count - survey.ended[d];
         d += 1;
     }
@@ -324,10 +333,7 @@ fn look_between(
 {
     let (first, last) = places_of(items, boxes, head);
     survey.fill(items, boxes, first, last)?;
-    let limits = Limits {
-        size: open_size(items, boxes),
-        floor: room_floor(items, boxes),
-    };
+    let limits = limits_of(items, boxes);
     match look_over(survey, items, boxes, first, limits) {
         Walk::Misfit(at, i) => Ok(Look::Misfit(at, i)),
         Walk::Room(sum) => {

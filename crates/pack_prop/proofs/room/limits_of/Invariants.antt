@@ -1,10 +1,11 @@
 use Rattle.std.proofs.Common.{◌≡◌, ◌≤◌, drop, length}
-use Rattle.pack_prop.specs.Survey.{open_size}
-use Rattle.pack_prop.proofs.room.open_size.Given as goal
+use Rattle.pack_prop.specs.Survey.{open_size, open_floor}
+use Rattle.pack_prop.proofs.room.limits_of.Given as goal
 
 abbrev pub invariant-loop-k : goal.invariant-loop-k
 invariant-loop-k l = record {
-  value : l.size.value ≡ open_size (drop l.k l.items) l.boxes;
+  size : l.limits.size.value ≡ open_size (drop l.k l.items) l.boxes;
+  floor : l.limits.floor.value ≡ open_floor (drop l.k l.items) l.boxes;
   upto : l.k ≤ length l.items;
 }
 
