@@ -31,3 +31,4 @@ pub mod TotalWalk
 pub mod LoadReason
 pub mod LoadWalk
 pub mod FitItems
+pub mod BestRows
