@@ -13,6 +13,7 @@ use Rattle.pack_prop.specs.declared.spans.Span.{Span}
 use Rattle.pack_prop.specs.Packing.{put, two_rooms}
 use Rattle.pack_prop.specs.Spans.{is_in}
 use Rattle.pack_prop.specs.Tight.{IsBest, AreBests, HaveBests, IsRaised}
+use Rattle.pack_prop.proofs.SpanLaws.{in_here, in_now, in_others}
 use Rattle.pack_prop.proofs.SurveyCounts.{left, left_valid}
 
 -- ---- one entry
@@ -32,21 +33,6 @@ same_at (x ∷ xs) zero a b h = refl
 same_at (x ∷ xs) (suc n) a b h = same_at xs n a b (omega arith)
 
 -- ---- the entries of a span
-
-in_here : (s : Span) (n : ℕ) → s.begin ≤ n → n < s.end → (is_in s n && nat_lt n n) ≡ false
-in_here s n a b = grind arith
-
-in_now : (s : Span) (n : ℕ) → s.begin ≤ n → n < s.end → (is_in s n && nat_lt n (suc n)) ≡ true
-in_now s n a b = grind arith
-
-in_others : (s : Span) (e n : ℕ) → (e ≡ n → ⊥) → (is_in s e && nat_lt e (suc n)) ≡ (is_in s e && nat_lt e n)
-in_others s e n h = grind arith
-
-pub none_in : (s : Span) (e : ℕ) → (is_in s e && nat_lt e s.begin) ≡ false
-none_in s e = grind arith
-
-pub all_in : (s : Span) (e n : ℕ) → s.end ≤ n → (is_in s e && nat_lt e n) ≡ is_in s e
-all_in s e n h = grind arith
 
 pub span_step : (old rows : List Best) (s : Span) (room : ℤ) (stays : Bool) (n : ℕ) (bare new d : Best) (e : ℕ) → s.begin ≤ n → n < s.end → n < length rows → e < length rows →
     IsRaised true room stays (slice_index_or rows n bare) new →

@@ -2,7 +2,8 @@ use Rattle.std.proofs.lemmas.Grind.{common_steps}
 use Rattle.std.proofs.Common.{add-one, ◌<◌, length, refl, arith, subst, nat_lt, ◌&&◌, slice_index_or, Bool}
 use Rattle.pack_prop.specs.Spans.{is_in}
 use Rattle.pack_prop.specs.Tight.{IsRaised}
-use Rattle.pack_prop.proofs.BestRows.{not_raised, none_in, all_in, span_step}
+use Rattle.pack_prop.proofs.BestRows.{not_raised, span_step}
+use Rattle.pack_prop.proofs.SpanLaws.{none_in, all_in}
 use Rattle.pack_prop.proofs.bests.raise_span.Goals as goal
 
 pub loop-e-init : goal.loop-e-init
