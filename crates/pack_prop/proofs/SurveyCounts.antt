@@ -33,11 +33,11 @@ gone_below low top v (r ∷ rs) s h =
     let more = gone_below (r.1 +ℤ pos 2) top v rs s.2 (omega (arith, ints)) in grind (arith, ints)
 
 -- where one of them is counted, none behind it is
-left : (rs : Ranges) (j : ℕ) → 0 < j → j ≤ length rs → drop (j - 1) rs ≡ get_or rs (j - 1) (pos 0, pos 0) ∷ drop j rs
+pub left : (rs : Ranges) (j : ℕ) → 0 < j → j ≤ length rs → drop (j - 1) rs ≡ get_or rs (j - 1) (pos 0, pos 0) ∷ drop j rs
 left rs j h k = let is : suc (j - 1) ≡ j = omega arith in
     drop-cons rs (j - 1) (pos 0, pos 0) (omega arith) ∙ ap (λ (n : ℕ). get_or rs (j - 1) (pos 0, pos 0) ∷ drop n rs) is
 
-left_valid : (rs : Ranges) (j : ℕ) → IsValid rs → 0 < j → j ≤ length rs → IsValid (get_or rs (j - 1) (pos 0, pos 0) ∷ drop j rs)
+pub left_valid : (rs : Ranges) (j : ℕ) → IsValid rs → 0 < j → j ≤ length rs → IsValid (get_or rs (j - 1) (pos 0, pos 0) ∷ drop j rs)
 left_valid rs j v h k = subst (λ (z : Ranges). IsValid z) (left rs j h k) (Ascends-drop _ _ rs (j - 1) v)
 
 pub begun_once : (rs : Ranges) (j : ℕ) (v : ℤ) → IsValid rs → 0 < j → j ≤ length rs → int_eq (get_or rs (j - 1) (pos 0, pos 0)).0 v ≡ true → begun_at v (drop j rs) ≡ 0

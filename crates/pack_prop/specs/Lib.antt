@@ -12,3 +12,4 @@ pub mod Collected
 pub mod RoomRows
 pub mod TotalSteps
 pub mod LoadSteps
+pub mod Spans

@@ -1,6 +1,6 @@
 -- Best rooms value by value. What a reader believes after this file: a row holds a room for each of some values that follow one
 -- another.
-use Rattle.std.specs.Prelude.{◌≡◌, ℕ, zero, suc, Bool, false, ◌&&◌, ◌||◌, cond, List, [], ◌∷◌, ℤ, pos, ◌+ℤ◌, int_lt}
+use Rattle.std.specs.Prelude.{◌≡◌, ◌<◌, ℕ, zero, suc, Bool, false, ◌&&◌, ◌||◌, cond, List, [], ◌∷◌, ℤ, pos, ◌+ℤ◌, int_lt, length, slice_index_or}
 use Rattle.std.specs.Int.{int_max}
 use Rattle.std.specs.Ordering.{int_eq}
 use Rattle.signed_clause.specs.Ranges.{Ranges, has}
@@ -11,6 +11,14 @@ use Rattle.rule_law.specs.Refuted.{best_room}
 abbrev pub best_rooms : ℕ → ℤ → List (ℕ × ℕ × ℕ) → Boxes → List (ℤ × ℤ)
 best_rooms zero v items boxes = []
 best_rooms (suc n) v items boxes = (v, best_room v items boxes) ∷ best_rooms n (v +ℤ pos 1) items boxes
+
+-- those of the values from v on, entry by entry
+abbrev pub HasRooms : List (ℤ × ℤ) → ℤ → List (ℕ × ℕ × ℕ) → Boxes → Type 0
+HasRooms row v items boxes = (e : ℕ) → e < length row → slice_index_or row e (pos 0, pos 0) ≡ (v +ℤ pos e, best_room (v +ℤ pos e) items boxes)
+
+-- the entry with a room of at least h, if an item with that room may be there
+abbrev pub lifted : Bool → ℤ → ℤ × ℤ → ℤ × ℤ
+lifted there h p = (p.0, cond there (int_max h p.1) p.1)
 
 -- the values are those from first to last
 abbrev pub IsRow : ℤ → ℤ → List (ℤ × ℤ) → Type 0

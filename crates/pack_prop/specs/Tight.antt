@@ -1,7 +1,7 @@
 -- When a tight packing has nothing to say of all its room. What a reader believes after this file: where there is room for all least
 -- sizes, and still is where any one size grows, any one place is fixed, or any one room shrinks, no value of a box takes too
 -- much of it.
-use Rattle.std.specs.Prelude.{ℕ, ◌≡◌, ◌≤ℤ◌, ◌<ℤ◌, Bool, true, not, ◌&&◌, ◌||◌, cond, List, [], ◌∷◌, ℤ, pos, ◌+ℤ◌, ◌-ℤ◌, int_le, length}
+use Rattle.std.specs.Prelude.{ℕ, ◌≡◌, ◌<◌, ◌≤ℤ◌, ◌<ℤ◌, Bool, true, not, ◌&&◌, ◌||◌, cond, List, [], ◌∷◌, ℤ, pos, ◌+ℤ◌, ◌-ℤ◌, int_le, length, slice_index_or}
 use Rattle.std.specs.Int.{int_max}
 use Rattle.std.specs.List.{All}
 use Rattle.signed_clause.specs.Ranges.{has}
@@ -10,7 +10,7 @@ use Rattle.ground_form.specs.Bounds.{low_of, high_of}
 use Rattle.rule_law.specs.Refuted.{least_sizes}
 use Rattle.rule_law.specs.Repeats.{is_one}
 use Rattle.pack_prop.specs.declared.bests.Best.{Best}
-use Rattle.pack_prop.specs.Packing.{two_rooms}
+use Rattle.pack_prop.specs.Packing.{put, two_rooms}
 
 -- ---- the rooms of the values
 
@@ -23,6 +23,15 @@ pub record IsBest (v : ℤ) (b : Best) (items : List (ℕ × ℕ × ℕ)) (boxes
 abbrev pub AreBests : ℤ → List Best → List (ℕ × ℕ × ℕ) → Boxes → Type 0
 AreBests v [] items boxes = Unit {0}
 AreBests v (b ∷ bs) items boxes = IsBest v b items boxes × AreBests (v +ℤ pos 1) bs items boxes
+
+-- the same, entry by entry
+abbrev pub HaveBests : List Best → ℤ → List (ℕ × ℕ × ℕ) → Boxes → Type 0
+HaveBests rows v items boxes = (d : Best) (e : ℕ) → e < length rows → IsBest (v +ℤ pos e) (slice_index_or rows e d) items boxes
+
+-- the second is the first with one more room, if there is one
+pub record IsRaised (there : Bool) (room : ℤ) (stays : Bool) (b c : Best) : Type 0 where
+  pub at : c.at.value ≡ b.at.value
+  pub rooms : (c.first.value, c.second.value) ≡ cond there (put room stays (b.first.value, b.second.value)) (b.first.value, b.second.value)
 
 -- the greatest rooms, added up
 abbrev pub firsts : List Best → ℤ

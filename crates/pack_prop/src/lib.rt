@@ -6,7 +6,8 @@
 //! - `packing`: items to be packed. `room` shows, with what a `survey` counts at each place by the numbers of `loads`, that they
 //!   are roomy, or finds an item that doesn't fit; `misfits` and `overfull` say what such an item takes away, and why. Where all
 //!   fit, `tight` finds with the rooms of `bests` what takes too much of all room, and `total` says why, with rows of rooms
-//!   (`room_row`). `said` and `collected` make the literals, `parted` reads boxes with a part of one in its place.
+//!   (`room_row`). `said` and `collected` make the literals, `parted` reads boxes with a part of one in its place, `spans` tells
+//!   which entries of a row a range covers.
 #![tactic(auto)]
 
 mod bests;
@@ -26,6 +27,7 @@ mod room;
 mod room_row;
 mod said;
 mod slots;
+mod spans;
 mod survey;
 mod sweep;
 #[cfg(test)]

@@ -1,69 +1,119 @@
 //! Rows of rooms: for each of some values that follow one another the best room there.
-ghost use Rattle.std.specs.Prelude.{◌≡◌, ◌≤◌, ◌<◌, ◌≤ℤ◌, ◌+ℤ◌, ◌&&◌, ◌||◌, ◌^◌, ℤ, cond, pos, IfOk, OnOk, int_lt, length};
+ghost use Rattle.std.specs.Prelude.{◌≡◌, ◌≤◌, ◌<◌, ◌≤ℤ◌, ◌+ℤ◌, ◌&&◌, ◌||◌, ◌^◌, ℕ, ℤ, [], suc, true, cond, pos, IfOk, OnOk, int_lt, length, drop, slice_index_or};
 ghost use Rattle.std.specs.Int.{int_max};
 ghost use Rattle.std.specs.Ordering.{int_eq};
-ghost use Rattle.signed_clause.specs.Ranges.{has, IsValid};
-ghost use Rattle.signed_clause.specs.Clauses.{box_of};
+ghost use Rattle.signed_clause.specs.Ranges.{has, in_range, IsValid};
+ghost use Rattle.signed_clause.specs.Clauses.{Boxes, box_of};
 ghost use Rattle.ground_form.specs.Bounds.{high_of};
 ghost use Rattle.rule_law.specs.Named.{AreItemsNamed, IsItemNamed};
-ghost use Rattle.rule_law.specs.Refuted.{best_room};
-ghost use Rattle.pack_prop.specs.RoomRows.{best_rooms, row_sum, raised, is_short};
+ghost use Rattle.pack_prop.specs.RoomRows.{best_rooms, HasRooms, lifted, row_sum, raised, is_short};
 ghost use Rattle.pack_prop.specs.Sources.{parted};
+ghost use Rattle.pack_prop.specs.Spans.{is_in};
 
 use crate::loads::{Total, greater};
 use crate::parted::{box_at, greatest};
+use crate::spans::{Span, span_of};
 use ground_form::Number;
 use signed_clause::IntSet;
 use std::alloc::{AllocError, Global};
 
-/// The best room so far, with that of an item that may be at the value.
-fn with_room(
-    best: Number,
-    i: (u32, u32, u32),
-    boxes: &[IntSet],
-    x: u32,
-    part: &IntSet,
-    at: Number,
-) -> Number
-    requires var { x < length boxes.now }
-    requires item { IsItemNamed i boxes.now }
-    ensures { result.value ≡ cond (has (box_of (parted boxes.now x part.now) i.0) at.value) (int_max (high_of (box_of (parted boxes.now x part.now) i.2)) best.value) best.value }
+/// The room of the value.
+fn room_of(p: (i64, i64)) -> Number
+    ensures { result.value ≡ p.1 }
 {
-    if box_at(boxes, x, part, i.0).contains(at.value) {
-        greater(greatest(boxes, x, part, i.2), best)
-    } else {
-        best
+    Number { value: p.1 }
+}
+
+/// The value with a room of at least `high`.
+fn lift(p: (i64, i64), high: Number) -> (i64, i64)
+    ensures { result ≡ lifted true high.value p }
+{
+    (p.0, greater(high, room_of(p)).value)
+}
+
+/// Lifts each entry of the span.
+fn lift_span(row: &mut [(i64, i64)], span: Span, high: Number)
+    requires within { span.end ≤ length row.old }
+    ensures size { length row.new ≡ length row.old }
+    ensures row { (e : ℕ) → e < length row.old → slice_index_or row.new e (pos 0, pos 0) ≡ lifted (is_in span e) high.value (slice_index_or row.old e (pos 0, pos 0)) }
+{
+    for e in span.begin..span.end {
+        row[e] = lift(row[e], high);
     }
 }
 
-/// The best room at the value, at least 0.
-fn best_at(items: &[(u32, u32, u32)], boxes: &[IntSet], x: u32, part: &IntSet, at: Number) -> Number
-    requires var { x < length boxes.now }
-    requires items { AreItemsNamed items.now boxes.now }
-    ensures { result.value ≡ best_room at.value items.now (parted boxes.now x part.now) }
+/// Lifts the entries of the range's values, of a row of values from `first` on.
+fn lift_range(row: &mut [(i64, i64)], r: (i64, i64), high: Number, first: Number)
+    ensures size { length row.new ≡ length row.old }
+    ensures row { (e : ℕ) → e < length row.old → slice_index_or row.new e (pos 0, pos 0) ≡ lifted (in_range r (first.value +ℤ pos e)) high.value (slice_index_or row.old e (pos 0, pos 0)) }
 {
-    let mut best = Number { value: 0 };
-    let mut k = items.len();
-    while 0 < k {
-        k -= 1;
-        best = with_room(best, items[k], boxes, x, part, at);
-    }
-    best
+    let span = span_of(r, first, row.len());
+    lift_span(row, span, high);
 }
 
-/// The value with its best room.
-fn entry_at(
+/// Lifts the entries of the set's values.
+fn lift_ranges(row: &mut [(i64, i64)], ranges: &[(i64, i64)], high: Number, first: Number)
+    ensures size { length row.new ≡ length row.old }
+    ensures row { (e : ℕ) → e < length row.old → slice_index_or row.new e (pos 0, pos 0) ≡ lifted (has ranges.now (first.value +ℤ pos e)) high.value (slice_index_or row.old e (pos 0, pos 0)) }
+{
+    let mut j = ranges.len();
+    while 0 < j {
+        j -= 1;
+        lift_range(row, ranges[j], high, first);
+    }
+}
+
+/// The ranges of the box of `y`.
+fn ranges_of<'a>(boxes: &'a [IntSet], x: u32, part: &'a IntSet, y: u32) -> &'a [(i64, i64)]
+    requires var { x < length boxes.now }
+    requires named { y < length boxes.now }
+    ensures { result.now ≡ box_of (parted boxes.now x part.now) y }
+{
+    box_at(boxes, x, part, y).ranges()
+}
+
+/// Lifts the entries where the item at `k` may be, behind which all have done so.
+fn add_item(
+    row: &mut [(i64, i64)],
     items: &[(u32, u32, u32)],
     boxes: &[IntSet],
     x: u32,
     part: &IntSet,
-    at: Number,
-) -> (i64, i64)
+    first: Number,
+    k: usize,
+)
     requires var { x < length boxes.now }
     requires items { AreItemsNamed items.now boxes.now }
-    ensures { result ≡ (at.value, best_room at.value items.now (parted boxes.now x part.now)) }
+    requires within { k < length items.now }
+    requires behind { HasRooms row.old first.value (drop (suc k) items.now) (parted boxes.now x part.now) }
+    ensures size { length row.new ≡ length row.old }
+    ensures row { HasRooms row.new first.value (drop k items.now) (parted boxes.now x part.now) }
 {
-    (at.value, best_at(items, boxes, x, part, at).value)
+    let i = items[k];
+    let high = greatest(boxes, x, part, i.2);
+    lift_ranges(row, ranges_of(boxes, x, part, i.0), high, first);
+}
+
+/// Lifts the entries where the items may be.
+fn add_items(
+    row: &mut [(i64, i64)],
+    items: &[(u32, u32, u32)],
+    boxes: &[IntSet],
+    x: u32,
+    part: &IntSet,
+    first: Number,
+)
+    requires var { x < length boxes.now }
+    requires items { AreItemsNamed items.now boxes.now }
+    requires none { HasRooms row.old first.value [] (parted boxes.now x part.now) }
+    ensures size { length row.new ≡ length row.old }
+    ensures row { HasRooms row.new first.value items.now (parted boxes.now x part.now) }
+{
+    let mut k = items.len();
+    while 0 < k {
+        k -= 1;
+        add_item(row, items, boxes, x, part, first, k);
+    }
 }
 
 /// The value that is `k` above the first.
@@ -76,6 +126,30 @@ fn value_from(first: Number, k: usize) -> Number
     Number {
         value: first.value + k as i64,
     }
+}
+
+/// The value where there is no item.
+fn bare_at(at: Number) -> (i64, i64)
+    ensures { result ≡ (at.value, pos 0) }
+{
+    (at.value, 0)
+}
+
+/// The row of `n` values from the first on, without rooms.
+///
+/// # Errors
+/// Want of memory.
+fn bare_row(alloc: Global, first: Number, n: usize) -> Result<Vec<(i64, i64)>, AllocError>
+    requires low { pos 0 ≤ℤ first.value }
+    requires high { first.value ≤ℤ pos 9999 }
+    requires few { n ≤ 10000 }
+    ensures { IfOk result (λ row. (boxes : Boxes) → row.items ≡ best_rooms n first.value [] boxes) }
+{
+    let mut row = Vec::new(alloc);
+    for k in 0..n {
+        row.push(bare_at(value_from(first, k)))?;
+    }
+    Ok(row)
 }
 
 /// The row of the best rooms of `n` values from the first on.
@@ -98,18 +172,9 @@ pub fn best_row(
     requires few { n ≤ 10000 }
     ensures { IfOk result (λ row. row.items ≡ best_rooms n first.value items.now (parted boxes.now x part.now)) }
 {
-    let mut row = Vec::new(alloc);
-    for k in 0..n {
-        row.push(entry_at(items, boxes, x, part, value_from(first, k)))?;
-    }
+    let mut row = bare_row(alloc, first, n)?;
+    add_items(row.as_mut_slice(), items, boxes, x, part, first);
     Ok(row)
-}
-
-/// The room of the value.
-fn room_of(p: (i64, i64)) -> Number
-    ensures { result.value ≡ p.1 }
-{
-    Number { value: p.1 }
 }
 
 /// The row's rooms, added up.
@@ -127,11 +192,7 @@ pub fn sum_of(row: &[(i64, i64)]) -> Total
 fn raise_one(p: (i64, i64), set: &IntSet, high: Number) -> (i64, i64)
     ensures { result ≡ (p.0, cond (has set.now p.0) (int_max high.value p.1) p.1) }
 {
-    if set.contains(p.0) {
-        (p.0, greater(high, room_of(p)).value)
-    } else {
-        p
-    }
+    if set.contains(p.0) { lift(p, high) } else { p }
 }
 
 /// The row with a room of at least `high` at each value of the set.

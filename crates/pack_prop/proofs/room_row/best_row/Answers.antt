@@ -1,8 +1,15 @@
+use Rattle.std.proofs.Common.{rules, []}
 use Rattle.pack_prop.specs.Sources.{parted}
-use Rattle.pack_prop.proofs.RowLaws.{best_step}
+use Rattle.pack_prop.proofs.RoomEntries.{begins, filled}
 use Rattle.pack_prop.proofs.room_row.best_row.Goals as goal
 
-pub loop-k-preserved : goal.loop-k-preserved
-loop-k-preserved c =
-    best_step c.loop-k.k c.args.first.value c.value_from.result.value c.entry_at.result c.args.items.now (parted c.args.boxes.now c.args.x c.args.part.now) c.loop-k.row.items c.push.new.self.items
-    c.value_from.ensures c.entry_at.ensures c.in_ok-push.ensures.items c.loop-k.invariant
+pub add_items-requires-clause-none : goal.add_items-requires-clause-none
+add_items-requires-clause-none c =
+    let boxes = parted c.args.boxes.now c.args.x c.args.part.now in
+    begins c.args.n c.args.first.value [] boxes c.in_ok-row.row.items c.as_mut_slice.result.now c.as_mut_slice.ensures.value (c.in_ok-row.ensures boxes)
+
+pub returns : goal.returns
+returns c =
+    let boxes = parted c.args.boxes.now c.args.x c.args.part.now in
+    filled c.args.n c.in_ok-row.row.len c.args.first.value c.args.items.now boxes c.add_items.new.row c.as_mut_slice.result.now c.in_ok-row.row.items c.as_mut_slice.ensures.value (search rules) (c.in_ok-row.ensures boxes)
+    c.add_items.ensures.size c.add_items.ensures.row

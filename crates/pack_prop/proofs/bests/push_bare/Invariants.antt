@@ -1,10 +1,11 @@
-use Rattle.std.proofs.Common.{◌≡◌, ◌+ℤ◌, ◌-ℤ◌, ◌≤ℤ◌, pos, length, unsigned_abs}
+use Rattle.std.proofs.Common.{◌≡◌, ◌+ℤ◌, ◌-ℤ◌, ◌≤ℤ◌, [], pos, length, unsigned_abs}
+use Rattle.signed_clause.specs.Clauses.{Boxes}
 use Rattle.pack_prop.specs.Tight.{AreBests}
-use Rattle.pack_prop.proofs.bests.push_bests.Given as goal
+use Rattle.pack_prop.proofs.bests.push_bare.Given as goal
 
 abbrev pub invariant-loop-at : goal.invariant-loop-at
 invariant-loop-at l = record {
-  rooms : AreBests l.fn.first.value l.rows.items l.items l.boxes;
+  rooms : (boxes : Boxes) → AreBests l.fn.first.value l.rows.items [] boxes;
   upto : l.fn.first.value +ℤ pos (length l.rows.items) ≡ l.at.value;
   order : l.at.value ≤ℤ l.last.value;
 }

@@ -1,11 +1,11 @@
-use Rattle.std.proofs.Common.{◌≡◌, ◌<ℤ◌, ◌+ℤ◌, pos, arith}
+use Rattle.std.proofs.Common.{◌≡◌, ◌<ℤ◌, ◌+ℤ◌, [], pos, arith}
 use Rattle.std.proofs.lemmas.Int.{ints}
 use Rattle.pack_prop.proofs.TightRows.{push_best, push_length, no_bests, no_length}
-use Rattle.pack_prop.proofs.bests.push_bests.Goals as goal
+use Rattle.pack_prop.proofs.bests.push_bare.Goals as goal
 
 pub loop-at-init : goal.loop-at-init
 loop-at-init c = record {
-  rooms = no_bests c.args.first.value _ c.args.items.now c.args.boxes.now c.requires.none;
+  rooms = λ boxes. no_bests c.args.first.value _ [] boxes c.requires.none;
   upto = no_length c.args.first.value _ c.requires.none;
   order = c.requires.order;
 }
@@ -15,10 +15,10 @@ loop-at-preserved c =
     let next : c.next-at.result.value ≡ c.loop-at.at.value +ℤ pos 1 = c.next-at.ensures in
     let below : c.loop-at.at.value <ℤ c.args.last.value = grind (arith, ints) in
     record {
-      rooms = push_best c.args.first.value c.loop-at.at.value c.loop-at.rows.items _ _ c.args.items.now c.args.boxes.now c.in_ok-push.ensures.items c.loop-at.invariant.rooms c.loop-at.invariant.upto c.best_at.ensures;
+      rooms = λ boxes. push_best c.args.first.value c.loop-at.at.value c.loop-at.rows.items _ _ [] boxes c.in_ok-push.ensures.items (c.loop-at.invariant.rooms boxes) c.loop-at.invariant.upto (c.bare_at.ensures boxes);
       upto = push_length c.args.first.value c.loop-at.at.value c.next-at.result.value c.loop-at.rows.items _ _ c.in_ok-push.ensures.items c.loop-at.invariant.upto c.next-at.ensures;
       order = omega (arith, ints, next, below);
     }
 
 pub returns-then-last-at-clause-rooms : goal.returns-then-last-at-clause-rooms
-returns-then-last-at-clause-rooms c = push_best c.args.first.value c.loop-at.at.value c.loop-at.rows.items _ _ c.args.items.now c.args.boxes.now c.in_ok-push.ensures.items c.loop-at.invariant.rooms c.loop-at.invariant.upto c.best_at.ensures
+returns-then-last-at-clause-rooms c boxes = push_best c.args.first.value c.loop-at.at.value c.loop-at.rows.items _ _ [] boxes c.in_ok-push.ensures.items (c.loop-at.invariant.rooms boxes) c.loop-at.invariant.upto (c.bare_at.ensures boxes)
