@@ -329,6 +329,57 @@ fn unlike(alloc: Global, n: u32) -> Result<Case, AllocError> {
     })
 }
 
+/// The first quarter of the items one by one at places of room 1, the others, of rooms of 4, at any of the rest; or the last also
+/// at the small places.
+fn small_places(alloc: Global, n: u32) -> Result<Case, AllocError> {
+    let small = n / 4;
+    let last = i64::from(n.saturating_sub(1).max(small));
+    let mut idle = Vec::new(alloc);
+    let mut acting = Vec::new(alloc);
+    for i in 0..n {
+        let at = if i < small {
+            (i64::from(i), i64::from(i))
+        } else {
+            (i64::from(small), last)
+        };
+        idle.push(span(alloc, at))?;
+        let low = if i.saturating_add(1) == n { 0 } else { at.0 };
+        acting.push(span(alloc, (low, at.1)))?;
+    }
+    push_rooms(&mut idle, alloc, n, small)?;
+    push_rooms(&mut acting, alloc, n, small)?;
+    Ok(Case {
+        name: "Pack, small places",
+        con: Con::Pack {
+            items: items(alloc, n)?,
+        },
+        idle,
+        acting,
+    })
+}
+
+/// The numbers from the first to the second, or the first alone where the second is below it.
+fn span(alloc: Global, at: (i64, i64)) -> IntSet {
+    IntSet::range(alloc, at.0, at.1.max(at.0))
+}
+
+/// Adds sizes of 1, and rooms of 1 for the first items and 4 for the others.
+fn push_rooms(
+    boxes: &mut Vec<IntSet>,
+    alloc: Global,
+    n: u32,
+    small: u32,
+) -> Result<(), AllocError> {
+    for _ in 0..n {
+        boxes.push(IntSet::range(alloc, 1, 1))?;
+    }
+    for i in 0..n {
+        let room = if i < small { 1 } else { 4 };
+        boxes.push(IntSet::range(alloc, room, room))?;
+    }
+    Ok(())
+}
+
 /// The first half of the items two by two at the first places, the others at any place from `first` on.
 fn half_placed(alloc: Global, n: u32, first: u32) -> Result<Vec<IntSet>, AllocError> {
     let last = i64::from(n.saturating_sub(1).max(first));
@@ -394,10 +445,11 @@ pub(crate) fn nth_case(alloc: Global, row: u32, n: u32) -> Result<Case, AllocErr
         10 => different(alloc, n),
         11 => roomy(alloc, n),
         12 => unlike(alloc, n),
-        13 => half_packed(alloc, n),
+        13 => small_places(alloc, n),
+        14 => half_packed(alloc, n),
         _ => tight(alloc, n),
     }
 }
 
 /// How many rows there are.
-pub(crate) const ROWS: u32 = 15;
+pub(crate) const ROWS: u32 = 16;
