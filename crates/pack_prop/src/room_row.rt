@@ -1,4 +1,5 @@
-//! Rows of rooms: for each of some values that follow one another the best room there.
+//! Rows of rooms: for each of some values that follow one another the best room there. `best_row` goes over the items once, and
+//! each lifts the entries of its place's box to its room.
 ghost use Rattle.std.specs.Prelude.{◌≡◌, ◌≤◌, ◌<◌, ◌≤ℤ◌, ◌+ℤ◌, ◌&&◌, ◌||◌, ◌^◌, ℕ, ℤ, [], suc, true, cond, pos, IfOk, OnOk, int_lt, length, drop, slice_index_or};
 ghost use Rattle.std.specs.Int.{int_max};
 ghost use Rattle.std.specs.Ordering.{int_eq};
@@ -72,7 +73,7 @@ fn ranges_of<'a>(boxes: &'a [IntSet], x: u32, part: &'a IntSet, y: u32) -> &'a [
     box_at(boxes, x, part, y).ranges()
 }
 
-/// Lifts the entries where the item at `k` may be, behind which all have done so.
+/// Lifts the entries where the item at `k` may be to its room, as is done for all items behind it.
 fn add_item(
     row: &mut [(i64, i64)],
     items: &[(u32, u32, u32)],
@@ -94,7 +95,7 @@ fn add_item(
     lift_ranges(row, ranges_of(boxes, x, part, i.0), high, first);
 }
 
-/// Lifts the entries where the items may be.
+/// Lifts the entries where an item may be to its room, for all items.
 fn add_items(
     row: &mut [(i64, i64)],
     items: &[(u32, u32, u32)],
