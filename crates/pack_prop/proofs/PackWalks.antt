@@ -1,5 +1,5 @@
 -- What loops over items and places do in one step.
-use Rattle.std.proofs.Common.{◌≡◌, ℕ, zero, suc, ◌+◌, ◌<◌, ◌≤◌, Bool, true, false, not, ◌&&◌, cond, List, [], ◌∷◌, ℤ, pos, ◌+ℤ◌, ◌-ℤ◌, ◌≤ℤ◌, ◌<ℤ◌, All, inl, inr, ◌⊎◌, length, drop, get_or, refl, arith, subst, ap, ◌∙◌}
+use Rattle.std.proofs.Common.{◌≡◌, ℕ, zero, suc, ◌+◌, ◌<◌, Bool, true, false, not, ◌&&◌, cond, List, [], ◌∷◌, ℤ, pos, ◌+ℤ◌, ◌-ℤ◌, ◌≤ℤ◌, ◌<ℤ◌, All, inl, inr, ◌⊎◌, length, drop, get_or, refl, arith, subst, ap}
 use Rattle.std.specs.Prelude.{int_lt}
 use Rattle.std.specs.Int.{int_max, int_min}
 use Rattle.std.proofs.lemmas.Int.{ints}
@@ -11,12 +11,11 @@ use Rattle.signed_clause.specs.Clauses.{Boxes, box_of}
 use Rattle.signed_clause.proofs.RangeSteps.{left_at}
 use Rattle.ground_form.specs.Bounds.{low_of, high_of}
 use Rattle.ground_form.specs.Meaning.{item_vars}
-use Rattle.rule_law.specs.Refuted.{width, fixed_at, fixed_load, first_place, last_place}
+use Rattle.rule_law.specs.Refuted.{fixed_at, fixed_load, first_place, last_place}
 use Rattle.rule_law.proofs.EndLaws.{AreSets, are_sets, above_low, below_high}
 use Rattle.rule_law.proofs.QuietLaws.{has_low}
 use Rattle.rule_law.proofs.PackLaws.{first_place-le, last_place-ge}
-use Rattle.rule_law.specs.Repeats.{is_one}
-use Rattle.pack_prop.specs.Packing.{AllFit, tight_room, fits, all_fit, put, two_rooms, seconds_from, growth}
+use Rattle.pack_prop.specs.Packing.{AllFit, tight_room, fits, all_fit, two_rooms, seconds_from, growth}
 
 pub tight_upto : (v : ℤ) (is : List (ℕ × ℕ × ℕ)) (boxes : Boxes) → tight_room v is boxes ≤ℤ pos 9223372036854775807
 tight_upto v [] boxes = omega (arith, ints)
@@ -45,20 +44,7 @@ upto_next P first at next e h k v l m =
       | false ↦ λ q. let same : at ≡ v = grind (arith, ints) in subst P same k
     ]) refl
 
-pub upto_last : (P : ℤ → Type 0) (first at last : ℤ) → last ≤ℤ at → ((v : ℤ) → first ≤ℤ v → v <ℤ at → P v) → P at → (v : ℤ) → first ≤ℤ v → v ≤ℤ last → P v
-upto_last P first at last e h k v l m = upto_next P first at (at +ℤ pos 1) refl h k v l (omega (arith, ints))
-
 -- ---- rooms
-
-pub two_step : (w : ℤ) (is : List (ℕ × ℕ × ℕ)) (boxes : Boxes) (k : ℕ) (i : ℕ × ℕ × ℕ) → k < length is → i ≡ get_or is k (0, 0, 0) →
-    two_rooms w (drop k is) boxes ≡ cond (has (box_of boxes i.0) w) (put (high_of (box_of boxes i.2)) (is_one (box_of boxes i.0) && is_one (box_of boxes i.2)) (two_rooms w (drop (k + 1) is) boxes)) (two_rooms w (drop (k + 1) is) boxes)
-two_step w is boxes k i h e = ap (λ (z : List (ℕ × ℕ × ℕ)). two_rooms w z boxes) (left_at is k i (0, 0, 0) h e)
-
-pub two_none : (w : ℤ) (is : List (ℕ × ℕ × ℕ)) (boxes : Boxes) (k : ℕ) → length is ≤ k → two_rooms w (drop k is) boxes ≡ (pos 0, pos 0)
-two_none w [] boxes zero h = refl
-two_none w [] boxes (suc k) h = refl
-two_none w (i ∷ is) boxes zero h = absurd (omega arith)
-two_none w (i ∷ is) boxes (suc k) h = two_none w is boxes k (omega arith)
 
 pub seconds_next : (n : ℕ) (v : ℤ) (items : List (ℕ × ℕ × ℕ)) (boxes : Boxes) → seconds_from (suc n) v items boxes ≡ seconds_from n v items boxes +ℤ (two_rooms (v +ℤ pos n) items boxes).1
 seconds_next zero v items boxes =
@@ -67,18 +53,6 @@ seconds_next (suc n) v items boxes =
     let more = seconds_next n (v +ℤ pos 1) items boxes in
     let e : (v +ℤ pos 1) +ℤ pos n ≡ v +ℤ pos (suc n) = omega (arith, ints) in
     let m = rw e at more in omega (arith, ints)
-
-pub seconds_step : (first at next : ℤ) (items : List (ℕ × ℕ × ℕ)) (boxes : Boxes) → next ≡ at +ℤ pos 1 → first ≤ℤ at →
-    seconds_from (width first next) first items boxes ≡ seconds_from (width first at) first items boxes +ℤ (two_rooms next items boxes).1
-seconds_step first at next items boxes e h =
-    let w : width first next ≡ suc (width first at) = omega (arith, ints) in
-    let is : first +ℤ pos (width first at) ≡ next = omega (arith, ints) in
-    ap (λ (n : ℕ). seconds_from n first items boxes) w ∙ seconds_next (width first at) first items boxes ∙ ap (λ (z : ℤ). seconds_from (width first at) first items boxes +ℤ (two_rooms z items boxes).1) is
-
-pub seconds_one : (first : ℤ) (items : List (ℕ × ℕ × ℕ)) (boxes : Boxes) → seconds_from (width first first) first items boxes ≡ (two_rooms first items boxes).1
-seconds_one first items boxes =
-    let w : width first first ≡ 1 = omega (arith, ints) in
-    ap (λ (n : ℕ). seconds_from n first items boxes) w ∙ (omega (arith, ints))
 
 -- ---- outside the places
 

@@ -2,17 +2,17 @@
 //!
 //! The second counts where the box of the item that has the greatest is narrowed. An item whose place and room are single values
 //! stays, and counts twice. `Bests::find` goes over the items once, and each adds its room to the entries of its place's box.
-ghost use Rattle.std.specs.Prelude.{◌≡◌, ◌≤◌, ◌<◌, ◌≤ℤ◌, ◌<ℤ◌, ◌+ℤ◌, ◌&&◌, ℕ, suc, true, cond, pos, [], IfOk, length, drop, slice_index_or};
+ghost use Rattle.std.specs.Prelude.{◌≡◌, ◌≤◌, ◌<◌, ◌≤ℤ◌, ◌<ℤ◌, ◌+ℤ◌, ◌&&◌, ℕ, suc, true, pos, [], IfOk, length, drop, slice_index_or};
 ghost use Rattle.signed_clause.specs.Ranges.{has, in_range, IsValid};
 ghost use Rattle.signed_clause.specs.Clauses.{Boxes, box_of};
 ghost use Rattle.ground_form.specs.Bounds.{high_of};
 ghost use Rattle.rule_law.specs.Named.{AreItemsNamed, IsItemNamed};
 ghost use Rattle.rule_law.specs.Repeats.{is_one};
-ghost use Rattle.pack_prop.specs.Packing.{put, two_rooms};
+ghost use Rattle.pack_prop.specs.Packing.{put};
 ghost use Rattle.pack_prop.specs.Spans.{is_in};
 ghost use Rattle.pack_prop.specs.Tight.{IsBest, AreBests, HaveBests, IsRaised};
 
-use crate::loads::{greater, greatest, is_single, may_be, smaller};
+use crate::loads::{greater, greatest, is_single, ranges_at, smaller};
 use crate::spans::{Span, span_of};
 use ground_form::Number;
 use signed_clause::IntSet;
@@ -66,32 +66,6 @@ fn with_room(two: (i64, i64), more: Brought) -> (i64, i64)
     )
 }
 
-/// The two greatest rooms, with that of an item that may be at the value.
-fn with_item(two: (i64, i64), i: (u32, u32, u32), boxes: &[IntSet], at: Number) -> (i64, i64)
-    requires { IsItemNamed i boxes.now }
-    ensures { result ≡ cond (has (box_of boxes.now i.0) at.value) (put (high_of (box_of boxes.now i.2)) (is_one (box_of boxes.now i.0) && is_one (box_of boxes.now i.2)) two) two }
-{
-    if may_be(boxes, i.0, at) {
-        with_room(two, brought_by(i, boxes))
-    } else {
-        two
-    }
-}
-
-/// The greatest and the second greatest room at the value, each at least 0.
-pub fn two_at(items: &[(u32, u32, u32)], boxes: &[IntSet], at: Number) -> (i64, i64)
-    requires { AreItemsNamed items.now boxes.now }
-    ensures { result ≡ two_rooms at.value items.now boxes.now }
-{
-    let mut two = (0, 0);
-    let mut k = items.len();
-    while 0 < k {
-        k -= 1;
-        two = with_item(two, items[k], boxes, at);
-    }
-    two
-}
-
 /// The rooms of the value, with one more.
 fn raised(best: Best, more: Brought) -> Best
     ensures { IsRaised true more.room.value more.stays best result }
@@ -137,15 +111,6 @@ fn raise_ranges(rows: &mut [Best], ranges: &[(i64, i64)], more: Brought, first: 
     }
 }
 
-/// The ranges of the box of `x`.
-fn ranges_of(boxes: &[IntSet], x: u32) -> &[(i64, i64)]
-    requires { x < length boxes.now }
-    ensures list { result.now ≡ box_of boxes.now x }
-    ensures valid { IsValid result.now }
-{
-    boxes[x as usize].ranges()
-}
-
 /// Adds the room of the item at `k`, behind which all are added.
 fn add_item(rows: &mut [Best], items: &[(u32, u32, u32)], boxes: &[IntSet], first: Number, k: usize)
     requires named { AreItemsNamed items.now boxes.now }
@@ -155,7 +120,7 @@ fn add_item(rows: &mut [Best], items: &[(u32, u32, u32)], boxes: &[IntSet], firs
     ensures rows { HaveBests rows.new first.value (drop k items.now) boxes.now }
 {
     let i = items[k];
-    raise_ranges(rows, ranges_of(boxes, i.0), brought_by(i, boxes), first);
+    raise_ranges(rows, ranges_at(boxes, i.0), brought_by(i, boxes), first);
 }
 
 /// Adds the rooms of all items.

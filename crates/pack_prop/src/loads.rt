@@ -1,13 +1,13 @@
 //! Loads of places and the rooms that are there, over the boxes of items.
 ghost use Rattle.std.specs.Prelude.{◌≡◌, ◌<◌, ◌≤ℤ◌, ◌^◌, ◌-◌, ◌&&◌, ◌+ℤ◌, ◌-ℤ◌, true, cond, pos, int_le, IfSome, length};
 ghost use Rattle.std.specs.Int.{int_max, int_min};
-ghost use Rattle.signed_clause.specs.Ranges.{has};
+ghost use Rattle.signed_clause.specs.Ranges.{has, IsValid};
 ghost use Rattle.signed_clause.specs.Clauses.{box_of};
 ghost use Rattle.ground_form.specs.Bounds.{low_of, high_of};
 ghost use Rattle.rule_law.specs.Refuted.{fixed_at, fixed_load, least_sizes};
 ghost use Rattle.rule_law.specs.Named.{AreItemsNamed, IsItemNamed};
 ghost use Rattle.rule_law.specs.Repeats.{is_one};
-ghost use Rattle.pack_prop.specs.Packing.{tight_room, put, two_rooms, growth};
+ghost use Rattle.pack_prop.specs.Packing.{tight_room};
 
 use ground_form::{Number, ends_of};
 use signed_clause::IntSet;
@@ -146,6 +146,15 @@ pub fn may_be(boxes: &[IntSet], x: u32, at: Number) -> bool
     ensures { result ≡ has (box_of boxes.now x) at.value }
 {
     boxes[x as usize].contains(at.value)
+}
+
+/// The ranges of the box of `x`.
+pub fn ranges_at(boxes: &[IntSet], x: u32) -> &[(i64, i64)]
+    requires { x < length boxes.now }
+    ensures list { result.now ≡ box_of boxes.now x }
+    ensures valid { IsValid result.now }
+{
+    boxes[x as usize].ranges()
 }
 
 /// The greater of two numbers.

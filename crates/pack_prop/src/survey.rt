@@ -2,7 +2,7 @@
 //!
 //! `Survey::fill` counts, for each value from the first place to the last, what stands fixed there (`Spot`) and how many ranges of
 //! the places' boxes begin and end there. Added up from value to value, the latter tell how many items may be at each.
-ghost use Rattle.std.specs.Prelude.{◌≡◌, ◌<◌, ◌≤◌, ◌≤ℤ◌, ◌+◌, ◌-◌, ◌^◌, ◌+ℤ◌, ◌-ℤ◌, ◌||◌, ℕ, ℤ, List, [], suc, pos, cond, IfOk, IfSome, length, drop, true, slice_index_or};
+ghost use Rattle.std.specs.Prelude.{◌≡◌, ◌<◌, ◌≤◌, ◌≤ℤ◌, ◌+◌, ◌-◌, ◌^◌, ◌+ℤ◌, ◌-ℤ◌, ◌||◌, ℕ, ℤ, [], suc, pos, cond, IfOk, IfSome, length, drop, true, slice_index_or};
 ghost use Rattle.std.specs.Int.{int_max, int_min};
 ghost use Rattle.std.specs.List.{All};
 ghost use Rattle.std.specs.Ordering.{int_eq};
@@ -14,7 +14,7 @@ ghost use Rattle.rule_law.specs.Named.{AreItemsNamed, IsItemNamed};
 ghost use Rattle.rule_law.specs.Repeats.{is_one};
 ghost use Rattle.pack_prop.specs.Survey.{IsSpot, AreSpots, AreBegun, AreEnded, begun_at, ended_at, is_slot};
 
-use crate::loads::{Total, greatest, is_single, least, smaller};
+use crate::loads::{Total, greatest, is_single, least, ranges_at, smaller};
 use ground_form::Number;
 use signed_clause::IntSet;
 use std::alloc::{AllocError, Global};
@@ -210,15 +210,6 @@ fn count_ranges(begun: &mut [usize], ended: &mut [usize], ranges: &[(i64, i64)],
         j -= 1;
         count_range(begun, ended, ranges[j], first);
     }
-}
-
-/// The ranges of the box of `x`.
-fn ranges_at(boxes: &[IntSet], x: u32) -> &[(i64, i64)]
-    requires { x < length boxes.now }
-    ensures list { result.now ≡ box_of boxes.now x }
-    ensures valid { IsValid result.now }
-{
-    boxes[x as usize].ranges()
 }
 
 /// Counts where the ranges of the place of the item at `k` begin and end, behind which all are counted.
