@@ -3,7 +3,7 @@
 //! Where it may be put at the value, it leaves that place. Where it is fixed there, and the load isn't too much already, its
 //! room loses what is below the load, or its size what would make the load too much. That this part of a box does make the
 //! place overfull is computed by the rule; where it doesn't, nothing is said.
-ghost use Rattle.std.specs.Prelude.{◌≡◌, ◌<◌, ◌≤ℤ◌, true, pos, IfOk, IfSome, length};
+ghost use Rattle.std.specs.Prelude.{◌≡◌, ◌<◌, ◌≤ℤ◌, ◌<ℤ◌, true, pos, negsuc, IfOk, IfSome, length};
 ghost use Rattle.std.specs.List.{All};
 ghost use Rattle.signed_clause.specs.Ranges.{IsValid};
 ghost use Rattle.signed_clause.specs.SetAlgebra.{inside};
@@ -29,7 +29,11 @@ pub struct Trial {
 }
 
 /// The number, or the nearest one of 64 bits.
-pub fn clamped(n: i128) -> i64 {
+pub fn clamped(n: i128) -> i64
+    ensures same { negsuc 9223372036854775807 ≤ℤ n → n ≤ℤ pos 9223372036854775807 → result ≡ n }
+    ensures least { n <ℤ negsuc 9223372036854775807 → result ≡ negsuc 9223372036854775807 }
+    ensures greatest { pos 9223372036854775807 <ℤ n → result ≡ pos 9223372036854775807 }
+{
     if n < i128::from(i64::MIN) {
         i64::MIN
     } else {
