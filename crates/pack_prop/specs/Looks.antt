@@ -1,16 +1,22 @@
 -- What a look at items to be packed shows.
-use Rattle.std.specs.Prelude.{ℕ, ◌≡◌, ◌≤ℤ◌, ◌<ℤ◌, true, List, ℤ, pos, ◌+ℤ◌}
+use Rattle.std.specs.Prelude.{ℕ, ◌≡◌, ◌≤ℤ◌, ◌<ℤ◌, true, false, List, ℤ, pos, ◌+ℤ◌}
 use Rattle.signed_clause.specs.Clauses.{Boxes}
 use Rattle.pack_prop.specs.declared.room.Look.{Look}
 use Rattle.pack_prop.specs.declared.room.Look.TheVariants.{Roomy, Misfit, Unsure}
 use Rattle.pack_prop.specs.declared.room.Walk.{Walk}
 use Rattle.pack_prop.specs.declared.room.Walk.TheVariants as walk
 use Rattle.rule_law.specs.Named.{IsItemNamed}
-use Rattle.pack_prop.specs.Packing.{all_fit, seconds_from, AllFit, HasEnough}
+use Rattle.rule_law.specs.Refuted.{fixed_load}
+use Rattle.pack_prop.specs.Packing.{tight_room, fits, all_fit, seconds_from, AllFit, HasEnough}
+
+-- the item doesn't fit at v
+pub record IsMisfit (v : ℤ) (i : ℕ × ℕ × ℕ) (items : List (ℕ × ℕ × ℕ)) (boxes : Boxes) : Type 0 where
+  pub named : IsItemNamed i boxes
+  pub short : fits v (fixed_load v items boxes) (tight_room v items boxes) i boxes ≡ false
 
 abbrev pub IsSeen : Look → List (ℕ × ℕ × ℕ) → Boxes → Type 0
 IsSeen Roomy items boxes = AllFit items boxes × HasEnough items boxes
-IsSeen (Misfit at item) items boxes = IsItemNamed item boxes
+IsSeen (Misfit at item) items boxes = IsMisfit at.value item items boxes
 IsSeen Unsure items boxes = AllFit items boxes
 
 -- all items fit at each of the n values from first on, and the second greatest rooms of these add up to the sum at least
@@ -20,5 +26,5 @@ pub record AreRooms (sum : ℤ) (n : ℕ) (first : ℤ) (items : List (ℕ × �
 
 -- what a walk over these values comes to
 abbrev pub IsWalked : Walk → ℕ → ℤ → List (ℕ × ℕ × ℕ) → Boxes → Type 0
-IsWalked (walk.Misfit at item) n first items boxes = IsItemNamed item boxes
+IsWalked (walk.Misfit at item) n first items boxes = IsMisfit at.value item items boxes
 IsWalked (walk.Room sum) n first items boxes = AreRooms sum.value n first items boxes

@@ -17,7 +17,7 @@ ghost use Rattle.rule_law.specs.Named.{AreItemsNamed, IsItemNamed};
 ghost use Rattle.rule_law.specs.Repeats.{is_one};
 ghost use Rattle.pack_prop.specs.Packing.{tight_room, fits, all_fit, growth};
 ghost use Rattle.pack_prop.specs.Survey.{IsSpot, IsSettled, AreSpots, AreBegun, AreEnded, all_gone_on, hits, open_size, open_floor, room_where, least_second};
-ghost use Rattle.pack_prop.specs.Looks.{IsSeen, IsWalked};
+ghost use Rattle.pack_prop.specs.Looks.{IsMisfit, IsSeen, IsWalked};
 
 use crate::interval::ends_in_order;
 use crate::loads::{
@@ -53,7 +53,7 @@ fn misfit_at(
     requires named { AreItemsNamed items.now boxes.now }
     requires load { load.value ≡ fixed_load at.value items.now boxes.now }
     requires tight { tight.value ≡ tight_room at.value items.now boxes.now }
-    ensures some { IfSome result (λ i. IsItemNamed i boxes.now) }
+    ensures some { IfSome result (λ i. IsMisfit at.value i items.now boxes.now) }
     ensures none { IfNone result (all_fit at.value items.now items.now boxes.now ≡ true) }
 {
     for i in items {
@@ -133,7 +133,7 @@ fn misfit_here(
     requires count { count ≡ hits at.value items.now boxes.now }
     requires size { limits.size.value ≡ open_size items.now boxes.now }
     requires floor { limits.floor.value ≡ open_floor items.now boxes.now }
-    ensures some { IfSome result (λ i. IsItemNamed i boxes.now) }
+    ensures some { IfSome result (λ i. IsMisfit at.value i items.now boxes.now) }
     ensures none { IfNone result (all_fit at.value items.now items.now boxes.now ≡ true) }
 {
     if is_settled(spot, spot.count < count, limits) {
