@@ -1,5 +1,5 @@
 -- What an overfull place is, and what its explanation stands on.
-use Rattle.std.specs.Prelude.{ℕ, ◌≡◌, ◌<◌, true, false, pos, ◌≤ℤ◌, List, ℤ, slice_set, slice_index_or, int_lt, length}
+use Rattle.std.specs.Prelude.{ℕ, ◌≡◌, ◌<◌, true, false, pos, ◌≤ℤ◌, List, ℤ, slice_set, slice_index_or, int_lt, length, Bool, ◌&&◌, ◌||◌, [], ◌∷◌}
 use Rattle.std.specs.List.{All}
 use Rattle.signed_clause.specs.Ranges.{Ranges, is_nil, IsValid}
 use Rattle.signed_clause.specs.SetAlgebra.{inside}
@@ -18,6 +18,11 @@ pub record IsOverfilled (v : ℤ) (items : List (ℕ × ℕ × ℕ)) (boxes : Bo
   pub there : k < length items
   pub fixed : fixed_at (box_of boxes (slice_index_or items k (0, 0, 0)).0) v ≡ true
   pub over : int_lt (high_of (box_of boxes (slice_index_or items k (0, 0, 0)).2)) (fixed_load v items boxes) ≡ true
+
+-- some item of the list is fixed at v, and the load is more than its greatest room
+abbrev pub some_over : ℤ → ℤ → List (ℕ × ℕ × ℕ) → Boxes → Bool
+some_over v load [] boxes = false
+some_over v load (i ∷ is) boxes = (fixed_at (box_of boxes i.0) v && int_lt (high_of (box_of boxes i.2)) load) || some_over v load is boxes
 
 -- the part has values of the box of x, and the boxes are those of a well made constraint
 pub record IsPart (domains boxes : Boxes) (items : List (ℕ × ℕ × ℕ)) (x : ℕ) (s : Ranges) : Type 0 where

@@ -4,7 +4,7 @@
 //! smaller ones of its room. With that part in the place of the box the value is overfull. The literals say of the room that is
 //! too small that it is at most what its box has, of the places that make the load that they aren't the value, and of their
 //! sizes that they are at least what their boxes have. Items that the load has to spare are left out, the first ones first.
-ghost use Rattle.std.specs.Prelude.{◌≡◌, ◌<◌, ◌+◌, ◌≤ℤ◌, ◌^◌, ◌-◌, ◌+ℤ◌, true, cond, pos, IfOk, IfSome, int_lt, length};
+ghost use Rattle.std.specs.Prelude.{◌≡◌, ◌<◌, ◌+◌, ◌≤ℤ◌, ◌^◌, ◌-◌, ◌+ℤ◌, true, cond, pos, IfOk, IfSome, int_lt, length, ◌&&◌, false, IfNone};
 ghost use Rattle.signed_clause.specs.Clauses.{box_of};
 ghost use Rattle.ground_form.specs.declared.con.Con.TheVariants.{Pack};
 ghost use Rattle.ground_form.specs.Bounds.{low_of, high_of};
@@ -12,7 +12,7 @@ ghost use Rattle.rule_law.specs.Answers.{IsPruning};
 ghost use Rattle.rule_law.specs.Named.{AreItemsNamed, IsItemNamed};
 ghost use Rattle.rule_law.specs.Refuted.{fixed_at, fixed_load};
 ghost use Rattle.pack_prop.specs.LoadSteps.{AreOverfull};
-ghost use Rattle.pack_prop.specs.Sources.{parted, IsPart, IsOverfilled};
+ghost use Rattle.pack_prop.specs.Sources.{parted, IsPart, IsOverfilled, some_over};
 
 use crate::collected::{below, say};
 use crate::loads::Total;
@@ -72,8 +72,7 @@ fn is_over(
 ) -> bool
     requires var { x < length boxes.now }
     requires item { IsItemNamed i boxes.now }
-    ensures fixed { result ≡ true → fixed_at (box_of (parted boxes.now x part.now) i.0) at.value ≡ true }
-    ensures over { result ≡ true → int_lt (high_of (box_of (parted boxes.now x part.now) i.2)) load.value ≡ true }
+    ensures { result ≡ (fixed_at (box_of (parted boxes.now x part.now) i.0) at.value && int_lt (high_of (box_of (parted boxes.now x part.now) i.2)) load.value) }
 {
     is_fixed(boxes, x, part, i.0, at) && !load.is_upto(greatest(boxes, x, part, i.2))
 }
@@ -88,7 +87,8 @@ pub fn overfilled(
 ) -> Option<usize>
     requires var { x < length boxes.now }
     requires items { AreItemsNamed items.now boxes.now }
-    ensures { IfSome result (λ k. IsOverfilled at.value items.now (parted boxes.now x part.now) k) }
+    ensures some { IfSome result (λ k. IsOverfilled at.value items.now (parted boxes.now x part.now) k) }
+    ensures none { IfNone result (some_over at.value (fixed_load at.value items.now (parted boxes.now x part.now)) items.now (parted boxes.now x part.now) ≡ false) }
 {
     let load = load_at(items, boxes, x, part, at);
     let mut k = 0;
