@@ -233,7 +233,7 @@ fn growth_of(items: &[(u32, u32, u32)], boxes: &[IntSet]) -> Total
 }
 
 /// The least of the number and what the places' boxes begin with.
-fn first_place(items: &[(u32, u32, u32)], boxes: &[IntSet], from: Number) -> Number
+pub fn first_place(items: &[(u32, u32, u32)], boxes: &[IntSet], from: Number) -> Number
     requires { AreItemsNamed items.now boxes.now }
     ensures value { result.value ≡ first_place from.value items.now boxes.now }
     ensures order { result.value ≤ℤ from.value }
@@ -246,7 +246,7 @@ fn first_place(items: &[(u32, u32, u32)], boxes: &[IntSet], from: Number) -> Num
 }
 
 /// The greatest of the number and what the places' boxes end with.
-fn last_place(items: &[(u32, u32, u32)], boxes: &[IntSet], from: Number) -> Number
+pub fn last_place(items: &[(u32, u32, u32)], boxes: &[IntSet], from: Number) -> Number
     requires { AreItemsNamed items.now boxes.now }
     ensures value { result.value ≡ last_place from.value items.now boxes.now }
     ensures order { from.value ≤ℤ result.value }

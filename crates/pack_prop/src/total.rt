@@ -4,22 +4,19 @@
 //! none of the values of its domain whose best room is less than the item's. What the sizes have more than is needed is spent:
 //! a place needs no literal where its domain's values may have the item's room as well, and then they are counted with it; and
 //! a size may be less.
-ghost use Rattle.std.specs.Prelude.{◌≡◌, ◌<◌, ◌≤◌, ◌+◌, ◌^◌, ◌≤ℤ◌, ◌<ℤ◌, ◌+ℤ◌, ◌-ℤ◌, ℤ, List, pos, IfOk, IfSome, length, slice_index_or};
+ghost use Rattle.std.specs.Prelude.{◌≡◌, ◌<◌, ◌≤◌, ◌+◌, ◌≤ℤ◌, ◌<ℤ◌, ◌+ℤ◌, ◌-ℤ◌, ℤ, pos, IfOk, IfSome, length};
 ghost use Rattle.std.specs.List.{All};
-ghost use Rattle.signed_clause.specs.Clauses.{box_of};
 ghost use Rattle.ground_form.specs.declared.con.Con.TheVariants.{Pack};
-ghost use Rattle.ground_form.specs.Bounds.{low_of, high_of};
 ghost use Rattle.rule_law.specs.Answers.{IsPruning};
-ghost use Rattle.rule_law.specs.Justified.{cut};
 ghost use Rattle.rule_law.specs.Named.{AreItemsNamed};
-ghost use Rattle.rule_law.specs.Refuted.{least_sizes, first_place, last_place};
-ghost use Rattle.pack_prop.specs.Collected.{AreCollected, SaysMore};
+ghost use Rattle.rule_law.specs.Refuted.{least_sizes};
 ghost use Rattle.pack_prop.specs.Sources.{parted, IsPart};
 ghost use Rattle.pack_prop.specs.TotalSteps.{AreTotalled, AreWeighed, IsWindow};
 
 use crate::collected::{below, say};
-use crate::loads::{Total, greater, greatest, least, smaller};
+use crate::loads::{Total, least};
 use crate::parted;
+use crate::room::{first_place, last_place};
 use crate::room_row::{best_row, raise, short_values, sum_of};
 use crate::said::{domain_at, say_room};
 use ground_form::{Con, Number};
@@ -29,30 +26,6 @@ use std::alloc::{AllocError, Global};
 
 /// The greatest value that a place of a well made problem has.
 const LAST_PLACE: i64 = 9999;
-
-/// The least value that a place has in its domain.
-fn first_place(items: &[(u32, u32, u32)], domains: &[IntSet]) -> Number
-    requires { AreItemsNamed items.now domains.now }
-    ensures { result.value ≡ first_place (pos 9999) items.now domains.now }
-{
-    let mut first = Number { value: LAST_PLACE };
-    for i in items {
-        first = smaller(first, least(domains, i.0));
-    }
-    first
-}
-
-/// The greatest value that a place has in its domain.
-fn last_place(items: &[(u32, u32, u32)], domains: &[IntSet]) -> Number
-    requires { AreItemsNamed items.now domains.now }
-    ensures { result.value ≡ last_place (pos 0) items.now domains.now }
-{
-    let mut last = Number { value: 0 };
-    for i in items {
-        last = greater(last, greatest(domains, i.0));
-    }
-    last
-}
 
 /// How many values there are from the first to the last.
 fn count_of(first: Number, last: Number) -> usize
@@ -70,8 +43,8 @@ fn window(items: &[(u32, u32, u32)], domains: &[IntSet]) -> Option<(Number, usiz
     requires { AreItemsNamed items.now domains.now }
     ensures { IfSome result (λ w. IsWindow w.0.value w.1 items.now domains.now) }
 {
-    let first = first_place(items, domains);
-    let last = last_place(items, domains);
+    let first = first_place(items, domains, Number { value: LAST_PLACE });
+    let last = last_place(items, domains, Number { value: 0 });
     if first.value < 0 || last.value < first.value || LAST_PLACE < last.value {
         return None;
     }
