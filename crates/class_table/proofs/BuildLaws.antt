@@ -253,4 +253,4 @@ no_stand items names within h (Duplicate at) (name_repeated c) = contains_none a
 no_stand items names within h f (within_item c) = contains_none f (subst (λ xs. Contains xs f) within c)
 no_stand items names within h (Duplicate at) (attribute_repeated k lt c) = contains_none at (subst (λ xs. Contains xs at) (h.attributes k lt) c)
 no_stand items names within h f (derives_itself k n d i is p s) = h.derivation n k s
-no_stand items names within h (ContainCycle at) (contains_itself b k d n v lt der has holds s) = h.containment b k d n at v der has holds s
+no_stand items names within h (ContainCycle at) (contains_itself c d n v has holds s) = h.containment c d n at v has holds s

@@ -134,9 +134,9 @@ module _ (items : List Item) where
             let on : w.node < class_count items = omega (arith, w.on_graph, length_edges (class_edges (space items)) (classes items)) in
             let c_on = steps_within s.2 s.0 w.node s.4 on in
             let b = below s.0 c_on in
-            contains_itself w.node s.0 (edge_at C w.node w.number).to s.1 h.attribute c_on
-            (derives_from_steps (parent_of items) r falls s.2 (class_count items) s.0 w.node s.4 (omega (arith, b)))
-            h.has (subst (λ n. Holds items h.attribute (edge_at C w.node w.number).to n) at_is h.holds) s.3
+            contains_itself s.0 (edge_at C w.node w.number).to s.1 h.attribute
+            (is_attribute (parent_of items) r falls (own_of items) (class_count items) s.2 (class_count items) s.0 w.node h.attribute s.4 h.has (omega (arith, b)))
+            (subst (λ n. Holds items h.attribute (edge_at C w.node w.number).to n) at_is h.holds) s.3
 
     pub contain_marked : IsPlainCycle C → ⊥
     contain_marked w = no_inherit w.back w.node (steps_map (PlainLeads C) (IsParent items) plain (suc w.back) w.node w.node w.returns)
@@ -182,15 +182,15 @@ module _ (items : List Item) where
         all_fall (suc m) x y (z, l, rest) = let a = one_falls x z l in let q = all_fall m z y rest in omega arith
 
     -- where the graph of containment has an order, no attribute lies on a cycle
-    pub no_contain : (states : List State) → IsOrdered C states → (b c d n at : ℕ) (v : VarDecl) → derives (parent_of items) (class_count items) c b ≡ true → Contains (own_of items b) v → Holds items v d at → StepsBy (ContainsOne items) n d c → ⊥
-    no_contain states o b c d n at v der has holds s =
-        let up = steps_from_derives (parent_of items) (class_count items) c b der in
-        let first = steps_map (IsParent items) (Leads C) (parent_contained items) up.0 c b up.1 in
+    pub no_contain : (states : List State) → IsOrdered C states → (c d n at : ℕ) (v : VarDecl) → Contains (attributes_of items c) v → Holds items v d at → StepsBy (ContainsOne items) n d c → ⊥
+    no_contain states o c d n at v has holds s =
+        let up = declared_by (parent_of items) r falls (own_of items) (class_count items) (class_count items) c v has in
+        let first = steps_map (IsParent items) (Leads C) (parent_contained items) up.0 c up.1 up.2 in
         let down = all_lead n d c s in
-        let back = steps_append (Leads C) down.0 up.0 d c b down.1 first in
-        let l = attribute_leads items b d at v has holds in
-        let r1 = one_falls b d l in
-        let r2 = all_fall (down.0 + up.0) d b back in
+        let back = steps_append (Leads C) down.0 up.0 d c up.1 down.1 first in
+        let l = attribute_leads items up.1 d at v up.3 holds in
+        let r1 = one_falls up.1 d l in
+        let r2 = all_fall (down.0 + up.0) d up.1 back in
         omega arith
       where
         one_falls : (x y : ℕ) → Leads C x y → rank states y < rank states x

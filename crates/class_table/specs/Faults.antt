@@ -157,8 +157,8 @@ pub data Stands : List Item → TableFault → Type 0 where
   attribute_repeated : {items : List Item} {at : ℕ} (c : ℕ) → c < class_count items → Contains (repeated (map variable_ident (attributes_of items c)) []) at → Stands items (Duplicate at)
   -- the parent of a class that derives from itself: so many parents on, the class stands again
   derives_itself : {items : List Item} (c k : ℕ) (d : ClassDecl) (i : Ident) → slice_get (classes items) c ≡ Some d → d.parent ≡ Some i → StepsBy (IsParent items) (suc k) c c → Stands items (InheritCycle i.at)
-  -- an attribute that b declares, and that makes an object of a class c, b itself or one that derives from b, contain an object of class c
-  contains_itself : {items : List Item} {at : ℕ} (b c d n : ℕ) (v : VarDecl) → c < class_count items → derives (parent_of items) (class_count items) c b ≡ true → Contains (own_of items b) v → Holds items v d at → StepsBy (ContainsOne items) n d c → Stands items (ContainCycle at)
+  -- an attribute, inherited or not, that makes an object of class c contain an object of class c
+  contains_itself : {items : List Item} {at : ℕ} (c d n : ℕ) (v : VarDecl) → Contains (attributes_of items c) v → Holds items v d at → StepsBy (ContainsOne items) n d c → Stands items (ContainCycle at)
 
 -- P holds of a fault that is told; want of memory has no cause
 abbrev pub OnFault : TableFault → (TableFault → Type 0) → Type 0
@@ -183,7 +183,7 @@ pointed decls = map (λ (decl : Bor ClassDecl). decl.now) decls
 pub record HaveNoFault (items : List Item) : Type 0 where
   pub derivation : (k c : ℕ) → StepsBy (IsParent items) (suc k) c c → ⊥
   pub attributes : (c : ℕ) → c < class_count items → repeated (map variable_ident (attributes_of items c)) [] ≡ []
-  pub containment : (b c d n at : ℕ) (v : VarDecl) → derives (parent_of items) (class_count items) c b ≡ true → Contains (own_of items b) v → Holds items v d at → StepsBy (ContainsOne items) n d c → ⊥
+  pub containment : (c d n at : ℕ) (v : VarDecl) → Contains (attributes_of items c) v → Holds items v d at → StepsBy (ContainsOne items) n d c → ⊥
 
 -- the numbers of items, of attributes and of each enumeration's values fit 32 bits
 pub record IsSmall (items : List Item) : Type 0 where

@@ -75,6 +75,14 @@ pub placed_again : (tokens : List Placed) (r : Result tree.Program ParseError) �
 placed_again tokens (Ok q) ok again p h = same_places tokens q.items p.items (all_good q.items ok.tree.fits) (again p h.tree) ok.places h.places
 placed_again tokens (Err e) ok again p h = again p h.tree
 
+-- tokens are those of at most one model with its places
+pub one_model : (tokens : List Placed) (p q : tree.Program) → IsProgramOf tokens p → IsProgramOf tokens q → (program_of p.items ≡ program_of q.items) × (program_places p ≡ program_places q)
+one_model tokens p q h i =
+    let a = plain_of tokens p h.tree in
+    let b = plain_of tokens q i.tree in
+    let e = one_program (program_of p.items) (program_of q.items) a.0 b.0 (sym a.2 ∙ b.2) in
+    (e, same_places tokens p.items q.items a.0 e h.places i.places)
+
 -- the place
 
 pub rest_from : (n : ℕ) (xs : List Placed) → take (length xs - n) (drop n xs) ≡ drop n xs

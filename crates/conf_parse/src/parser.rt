@@ -85,6 +85,8 @@ pub fn parse(alloc: Global, tokens: &[Placed], end: u32) -> Result<Program, Pars
     // Where the places are those of the tokens too, the model that is read has the same ones. Hence tokens are those of at
     // most one model with its places.
     ensures places { (p : Program) → IsProgramOf tokens.now p → MatchResult result (λ q. program_places q ≡ program_places p) (λ e. e ≡ ParseError.Memory) }
+    // Tokens are those of at most one model with its places, whatever is answered.
+    ensures one_model { (p q : Program) → IsProgramOf tokens.now p → IsProgramOf tokens.now q → (program_of p.items ≡ program_of q.items) × (program_places p ≡ program_places q) }
     // Where a refusal would stand at a place, it is answered, unless memory runs out.
     ensures syntax { (at : ℕ) → IsSyntax tokens.now end at → MatchResult result (λ p. ⊥) (IsSameOrMemory (ParseError.Syntax at)) }
     ensures too_deep { (at : ℕ) → IsDeep tokens.now end at → MatchResult result (λ p. ⊥) (IsSameOrMemory (ParseError.TooDeep at)) }

@@ -80,9 +80,9 @@ module _ (told : Option Files) (r : Request) (p : Program) (d : Change) where
   ends_answered status.NotBuilt text h now = absurd (no_answer r status.NotBuilt tt h.0)
 
   pub front_printed : (s : Status) (text : List ℕ) → Answers told r p s text → PrintsFront text d.printed d.now → OfAsked told r (λ asked. PrintsSome d.printed d.now asked p)
-  front_printed s text h front = of_asked_map told r _ _ (λ asked is. (s, text, is, front)) h.2
+  front_printed s text h front = of_asked_map told r _ _ (λ asked is. (s, text, h.1, is, front)) h.2
 
 -- printing broke off within the answer
 pub front_given : (told : Option Files) (r : Request) (p : Program) (s : Status) (text bytes : List ℕ) (old mid now : Option (List ℕ)) → Answers told r p s text → bytes ≡ text → mid ≡ old → PrintsFront bytes mid now → OfAsked told r (λ asked. PrintsSome old now asked p)
 front_given told r p s text bytes old mid now a whole before front =
-    of_asked_map told r _ _ (λ asked is. (s, text, is, subst (λ x. PrintsFront text x now) before (subst (λ b. PrintsFront b mid now) whole front))) a.2
+    of_asked_map told r _ _ (λ asked is. (s, text, a.1, is, subst (λ x. PrintsFront text x now) before (subst (λ b. PrintsFront b mid now) whole front))) a.2

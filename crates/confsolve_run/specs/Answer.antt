@@ -68,4 +68,4 @@ Prints status before now asked p = (text : List ℕ) × IsWithin p × IsAnswer a
 
 -- a front of some answer was printed
 abbrev pub PrintsSome : Option (List ℕ) → Option (List ℕ) → Asked → Program → Type 0
-PrintsSome before now asked p = (status : Status) × (text : List ℕ) × IsAnswer asked p status text × PrintsFront text before now
+PrintsSome before now asked p = (status : Status) × (text : List ℕ) × IsWithin p × IsAnswer asked p status text × PrintsFront text before now
