@@ -6,21 +6,34 @@ ghost use Rattle.desk_io.specs.Fault.{HasRisen};
 use crate::fault::count;
 use crate::{Desk, DeskError};
 use std::fs::OpenOptions;
-use std::io::{Read, Seek, SeekFrom, Write};
+use std::io::{ErrorKind, Read, Seek, SeekFrom, Write};
 use std::rt::{Files, Runtime};
 use std::{fs, io};
 
-/// Real files and the standard output. Each call opens its file anew, so nothing stays open between
-/// calls. A call that the system refuses, a folder that is read, and a write that takes nothing are
-/// failures. It permits every name.
+/// A file that is open for reading, and the place of the byte that comes next.
 #[derive(Drop)]
-pub struct RealDesk<R> {
+struct Opening<F: Drop> {
+    name: String,
+    file: F,
+    at: u64,
+}
+
+/// Real files and the standard output. A call that the system refuses, a folder that is read, and a
+/// write that takes nothing are failures. It permits every name.
+///
+/// A file that is read from its beginning, piece behind piece, is read through one opening of it: so
+/// what the pieces hold together is what that opening gave, also where another file takes the name
+/// meanwhile, and a pipe can be read. What a file that is written in place gives while it is read,
+/// is left to the outside. A piece from elsewhere in a file is read through an opening of its own.
+#[derive(Drop)]
+pub struct RealDesk<R: Runtime + AllocGlobal> {
     rt: R,
+    reading: Option<Opening<R::File>>,
     read_faults: u64,
     write_faults: u64,
 }
 
-impl<R: Runtime> RealDesk<R> {
+impl<R: Runtime + AllocGlobal> RealDesk<R> {
     ghost use Rattle.desk_io.specs.RealDesk.{read_faults_of, write_faults_of};
 
     /// A desk over the files and the standard output of this runtime, which has counted nothing.
@@ -30,6 +43,7 @@ impl<R: Runtime> RealDesk<R> {
     {
         RealDesk {
             rt,
+            reading: None,
             read_faults: 0,
             write_faults: 0,
         }
@@ -52,12 +66,51 @@ impl<R: Runtime> RealDesk<R> {
     }
 }
 
-fn read_some(rt: &impl Files, name: &str, at: u64, buf: &mut [u8]) -> io::Result<usize>
-    ensures { IfOk result (λ n. n ≤ length buf.new) }
-{
+/// Opens the file at a byte of it.
+fn open_at<R: Files>(rt: &R, name: &str, at: u64) -> io::Result<R::File> {
     let mut file = fs::open(rt, name)?;
-    file.seek(SeekFrom::Start(at))?;
-    file.read(buf)
+    if at > 0 {
+        file.seek(SeekFrom::Start(at))?;
+    }
+    Ok(file)
+}
+
+/// What was open, where the bytes from there on are the next ones; else the file, opened there.
+fn opened<R: Runtime + AllocGlobal>(
+    rt: &R,
+    reading: Option<Opening<R::File>>,
+    name: &str,
+    at: u64,
+) -> io::Result<Opening<R::File>> {
+    match reading {
+        Some(opening) if opening.at == at && at > 0 && opening.name.as_str() == name => Ok(opening),
+        _ => {
+            let file = open_at(rt, name, at)?;
+            let name = String::from_str(rt.alloc(), name)?;
+            Ok(Opening { name, file, at })
+        }
+    }
+}
+
+/// Reads the bytes from there on, and says how many and what stays open: the file, until it ends.
+fn read_on<R: Runtime + AllocGlobal>(
+    rt: &R,
+    reading: Option<Opening<R::File>>,
+    name: &str,
+    at: u64,
+    buf: &mut [u8],
+) -> io::Result<(usize, Option<Opening<R::File>>)>
+    ensures { IfOk result (λ p. p.0 ≤ length buf.new) }
+{
+    let mut opening = opened(rt, reading, name, at)?;
+    let n = opening.file.read(buf)?;
+    match at.checked_add(n as u64) {
+        Some(next) if n > 0 => {
+            opening.at = next;
+            Ok((n, Some(opening)))
+        }
+        _ => Ok((n, None)),
+    }
 }
 
 fn append_some(rt: &impl Files, name: &str, piece: &[u8]) -> io::Result<usize>
@@ -67,7 +120,7 @@ fn append_some(rt: &impl Files, name: &str, piece: &[u8]) -> io::Result<usize>
     file.write(piece)
 }
 
-impl<R: Runtime> Desk for RealDesk<R> {
+impl<R: Runtime + AllocGlobal> Desk for RealDesk<R> {
     ghost files = { λ d. None };
 
     ghost printed = { λ d. None };
@@ -81,8 +134,13 @@ impl<R: Runtime> Desk for RealDesk<R> {
     ghost may_write = { λ d name. true };
 
     fn read(&mut self, name: &str, at: u64, buf: &mut [u8]) -> Result<usize, DeskError> {
-        match read_some(&self.rt, name, at, buf) {
-            Ok(n) => Ok(n),
+        let reading = self.reading.take();
+        match read_on(&self.rt, reading, name, at, buf) {
+            Ok((n, reading)) => {
+                self.reading = reading;
+                Ok(n)
+            }
+            Err(e) if e.kind() == ErrorKind::OutOfMemory => Err(DeskError::Memory),
             Err(_) => {
                 count(&mut self.read_faults);
                 Err(DeskError::Failed)
