@@ -4,7 +4,7 @@
 //! line is read and checked as soon as it ends.
 ghost use Rattle.std.specs.Prelude.{◌≡◌, ◌+◌, ◌<◌, ◌≤◌, ◌^◌, ◌++◌, [], ◌∷◌, ℕ, List, IfErr, OnOk, length};
 ghost use Rattle.ground_form.specs.WellMade.{IsWellMade};
-ghost use Rattle.proof_log.specs.Acceptance.{start};
+ghost use Rattle.log_form.specs.Acceptance.{start};
 ghost use Rattle.log_check.specs.Progress.{made_of, IsRight};
 ghost use Rattle.log_check.specs.Fed.{HasTaken, IsRefusedText};
 
