@@ -1,5 +1,5 @@
 -- What a definition says of its variable where all constraints are true.
-use Rattle.std.proofs.Common.{◌≡◌, ℕ, zero, suc, ◌<◌, Bool, true, false, ◌&&◌, ◌||◌, cond, List, [], ◌∷◌, ℤ, pos, ◌+ℤ◌, All, arith, length, refl, sym, ◌∙◌, subst, get_or}
+use Rattle.std.proofs.Common.{◌≡◌, ℕ, zero, suc, ◌<◌, Bool, true, false, ◌&&◌, ◌||◌, cond, List, [], ◌∷◌, ℤ, pos, ◌+ℤ◌, All, arith, length, refl, sym, ◌∙◌, subst, get_or, Some}
 use Rattle.std.specs.Prelude.{int_le}
 use Rattle.std.specs.Ordering.{int_eq}
 use Rattle.std.proofs.lemmas.Int.{ints}
@@ -10,29 +10,30 @@ use Rattle.ground_form.specs.declared.con.Con.{Con}
 use Rattle.ground_form.specs.declared.con.Con.TheVariants.{LinDef, ReifLe, AndDef, MemberDef, EqDef, ElementDef, CondDef}
 use Rattle.ground_form.specs.declared.ground.Ground.{Ground}
 use Rattle.ground_form.specs.Meaning.{value_of, bit, sum_at, parts_true, picks, con_true}
-use Rattle.ground_form.specs.WellMade.{lacks_value, distinct_values}
-use Rattle.ground_build.specs.Growing.{AreTrue, IsDefined}
+use Rattle.ground_form.specs.WellMade.{defined_by, lacks_value, distinct_values}
+use Rattle.ground_form.specs.StandsFor.{IsDefinition}
+use Rattle.ground_build.specs.Growing.{AreDefined, IsDefined}
 use Rattle.ground_build.proofs.Extended.{last_part}
 use Rattle.ground_build.proofs.Determined.{picks_none}
 
 -- the new constraint is one of those that are true
-new_holds : (old new : Ground) (x : ℕ) (domain : Ranges) (con : Con) (a : List ℤ) → IsDefined old new x domain con → AreTrue new.cons a → con_true con a ≡ true
-new_holds old new x domain con a d h = last_part (λ c. con_true c a ≡ true) old.cons con (subst (λ (g : Ground). AreTrue g.cons a) d.grown h)
+new_holds : (old new : Ground) (x : ℕ) (domain : Ranges) (con : Con) (a : List ℤ) → IsDefined old new x domain con → defined_by con ≡ Some x → AreDefined new a → con_true con a ≡ true
+new_holds old new x domain con a d e h = last_part (λ c. IsDefinition old.search c → con_true c a ≡ true) old.cons con (subst (λ (g : Ground). AreDefined g a) d.grown h) (x, e, d.later)
 
-pub linear_means : (old new : Ground) (x : ℕ) (domain : Ranges) (ts : List (ℤ × ℕ)) (offset : ℤ) → IsDefined old new x domain (LinDef x ts offset) → (a : List ℤ) → AreTrue new.cons a → value_of a x ≡ (sum_at ts a +ℤ offset)
-linear_means old new x domain ts offset d a h = (Decides-int_eq _ _).0 (new_holds old new x domain (LinDef x ts offset) a d h)
+pub linear_means : (old new : Ground) (x : ℕ) (domain : Ranges) (ts : List (ℤ × ℕ)) (offset : ℤ) → IsDefined old new x domain (LinDef x ts offset) → (a : List ℤ) → AreDefined new a → value_of a x ≡ (sum_at ts a +ℤ offset)
+linear_means old new x domain ts offset d a h = (Decides-int_eq _ _).0 (new_holds old new x domain (LinDef x ts offset) a d refl h)
 
-pub at_most_means : (old new : Ground) (x : ℕ) (domain : Ranges) (ts : List (ℤ × ℕ)) (bound : ℤ) → IsDefined old new x domain (ReifLe x ts bound) → (a : List ℤ) → AreTrue new.cons a → value_of a x ≡ bit (int_le (sum_at ts a) bound)
-at_most_means old new x domain ts bound d a h = (Decides-int_eq _ _).0 (new_holds old new x domain (ReifLe x ts bound) a d h)
+pub at_most_means : (old new : Ground) (x : ℕ) (domain : Ranges) (ts : List (ℤ × ℕ)) (bound : ℤ) → IsDefined old new x domain (ReifLe x ts bound) → (a : List ℤ) → AreDefined new a → value_of a x ≡ bit (int_le (sum_at ts a) bound)
+at_most_means old new x domain ts bound d a h = (Decides-int_eq _ _).0 (new_holds old new x domain (ReifLe x ts bound) a d refl h)
 
-pub all_of_means : (old new : Ground) (x : ℕ) (domain : Ranges) (ps : List (ℕ × Bool)) → IsDefined old new x domain (AndDef x ps) → (a : List ℤ) → AreTrue new.cons a → value_of a x ≡ bit (parts_true ps a)
-all_of_means old new x domain ps d a h = (Decides-int_eq _ _).0 (new_holds old new x domain (AndDef x ps) a d h)
+pub all_of_means : (old new : Ground) (x : ℕ) (domain : Ranges) (ps : List (ℕ × Bool)) → IsDefined old new x domain (AndDef x ps) → (a : List ℤ) → AreDefined new a → value_of a x ≡ bit (parts_true ps a)
+all_of_means old new x domain ps d a h = (Decides-int_eq _ _).0 (new_holds old new x domain (AndDef x ps) a d refl h)
 
-pub member_means : (old new : Ground) (x y : ℕ) (domain set : Ranges) → IsDefined old new x domain (MemberDef x y set) → (a : List ℤ) → AreTrue new.cons a → value_of a x ≡ bit (has set (value_of a y))
-member_means old new x y domain set d a h = (Decides-int_eq _ _).0 (new_holds old new x domain (MemberDef x y set) a d h)
+pub member_means : (old new : Ground) (x y : ℕ) (domain set : Ranges) → IsDefined old new x domain (MemberDef x y set) → (a : List ℤ) → AreDefined new a → value_of a x ≡ bit (has set (value_of a y))
+member_means old new x y domain set d a h = (Decides-int_eq _ _).0 (new_holds old new x domain (MemberDef x y set) a d refl h)
 
-pub same_means : (old new : Ground) (x l r : ℕ) (domain : Ranges) → IsDefined old new x domain (EqDef x l r) → (a : List ℤ) → AreTrue new.cons a → value_of a x ≡ bit (int_eq (value_of a l) (value_of a r))
-same_means old new x l r domain d a h = (Decides-int_eq _ _).0 (new_holds old new x domain (EqDef x l r) a d h)
+pub same_means : (old new : Ground) (x l r : ℕ) (domain : Ranges) → IsDefined old new x domain (EqDef x l r) → (a : List ℤ) → AreDefined new a → value_of a x ≡ bit (int_eq (value_of a l) (value_of a r))
+same_means old new x l r domain d a h = (Decides-int_eq _ _).0 (new_holds old new x domain (EqDef x l r) a d refl h)
 
 lacking : (v : ℤ) (t : ℤ × ℕ) (ts : List (ℤ × ℕ)) → int_eq t.0 v ≡ true → lacks_value v (t ∷ ts) ≡ true → ⊥
 lacking v t ts e h = (elim (int_eq t.0 v) as (λ b. b ≡ true → cond b false (lacks_value v ts) ≡ true → ⊥) [ true ↦ λ f g. cc | false ↦ λ f g. cc ]) e h
@@ -69,14 +70,14 @@ picked_at out index (t ∷ ts) a (suc k) d h p lt e =
     let other : int_eq t.0 index ≡ false = not_equal t.0 index (λ f. lacks_at t.0 ts k d parts.0 (omega arith) (sym e ∙ sym f)) in
     picked_at out index ts a k d parts.1 (or_second (int_eq t.0 index) (picks out index ts a) (int_eq (value_of a t.1) out) other p) (omega arith) e
 
-pub pick_means : (old new : Ground) (x index : ℕ) (domain : Ranges) (items : List (ℤ × ℕ)) → distinct_values items ≡ true → IsDefined old new x domain (ElementDef x index items) → (a : List ℤ) → AreTrue new.cons a →
+pub pick_means : (old new : Ground) (x index : ℕ) (domain : Ranges) (items : List (ℤ × ℕ)) → distinct_values items ≡ true → IsDefined old new x domain (ElementDef x index items) → (a : List ℤ) → AreDefined new a →
     All (λ t. value_of a index ≡ t.0 → value_of a x ≡ value_of a t.1) items
 pick_means old new x index domain items distinct d a h k e lt is =
-    picked_at (value_of a x) (value_of a index) items a k e distinct (new_holds old new x domain (ElementDef x index items) a d h) lt is
+    picked_at (value_of a x) (value_of a index) items a k e distinct (new_holds old new x domain (ElementDef x index items) a d refl h) lt is
 
 when_true : (f o i : ℤ) → ((int_eq f (pos 1) && int_eq o i) || (int_eq f (pos 0) && int_eq o (pos 0))) ≡ true → (f ≡ pos 1 → o ≡ i) × (f ≡ pos 0 → o ≡ pos 0)
 when_true f o i h = ((λ e. grind (arith, ints)), (λ e. grind (arith, ints)))
 
-pub when_means : (old new : Ground) (x flag item : ℕ) (domain : Ranges) → IsDefined old new x domain (CondDef x flag item) → (a : List ℤ) → AreTrue new.cons a →
+pub when_means : (old new : Ground) (x flag item : ℕ) (domain : Ranges) → IsDefined old new x domain (CondDef x flag item) → (a : List ℤ) → AreDefined new a →
     (value_of a flag ≡ pos 1 → value_of a x ≡ value_of a item) × (value_of a flag ≡ pos 0 → value_of a x ≡ pos 0)
-when_means old new x flag item domain d a h = when_true (value_of a flag) (value_of a x) (value_of a item) (new_holds old new x domain (CondDef x flag item) a d h)
+when_means old new x flag item domain d a h = when_true (value_of a flag) (value_of a x) (value_of a item) (new_holds old new x domain (CondDef x flag item) a d refl h)

@@ -1,5 +1,5 @@
 -- The two steps of a builder, from its fields to the problem that they make.
-use Rattle.std.proofs.Common.{◌≡◌, ℕ, ◌-◌, ◌^◌, ◌<◌, List, [], ◌∷◌, ◌++◌, length, refl, sym, ap, ◌∙◌, subst}
+use Rattle.std.proofs.Common.{◌≡◌, ℕ, ◌-◌, ◌^◌, ◌<◌, List, [], ◌∷◌, ◌++◌, length, refl, sym, ap, ◌∙◌, subst, ◌≤◌}
 use Rattle.signed_clause.specs.Ranges.{Ranges}
 use Rattle.signed_clause.specs.Clauses.{Boxes}
 use Rattle.ground_form.specs.declared.con.Con.{Con}
@@ -24,6 +24,7 @@ pub definition_done : (g new : Ground) (x : ℕ) (domain : Ranges) (con : Con) �
 definition_done g new x domain con made room fits determines at e =
     subst (λ (h : Ground). IsDefined g h x domain con) (sym e) (record {
       variable = at;
+      later = subst (λ (y : ℕ). g.search ≤ y) (sym at) made.search;
       grown = refl;
       keeps = keeps_extensions g domain con made fits.defines determines;
       well_made = well_made_definition g domain con made room fits;

@@ -1,7 +1,7 @@
 -- How a ground problem grows. What a reader believes after this file: a call of the builder adds one
 -- constraint, with or
 -- without one variable, and takes no choice away that there was.
-use Rattle.std.specs.Prelude.{◌≡◌, ℕ, ◌-◌, ◌^◌, ◌<◌, true, false, pos, List, [], ◌∷◌, ◌++◌, ℤ, length}
+use Rattle.std.specs.Prelude.{◌≡◌, ℕ, ◌-◌, ◌^◌, ◌<◌, ◌≤◌, true, false, pos, List, [], ◌∷◌, ◌++◌, ℤ, length}
 use Rattle.std.specs.List.{All}
 use Rattle.signed_clause.specs.Ranges.{Ranges, has}
 use Rattle.signed_clause.specs.Clauses.{Boxes, box_of}
@@ -11,7 +11,7 @@ use Rattle.ground_form.specs.declared.ground.GroundGoal.{GroundGoal}
 use Rattle.ground_form.specs.Meaning.{value_of, con_true}
 use Rattle.ground_form.specs.Bounds.{LiesWithin}
 use Rattle.ground_form.specs.WellMade.{lacks_value, IsWellMade}
-use Rattle.ground_form.specs.StandsFor.{IsExtension}
+use Rattle.ground_form.specs.StandsFor.{IsDefinition, IsExtension}
 
 -- a problem without goals
 abbrev pub problem : Boxes → ℕ → List Con → Ground
@@ -42,19 +42,23 @@ pub record HasRoom (g : Ground) : Type 0 where
 abbrev pub AreTrue : List Con → List ℤ → Type 0
 AreTrue cons a = All (λ con. con_true con a ≡ true) cons
 
--- wherever all constraints are true, x has the value that the expression has
+-- the definitions of the variables that aren't searched are true at the values
+abbrev pub AreDefined : Ground → List ℤ → Type 0
+AreDefined g a = All (λ con. IsDefinition g.search con → con_true con a ≡ true) g.cons
+
+-- wherever the definitions are true, x has the value that the expression has
 abbrev pub Means : Ground → ℕ → (List ℤ → ℤ) → Type 0
-Means g x e = (a : List ℤ) → AreTrue g.cons a → value_of a x ≡ e a
+Means g x e = (a : List ℤ) → AreDefined g a → value_of a x ≡ e a
 
 -- wherever all constraints are true, x has the value of the variable of the item whose value the index has
 abbrev pub IsPicked : Ground → ℕ → ℕ → List (ℤ × ℕ) → Type 0
 IsPicked g x index items =
-    (a : List ℤ) → AreTrue g.cons a → All (λ t. value_of a index ≡ t.0 → value_of a x ≡ value_of a t.1) items
+    (a : List ℤ) → AreDefined g a → All (λ t. value_of a index ≡ t.0 → value_of a x ≡ value_of a t.1) items
 
 -- wherever all constraints are true, x has the item's value where the flag is 1, and is 0 where that is 0
 abbrev pub IsItemOrNought : Ground → ℕ → ℕ → ℕ → Type 0
 IsItemOrNought g x flag item =
-    (a : List ℤ) → AreTrue g.cons a →
+    (a : List ℤ) → AreDefined g a →
     (value_of a flag ≡ pos 1 → value_of a x ≡ value_of a item) × (value_of a flag ≡ pos 0 → value_of a x ≡ pos 0)
 
 -- the domain of x lies within 0..1
@@ -86,6 +90,7 @@ KeepsSameExtensions old new = (t a : List ℤ) → IsOnlyExtension old t a → I
 -- made
 pub record IsDefined (old new : Ground) (x : ℕ) (domain : Ranges) (con : Con) : Type 0 where
   pub variable : x ≡ length old.domains
+  pub later : old.search ≤ x
   pub grown : new ≡ with_definition old domain con
   pub keeps : KeepsExtensions old new
   pub well_made : IsWellMade new

@@ -4,7 +4,7 @@ use Rattle.std.proofs.lemmas.Bool.{and_from, le-leb}
 use Rattle.signed_clause.specs.Ranges.{Ranges, IsValid, is_nil}
 use Rattle.signed_clause.specs.Clauses.{Boxes, Literals, IsClause, IsClauseFrom, clause_from, is_clause}
 use Rattle.ground_form.specs.declared.ground.GroundGoal.{GroundGoal}
-use Rattle.proof_log.specs.Acceptance.{has_empty, with_literal, bounds_from, better_values, as_good_values}
+use Rattle.log_form.specs.Acceptance.{has_empty, with_literal, bounds_from, better_values, as_good_values}
 use Rattle.log_check.proofs.Bounds.{with_form}
 
 pub with_nothing : (x : ℕ) (s : Ranges) (c : Literals) → is_nil s ≡ true → with_literal x s c ≡ c

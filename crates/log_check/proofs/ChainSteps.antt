@@ -1,7 +1,7 @@
 -- A chain, step by step.
 use Rattle.std.proofs.Common.{◌≡◌, ◌↔◌, IsTrue, ℕ, Bool, true, false, ◌&&◌, List, [], ◌∷◌, length, nat_lt, refl, sym, ap, ◌∙◌, subst}
 use Rattle.signed_clause.specs.Clauses.{Literals, has_var, resolvent}
-use Rattle.proof_log.specs.Acceptance.{clause_at, chain_holds, chain_end, same_clause}
+use Rattle.log_form.specs.Acceptance.{clause_at, chain_holds, chain_end, same_clause}
 use Rattle.log_check.specs.Chains.{step_holds, chain_makes}
 use Rattle.log_check.proofs.Steps.{same_clause-equal, same_clause-self}
 

@@ -6,10 +6,10 @@ use Rattle.std.proofs.Math.Bool.{and-true, and_assoc}
 use Rattle.std.proofs.lemmas.Bool.{and_from, ne_eqb}
 use Rattle.std.proofs.lemmas.List.Folds.{list_all-append}
 use Rattle.ground_form.specs.declared.ground.Ground.{Ground}
-use Rattle.proof_log.specs.declared.line.Line.{Line}
+use Rattle.log_form.specs.declared.line.Line.{Line}
 use Rattle.proof_log.specs.Spelling.{line_text, lines_text, IsLine, Spells}
 use Rattle.proof_log.specs.Parts.{lacks}
-use Rattle.proof_log.specs.Acceptance.{Made, start, may_come, after, accepted_from, made_from}
+use Rattle.log_form.specs.Acceptance.{Made, start, may_come, after, accepted_from, made_from}
 use Rattle.log_check.specs.Fed.{IsFed, FailsAt}
 
 pub fed_nothing : (g : Ground) (m : Made) (rest : List ℕ) (count : ℕ) → m ≡ start → rest ≡ [] → count ≡ 0 → IsFed g [] [] m rest count

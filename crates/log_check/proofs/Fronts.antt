@@ -4,8 +4,8 @@ use Rattle.std.proofs.Math.Bool.{and-true, and_assoc}
 use Rattle.std.proofs.lemmas.Bool.{and_right, and_from}
 use Rattle.std.proofs.lemmas.List.{take_all}
 use Rattle.ground_form.specs.declared.ground.Ground.{Ground}
-use Rattle.proof_log.specs.declared.line.Line.{Line}
-use Rattle.proof_log.specs.Acceptance.{Made, may_come, after, accepted, start, accepted_from, made_from, has_empty, made, FailsFirst, shown_by}
+use Rattle.log_form.specs.declared.line.Line.{Line}
+use Rattle.log_form.specs.Acceptance.{Made, may_come, after, accepted, start, accepted_from, made_from, has_empty, made, FailsFirst, shown_by}
 use Rattle.log_check.specs.Soundness.{IsSound, Means}
 use Rattle.log_check.specs.Verdicts.{Ending, ending, shown_of}
 use Rattle.log_check.proofs.Steps.{sound_means}

@@ -4,9 +4,9 @@ use Rattle.std.proofs.lemmas.Bool.{and_parts}
 use Rattle.ground_form.specs.declared.ground.Ground.{Ground}
 use Rattle.ground_form.specs.WellMade.{IsWellMade}
 use Rattle.signed_clause.specs.Clauses.{Boxes}
-use Rattle.proof_log.specs.declared.line.Line.{Line}
-use Rattle.proof_log.specs.declared.line.Line.TheVariants.{Axiom, Chain, Bound, Use, Found, Decide, Empty}
-use Rattle.proof_log.specs.Acceptance.{Made, start, has_empty, point_of, all_true, beats, accepts, after, may_come, accepted, made, accepted_from, made_from}
+use Rattle.log_form.specs.declared.line.Line.{Line}
+use Rattle.log_form.specs.declared.line.Line.TheVariants.{Axiom, Chain, Bound, Use, Found, Decide, Empty}
+use Rattle.log_form.specs.Acceptance.{Made, start, has_empty, point_of, all_true, beats, accepts, after, may_come, accepted, made, accepted_from, made_from}
 use Rattle.log_check.specs.Added.{added, found_after, found_from, last_values}
 use Rattle.log_check.proofs.Points.{goals_at}
 use Rattle.log_check.proofs.TrimLaws.{after_is, has_empty_append}

@@ -5,7 +5,6 @@ pub mod ChainSteps
 pub mod BoundSteps
 pub mod Points
 pub mod Fronts
-pub mod Problems
 pub mod Feeding
 pub mod SingleGoal
 pub mod TrimLaws

@@ -6,8 +6,8 @@ use Rattle.std.proofs.Math.Seq.{drop-length}
 use Rattle.std.proofs.lemmas.List.{take_all, length-set, get_or-set_same, get_or-set_other, reverse-append}
 use Rattle.signed_clause.specs.Ranges.{is_nil}
 use Rattle.ground_form.specs.declared.ground.Ground.{Ground}
-use Rattle.proof_log.specs.declared.line.Line.{Line}
-use Rattle.proof_log.specs.declared.line.Line.TheVariants.{Axiom, Chain, Bound, Use, Found, Decide, Empty}
+use Rattle.log_form.specs.declared.line.Line.{Line}
+use Rattle.log_form.specs.declared.line.Line.TheVariants.{Axiom, Chain, Bound, Use, Found, Decide, Empty}
 use Rattle.log_check.specs.Trimmed.{clauses_of, steps_name, names, is_needed, named, stays}
 use Rattle.log_check.specs.Marks.{clauses_in, needs, unmarked, with_steps, with_names, marked}
 

@@ -2,7 +2,7 @@
 use Rattle.std.proofs.Common.{◌≡◌, ℕ, zero, suc, ◌+◌, ◌-◌, ◌<◌, Bool, true, false, cond, List, [], ◌∷◌, ◌++◌, length, get_or, drop, length-append, refl, sym, ap, ◌∙◌, arith, add-one, append_assoc}
 use Rattle.std.specs.Prelude.{slice_index_or}
 use Rattle.ground_form.specs.declared.ground.Ground.{Ground}
-use Rattle.proof_log.specs.declared.line.Line.{Line}
+use Rattle.log_form.specs.declared.line.Line.{Line}
 use Rattle.log_check.specs.Trimmed.{clauses_of, stays, renumbered, next_number, numbers_from, trimmed_from}
 use Rattle.log_check.specs.Marks.{needs}
 use Rattle.log_check.proofs.Marking.{drop_line}

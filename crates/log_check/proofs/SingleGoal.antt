@@ -9,9 +9,9 @@ use Rattle.ground_form.specs.declared.ground.Ground.{Ground}
 use Rattle.ground_form.specs.declared.ground.GroundGoal.{GroundGoal}
 use Rattle.ground_form.specs.Meaning.{value_of}
 use Rattle.ground_form.specs.Solutions.{better}
-use Rattle.proof_log.specs.declared.line.Line.{Line}
-use Rattle.proof_log.specs.declared.line.Line.TheVariants.{Axiom, Chain, Bound, Use, Found, Decide, Empty}
-use Rattle.proof_log.specs.Acceptance.{Made, start, has_empty, point_of, all_true, beats, states, states_found, bounds, bounds_of, accepts, after, accepted_from, made_from}
+use Rattle.log_form.specs.declared.line.Line.{Line}
+use Rattle.log_form.specs.declared.line.Line.TheVariants.{Axiom, Chain, Bound, Use, Found, Decide, Empty}
+use Rattle.log_form.specs.Acceptance.{Made, start, has_empty, point_of, all_true, beats, states, states_found, bounds, bounds_of, accepts, after, accepted_from, made_from}
 use Rattle.log_check.specs.OneGoal.{goal_of, better_at, improves, states_value, states_last, bound_at, bound_last, one_accepts, one_after, one_accepted_from, one_made_from}
 use Rattle.log_check.proofs.Bounds.{beats_value}
 

@@ -17,9 +17,9 @@ use Rattle.ground_form.specs.Meaning.{value_of, con_true, clause_vars}
 use Rattle.ground_form.specs.Solutions.{IsPoint, IsSolution, better}
 use Rattle.ground_form.specs.WellMade.{IsWellMade}
 use Rattle.rule_law.specs.Justified.{justified}
-use Rattle.proof_log.specs.declared.line.Line.{Line}
-use Rattle.proof_log.specs.declared.line.Line.TheVariants.{Axiom, Chain, Bound, Use, Found, Decide, Empty}
-use Rattle.proof_log.specs.Acceptance.{Made, start, clause_at, has_empty, chain_holds, chain_end, all_same, same_set, same_clause, point_of, all_true, beats, bounds, bounds_of, states_found, vars_below, con_at, accepts, after, shown_by}
+use Rattle.log_form.specs.declared.line.Line.{Line}
+use Rattle.log_form.specs.declared.line.Line.TheVariants.{Axiom, Chain, Bound, Use, Found, Decide, Empty}
+use Rattle.log_form.specs.Acceptance.{Made, start, clause_at, has_empty, chain_holds, chain_end, all_same, same_set, same_clause, point_of, all_true, beats, bounds, bounds_of, states_found, vars_below, con_at, accepts, after, shown_by}
 use Rattle.log_check.specs.Soundness.{FoundSolves, IsSound, Means, HasClause}
 use Rattle.log_check.proofs.Justified.{justified-true}
 use Rattle.log_check.proofs.Bounds.{beats_value, at_goal, bounds_true, bounds_form}

@@ -6,9 +6,9 @@ use Rattle.signed_clause.specs.Ranges.{is_nil}
 use Rattle.signed_clause.specs.Clauses.{Boxes, Literals, has_var, resolvent}
 use Rattle.ground_form.specs.declared.ground.Ground.{Ground}
 use Rattle.ground_form.specs.declared.ground.GroundGoal.{GroundGoal}
-use Rattle.proof_log.specs.declared.line.Line.{Line}
-use Rattle.proof_log.specs.declared.line.Line.TheVariants.{Axiom, Chain, Bound, Use, Found, Decide, Empty}
-use Rattle.proof_log.specs.Acceptance.{Made, start, clause_at, has_empty, chain_holds, chain_end, same_clause, bounds, bounds_of, bounds_from, with_literal, better_values, states_found, accepts, after, may_come, accepted_from, made_from, accepted, made, verdict, shown_by}
+use Rattle.log_form.specs.declared.line.Line.{Line}
+use Rattle.log_form.specs.declared.line.Line.TheVariants.{Axiom, Chain, Bound, Use, Found, Decide, Empty}
+use Rattle.log_form.specs.Acceptance.{Made, start, clause_at, has_empty, chain_holds, chain_end, same_clause, bounds, bounds_of, bounds_from, with_literal, better_values, states_found, accepts, after, may_come, accepted_from, made_from, accepted, made, verdict, shown_by}
 use Rattle.log_check.specs.Added.{added, found_after}
 use Rattle.log_check.specs.Trimmed.{bounds_count, clauses_of, steps_name, names, named, stays, number_of, steps_renumbered, renumbered, next_number, numbers_from, trimmed_from, trimmed}
 

@@ -1,7 +1,7 @@
 -- One step of a chain, and a chain as a whole.
 use Rattle.std.specs.Prelude.{ℕ, Bool, ◌&&◌, List, [], ◌∷◌, length, nat_lt}
 use Rattle.signed_clause.specs.Clauses.{Literals, has_var, resolvent}
-use Rattle.proof_log.specs.Acceptance.{clause_at, same_clause}
+use Rattle.log_form.specs.Acceptance.{clause_at, same_clause}
 
 -- the step's clause was made before, and both have its variable
 abbrev pub step_holds : List Literals → Literals → ℕ × ℕ → Bool

@@ -4,10 +4,10 @@ use Rattle.std.specs.Prelude.{◌≡◌, ℕ, suc, true, false, List, ◌∷◌,
 use Rattle.std.specs.List.{AllByRecursion}
 use Rattle.ground_form.specs.declared.ground.Ground.{Ground}
 use Rattle.ground_form.specs.WellMade.{IsWellMade}
-use Rattle.proof_log.specs.declared.line.Line.{Line}
+use Rattle.log_form.specs.declared.line.Line.{Line}
 use Rattle.proof_log.specs.Spelling.{lines_text, IsLine, Spells}
 use Rattle.proof_log.specs.Parts.{lacks}
-use Rattle.proof_log.specs.Acceptance.{Made, accepted, made, may_come}
+use Rattle.log_form.specs.Acceptance.{Made, accepted, made, may_come}
 use Rattle.log_check.specs.declared.lines.CheckError.{CheckError}
 use Rattle.log_check.specs.declared.lines.CheckError.TheVariants.{Rejected, Memory}
 use Rattle.log_check.specs.declared.intake.Intake.{Intake}

@@ -1,7 +1,7 @@
 -- What the checker keeps is what the lines so far leave.
 use Rattle.std.specs.Prelude.{◌≡◌}
 use Rattle.ground_form.specs.declared.ground.Ground.{Ground}
-use Rattle.proof_log.specs.Acceptance.{Made, has_empty}
+use Rattle.log_form.specs.Acceptance.{Made, has_empty}
 use Rattle.log_check.specs.Soundness.{IsSound}
 use Rattle.log_check.specs.declared.progress.Progress.{Progress}
 

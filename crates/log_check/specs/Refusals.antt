@@ -1,8 +1,8 @@
 -- When lines are refused.
 use Rattle.std.specs.Prelude.{List}
 use Rattle.ground_form.specs.declared.ground.Ground.{Ground}
-use Rattle.proof_log.specs.declared.line.Line.{Line}
-use Rattle.proof_log.specs.Acceptance.{FailsFirst}
+use Rattle.log_form.specs.declared.line.Line.{Line}
+use Rattle.log_form.specs.Acceptance.{FailsFirst}
 use Rattle.log_check.specs.declared.lines.CheckError.{CheckError}
 use Rattle.log_check.specs.declared.lines.CheckError.TheVariants.{Rejected, Memory}
 

@@ -4,9 +4,9 @@ use Rattle.std.specs.Prelude.{◌≡◌, ℕ, ◌<◌, true, List, ℤ, Option, 
 use Rattle.signed_clause.specs.Clauses.{IsClause, clause_true}
 use Rattle.ground_form.specs.declared.ground.Ground.{Ground}
 use Rattle.ground_form.specs.Solutions.{IsSolution, better}
-use Rattle.proof_log.specs.declared.line.Line.{Line}
-use Rattle.proof_log.specs.declared.line.Line.TheVariants.{Axiom, Chain, Bound, Use, Found, Decide, Empty}
-use Rattle.proof_log.specs.Acceptance.{Made, beats, clause_at, Shown, Best, NoSolution, Open}
+use Rattle.log_form.specs.declared.line.Line.{Line}
+use Rattle.log_form.specs.declared.line.Line.TheVariants.{Axiom, Chain, Bound, Use, Found, Decide, Empty}
+use Rattle.log_form.specs.Acceptance.{Made, beats, clause_at, Shown, Best, NoSolution, Open}
 
 -- what was found last is a solution
 abbrev pub FoundSolves : Ground → Option (List ℤ) → Type 0

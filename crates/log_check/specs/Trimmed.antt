@@ -4,9 +4,9 @@ use Rattle.std.specs.Prelude.{ℕ, zero, suc, ◌+◌, Bool, true, false, ◌&&�
 use Rattle.signed_clause.specs.Ranges.{is_nil}
 use Rattle.ground_form.specs.declared.ground.Ground.{Ground}
 use Rattle.ground_form.specs.declared.ground.GroundGoal.{GroundGoal}
-use Rattle.proof_log.specs.declared.line.Line.{Line}
-use Rattle.proof_log.specs.declared.line.Line.TheVariants.{Axiom, Chain, Bound, Use, Found, Decide, Empty}
-use Rattle.proof_log.specs.Acceptance.{has_empty, made}
+use Rattle.log_form.specs.declared.line.Line.{Line}
+use Rattle.log_form.specs.declared.line.Line.TheVariants.{Axiom, Chain, Bound, Use, Found, Decide, Empty}
+use Rattle.log_form.specs.Acceptance.{has_empty, made}
 
 -- ---- which clauses a line makes and names
 

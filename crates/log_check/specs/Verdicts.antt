@@ -1,8 +1,8 @@
 -- What a verdict is.
 use Rattle.std.specs.Prelude.{Bool, List, ℤ, Option}
 use Rattle.ground_form.specs.declared.ground.Ground.{Ground}
-use Rattle.proof_log.specs.declared.line.Line.{Line}
-use Rattle.proof_log.specs.Acceptance.{has_empty, made, shown_by, Shown, Best, NoSolution, Open}
+use Rattle.log_form.specs.declared.line.Line.{Line}
+use Rattle.log_form.specs.Acceptance.{has_empty, made, shown_by, Shown, Best, NoSolution, Open}
 use Rattle.log_check.specs.declared.verdict.VerdictKind.{VerdictKind}
 use Rattle.log_check.specs.declared.verdict.VerdictKind.TheVariants as kinds
 

@@ -9,8 +9,8 @@ ghost use Rattle.std.specs.List.{All};
 ghost use Rattle.signed_clause.specs.Ranges.{is_nil, IsValid};
 ghost use Rattle.signed_clause.specs.Clauses.{box_of, IsClause};
 ghost use Rattle.ground_form.specs.Meaning.{value_of};
-ghost use Rattle.proof_log.specs.Acceptance as acceptance;
-ghost use Rattle.proof_log.specs.Acceptance.{bounds_from, bounds_of, has_empty};
+ghost use Rattle.log_form.specs.Acceptance as acceptance;
+ghost use Rattle.log_form.specs.Acceptance.{bounds_from, bounds_of, has_empty};
 ghost use Rattle.log_check.specs.Literals.{joined_with};
 
 use crate::derived::Derived;

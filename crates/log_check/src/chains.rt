@@ -5,10 +5,10 @@
 //! and a step is one walk over two clauses.
 ghost use Rattle.std.specs.Prelude.{◌≡◌, ◌&&◌, true, false, IfOk, IfSome, IfNone, length, nat_lt, IsTrue};
 ghost use Rattle.signed_clause.specs.Clauses.{has_var, resolvent, IsClause};
-ghost use Rattle.proof_log.specs.Acceptance.{clause_at, chain_holds, chain_end, same_clause};
+ghost use Rattle.log_form.specs.Acceptance.{clause_at, chain_holds, chain_end, same_clause};
 ghost use Rattle.log_check.specs.Chains.{step_holds, chain_makes};
 
-use learn_clauses::{Chain, Clauses};
+use numbered_clauses::{Chain, Clauses};
 use signed_clause::{Clause, resolve};
 use std::alloc::{AllocError, Global};
 

@@ -54,7 +54,7 @@ impl<'g> Checker<'g> {
         ensures ground { self.new.ground.now ≡ self.old.ground.now }
         ensures again { IfSome self.old.failed (λ e. (result ≡ Err e) × (self.new.failed ≡ Some e)) }
         ensures ok { OnOk result (self.new.failed ≡ None) }
-        ensures count { OnOk result (self.new.intake.count ≤ self.old.intake.count + length piece.now) }
+        ensures count { self.new.intake.count ≤ self.old.intake.count + length piece.now }
         ensures failed { IfErr result (λ e. self.new.failed ≡ Some e) }
         ensures taken { OnOk result ((bytes : List ℕ) → HasTaken self.old.ground.now bytes self.old.intake
             → HasTaken self.old.ground.now (bytes ++ piece.now) self.new.intake) }

@@ -5,13 +5,13 @@
 ghost use Rattle.std.specs.Prelude.{◌≡◌, ◌<◌, true, Some, None, Option, List, ℤ, IfOk, IfSome, IfNone, length};
 ghost use Rattle.std.specs.List.{All};
 ghost use Rattle.ground_form.specs.WellMade.{IsWellMade};
-ghost use Rattle.proof_log.specs.Acceptance.{accepted, made, has_empty, bounds, bounds_of};
+ghost use Rattle.log_form.specs.Acceptance.{accepted, made, has_empty, bounds, bounds_of};
 ghost use Rattle.log_check.specs.Added.{added, found_after, last_values};
 
 use crate::bound_line::push_bounds;
 use crate::derived::Derived;
 use ground_form::Ground;
-use proof_log::{Line, Values};
+use log_form::{Line, Values};
 use std::alloc::{AllocError, Global};
 
 /// Whether the lines made the empty clause.

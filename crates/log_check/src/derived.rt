@@ -1,8 +1,8 @@
 //! The clauses that the lines so far made, and whether one of them is empty.
 ghost use Rattle.std.specs.Prelude.{◌≡◌, ◌++◌, [], ◌∷◌, false, OnOk};
-ghost use Rattle.proof_log.specs.Acceptance.{has_empty};
+ghost use Rattle.log_form.specs.Acceptance.{has_empty};
 
-use learn_clauses::Clauses;
+use numbered_clauses::Clauses;
 use signed_clause::Clause;
 use std::alloc::{AllocError, Global};
 

@@ -4,7 +4,7 @@
 //! line is read and checked as soon as it ends.
 ghost use Rattle.std.specs.Prelude.{◌≡◌, ◌+◌, ◌<◌, ◌≤◌, ◌^◌, ◌++◌, [], ◌∷◌, ℕ, List, IfErr, OnOk, length};
 ghost use Rattle.ground_form.specs.WellMade.{IsWellMade};
-ghost use Rattle.proof_log.specs.Acceptance.{start};
+ghost use Rattle.log_form.specs.Acceptance.{start};
 ghost use Rattle.log_check.specs.Progress.{made_of, IsRight};
 ghost use Rattle.log_check.specs.Fed.{HasTaken, IsRefusedText};
 
@@ -46,7 +46,7 @@ impl Intake {
         requires right { IsRight g.now self.old.progress }
         requires few { self.old.count + length piece.now < 2 ^ 64 }
         ensures right { OnOk result (IsRight g.now self.new.progress) }
-        ensures count { OnOk result (self.new.count ≤ self.old.count + length piece.now) }
+        ensures count { self.new.count ≤ self.old.count + length piece.now }
         ensures taken { OnOk result ((bytes : List ℕ) → HasTaken g.now bytes self.old → HasTaken g.now (bytes ++ piece.now) self.new) }
         ensures refused { IfErr result (λ e. (bytes : List ℕ) → HasTaken g.now bytes self.old → IsRefusedText g.now (bytes ++ piece.now) e) }
     {
@@ -62,7 +62,7 @@ impl Intake {
         requires right { IsRight g.now self.old.progress }
         requires few { self.old.count + 1 < 2 ^ 64 }
         ensures right { OnOk result (IsRight g.now self.new.progress) }
-        ensures count { OnOk result (self.new.count ≤ self.old.count + 1) }
+        ensures count { self.new.count ≤ self.old.count + 1 }
         ensures taken { OnOk result ((bytes : List ℕ) → HasTaken g.now bytes self.old → HasTaken g.now (bytes ++ b ∷ []) self.new) }
         ensures refused { IfErr result (λ e. (bytes more : List ℕ) → HasTaken g.now bytes self.old → IsRefusedText g.now (bytes ++ b ∷ more) e) }
     {
@@ -80,6 +80,7 @@ impl Intake {
         requires few { self.old.count + 1 < 2 ^ 64 }
         ensures right { OnOk result (IsRight g.now self.new.progress) }
         ensures count { OnOk result (self.new.count ≡ self.old.count + 1) }
+        ensures most { self.new.count ≤ self.old.count + 1 }
         ensures taken { OnOk result ((bytes : List ℕ) → HasTaken g.now bytes self.old → HasTaken g.now (bytes ++ 10 ∷ []) self.new) }
         ensures refused { IfErr result (λ e. (bytes more : List ℕ) → HasTaken g.now bytes self.old → IsRefusedText g.now (bytes ++ 10 ∷ more) e) }
     {

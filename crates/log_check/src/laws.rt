@@ -1,10 +1,10 @@
 //! Laws of acceptance, on the contracts of functions that do nothing.
 ghost use Rattle.std.specs.Prelude.{◌≡◌, ◌≤◌, length};
-ghost use Rattle.proof_log.specs.Acceptance.{start, accepted, made};
+ghost use Rattle.log_form.specs.Acceptance.{start, accepted, made};
 ghost use Rattle.log_check.specs.OneGoal.{one_accepted_from, one_made_from};
 
 use ground_form::Ground;
-use proof_log::Line;
+use log_form::Line;
 
 /// It does nothing; its contract is the law. Against a problem with one goal or none, lines are
 /// accepted exactly as they are where Bound lines make one clause and a Found line has to improve

@@ -26,8 +26,6 @@ mod lines;
 mod needed;
 mod progress;
 mod solution;
-#[cfg(test)]
-mod tests;
 mod trimming;
 mod verdict;
 

@@ -1,7 +1,7 @@
 //! The checker of lines in memory.
 ghost use Rattle.std.specs.Prelude.{◌≡◌, true, IfOk, IfErr, OnOk};
 ghost use Rattle.ground_form.specs.WellMade.{IsWellMade};
-ghost use Rattle.proof_log.specs.Acceptance.{accepted};
+ghost use Rattle.log_form.specs.Acceptance.{accepted};
 ghost use Rattle.log_check.specs.Soundness.{Means};
 ghost use Rattle.log_check.specs.Verdicts.{ending, shown_of};
 ghost use Rattle.log_check.specs.Refusals.{IsRefusedAs};
@@ -10,7 +10,7 @@ ghost use Rattle.log_check.specs.declared.lines.CheckError.TheVariants.{Memory};
 use crate::progress::Progress;
 use crate::verdict::Verdict;
 use ground_form::Ground;
-use proof_log::Line;
+use log_form::Line;
 use std::alloc::{AllocError, AllocFailed, Global};
 
 /// Why lines are refused.

@@ -8,7 +8,7 @@ ghost use Rattle.log_check.specs.Trimmed.{clauses_of, bounds_count, is_needed};
 ghost use Rattle.log_check.specs.Marks.{clauses_in, needs, unmarked, with_steps, with_names, marked};
 
 use ground_form::Ground;
-use proof_log::Line;
+use log_form::Line;
 use std::alloc::{AllocError, Global};
 
 /// For each line whether it is needed.

@@ -10,8 +10,8 @@ ghost use Rattle.signed_clause.specs.Clauses.{box_of};
 ghost use Rattle.ground_form.specs.Meaning.{clause_vars};
 ghost use Rattle.ground_form.specs.WellMade.{IsWellMade};
 ghost use Rattle.rule_law.specs.Justified as rules;
-ghost use Rattle.proof_log.specs.Acceptance as acceptance;
-ghost use Rattle.proof_log.specs.Acceptance.{start, accepts, after, vars_below, con_at, point_of, all_true, beats, states_found, has_empty, bounds};
+ghost use Rattle.log_form.specs.Acceptance as acceptance;
+ghost use Rattle.log_form.specs.Acceptance.{start, accepts, after, vars_below, con_at, point_of, all_true, beats, states_found, has_empty, bounds};
 ghost use Rattle.log_check.specs.Soundness.{HasClause, FoundSolves};
 ghost use Rattle.log_check.specs.Progress.{made_of, IsRight};
 ghost use Rattle.log_check.specs.Verdicts.{Ending};
@@ -22,7 +22,7 @@ use crate::derived::Derived;
 use crate::solution::{are_all_true, are_goal_values, is_better, is_point};
 use crate::verdict::Verdict;
 use ground_form::Ground;
-use proof_log::{Line, Values};
+use log_form::{Line, Values};
 use rule_law::justified;
 use signed_clause::Clause;
 use std::alloc::{AllocError, Global};
@@ -82,7 +82,7 @@ impl Progress {
     }
 
     /// Takes in a line that may come next.
-    #[tactic(auto, unfolding(proof_log::specs::Acceptance::after))]
+    #[tactic(auto, unfolding(log_form::specs::Acceptance::after))]
     fn advance(&mut self, alloc: Global, g: &Ground, line: &Line) -> Result<(), AllocError>
         requires well_made { IsWellMade g.now }
         requires right { IsRight g.now self.old }
@@ -104,7 +104,7 @@ impl Progress {
 
     /// Takes in a line that may come next and is handed over. Each part that isn't kept has a name,
     /// so that it is let go in its arm.
-    #[tactic(auto, unfolding(proof_log::specs::Acceptance::after))]
+    #[tactic(auto, unfolding(log_form::specs::Acceptance::after))]
     fn advance_with(&mut self, alloc: Global, g: &Ground, line: Line) -> Result<(), AllocError>
         requires well_made { IsWellMade g.now }
         requires right { IsRight g.now self.old }
@@ -181,7 +181,7 @@ fn may_come(alloc: Global, g: &Ground, p: &Progress, line: &Line) -> Result<bool
 
 /// Whether the line meets what it has to, but for one thing: that no line before made the empty
 /// clause.
-#[tactic(auto, unfolding(proof_log::specs::Acceptance::accepts))]
+#[tactic(auto, unfolding(log_form::specs::Acceptance::accepts))]
 fn accepts(alloc: Global, g: &Ground, p: &Progress, line: &Line) -> Result<bool, AllocError>
     requires made { IsWellMade g.now }
     requires right { IsRight g.now p.now }

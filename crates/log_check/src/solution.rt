@@ -5,7 +5,7 @@ ghost use Rattle.ground_form.specs.Solutions.{better};
 ghost use Rattle.signed_clause.specs.Ranges.{IsValid};
 ghost use Rattle.ground_form.specs.Meaning.{con_true};
 ghost use Rattle.ground_form.specs.WellMade.{IsWellMadeCon};
-ghost use Rattle.proof_log.specs.Acceptance.{point_of, all_true, states};
+ghost use Rattle.log_form.specs.Acceptance.{point_of, all_true, states};
 
 use ground_form::{Con, GroundGoal, holds_at};
 use signed_clause::IntSet;

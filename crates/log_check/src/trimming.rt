@@ -5,7 +5,7 @@
 //! One pass back over the lines finds which are needed, and one pass forwards copies them.
 ghost use Rattle.std.specs.Prelude.{◌≡◌, ◌+◌, ◌<◌, ◌≤◌, ◌^◌, ◌++◌, [], ◌∷◌, true, cond, IfOk, OnOk, length};
 ghost use Rattle.ground_form.specs.WellMade.{IsWellMade};
-ghost use Rattle.proof_log.specs.Acceptance.{accepted, verdict};
+ghost use Rattle.log_form.specs.Acceptance.{accepted, verdict};
 ghost use Rattle.log_check.specs.Trimmed as definition;
 ghost use Rattle.log_check.specs.Trimmed.{trimmed, trimmed_from, renumbered, steps_renumbered, numbers_from, next_number};
 ghost use Rattle.log_check.specs.Marks.{needs};
@@ -13,8 +13,8 @@ ghost use Rattle.log_check.specs.Marks.{needs};
 use crate::closing::is_closed;
 use crate::needed::{count_clauses, needed_lines};
 use ground_form::Ground;
-use learn_clauses::{Chain, ChainSteps};
-use proof_log::{Line, Lines};
+use numbered_clauses::{Chain, ChainSteps};
+use log_form::{Line, Lines};
 use std::alloc::{AllocError, Global};
 
 /// The lines that are needed of accepted ones, in their order; all of them where the empty clause

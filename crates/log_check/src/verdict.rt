@@ -2,7 +2,7 @@
 ghost use Rattle.std.specs.Prelude.{◌≡◌, Some, None, IfSome, IfNone};
 ghost use Rattle.log_check.specs.Verdicts.{kind_of, shown_of};
 
-use proof_log::Values;
+use log_form::Values;
 use std::marker::Model;
 
 /// What accepted lines show.

@@ -6,9 +6,9 @@ use Rattle.std.proofs.lemmas.Bool.{and_parts, and_from, le-leb}
 use Rattle.std.proofs.lemmas.List.Folds.{list_all-append}
 use Rattle.signed_clause.specs.Ranges.{IsValid}
 use Rattle.signed_clause.specs.Clauses.{Literals, IsClauseFrom, is_clause, clause_from}
-use Rattle.proof_log.specs.declared.line.Line.{Line}
-use Rattle.proof_log.specs.declared.line.Line.TheVariants as lines
-use Rattle.learn_clauses.specs.declared.chain.Chain as chains
+use Rattle.log_form.specs.declared.line.Line.{Line}
+use Rattle.log_form.specs.declared.line.Line.TheVariants as lines
+use Rattle.numbered_clauses.specs.declared.chain.Chain as chains
 use Rattle.proof_log.specs.declared.words.Word.{Word}
 use Rattle.proof_log.specs.declared.words.Word.TheVariants.{Axiom, Chain, Bound, Use, Found, Decide, Empty}
 use Rattle.proof_log.specs.Spelling.{behind, set_text, literal_text, step_text, word_of, pieces_of, IsSigned, IsStep, IsLiteral, AreLiterals, IsLine, Spells, IsTextOfNone}

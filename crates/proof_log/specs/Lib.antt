@@ -1,5 +1,4 @@
 pub mod Spelling
 pub mod Parts
 pub mod Words
-pub mod Acceptance
 pub mod Rounds

@@ -1,7 +1,7 @@
 -- What a record holds.
 use Rattle.std.specs.Prelude.{ℕ, List, [], ◌∷◌, ◌++◌, Option, Some, None}
 use Rattle.ground_form.specs.declared.ground.Ground.{Ground}
-use Rattle.proof_log.specs.declared.line.Line.{Line}
+use Rattle.log_form.specs.declared.line.Line.{Line}
 use Rattle.proof_log.specs.declared.record.Round.{Round}
 
 -- the present round's ground problem, where one was kept, and its lines; and the rounds before it

@@ -1,7 +1,7 @@
 -- The words of lines, and what stands behind them.
 use Rattle.std.specs.Prelude.{◌≡◌, ℕ, ◌<◌, List, ◌∷◌, ◌++◌, true, codes, decimal}
-use Rattle.proof_log.specs.declared.line.Line.{Line}
-use Rattle.proof_log.specs.declared.line.Line.TheVariants as lines
+use Rattle.log_form.specs.declared.line.Line.{Line}
+use Rattle.log_form.specs.declared.line.Line.TheVariants as lines
 use Rattle.proof_log.specs.declared.words.Word.{Word}
 use Rattle.proof_log.specs.declared.words.Word.TheVariants.{Axiom, Chain, Bound, Use, Found, Decide, Empty}
 use Rattle.proof_log.specs.Parts.{heads}

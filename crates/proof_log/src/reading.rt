@@ -9,19 +9,19 @@ ghost use Rattle.signed_clause.specs.Clauses.{Literals};
 ghost use Rattle.proof_log.specs.Parts.{heads, lacks};
 ghost use Rattle.proof_log.specs.Spelling.{behind, literal_text, step_text, IsStep, AreLiterals, Spells};
 ghost use Rattle.proof_log.specs.Words.{IsBehind, IsNumberFirst};
-ghost use Rattle.proof_log.specs.declared.line.Line.{Line};
+ghost use Rattle.log_form.specs.declared.line.Line.{Line};
 ghost use Rattle.proof_log.specs.declared.words.Word.{Word};
 ghost use Rattle.proof_log.specs.declared.words.Word.TheVariants as words;
 ghost use Rattle.proof_log.specs.declared.fault.LineError.TheVariants.{BadLine};
 
 use crate::fault::LineError;
-use crate::line::Line;
+use log_form::Line;
 use crate::numbers::{number_of, small_number_of};
 use crate::parts::{next_part, split_before};
 use crate::pieces::{literals_of, set_of, step_of, values_of};
-use crate::values::Values;
+use log_form::Values;
 use crate::words::{Word, word_of};
-use learn_clauses::{Chain, ChainSteps};
+use numbered_clauses::{Chain, ChainSteps};
 use signed_clause::Clause;
 use std::alloc::Global;
 

@@ -6,51 +6,12 @@ ghost use Rattle.std.specs.Prelude.{◌≡◌, ◌++◌, [], ◌∷◌, Some, No
 ghost use Rattle.proof_log.specs.Spelling as spelling;
 ghost use Rattle.proof_log.specs.Rounds.{closed};
 
-use crate::line::Line;
-use crate::values::Indexes;
 use crate::writing;
 use ground_form::Ground;
+use log_form::{Indexes, Line, Lines};
 use std::alloc::{AllocError, Global};
 use std::marker::Model;
 use std::mem;
-
-/// Lines of a log, in order.
-#[derive(Drop)]
-pub struct Lines {
-    items: Vec<Line>,
-}
-
-impl Model for Lines {
-    ghost use Rattle.std.specs.Prelude.{List};
-    ghost use Rattle.proof_log.specs.declared.line.Line.{Line};
-
-    ghost Value = { List Line };
-
-    ghost view = { λ l. l.items.items };
-}
-
-impl Lines {
-    /// These lines.
-    pub fn of(items: Vec<Line>) -> Self
-        ensures { result ≡ items.items }
-    {
-        Lines { items }
-    }
-
-    /// They, in order.
-    pub fn items(&self) -> &[Line]
-        ensures { result.now ≡ self.now }
-    {
-        self.items.as_slice()
-    }
-
-    /// They as a vector again, without memory.
-    pub fn into_items(self) -> Vec<Line>
-        ensures { result.items ≡ self }
-    {
-        self.items
-    }
-}
 
 /// A closed round.
 #[derive(Drop)]

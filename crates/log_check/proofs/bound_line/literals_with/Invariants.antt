@@ -1,5 +1,5 @@
 use Rattle.std.proofs.Common.{◌≡◌, ◌++◌, ◌-◌, drop, length}
-use Rattle.proof_log.specs.Acceptance.{with_literal}
+use Rattle.log_form.specs.Acceptance.{with_literal}
 use Rattle.log_check.proofs.bound_line.literals_with.Given as goal
 
 abbrev pub invariant-loop-k : goal.invariant-loop-k

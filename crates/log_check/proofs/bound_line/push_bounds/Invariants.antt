@@ -1,5 +1,5 @@
 use Rattle.std.proofs.Common.{◌≡◌, ◌<◌, ◌++◌, drop, length}
-use Rattle.proof_log.specs.Acceptance.{has_empty, bounds_from, bounds_of}
+use Rattle.log_form.specs.Acceptance.{has_empty, bounds_from, bounds_of}
 use Rattle.log_check.proofs.bound_line.push_bounds.Given as goal
 
 abbrev pub invariant-loop-k : goal.invariant-loop-k

@@ -1,5 +1,5 @@
 use Rattle.std.proofs.Common.{◌≡◌, take, true}
-use Rattle.proof_log.specs.Acceptance.{accepted, start, made_from}
+use Rattle.log_form.specs.Acceptance.{accepted, start, made_from}
 use Rattle.log_check.specs.Progress.{made_of, IsRight}
 use Rattle.log_check.proofs.lines.check.Given as goal
 

@@ -1,6 +1,6 @@
 use Rattle.std.proofs.Common.{◌≡◌, drop}
 use Rattle.ground_form.specs.Meaning.{clause_vars}
-use Rattle.proof_log.specs.Acceptance.{vars_below}
+use Rattle.log_form.specs.Acceptance.{vars_below}
 use Rattle.log_check.proofs.progress.are_below.Given as goal
 
 abbrev pub invariant-loop-l : goal.invariant-loop-l

@@ -1,5 +1,5 @@
 use Rattle.std.proofs.Common.{◌≡◌, drop}
-use Rattle.proof_log.specs.Acceptance.{all_true}
+use Rattle.log_form.specs.Acceptance.{all_true}
 use Rattle.log_check.proofs.solution.are_all_true.Given as goal
 
 abbrev pub invariant-loop-con : goal.invariant-loop-con

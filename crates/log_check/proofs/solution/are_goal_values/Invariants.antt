@@ -1,5 +1,5 @@
 use Rattle.std.proofs.Common.{◌≡◌, drop}
-use Rattle.proof_log.specs.Acceptance.{states}
+use Rattle.log_form.specs.Acceptance.{states}
 use Rattle.log_check.proofs.solution.are_goal_values.Given as goal
 
 abbrev pub invariant-loop-k : goal.invariant-loop-k

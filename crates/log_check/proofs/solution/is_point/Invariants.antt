@@ -1,5 +1,5 @@
 use Rattle.std.proofs.Common.{◌≡◌, drop}
-use Rattle.proof_log.specs.Acceptance.{point_of}
+use Rattle.log_form.specs.Acceptance.{point_of}
 use Rattle.log_check.proofs.solution.is_point.Given as goal
 
 abbrev pub invariant-loop-x : goal.invariant-loop-x

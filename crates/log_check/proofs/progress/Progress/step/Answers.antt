@@ -1,6 +1,6 @@
 use Rattle.std.proofs.Common.{not, sym, ◌∙◌, subst}
 use Rattle.std.proofs.lemmas.Bool.{and_parts}
-use Rattle.proof_log.specs.Acceptance.{Made, has_empty, accepts}
+use Rattle.log_form.specs.Acceptance.{Made, has_empty, accepts}
 use Rattle.log_check.specs.Soundness.{IsSound}
 use Rattle.log_check.specs.Progress.{made_of}
 use Rattle.log_check.proofs.Steps.{sound_step}

@@ -1,5 +1,6 @@
 //! What no clause says: that the calls succeed, and which texts the examples of the format have.
-use crate::{Line, LineError, Lines, Record, line_text, lines_text, read_line};
+use log_form::{Line, Lines};
+use proof_log::{LineError, Record, line_text, lines_text, read_line};
 use std::alloc::{AllocError, Global};
 
 /// Whether the bytes are read as a line that is written as they are.
@@ -35,7 +36,7 @@ fn lines_are_read_as_they_are_written(rt: HostRuntime) -> Result<(), AllocError>
 }
 
 #[test]
-fn other_bytes_are_refused(rt: HostRuntime) -> Result<(), AllocError> {
+fn each_line_has_one_spelling(rt: HostRuntime) -> Result<(), AllocError> {
     let alloc = rt.alloc();
     for text in [
         "",

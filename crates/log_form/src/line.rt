@@ -1,8 +1,8 @@
 //! A line of a log.
 ghost use Rattle.std.specs.Prelude.{◌≡◌, IfOk};
 
-use crate::values::Values;
-use learn_clauses::Chain;
+use crate::lists::Values;
+use numbered_clauses::Chain;
 use signed_clause::{Clause, IntSet};
 use std::alloc::AllocError;
 

@@ -1,5 +1,5 @@
 //! What no clause says: that the calls succeed.
-use crate::{Chain, ChainSteps, Clauses};
+use numbered_clauses::{Chain, ChainSteps, Clauses};
 use signed_clause::{Clause, IntSet};
 use std::alloc::{AllocError, Global};
 

@@ -1,6 +1,6 @@
 use Rattle.std.proofs.Common.{◌≤◌}
 use Rattle.log_check.specs.Fed.{IsReady}
-use Rattle.log_check.proofs.tests.answer_by_bytes.Given as goal
+use Rattle.log_tests.proofs.checking.answer_by_bytes.Given as goal
 
 abbrev pub invariant-loop-k : goal.invariant-loop-k
 invariant-loop-k l = record {

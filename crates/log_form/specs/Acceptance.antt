@@ -13,8 +13,8 @@ use Rattle.ground_form.specs.declared.ground.GroundGoal.{GroundGoal}
 use Rattle.ground_form.specs.Meaning.{value_of, con_true, clause_vars}
 use Rattle.ground_form.specs.Solutions.{better}
 use Rattle.rule_law.specs.Justified.{justified}
-use Rattle.proof_log.specs.declared.line.Line.{Line}
-use Rattle.proof_log.specs.declared.line.Line.TheVariants.{Axiom, Chain, Bound, Use, Found, Decide, Empty}
+use Rattle.log_form.specs.declared.line.Line.{Line}
+use Rattle.log_form.specs.declared.line.Line.TheVariants.{Axiom, Chain, Bound, Use, Found, Decide, Empty}
 
 -- what the lines so far leave: the clauses in the order in which they were made, and the values of
 -- the last Found line

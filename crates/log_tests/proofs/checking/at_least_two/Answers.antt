@@ -4,8 +4,8 @@ use Rattle.signed_clause.specs.Clauses.{Boxes}
 use Rattle.ground_form.specs.declared.con.Con.{Con}
 use Rattle.ground_form.specs.declared.con.Con.TheVariants.{LinLe}
 use Rattle.ground_form.specs.declared.ground.GroundGoal.{GroundGoal}
-use Rattle.log_check.proofs.Problems.{one_goal_is, small, range, downwards}
-use Rattle.log_check.proofs.tests.at_least_two.Goals as goal
+use Rattle.log_tests.proofs.Problems.{one_goal_is, small, range, downwards}
+use Rattle.log_tests.proofs.checking.at_least_two.Goals as goal
 
 pub returns : goal.returns
 returns c =

@@ -6,8 +6,6 @@
 
 mod chain;
 mod clauses;
-#[cfg(test)]
-mod tests;
 
 pub use chain::{Chain, ChainSteps};
 pub use clauses::Clauses;

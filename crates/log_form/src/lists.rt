@@ -1,6 +1,7 @@
-//! The small lists that lines and rounds hold, seen by contracts as plain lists.
+//! The small lists of a log: of lines, and of what lines and rounds hold; contracts see each as a plain list.
 ghost use Rattle.std.specs.Prelude.{◌≡◌, IfOk};
 
+use crate::line::Line;
 use std::alloc::AllocError;
 use std::marker::Model;
 
@@ -80,6 +81,44 @@ impl Indexes {
 
     /// They as a vector again, without memory.
     pub fn into_items(self) -> Vec<u32>
+        ensures { result.items ≡ self }
+    {
+        self.items
+    }
+}
+
+/// Lines of a log, in order.
+#[derive(Drop)]
+pub struct Lines {
+    items: Vec<Line>,
+}
+
+impl Model for Lines {
+    ghost use Rattle.std.specs.Prelude.{List};
+    ghost use Rattle.log_form.specs.declared.line.Line.{Line};
+
+    ghost Value = { List Line };
+
+    ghost view = { λ l. l.items.items };
+}
+
+impl Lines {
+    /// These lines.
+    pub fn of(items: Vec<Line>) -> Self
+        ensures { result ≡ items.items }
+    {
+        Lines { items }
+    }
+
+    /// They, in order.
+    pub fn items(&self) -> &[Line]
+        ensures { result.now ≡ self.now }
+    {
+        self.items.as_slice()
+    }
+
+    /// They as a vector again, without memory.
+    pub fn into_items(self) -> Vec<Line>
         ensures { result.items ≡ self }
     {
         self.items

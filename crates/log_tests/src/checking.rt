@@ -2,9 +2,10 @@
 ghost use Rattle.std.specs.Prelude.{◌+◌, ◌<◌, IfOk, length};
 ghost use Rattle.ground_form.specs.WellMade.{IsWellMade};
 
-use crate::{CheckError, Checker, VerdictKind, check, trim};
+use log_check::{CheckError, Checker, VerdictKind, check, trim};
 use ground_form::{Con, Cons, Domains, Goals, Ground, GroundGoal, Terms};
-use proof_log::{Line, LineError, lines_text, read_line};
+use log_form::Line;
+use proof_log::{LineError, lines_text, read_line};
 use signed_clause::IntSet;
 use std::alloc::{AllocError, Global};
 
@@ -94,7 +95,7 @@ fn answer_to(
 }
 
 #[test]
-fn logs_of_one_goal(rt: HostRuntime) -> Result<(), AllocError> {
+fn one_goal_is_best_only_behind_the_empty_clause(rt: HostRuntime) -> Result<(), AllocError> {
     let alloc = rt.alloc();
     let g = at_least_two(alloc)?;
     for (text, answer) in [
@@ -143,7 +144,7 @@ fn logs_of_one_goal(rt: HostRuntime) -> Result<(), AllocError> {
 }
 
 #[test]
-fn logs_of_two_goals(rt: HostRuntime) -> Result<(), AllocError> {
+fn earlier_goals_count_first(rt: HostRuntime) -> Result<(), AllocError> {
     let alloc = rt.alloc();
     let g = two_goals(alloc)?;
     for (text, answer) in [
@@ -207,7 +208,7 @@ fn are_lines(alloc: Global, lines: &[Line], text: &str) -> bool {
 }
 
 #[test]
-fn logs_are_trimmed(rt: HostRuntime) -> Result<(), AllocError> {
+fn trimming_leaves_what_is_needed(rt: HostRuntime) -> Result<(), AllocError> {
     let alloc = rt.alloc();
     let g = at_least_two(alloc)?;
     for (text, left) in [
@@ -268,7 +269,7 @@ fn answer_by_bytes(alloc: Global, g: &Ground, text: &[u8]) -> Result<VerdictKind
 }
 
 #[test]
-fn a_text_in_pieces(rt: HostRuntime) -> Result<(), AllocError> {
+fn where_a_text_is_cut_changes_no_answer(rt: HostRuntime) -> Result<(), AllocError> {
     let alloc = rt.alloc();
     let g = at_least_two(alloc)?;
     let text = b"axiom 0 0:2..3\ndecide 0 2\nfound 2\nbound 2\nchain 1 0:0 =\n";
@@ -298,7 +299,7 @@ fn a_text_in_pieces(rt: HostRuntime) -> Result<(), AllocError> {
 }
 
 #[test]
-fn short_texts(rt: HostRuntime) -> Result<(), AllocError> {
+fn a_text_is_refused_at_its_first_wrong_line(rt: HostRuntime) -> Result<(), AllocError> {
     let alloc = rt.alloc();
     let g = no_value(alloc)?;
     for (first, second, answer) in [
