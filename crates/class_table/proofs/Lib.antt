@@ -10,7 +10,6 @@ pub mod ScopeSteps
 pub mod TableLaws
 pub mod BuildLaws
 pub mod Sizes
-pub mod ShortModels
 pub mod ScopeLaws
 pub mod RangeLaws
 pub mod AncestryLaws

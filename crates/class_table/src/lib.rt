@@ -18,8 +18,6 @@ mod own_names;
 mod parts;
 mod resolve;
 mod table;
-#[cfg(test)]
-mod tests;
 mod walk;
 
 pub use class_table::{Attribute, ClassTable};

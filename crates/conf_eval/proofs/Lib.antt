@@ -1,5 +1,3 @@
-mod TextLaws
-mod ValueRows
 mod CapLaws
 mod BodyLaws
 mod TotalLaws

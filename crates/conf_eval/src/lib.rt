@@ -17,13 +17,9 @@ mod members;
 mod operators;
 mod packing;
 mod scene;
-#[cfg(test)]
-mod tests;
 mod value;
-#[cfg(test)]
-mod value_tests;
 
 pub use broken::{BrokenAt, satisfied};
 pub use calls::{Numbers, eval, objectives};
-pub use limit::{LimitFault, limits};
+pub use limit::{LimitFault, limits, model_weight};
 pub use value::{Env, Value};

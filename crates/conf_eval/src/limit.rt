@@ -100,6 +100,14 @@ pub(crate) fn of_model(objects: &Objects<'_>, constraints: &[Constraint], goals:
     }
 }
 
+/// The weight of a model; one that is too large for any use is told as the cap of all weights.
+pub fn model_weight(m: &TypedModel, objects: &Objects<'_>) -> u64
+    requires typed { IsTypedModel objects.now (map constraint_view m.now.constraints) (map goal_view m.now.goals) }
+    ensures weight { result ≡ capped (model_weight objects.now (map constraint_view m.now.constraints) (map goal_view m.now.goals)) }
+{
+    of_model(objects, m.constraints(), m.goals()).weight
+}
+
 /// Whether a model keeps the limits on weight and on width. It takes no memory, and walks each expression once.
 ///
 /// # Errors

@@ -22,8 +22,6 @@ mod run;
 mod statement;
 mod stop;
 mod table;
-#[cfg(test)]
-mod tests;
 mod token;
 
 pub use lexer::{LexError, lex};

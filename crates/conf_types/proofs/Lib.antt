@@ -7,5 +7,4 @@ pub mod TypingTrees
 pub mod TypedParts
 pub mod CopyLaws
 pub mod TypeNeeds
-pub mod TextLaws
 pub mod FewConstraints

@@ -11,8 +11,6 @@ mod fault;
 mod list;
 mod rules;
 mod scope;
-#[cfg(test)]
-mod tests;
 mod tree;
 mod types;
 

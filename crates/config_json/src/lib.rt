@@ -5,8 +5,6 @@ mod config;
 mod former;
 mod leaves;
 mod places;
-#[cfg(test)]
-mod tests;
 mod values;
 
 pub use config::{config_text, to_json};

@@ -13,8 +13,6 @@ mod model;
 mod request;
 mod solving;
 mod status;
-#[cfg(test)]
-mod tests;
 mod verifying;
 
 pub use command::run;

@@ -29,6 +29,3 @@ pub use memory::MemoryDesk;
 pub use real::RealDesk;
 pub use steady::SteadyDesk;
 pub use whole::{ReadError, WriteError, print_all, read_all, store_all};
-
-#[cfg(test)]
-mod tests;

@@ -10,7 +10,6 @@ pub mod ShapeLaws
 pub mod DomainLaws
 pub mod HeldLaws
 pub mod PathLaws
-pub mod TextLaws
 pub mod PartLaws
 pub mod PartFound
 pub mod GroupLaws

@@ -13,14 +13,10 @@ mod layout;
 mod numbers;
 mod object;
 mod objects;
-#[cfg(test)]
-mod path_tests;
 mod paths;
 mod queue;
 mod shapes;
 mod spots;
-#[cfg(test)]
-mod tests;
 
 pub use fault::AllocFault;
 pub use object::{Cell, Config, Domain, Hints, Leaf, Object, ObjectList};

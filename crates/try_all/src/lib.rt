@@ -9,8 +9,6 @@ mod counts;
 mod lists;
 mod order;
 mod picks;
-#[cfg(test)]
-mod tests;
 mod trial;
 
 pub use order::is_better;

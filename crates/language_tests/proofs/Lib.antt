@@ -1,0 +1,4 @@
+pub mod ShortModels
+pub mod TextLaws
+pub mod TwoNumbers
+pub mod ValueRows

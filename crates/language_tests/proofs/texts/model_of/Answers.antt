@@ -1,0 +1,13 @@
+use Rattle.std.proofs.Common.{length, subst, arith}
+use Rattle.conf_syntax.specs.Models.{IsProgramOf}
+use Rattle.language_tests.proofs.TextLaws.{few_tokens}
+use Rattle.language_tests.proofs.texts.model_of.Goals as goal
+
+pub returns-in-Ok-parse : goal.returns-in-Ok-parse
+returns-in-Ok-parse c =
+    let is = subst (λ ts. IsProgramOf ts c.in-Ok-parse.program) c.deref.ensures.value c.in-Ok-parse.ensures.ok in
+    record {
+      tokens = few_tokens c.in-Ok.tokens.items c.in-Ok-parse.program (length c.args.text.now) is c.in-Ok.ensures.few (omega (arith, c.if-text-gt1000000.false));
+      nesting = is.tree.nested;
+      spelled = record { tokens = c.in-Ok.tokens.items; spelled = c.in-Ok.ensures.tokens; same = is.tree.tokens_are };
+    }
