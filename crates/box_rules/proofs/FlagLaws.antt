@@ -8,11 +8,11 @@ use Rattle.signed_clause.specs.Ranges.{Ranges, has, IsValid}
 use Rattle.signed_clause.specs.SetAlgebra.{misses, inside}
 use Rattle.signed_clause.specs.Clauses.{Boxes, Literals, box_of, false_in, clause_true, IsClauseFrom}
 use Rattle.signed_clause.proofs.ClauseLaws.{has_from_misses, has_from_inside}
-use Rattle.signed_clause.proofs.SetFacts.{misses_law, inside_law}
 use Rattle.ground_form.specs.Meaning.{value_of, bit, part_vars, term_vars, clause_vars, parts_true, picks}
 use Rattle.ground_form.specs.Bounds.{low_of}
 use Rattle.box_rules.specs.Refuted.{fixed_at, some_barred, all_fixed, same_single, none_picked}
 use Rattle.box_rules.proofs.FixedLaws.{fixed_value, single_fixed}
+use Rattle.box_view.proofs.SetLaws.{misses-single, single-misses}
 use Rattle.box_view.proofs.EndLaws.{AreSets, AreSingle, values_in, single_head, single_tail, single_has}
 
 -- ---- flags in general

@@ -4,7 +4,7 @@ use Rattle.std.specs.Prelude.{int_lt, nat_le}
 use Rattle.std.proofs.lemmas.Int.{ints}
 use Rattle.std.proofs.lemmas.Bool.{cases_eq}
 use Rattle.std.proofs.lemmas.Bool.Decides.{nat_tests}
-use Rattle.signed_clause.specs.Ranges.{Ranges, has, in_range, is_nil, count_of, IsValid, Ascends, high_from}
+use Rattle.signed_clause.specs.Ranges.{Ranges, has, in_range, is_nil, count_of, IsValid, Ascends}
 use Rattle.signed_clause.proofs.RangeSteps.{left_at}
 use Rattle.signed_clause.specs.Clauses.{Boxes, box_of}
 use Rattle.ground_form.specs.declared.con.Con.{Con}
@@ -17,6 +17,7 @@ use Rattle.box_view.specs.Views.{fixing}
 use Rattle.box_rules.specs.Quiet.{values_from, values_of, probed, none_refutes, quiet_at}
 use Rattle.box_view.proofs.EndLaws.{above_low, below_high}
 use Rattle.box_view.proofs.SetLaws.{fixing_same, fixing_other, fixing_length}
+use Rattle.box_rules.proofs.NamedVars.{named_length}
 use Rattle.box_rules.proofs.SumSteps.{weight_narrower}
 
 -- ---- narrower boxes

@@ -7,8 +7,8 @@ ghost use Rattle.std.specs.List.{All};
 ghost use Rattle.signed_clause.specs.Clauses.{box_of};
 ghost use Rattle.box_rules.specs.Refuted.{lies_in, count_in, crowded, crowded_from, some_crowded};
 
-use box_view::View;
 use crate::flags::{greatest, least};
+use box_view::View;
 use ground_form::Number;
 
 /// Whether the box of `x` lies within `a..b`.

@@ -4,7 +4,6 @@ ghost use Rattle.ground_form.specs.Bounds.{IsBounded};
 ghost use Rattle.box_rules.specs.Named.{IsNamed};
 ghost use Rattle.box_rules.specs.Refuted.{excluded, refuted};
 
-use box_view::View;
 use crate::all_different::excludes_differing;
 use crate::emptiness::has_empty;
 use crate::flags::{
@@ -13,6 +12,7 @@ use crate::flags::{
 };
 use crate::linear::{excludes_at_most, excludes_reified, excludes_sum};
 use crate::packing::excludes_packing;
+use box_view::View;
 use ground_form::{Con, Number};
 
 /// Whether the constraint is refuted in the boxes that the view stands for.

@@ -13,9 +13,9 @@ ghost use Rattle.box_rules.specs.Refuted.{width, refuted};
 ghost use Rattle.box_view.specs.Views.{fixing};
 ghost use Rattle.box_rules.specs.Quiet.{values_from, values_of, probed, none_refutes, quiet_at, quiet, IsCulprit};
 
-use box_view::{Fixing, end_of, is_below, next, start_of};
 use crate::exclude::refutes_in;
 use crate::refute::refutes;
+use box_view::{Fixing, end_of, is_below, next, start_of};
 use ground_form::{Con, Number, ends_of};
 use signed_clause::IntSet;
 

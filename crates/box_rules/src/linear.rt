@@ -5,9 +5,9 @@ ghost use Rattle.ground_form.specs.Bounds.{low_of, high_of, weight_of, least_sum
 ghost use Rattle.box_rules.specs.Refuted.{barred};
 ghost use Rattle.box_rules.specs.Named.{AreTermsNamed};
 
-use box_view::{View, is_at_most, is_below};
 use crate::flags::{greatest, is_barred, least};
 use crate::sums::{greatest_sum, least_sum};
+use box_view::{View, is_at_most, is_below};
 use ground_form::Number;
 
 /// The rule of a sum that is at most the bound.

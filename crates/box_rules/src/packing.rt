@@ -12,8 +12,8 @@ ghost use Rattle.ground_form.specs.Bounds.{low_of, high_of};
 ghost use Rattle.box_rules.specs.Refuted.{fixed_at, fixed_load, overfull, some_overfull, least_sizes, best_room, rooms_from, first_place, last_place, width, all_room};
 ghost use Rattle.box_rules.specs.Named.{AreItemsNamed, IsItemNamed};
 
-use box_view::{View, greater, is_below, next, smaller};
 use crate::flags::{greatest, is_fixed_at, least};
+use box_view::{View, greater, is_below, next, smaller};
 use ground_form::Number;
 
 /// A sum of many numbers.
