@@ -1,7 +1,7 @@
 -- Reasons, of which prunings are made. What a reader believes after this file: literals of different variables, in any order,
 -- that a constraint justifies and that take something away are those of a pruning; and the usual literals say that a variable
 -- is in its domain and outside what the reason leaves of it.
-use Rattle.std.specs.Prelude.{◌≡◌, ℕ, ◌<◌, ◌==◌, Bool, true, false, not, ◌&&◌, ◌||◌, cond, List, [], ◌∷◌, ℤ, is_some, length}
+use Rattle.std.specs.Prelude.{◌≡◌, ℕ, ◌<◌, ◌==◌, Bool, true, false, not, ◌&&◌, ◌||◌, cond, List, [], ◌∷◌, is_some, length}
 use Rattle.std.specs.List.{All}
 use Rattle.signed_clause.specs.Ranges.{Ranges, is_nil, IsValid}
 use Rattle.signed_clause.specs.SetAlgebra.{less}

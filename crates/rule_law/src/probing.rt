@@ -17,9 +17,9 @@ ghost use Rattle.box_rules.specs.Quiet.{quiet_at, IsCulprit};
 ghost use Rattle.rule_law.specs.Answers.{AreBoxesWithin, IsAnswer, IsPruning};
 ghost use Rattle.rule_law.specs.Reasons.{has_number, kept_one, kept};
 
-use box_rules::{are_all_quiet, first_at, refutes};
 use crate::explain::{keep_out, pruning};
 use crate::variables::{all_vars, distinct};
+use box_rules::{are_all_quiet, first_at, refutes};
 use ground_form::{Con, Number};
 use signed_clause::{Clause, IntSet};
 use std::alloc::{AllocError, Global};
