@@ -10,7 +10,7 @@ use Rattle.ground_form.specs.Meaning.{bit, part_vars}
 use Rattle.ground_form.specs.WellMade.{IsWellMadeCon}
 use Rattle.ground_form.proofs.VarLists.{all_parts, all_tail}
 use Rattle.rule_law.specs.Answers.{AreBoxesWithin}
-use Rattle.rule_law.specs.Quiet.{quiet}
+use Rattle.box_rules.specs.Quiet.{quiet}
 use Rattle.rule_law.specs.Reasons.{no_repeat, IsReason}
 use Rattle.rule_law.specs.Plans.{literals_of}
 use Rattle.bool_prop.specs.Findings.{IsScene, IsPartOpen, IsWholeOpen, whole_plan}

@@ -11,15 +11,14 @@ use Rattle.ground_form.specs.declared.con.Con.TheVariants.{ClauseCon}
 use Rattle.ground_form.specs.Meaning.{clause_vars}
 use Rattle.ground_form.proofs.VarLists.{all_literals}
 use Rattle.rule_law.specs.Answers.{IsPruning}
-use Rattle.rule_law.specs.Justified.{cut}
-use Rattle.rule_law.specs.Refuted.{some_empty}
-use Rattle.rule_law.specs.Quiet.{fixing, quiet}
-use Rattle.rule_law.proofs.EndLaws.{AreSets}
-use Rattle.rule_law.proofs.CutLaws.{cut_box}
-use Rattle.rule_law.proofs.SetLaws.{fixing_same, fixing_other}
-use Rattle.rule_law.proofs.FlagLaws.{single-misses}
-use Rattle.rule_law.proofs.QuietFrom.{AreSome, quiet_from}
-use Rattle.rule_law.proofs.Leaving.{value_valid, missed_by_rest}
+use Rattle.box_view.specs.Views.{cut, fixing}
+use Rattle.box_rules.specs.Refuted.{some_empty}
+use Rattle.box_rules.specs.Quiet.{quiet}
+use Rattle.box_view.proofs.EndLaws.{AreSets}
+use Rattle.box_view.proofs.CutLaws.{cut_box}
+use Rattle.box_view.proofs.SetLaws.{fixing_same, fixing_other, single-misses}
+use Rattle.box_rules.proofs.QuietFrom.{AreSome, quiet_from}
+use Rattle.box_view.proofs.Leaving.{value_valid, missed_by_rest}
 
 -- ---- it follows from itself
 

@@ -11,15 +11,16 @@ use Rattle.ground_form.specs.declared.con.Con.TheVariants.{AndDef}
 use Rattle.ground_form.specs.Meaning.{bit, part_vars}
 use Rattle.ground_form.specs.Bounds.{low_of, high_of}
 use Rattle.rule_law.specs.Plans.{IsFlag}
-use Rattle.rule_law.specs.Refuted.{fixed_at, barred, some_barred, all_fixed}
-use Rattle.rule_law.specs.Quiet.{fixing, quiet}
+use Rattle.box_rules.specs.Refuted.{fixed_at, barred, some_barred, all_fixed}
+use Rattle.box_view.specs.Views.{fixing}
+use Rattle.box_rules.specs.Quiet.{quiet}
 use Rattle.rule_law.specs.Reasons.{has_number}
-use Rattle.rule_law.proofs.EndLaws.{AreSets, are_sets, fixed_value, single_fixed}
-use Rattle.rule_law.proofs.SetLaws.{fixing_same, fixing_other}
-use Rattle.rule_law.proofs.QuietLaws.{has_low}
+use Rattle.box_rules.proofs.FixedLaws.{fixed_value, single_fixed}
+use Rattle.box_view.proofs.EndLaws.{AreSets, are_sets, has_low}
+use Rattle.box_view.proofs.SetLaws.{fixing_same, fixing_other}
 use Rattle.bool_prop.specs.Findings.{IsScene, part_fixed, open_rest, one_open}
-use Rattle.rule_law.proofs.QuietFrom.{quiet_from}
-use Rattle.rule_law.proofs.Leaving.{value_valid}
+use Rattle.box_rules.proofs.QuietFrom.{quiet_from}
+use Rattle.box_view.proofs.Leaving.{value_valid}
 use Rattle.rule_law.proofs.FlagPlans.{flag_other}
 
 -- ---- sets of one value

@@ -10,14 +10,14 @@ use Rattle.signed_clause.proofs.SetFacts.{inside_law}
 use Rattle.ground_form.specs.declared.con.Con.TheVariants.{AndDef}
 use Rattle.ground_form.specs.Meaning.{bit, part_vars, clause_vars}
 use Rattle.ground_form.specs.Bounds.{low_of, high_of}
-use Rattle.rule_law.specs.Refuted.{fixed_at, barred, some_barred, all_fixed}
+use Rattle.box_rules.specs.Refuted.{fixed_at, barred, some_barred, all_fixed}
 use Rattle.rule_law.specs.Reasons.{no_repeat, Acts, IsReason}
-use Rattle.rule_law.proofs.EndLaws.{AreSets, fixed_value, single_fixed}
-use Rattle.rule_law.proofs.FlagLaws.{single-misses}
-use Rattle.rule_law.proofs.QuietLaws.{has_low, has_high}
+use Rattle.box_rules.proofs.FixedLaws.{fixed_value, single_fixed}
+use Rattle.box_view.proofs.EndLaws.{AreSets, has_low, has_high}
+use Rattle.box_view.proofs.SetLaws.{single-misses}
 use Rattle.rule_law.specs.Plans.{IsFlag, literals_of}
 use Rattle.bool_prop.specs.Findings.{IsPartOpen, IsWholeOpen, part_fixed, one_open, whole_plan}
-use Rattle.rule_law.proofs.Leaving.{less_inside, missing_inside, twice_inside, has_one, one_inside, left_over}
+use Rattle.box_view.proofs.Leaving.{less_inside, missing_inside, twice_inside, has_one, one_inside, left_over}
 use Rattle.rule_law.proofs.PlanLaws.{ArePlanned, Leaves, AllLeft, plan_reason, plan_acts_head, plan_acts_tail}
 use Rattle.rule_law.proofs.FlagPlans.{AreGood, in_domain, IsPair, PairActs, pair_reason, bit_valid, flag_only, flag_other}
 use Rattle.bool_prop.proofs.ConjunctionQuiet.{fixed_has}

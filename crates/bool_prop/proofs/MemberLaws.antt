@@ -10,13 +10,13 @@ use Rattle.ground_form.specs.declared.con.Con.{Con}
 use Rattle.ground_form.specs.declared.con.Con.TheVariants.{MemberDef}
 use Rattle.ground_form.specs.WellMade.{IsWellMadeCon}
 use Rattle.rule_law.specs.Answers.{AreBoxesWithin}
-use Rattle.rule_law.specs.Quiet.{quiet}
+use Rattle.box_rules.specs.Quiet.{quiet}
 use Rattle.rule_law.specs.Reasons.{IsReason}
-use Rattle.rule_law.proofs.FlagLaws.{misses-single, inside-single}
+use Rattle.box_view.proofs.SetLaws.{misses-single, inside-single}
 use Rattle.rule_law.specs.Plans.{IsFlag, literals_of}
 use Rattle.bool_prop.specs.Findings.{member_finding}
-use Rattle.rule_law.proofs.QuietFrom.{quiet_from}
-use Rattle.rule_law.proofs.Leaving.{less_inside, missing_inside, within_inside, less_misses, twice_inside, value_valid, left_over}
+use Rattle.box_rules.proofs.QuietFrom.{quiet_from}
+use Rattle.box_view.proofs.Leaving.{less_inside, missing_inside, within_inside, less_misses, twice_inside, value_valid, left_over}
 use Rattle.rule_law.proofs.FlagPlans.{are_good, is_flag, flag_other, two_fixed, IsPair, PairActs, pair_reason}
 
 -- ---- memberships

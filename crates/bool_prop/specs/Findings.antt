@@ -8,8 +8,8 @@ use Rattle.signed_clause.specs.Clauses.{Boxes, Literals, box_of}
 use Rattle.ground_form.specs.declared.con.Con.TheVariants.{AndDef}
 use Rattle.ground_form.specs.Meaning.{bit, part_vars}
 use Rattle.rule_law.specs.Plans.{IsFlag}
-use Rattle.rule_law.specs.Refuted.{fixed_at, barred, all_fixed}
-use Rattle.rule_law.specs.Quiet.{quiet}
+use Rattle.box_rules.specs.Refuted.{fixed_at, barred, all_fixed}
+use Rattle.box_rules.specs.Quiet.{quiet}
 use Rattle.bool_prop.specs.declared.conjunction.Finding.{Finding}
 use Rattle.bool_prop.specs.declared.conjunction.Finding.TheVariants.{Quiet, Part, Whole, Unclear}
 

@@ -12,7 +12,7 @@ ghost use Rattle.ground_form.specs.declared.con.Con.TheVariants.{AndDef};
 ghost use Rattle.ground_form.specs.Meaning.{bit};
 ghost use Rattle.ground_form.specs.WellMade.{IsWellMadeCon};
 ghost use Rattle.rule_law.specs.Answers.{AreBoxesWithin, IsAnswer, IsPruning};
-ghost use Rattle.rule_law.specs.Refuted.{barred, fixed_at};
+ghost use Rattle.box_rules.specs.Refuted.{barred, fixed_at};
 ghost use Rattle.rule_law.specs.Reasons.{IsReason, kept_one};
 ghost use Rattle.rule_law.specs.Plans.{literals_of};
 ghost use Rattle.bool_prop.specs.Findings.{IsScene, part_fixed, open_rest, whole_plan, IsWholeOpen, Says};

@@ -9,13 +9,13 @@ use Rattle.signed_clause.proofs.RangeSteps.{IsValid-less, has-less_valid}
 use Rattle.signed_clause.proofs.SetFacts.{inside_law, misses_law}
 use Rattle.ground_form.specs.declared.con.Con.TheVariants.{CondDef}
 use Rattle.ground_form.specs.Bounds.{low_of}
-use Rattle.rule_law.specs.Quiet.{quiet}
+use Rattle.box_rules.specs.Quiet.{quiet}
 use Rattle.rule_law.specs.Reasons.{IsReason}
 use Rattle.rule_law.specs.Plans.{IsFlag, literals_of}
-use Rattle.rule_law.proofs.FlagLaws.{misses-single, single-misses}
-use Rattle.rule_law.proofs.QuietLaws.{has_low}
-use Rattle.rule_law.proofs.QuietFrom.{quiet_from}
-use Rattle.rule_law.proofs.Leaving.{less_inside, missing_inside, less_misses, missed_by_rest, left_over, value_valid}
+use Rattle.box_view.proofs.SetLaws.{misses-single, single-misses}
+use Rattle.box_view.proofs.EndLaws.{has_low}
+use Rattle.box_rules.proofs.QuietFrom.{quiet_from}
+use Rattle.box_view.proofs.Leaving.{less_inside, missing_inside, less_misses, missed_by_rest, left_over, value_valid}
 use Rattle.rule_law.proofs.PlanLaws.{ArePlanned, plan_reason, plan_acts_over}
 use Rattle.rule_law.proofs.FlagPlans.{flag_other, bit_valid, IsPair, PairActs, pair_reason}
 use Rattle.element_prop.specs.Within.{HasToLie, within_plan}

@@ -13,11 +13,11 @@ use Rattle.ground_form.specs.WellMade.{IsWellMadeCon, lacks_value, distinct_valu
 use Rattle.ground_form.specs.Meaning.{term_vars}
 use Rattle.ground_form.proofs.VarLists.{all_terms, all_tail}
 use Rattle.rule_law.specs.Answers.{AreBoxesWithin}
-use Rattle.rule_law.specs.Refuted.{none_picked, excluded}
+use Rattle.box_rules.specs.Refuted.{none_picked, excluded}
 use Rattle.rule_law.specs.Reasons.{Acts, IsReason}
 use Rattle.rule_law.specs.Plans.{literals_of}
-use Rattle.rule_law.proofs.EndLaws.{single_has}
-use Rattle.rule_law.proofs.Leaving.{less_inside, missing_inside, less_misses, missed_by_rest, has_one, one_inside, left_over, value_valid}
+use Rattle.box_view.proofs.EndLaws.{single_has}
+use Rattle.box_view.proofs.Leaving.{less_inside, missing_inside, less_misses, missed_by_rest, has_one, one_inside, left_over, value_valid}
 use Rattle.rule_law.proofs.PlanLaws.{ArePlanned, plan_reason, plan_acts_head, plan_acts_tail, plan_acts_over}
 use Rattle.rule_law.proofs.FlagPlans.{AreGood, are_good, in_domain}
 use Rattle.element_prop.specs.Elements.{HasToPick, pick_plan}

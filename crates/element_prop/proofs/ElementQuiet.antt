@@ -13,17 +13,16 @@ use Rattle.ground_form.specs.declared.con.Con.{Con}
 use Rattle.ground_form.specs.declared.con.Con.TheVariants.{ElementDef}
 use Rattle.ground_form.specs.Meaning.{term_vars, vars_of}
 use Rattle.ground_form.specs.WellMade.{IsWellMadeCon, lacks_value}
-use Rattle.rule_law.specs.Refuted.{none_picked}
-use Rattle.rule_law.specs.Quiet.{fixing, probed, quiet}
+use Rattle.box_rules.specs.Refuted.{none_picked}
+use Rattle.box_view.specs.Views.{fixing}
+use Rattle.box_rules.specs.Quiet.{probed, quiet}
 use Rattle.rule_law.specs.Reasons.{has_number}
 use Rattle.rule_law.specs.Repeats.{stands_twice}
 use Rattle.ground_form.specs.Bounds.{low_of}
-use Rattle.rule_law.proofs.EndLaws.{AreSets}
-use Rattle.rule_law.proofs.SetLaws.{fixing_same, fixing_other}
-use Rattle.rule_law.proofs.FlagLaws.{single-misses, misses-single}
-use Rattle.rule_law.proofs.QuietLaws.{has_low}
-use Rattle.rule_law.proofs.QuietFrom.{Each, each_probed}
-use Rattle.rule_law.proofs.Leaving.{value_valid, has_one}
+use Rattle.box_view.proofs.EndLaws.{AreSets, has_low}
+use Rattle.box_view.proofs.SetLaws.{fixing_same, fixing_other, single-misses, misses-single}
+use Rattle.box_rules.proofs.QuietFrom.{Each, each_probed}
+use Rattle.box_view.proofs.Leaving.{value_valid, has_one}
 use Rattle.element_prop.specs.declared.element.Further.TheVariants.{Outside}
 use Rattle.element_prop.specs.Elements.{count_possible, all_meet, some_with, some_other, some_offers, all_offered, AreHeadsApart, IsIdle, IsFurther}
 use Rattle.element_prop.proofs.OfferLaws.{each_offered}

@@ -9,15 +9,15 @@ use Rattle.signed_clause.specs.Clauses.{Boxes, box_of}
 use Rattle.signed_clause.proofs.SetFacts.{inside_law, misses_law}
 use Rattle.ground_form.specs.declared.con.Con.TheVariants.{EqDef}
 use Rattle.ground_form.specs.Bounds.{low_of, high_of}
-use Rattle.rule_law.specs.Refuted.{fixed_at, same_single}
-use Rattle.rule_law.specs.Quiet.{quiet}
+use Rattle.box_rules.specs.Refuted.{fixed_at, same_single}
+use Rattle.box_rules.specs.Quiet.{quiet}
 use Rattle.rule_law.specs.Reasons.{Acts, IsReason}
 use Rattle.rule_law.specs.Plans.{IsFlag, literals_of}
-use Rattle.rule_law.proofs.EndLaws.{fixed_value, single_fixed}
-use Rattle.rule_law.proofs.FlagLaws.{misses-single, single-misses}
-use Rattle.rule_law.proofs.QuietLaws.{has_low}
-use Rattle.rule_law.proofs.QuietFrom.{quiet_from}
-use Rattle.rule_law.proofs.Leaving.{less_misses, missed_by_rest, has_one, one_inside, value_valid}
+use Rattle.box_rules.proofs.FixedLaws.{fixed_value, single_fixed}
+use Rattle.box_view.proofs.SetLaws.{misses-single, single-misses}
+use Rattle.box_view.proofs.EndLaws.{has_low}
+use Rattle.box_rules.proofs.QuietFrom.{quiet_from}
+use Rattle.box_view.proofs.Leaving.{less_misses, missed_by_rest, has_one, one_inside, value_valid}
 use Rattle.rule_law.proofs.PlanLaws.{ArePlanned, plan_reason, plan_acts_head, plan_acts_tail}
 use Rattle.rule_law.proofs.FlagPlans.{in_domain, flag_other, flag_only, bit_valid}
 use Rattle.element_prop.specs.Within.{HasToLie, within_plan}

@@ -8,10 +8,10 @@ use Rattle.signed_clause.proofs.RangeSteps.{has-less_valid}
 use Rattle.signed_clause.proofs.SetFacts.{inside_law}
 use Rattle.ground_form.specs.declared.con.Con.{Con}
 use Rattle.ground_form.specs.declared.con.Con.TheVariants.{ElementDef}
-use Rattle.rule_law.specs.Refuted.{none_picked}
+use Rattle.box_rules.specs.Refuted.{none_picked}
 use Rattle.rule_law.specs.Reasons.{IsReason}
 use Rattle.rule_law.specs.Plans.{literals_of}
-use Rattle.rule_law.proofs.Leaving.{value_valid, has_one}
+use Rattle.box_view.proofs.Leaving.{value_valid, has_one}
 use Rattle.rule_law.proofs.PlanLaws.{ArePlanned, plan_reason, plan_acts_over}
 use Rattle.element_prop.specs.Elements.{without_one, without_items, count_possible, index_plan}
 use Rattle.element_prop.proofs.ItemCount.{one_valid, some_without}

@@ -11,9 +11,8 @@ use Rattle.signed_clause.proofs.CountLaws.{count-part, count-some}
 use Rattle.signed_clause.proofs.SetFacts.{inside_law}
 use Rattle.ground_form.specs.WellMade.{lacks_value, distinct_values}
 use Rattle.ground_form.specs.Bounds.{low_of}
-use Rattle.rule_law.proofs.EndLaws.{single_has}
-use Rattle.rule_law.proofs.Leaving.{value_valid, one_inside}
-use Rattle.rule_law.proofs.QuietLaws.{has_low}
+use Rattle.box_view.proofs.EndLaws.{single_has, has_low}
+use Rattle.box_view.proofs.Leaving.{value_valid, one_inside}
 use Rattle.element_prop.specs.Elements.{count_possible, without_one, without_items}
 
 -- ---- as many

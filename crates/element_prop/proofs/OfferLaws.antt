@@ -9,10 +9,10 @@ use Rattle.signed_clause.specs.Clauses.{Boxes, box_of}
 use Rattle.signed_clause.proofs.RangeSteps.{left_at}
 use Rattle.signed_clause.proofs.SetFacts.{inside_law}
 use Rattle.ground_form.specs.Bounds.{low_of, high_of}
-use Rattle.rule_law.specs.Quiet.{probed}
-use Rattle.rule_law.proofs.EndLaws.{AreSets}
-use Rattle.rule_law.proofs.QuietLaws.{range_values, many_probed}
-use Rattle.rule_law.proofs.QuietFrom.{Each, each_probed}
+use Rattle.box_rules.specs.Quiet.{probed}
+use Rattle.box_view.proofs.EndLaws.{AreSets}
+use Rattle.box_rules.proofs.QuietLaws.{range_values, many_probed}
+use Rattle.box_rules.proofs.QuietFrom.{Each, each_probed}
 use Rattle.element_prop.specs.Elements.{some_covers, some_offers, all_offered}
 
 -- ---- ranges

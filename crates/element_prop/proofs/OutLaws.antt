@@ -10,11 +10,11 @@ use Rattle.signed_clause.proofs.SetFacts.{inside_law, misses_law}
 use Rattle.ground_form.specs.declared.con.Con.{Con}
 use Rattle.ground_form.specs.declared.con.Con.TheVariants.{ElementDef}
 use Rattle.ground_form.specs.Meaning.{term_vars, clause_vars, vars_of}
-use Rattle.rule_law.specs.Refuted.{none_picked}
+use Rattle.box_rules.specs.Refuted.{none_picked}
 use Rattle.rule_law.specs.Reasons.{IsReason, has_number, no_repeat}
 use Rattle.rule_law.specs.Plans.{literals_of}
-use Rattle.rule_law.proofs.EndLaws.{AreSets}
-use Rattle.rule_law.proofs.Leaving.{less_inside, less_misses, missing_inside}
+use Rattle.box_view.proofs.EndLaws.{AreSets}
+use Rattle.box_view.proofs.Leaving.{less_inside, less_misses, missing_inside}
 use Rattle.rule_law.proofs.PlanLaws.{ArePlanned, Leaves, AllLeft, plan_reason, plan_acts_head}
 use Rattle.rule_law.proofs.FlagPlans.{in_domain}
 use Rattle.element_prop.specs.Elements.{without_boxes, items_plan, out_plan, some_offers}

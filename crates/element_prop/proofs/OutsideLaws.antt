@@ -9,10 +9,10 @@ use Rattle.signed_clause.specs.Clauses.{Boxes, box_of}
 use Rattle.ground_form.specs.declared.con.Con.{Con}
 use Rattle.ground_form.specs.declared.con.Con.TheVariants.{ElementDef}
 use Rattle.ground_form.specs.Meaning.{term_vars}
-use Rattle.rule_law.specs.Refuted.{none_picked}
+use Rattle.box_rules.specs.Refuted.{none_picked}
 use Rattle.rule_law.specs.Reasons.{has_number, IsReason}
 use Rattle.rule_law.specs.Plans.{literals_of}
-use Rattle.rule_law.proofs.Leaving.{less_misses}
+use Rattle.box_view.proofs.Leaving.{less_misses}
 use Rattle.element_prop.specs.declared.element.Further.TheVariants.{Outside}
 use Rattle.element_prop.specs.Elements.{pick_plan, all_meet, some_with, some_other, AreHeadsApart, IsFurther}
 use Rattle.element_prop.proofs.ElementLaws.{IsElement, IsPick, lies_reason}

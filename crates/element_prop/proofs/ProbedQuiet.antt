@@ -5,10 +5,11 @@ use Rattle.signed_clause.specs.Ranges.{Ranges, is_nil}
 use Rattle.signed_clause.specs.Clauses.{Boxes, box_of}
 use Rattle.ground_form.specs.declared.con.Con.{Con}
 use Rattle.ground_form.specs.Meaning.{vars_of}
-use Rattle.rule_law.specs.Refuted.{some_empty, excluded, refuted}
-use Rattle.rule_law.specs.Quiet.{fixing, probed, none_refutes, quiet_at, quiet}
-use Rattle.rule_law.proofs.SetLaws.{fixing_same, fixing_other}
-use Rattle.rule_law.proofs.QuietFrom.{Each, AreSome}
+use Rattle.box_rules.specs.Refuted.{some_empty, excluded, refuted}
+use Rattle.box_view.specs.Views.{fixing}
+use Rattle.box_rules.specs.Quiet.{probed, none_refutes, quiet_at, quiet}
+use Rattle.box_view.proofs.SetLaws.{fixing_same, fixing_other}
+use Rattle.box_rules.proofs.QuietFrom.{Each, AreSome}
 
 pub each_then : (P Q : ℤ → Type 0) (vs : List ℤ) → ((v : ℤ) → P v → Q v) → Each P vs → Each Q vs
 each_then P Q [] f h = tt

@@ -9,12 +9,12 @@ use Rattle.signed_clause.specs.Clauses.{Boxes, box_of}
 use Rattle.signed_clause.proofs.RangeSteps.{IsValid-less}
 use Rattle.signed_clause.proofs.SetFacts.{inside_law}
 use Rattle.ground_form.specs.declared.con.Con.{Con}
-use Rattle.rule_law.specs.Refuted.{excluded}
-use Rattle.rule_law.specs.Quiet.{fixing}
+use Rattle.box_rules.specs.Refuted.{excluded}
+use Rattle.box_view.specs.Views.{fixing}
 use Rattle.rule_law.specs.Reasons.{no_repeat, Acts, IsReason}
 use Rattle.rule_law.specs.Plans.{IsFlag, literals_of}
-use Rattle.rule_law.proofs.SetLaws.{fixing_same, fixing_other}
-use Rattle.rule_law.proofs.Leaving.{less_inside, missing_inside, twice_inside, one_inside, left_over}
+use Rattle.box_view.proofs.SetLaws.{fixing_same, fixing_other}
+use Rattle.box_view.proofs.Leaving.{less_inside, missing_inside, twice_inside, one_inside, left_over}
 use Rattle.rule_law.proofs.PlanLaws.{ArePlanned, plan_reason, plan_acts_head, plan_acts_tail, plan_acts_over}
 use Rattle.rule_law.proofs.FlagPlans.{AreGood, in_domain, flag_other, flag_only, bit_valid}
 use Rattle.element_prop.specs.Within.{HasToLie, within_plan}

@@ -5,9 +5,9 @@ use Rattle.signed_clause.specs.Ranges.{Ranges, has, count_of}
 use Rattle.signed_clause.specs.SetAlgebra.{misses, inside, less}
 use Rattle.signed_clause.specs.Clauses.{Boxes, Literals, box_of}
 use Rattle.ground_form.specs.Meaning.{term_vars}
-use Rattle.rule_law.specs.Refuted.{fixed_at}
+use Rattle.box_rules.specs.Refuted.{fixed_at}
 use Rattle.rule_law.specs.Reasons.{has_number}
-use Rattle.rule_law.specs.Quiet.{probed}
+use Rattle.box_rules.specs.Quiet.{probed}
 use Rattle.element_prop.specs.declared.element.Finding.{Finding}
 use Rattle.element_prop.specs.declared.element.Further.{Further}
 use Rattle.element_prop.specs.declared.element.Further.TheVariants.{Idle, Unoffered, Outside}

@@ -4,7 +4,7 @@ use Rattle.std.specs.Prelude.{◌≡◌, ℕ, true, false, [], ◌∷◌, ℤ, p
 use Rattle.signed_clause.specs.Ranges.{Ranges, has}
 use Rattle.signed_clause.specs.SetAlgebra.{misses, inside}
 use Rattle.signed_clause.specs.Clauses.{Literals}
-use Rattle.rule_law.specs.Refuted.{fixed_at, same_single}
+use Rattle.box_rules.specs.Refuted.{fixed_at, same_single}
 use Rattle.element_prop.specs.Within.{HasToLie}
 use Rattle.element_prop.specs.declared.equality.Finding.{Finding}
 use Rattle.element_prop.specs.declared.equality.Finding.TheVariants.{Quiet, LeftWithin, RightWithin, Same}

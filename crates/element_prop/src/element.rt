@@ -16,8 +16,8 @@ ghost use Rattle.ground_form.specs.Meaning.{vars_of};
 ghost use Rattle.ground_form.specs.WellMade.{IsWellMadeCon};
 ghost use Rattle.rule_law.specs.Answers.{AreBoxesWithin, IsAnswer, IsPruning};
 ghost use Rattle.rule_law.specs.Reasons.{IsReason, no_repeat};
-ghost use Rattle.rule_law.specs.Refuted.{none_picked};
-ghost use Rattle.rule_law.specs.Quiet.{probed};
+ghost use Rattle.box_rules.specs.Refuted.{none_picked};
+ghost use Rattle.box_rules.specs.Quiet.{probed};
 ghost use Rattle.rule_law.specs.Plans.{literals_of};
 ghost use Rattle.element_prop.specs.Elements.{HasToPick, pick_plan, Says, all_meet, count_possible, some_other, without_one, without_items, without_boxes, out_plan, some_offers, all_offered, AreHeadsApart, IsFurther};
 

@@ -10,7 +10,7 @@ ghost use Rattle.signed_clause.specs.Clauses.{box_of};
 ghost use Rattle.ground_form.specs.declared.con.Con.TheVariants.{EqDef};
 ghost use Rattle.ground_form.specs.WellMade.{IsWellMadeCon};
 ghost use Rattle.rule_law.specs.Answers.{AreBoxesWithin, IsAnswer, IsPruning};
-ghost use Rattle.rule_law.specs.Refuted.{fixed_at, same_single};
+ghost use Rattle.box_rules.specs.Refuted.{fixed_at, same_single};
 ghost use Rattle.rule_law.specs.Reasons.{IsReason};
 ghost use Rattle.rule_law.specs.Plans.{IsFlag, literals_of};
 ghost use Rattle.element_prop.specs.Equalities.{Says, same_plan};

@@ -10,7 +10,7 @@ ghost use Rattle.signed_clause.specs.Ranges.{has, in_range, is_nil, IsValid};
 ghost use Rattle.signed_clause.specs.SetAlgebra.{inside};
 ghost use Rattle.signed_clause.specs.Clauses.{box_of};
 ghost use Rattle.ground_form.specs.Bounds.{low_of, high_of};
-ghost use Rattle.rule_law.specs.Quiet.{probed};
+ghost use Rattle.box_rules.specs.Quiet.{probed};
 ghost use Rattle.element_prop.specs.Elements.{some_covers, some_offers, all_offered};
 
 use ground_form::{Number, ends_of};
@@ -59,7 +59,7 @@ fn end_of(r: (i64, i64)) -> Number
 }
 
 /// The least and the greatest value of a set that isn't empty.
-#[tactic(auto, using(rule_law::proofs::QuietLaws::has_low, rule_law::proofs::QuietLaws::has_high))]
+#[tactic(auto, using(box_view::proofs::EndLaws::has_low, box_view::proofs::EndLaws::has_high))]
 fn set_ends(set: &IntSet) -> (Number, Number)
     requires { is_nil set.now ≡ false }
     ensures low { result.0.value ≡ low_of set.now }

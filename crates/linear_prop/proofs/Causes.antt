@@ -8,7 +8,7 @@ use Rattle.signed_clause.specs.Ranges.{Ranges, IsValid}
 use Rattle.signed_clause.specs.Clauses.{Boxes, box_of}
 use Rattle.ground_form.specs.Bounds.{low_of, high_of, least_term, greatest_term, least_sum, weight_of}
 use Rattle.ground_form.proofs.Weights.{least_term_fits, greatest_term_fits}
-use Rattle.rule_law.proofs.EndLaws.{ends_in_order}
+use Rattle.box_view.proofs.EndLaws.{ends_in_order}
 use Rattle.linear_prop.specs.Rows.{spread_of, greatest_spread}
 use Rattle.linear_prop.specs.Falls.{least_at, greatest_at}
 use Rattle.linear_prop.specs.Explaining.{term_at, rise, IsCause, IsRowOver}

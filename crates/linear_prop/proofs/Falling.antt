@@ -6,8 +6,7 @@ use Rattle.std.proofs.lemmas.Int.{ints, unsigned_abs-mul}
 use Rattle.std.proofs.Math.Nat.{mul-le-mul_left}
 use Rattle.signed_clause.specs.Ranges.{Ranges, has, in_range, is_nil, IsValid}
 use Rattle.ground_form.specs.Bounds.{low_of, high_of, reach_of}
-use Rattle.rule_law.proofs.EndLaws.{above_low, below_high, ends_in_order}
-use Rattle.rule_law.proofs.QuietLaws.{has_low, has_high}
+use Rattle.box_view.proofs.EndLaws.{above_low, below_high, ends_in_order, has_low, has_high}
 use Rattle.linear_prop.specs.Falls.{least_at, IsBelow}
 use Rattle.linear_prop.proofs.Products.{below_same, above_same, above_low_end, below_high_end, some_factor}
 

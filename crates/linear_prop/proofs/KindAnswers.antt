@@ -9,14 +9,15 @@ use Rattle.ground_form.specs.declared.con.Con.TheVariants.{LinLe, LinDef, ReifLe
 use Rattle.ground_form.specs.Meaning.{term_vars}
 use Rattle.ground_form.specs.Bounds.{least_sum}
 use Rattle.ground_form.specs.WellMade.{IsWellMadeCon}
-use Rattle.rule_law.specs.Quiet.{quiet}
+use Rattle.box_rules.specs.Quiet.{quiet}
 use Rattle.rule_law.specs.Reasons.{no_repeat}
 use Rattle.rule_law.specs.Answers.{AreBoxesWithin, IsAnswer}
 use Rattle.linear_prop.specs.Rows.{negated}
 use Rattle.linear_prop.specs.Explaining.{IsTight}
 use Rattle.linear_prop.specs.RowAnswers.{IsRowAnswer, IsSumAnswer}
 use Rattle.linear_prop.proofs.QuietKinds.{quiet_at_most, quiet_def, quiet_one, quiet_zero, quiet_open, not_alone}
-use Rattle.rule_law.specs.Justified.{cut, justified}
+use Rattle.box_view.specs.Views.{cut}
+use Rattle.box_rules.specs.Justified.{justified}
 use Rattle.linear_prop.proofs.KindLaws.{follows_up, follows_down, follows_one, follows_zero}
 
 -- nothing is answered where the constraint is quiet then

@@ -17,14 +17,14 @@ use Rattle.ground_form.specs.declared.con.Con.TheVariants.{LinLe, LinDef, ReifLe
 use Rattle.ground_form.specs.Meaning.{term_vars}
 use Rattle.ground_form.specs.Bounds.{low_of, high_of, reach_of, term_weight, weight_of, least_term, least_sum, greatest_sum}
 use Rattle.ground_form.specs.WellMade.{IsWellMadeCon}
-use Rattle.rule_law.specs.Refuted.{some_empty}
-use Rattle.rule_law.specs.Justified.{cut, justified}
-use Rattle.rule_law.specs.Named.{AreTermsNamed}
+use Rattle.box_rules.specs.Refuted.{some_empty}
+use Rattle.box_view.specs.Views.{cut}
+use Rattle.box_rules.specs.Justified.{justified}
+use Rattle.box_rules.specs.Named.{AreTermsNamed}
 use Rattle.rule_law.specs.Reasons.{has_number, no_repeat, Acts, IsReason}
 use Rattle.rule_law.specs.Answers.{AreBoxesWithin}
-use Rattle.rule_law.proofs.EndLaws.{are_sets}
-use Rattle.rule_law.proofs.QuietLaws.{has_low, has_high}
-use Rattle.rule_law.proofs.CutLaws.{low_within, top_within}
+use Rattle.box_view.proofs.EndLaws.{are_sets, has_low, has_high}
+use Rattle.box_view.proofs.CutLaws.{low_within, top_within}
 use Rattle.rule_law.proofs.ProbeLaws.{boxes_named}
 use Rattle.rule_law.proofs.Keeping.{acts_one}
 use Rattle.linear_prop.specs.Rows.{negated}

@@ -6,10 +6,11 @@ use Rattle.signed_clause.specs.SetAlgebra.{misses, inside, less, meet}
 use Rattle.signed_clause.specs.Clauses.{Boxes, Literal, Literals, box_of, set_of, has_var, false_in, unit_of, alone_of}
 use Rattle.ground_form.specs.Meaning.{clause_vars, term_vars}
 use Rattle.ground_form.specs.Bounds.{least_sum}
-use Rattle.rule_law.specs.Justified.{cut}
-use Rattle.rule_law.specs.Reasons.{has_number, no_repeat, Acts, Agree}
-use Rattle.rule_law.proofs.Agreeing.{agree_least}
-use Rattle.rule_law.proofs.CutLaws.{cut_box, kept_box}
+use Rattle.box_view.specs.Views.{cut}
+use Rattle.box_rules.specs.Named.{Agree}
+use Rattle.rule_law.specs.Reasons.{has_number, no_repeat, Acts}
+use Rattle.box_rules.proofs.Agreeing.{agree_least}
+use Rattle.box_view.proofs.CutLaws.{cut_box, kept_box}
 use Rattle.rule_law.proofs.Keeping.{acts_next, acts_first, false_append}
 
 -- ---- numbers in lists

@@ -12,13 +12,13 @@ use Rattle.ground_form.specs.declared.con.Con.TheVariants.{LinLe, LinDef, ReifLe
 use Rattle.ground_form.specs.Meaning.{vars_of, term_vars}
 use Rattle.ground_form.specs.Bounds.{low_of, high_of, least_sum, greatest_sum}
 use Rattle.ground_form.specs.WellMade.{IsWellMadeCon}
-use Rattle.rule_law.specs.Refuted.{excluded, refuted}
-use Rattle.rule_law.specs.Quiet.{fixing, quiet}
+use Rattle.box_rules.specs.Refuted.{excluded, refuted}
+use Rattle.box_view.specs.Views.{fixing}
+use Rattle.box_rules.specs.Quiet.{quiet}
 use Rattle.rule_law.specs.Reasons.{has_number, no_repeat}
 use Rattle.rule_law.specs.Answers.{AreBoxesWithin}
-use Rattle.rule_law.proofs.EndLaws.{above_low, below_high, ends_in_order, are_sets}
-use Rattle.rule_law.proofs.SetLaws.{fixing_same, fixing_other}
-use Rattle.rule_law.proofs.QuietLaws.{has_low}
+use Rattle.box_view.proofs.EndLaws.{above_low, below_high, ends_in_order, are_sets, has_low}
+use Rattle.box_view.proofs.SetLaws.{fixing_same, fixing_other}
 use Rattle.rule_law.proofs.ProbeLaws.{boxes_vars}
 use Rattle.linear_prop.specs.Rows.{negated}
 use Rattle.linear_prop.specs.Explaining.{IsTight}

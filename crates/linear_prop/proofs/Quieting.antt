@@ -10,13 +10,15 @@ use Rattle.ground_form.specs.declared.con.Con.{Con}
 use Rattle.ground_form.specs.Meaning.{vars_of, term_vars}
 use Rattle.ground_form.specs.Bounds.{low_of, high_of, least_term, greatest_term, least_sum, greatest_sum}
 use Rattle.ground_form.proofs.Products.{mul_greatest}
-use Rattle.rule_law.specs.Refuted.{width, some_empty, refuted}
-use Rattle.rule_law.specs.Quiet.{fixing, values_from, values_of, probed, none_refutes, quiet_at, quiet}
-use Rattle.rule_law.specs.Reasons.{has_number, no_repeat, Agree}
-use Rattle.rule_law.proofs.Agreeing.{agree_least}
-use Rattle.rule_law.proofs.EndLaws.{above_low, below_high, ends_in_order}
-use Rattle.rule_law.proofs.SetLaws.{fixing_same, fixing_other}
-use Rattle.rule_law.proofs.QuietLaws.{has_low, has_high, none_append}
+use Rattle.box_rules.specs.Refuted.{width, some_empty, refuted}
+use Rattle.box_view.specs.Views.{fixing}
+use Rattle.box_rules.specs.Quiet.{values_from, values_of, probed, none_refutes, quiet_at, quiet}
+use Rattle.box_rules.specs.Named.{Agree}
+use Rattle.rule_law.specs.Reasons.{has_number, no_repeat}
+use Rattle.box_rules.proofs.Agreeing.{agree_least}
+use Rattle.box_view.proofs.EndLaws.{above_low, below_high, ends_in_order, has_low, has_high}
+use Rattle.box_view.proofs.SetLaws.{fixing_same, fixing_other}
+use Rattle.box_rules.proofs.QuietLaws.{none_append}
 use Rattle.linear_prop.specs.Rows.{negated, greatest_spread}
 use Rattle.linear_prop.specs.Explaining.{IsTight}
 use Rattle.linear_prop.proofs.Spreads.{least_is, greatest_is}

@@ -6,9 +6,9 @@ use Rattle.signed_clause.specs.Ranges.{Ranges, is_nil, IsValid}
 use Rattle.signed_clause.specs.SetAlgebra.{inside}
 use Rattle.signed_clause.specs.Clauses.{Boxes, box_of}
 use Rattle.ground_form.specs.Bounds.{low_of, high_of, reach_of, term_weight, weight_of}
-use Rattle.rule_law.specs.Named.{AreTermsNamed}
+use Rattle.box_rules.specs.Named.{AreTermsNamed}
 use Rattle.rule_law.specs.Answers.{AreBoxesWithin}
-use Rattle.rule_law.proofs.EndLaws.{are_sets, ends_in_order}
+use Rattle.box_view.proofs.EndLaws.{are_sets, ends_in_order}
 use Rattle.linear_prop.specs.Explaining.{term_at, IsTurn, IsRowOver}
 use Rattle.linear_prop.proofs.Turning.{low_end_within, high_end_within}
 use Rattle.linear_prop.proofs.Spreads.{weight_is}

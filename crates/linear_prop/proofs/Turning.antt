@@ -16,10 +16,9 @@ use Rattle.ground_form.specs.Meaning.{clause_vars, term_vars}
 use Rattle.ground_form.specs.Bounds.{low_of, high_of, reach_of, term_weight, least_term, greatest_term, least_sum}
 use Rattle.ground_form.proofs.Weights.{least_sum-drop}
 use Rattle.ground_form.proofs.Products.{mul_least}
-use Rattle.rule_law.specs.Justified.{cut}
+use Rattle.box_view.specs.Views.{cut}
 use Rattle.rule_law.specs.Reasons.{has_number, no_repeat, Acts}
-use Rattle.rule_law.proofs.EndLaws.{above_low, below_high, ends_in_order}
-use Rattle.rule_law.proofs.QuietLaws.{has_low, has_high}
+use Rattle.box_view.proofs.EndLaws.{above_low, below_high, ends_in_order, has_low, has_high}
 use Rattle.rule_law.proofs.Keeping.{acts_one}
 use Rattle.linear_prop.specs.Falls.{least_at, greatest_at, IsBelow, IsFall}
 use Rattle.linear_prop.specs.Turns.{with_literal}

@@ -7,7 +7,7 @@ use Rattle.signed_clause.specs.Clauses.{Boxes}
 use Rattle.ground_form.specs.Bounds.{term_weight, weight_of, least_term, greatest_term, least_sum}
 use Rattle.ground_form.proofs.SingleValues.{abs_plus}
 use Rattle.ground_form.proofs.Weights.{least_sum-drop, least_term_fits, greatest_term_fits}
-use Rattle.rule_law.proofs.SumSteps.{weight_left}
+use Rattle.box_rules.proofs.SumSteps.{weight_left}
 use Rattle.linear_prop.specs.Rows.{spread_of, greatest_spread}
 
 pub spread_some : (ts : List (ℤ × ℕ)) (boxes : Boxes) → pos 0 ≤ℤ greatest_spread ts boxes

@@ -8,8 +8,8 @@ use Rattle.signed_clause.specs.SetAlgebra.{inside}
 use Rattle.signed_clause.specs.Clauses.{Boxes, Literals, box_of, false_in}
 use Rattle.ground_form.specs.Meaning.{clause_vars, term_vars}
 use Rattle.ground_form.specs.Bounds.{low_of, high_of, least_term, greatest_term, least_sum, weight_of}
-use Rattle.rule_law.specs.Justified.{cut}
-use Rattle.rule_law.specs.Named.{AreTermsNamed}
+use Rattle.box_view.specs.Views.{cut}
+use Rattle.box_rules.specs.Named.{AreTermsNamed}
 use Rattle.rule_law.specs.Answers.{AreBoxesWithin}
 use Rattle.linear_prop.specs.Rows.{greatest_spread}
 use Rattle.rule_law.specs.Reasons.{has_number, no_repeat, Acts}

@@ -3,7 +3,7 @@ ghost use Rattle.std.specs.Prelude.{◌≡◌, ◌<◌, ◌≤◌, ◌^◌, ◌*
 ghost use Rattle.std.specs.Int.{int_min, int_max};
 ghost use Rattle.signed_clause.specs.Clauses.{box_of};
 ghost use Rattle.ground_form.specs.Bounds.{low_of, high_of, reach_of, term_weight, weight_of, least_term, greatest_term, least_sum};
-ghost use Rattle.rule_law.specs.Named.{AreTermsNamed};
+ghost use Rattle.box_rules.specs.Named.{AreTermsNamed};
 ghost use Rattle.linear_prop.specs.Rows.{terms_of, spread_of, greatest_spread};
 ghost use Rattle.linear_prop.specs.Surveys.{IsWidest};
 ghost use Rattle.linear_prop.specs.Falls.{least_at, greatest_at};

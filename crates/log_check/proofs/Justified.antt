@@ -13,10 +13,11 @@ use Rattle.ground_form.specs.Meaning.{value_of, con_true, vars_of}
 use Rattle.ground_form.specs.Solutions.{IsPoint}
 use Rattle.ground_form.specs.Bounds.{IsBounded, low_of, high_of, reach_of}
 use Rattle.ground_form.specs.WellMade.{IsWellMadeCon}
-use Rattle.rule_law.specs.Justified.{justified, cut, cut_from}
-use Rattle.rule_law.proofs.EndLaws.{above_low, below_high, ends_in_order}
-use Rattle.rule_law.proofs.QuietLaws.{bounded_narrower}
-use Rattle.rule_law.proofs.RefutedLaws.{refuted_has_no_point}
+use Rattle.box_view.specs.Views.{cut, cut_from}
+use Rattle.box_rules.specs.Justified.{justified}
+use Rattle.box_view.proofs.EndLaws.{above_low, below_high, ends_in_order}
+use Rattle.box_rules.proofs.QuietLaws.{bounded_narrower}
+use Rattle.box_rules.proofs.RefutedLaws.{refuted_has_no_point}
 
 -- the box of x is its domain less the clause's set
 box_of-cut_from : (n : ℕ) (ds : Boxes) (c : Literals) (x : ℕ) → box_of (cut_from n ds c) x ≡ less (box_of ds x) (set_of c (n + x))

@@ -12,7 +12,7 @@ use Rattle.ground_form.specs.Solutions.{IsPoint}
 use Rattle.ground_form.specs.Bounds.{IsBounded, singles}
 use Rattle.ground_form.specs.WellMade.{IsWellMadeCon}
 use Rattle.log_form.specs.Acceptance.{point_of, states}
-use Rattle.rule_law.proofs.QuietLaws.{bounded_narrower}
+use Rattle.box_rules.proofs.QuietLaws.{bounded_narrower}
 use Rattle.log_check.proofs.Justified.{IsLeft, left_at_point, left_same, none_past, domain_valid}
 use Rattle.log_check.proofs.Bounds.{has-within}
 use Rattle.log_check.proofs.Steps.{point_from}

@@ -16,7 +16,7 @@ use Rattle.ground_form.specs.declared.ground.GroundGoal.{GroundGoal}
 use Rattle.ground_form.specs.Meaning.{value_of, con_true, clause_vars}
 use Rattle.ground_form.specs.Solutions.{IsPoint, IsSolution, better}
 use Rattle.ground_form.specs.WellMade.{IsWellMade}
-use Rattle.rule_law.specs.Justified.{justified}
+use Rattle.box_rules.specs.Justified.{justified}
 use Rattle.log_form.specs.declared.line.Line.{Line}
 use Rattle.log_form.specs.declared.line.Line.TheVariants.{Axiom, Chain, Bound, Use, Found, Decide, Empty}
 use Rattle.log_form.specs.Acceptance.{Made, start, clause_at, has_empty, chain_holds, chain_end, all_same, same_set, same_clause, point_of, all_true, beats, bounds, bounds_of, states_found, vars_below, con_at, accepts, after, shown_by}

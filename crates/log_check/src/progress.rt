@@ -9,7 +9,7 @@ ghost use Rattle.signed_clause.specs.Ranges.{is_nil};
 ghost use Rattle.signed_clause.specs.Clauses.{box_of};
 ghost use Rattle.ground_form.specs.Meaning.{clause_vars};
 ghost use Rattle.ground_form.specs.WellMade.{IsWellMade};
-ghost use Rattle.rule_law.specs.Justified as rules;
+ghost use Rattle.box_rules.specs.Justified as rules;
 ghost use Rattle.log_form.specs.Acceptance as acceptance;
 ghost use Rattle.log_form.specs.Acceptance.{start, accepts, after, vars_below, con_at, point_of, all_true, beats, states_found, has_empty, bounds};
 ghost use Rattle.log_check.specs.Soundness.{HasClause, FoundSolves};
@@ -23,7 +23,7 @@ use crate::solution::{are_all_true, are_goal_values, is_better, is_point};
 use crate::verdict::Verdict;
 use ground_form::Ground;
 use log_form::{Line, Values};
-use rule_law::justified;
+use box_rules::justified;
 use signed_clause::Clause;
 use std::alloc::{AllocError, Global};
 

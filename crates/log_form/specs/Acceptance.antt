@@ -12,7 +12,7 @@ use Rattle.ground_form.specs.declared.ground.Ground.{Ground}
 use Rattle.ground_form.specs.declared.ground.GroundGoal.{GroundGoal}
 use Rattle.ground_form.specs.Meaning.{value_of, con_true, clause_vars}
 use Rattle.ground_form.specs.Solutions.{better}
-use Rattle.rule_law.specs.Justified.{justified}
+use Rattle.box_rules.specs.Justified.{justified}
 use Rattle.log_form.specs.declared.line.Line.{Line}
 use Rattle.log_form.specs.declared.line.Line.TheVariants.{Axiom, Chain, Bound, Use, Found, Decide, Empty}
 

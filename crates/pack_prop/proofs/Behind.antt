@@ -9,10 +9,9 @@ use Rattle.signed_clause.specs.Ranges.{Ranges, has, is_nil, in_range, IsValid, A
 use Rattle.signed_clause.specs.SetAlgebra.{misses, meet, piece}
 use Rattle.signed_clause.specs.Clauses.{Boxes, box_of}
 use Rattle.ground_form.specs.Bounds.{low_of, high_of}
-use Rattle.rule_law.specs.Refuted.{lies_in, count_in}
-use Rattle.rule_law.proofs.EndLaws.{AreSets, are_sets, ends_in_order, above_low}
-use Rattle.rule_law.proofs.CrowdLaws.{in_parts, in_from, at_least}
-use Rattle.rule_law.proofs.QuietLaws.{has_high}
+use Rattle.box_rules.specs.Refuted.{lies_in, count_in}
+use Rattle.box_view.proofs.EndLaws.{AreSets, are_sets, ends_in_order, above_low, has_high}
+use Rattle.box_rules.proofs.CrowdLaws.{in_parts, in_from, at_least}
 use Rattle.signed_clause.proofs.RangeLaws.{Ascends-ends}
 use Rattle.signed_clause.proofs.RangeSteps.{left_at}
 use Rattle.pack_prop.specs.Intervals.{apart, AreApart, IsCalmAt, IsCalmFrom, AreCalm, is_narrow}

@@ -7,10 +7,10 @@ use Rattle.std.proofs.lemmas.Bool.Decides.{nat_tests}
 use Rattle.std.proofs.lemmas.Bool.{or_cases, and_parts, cases_lt}
 use Rattle.signed_clause.specs.Clauses.{Boxes, box_of}
 use Rattle.ground_form.specs.Bounds.{low_of}
-use Rattle.rule_law.specs.Quiet.{fixing}
-use Rattle.rule_law.specs.Refuted.{lies_in, count_in}
-use Rattle.rule_law.proofs.SetLaws.{fixing_other}
-use Rattle.rule_law.proofs.CrowdLaws.{order_cases, at_least, Starts, none_starts, starts_on}
+use Rattle.box_view.specs.Views.{fixing}
+use Rattle.box_rules.specs.Refuted.{lies_in, count_in}
+use Rattle.box_view.proofs.SetLaws.{fixing_other}
+use Rattle.box_rules.proofs.CrowdLaws.{order_cases, at_least, Starts, none_starts, starts_on}
 use Rattle.rule_law.specs.Reasons.{has_number, no_repeat}
 
 -- ---- members of a list

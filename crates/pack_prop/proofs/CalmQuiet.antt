@@ -11,11 +11,11 @@ use Rattle.std.specs.Int.{int_max, int_min}
 use Rattle.signed_clause.proofs.RangeLaws.{has-below}
 use Rattle.signed_clause.specs.Clauses.{Boxes, box_of}
 use Rattle.ground_form.specs.Bounds.{low_of, high_of}
-use Rattle.rule_law.specs.Quiet.{fixing}
-use Rattle.rule_law.specs.Refuted.{width, lies_in, count_in, some_crowded, some_empty}
-use Rattle.rule_law.proofs.EndLaws.{AreSets, ends_in_order}
-use Rattle.rule_law.proofs.SetLaws.{fixing_same, fixing_other}
-use Rattle.rule_law.proofs.CrowdLaws.{in_parts, start_keeps, somewhere}
+use Rattle.box_view.specs.Views.{fixing}
+use Rattle.box_rules.specs.Refuted.{width, lies_in, count_in, some_crowded, some_empty}
+use Rattle.box_view.proofs.EndLaws.{AreSets, ends_in_order}
+use Rattle.box_view.proofs.SetLaws.{fixing_same, fixing_other}
+use Rattle.box_rules.proofs.CrowdLaws.{in_parts, start_keeps, somewhere}
 use Rattle.rule_law.specs.Reasons.{has_number, no_repeat}
 use Rattle.pack_prop.specs.Intervals.{apart, AreApart, IsCalmFrom, is_narrow, AreCalm}
 use Rattle.pack_prop.proofs.Calm.{all_at, find_start, count_at_most, count_below, count_more, fixed_once}

@@ -11,9 +11,8 @@ use Rattle.signed_clause.proofs.RangeSteps.{IsValid-join, has-join_valid}
 use Rattle.signed_clause.proofs.SetFacts.{misses_law}
 use Rattle.ground_form.specs.Meaning.{clause_vars}
 use Rattle.rule_law.specs.Reasons.{has_number, no_repeat}
-use Rattle.rule_law.proofs.CutLaws.{low_within, top_within}
-use Rattle.rule_law.proofs.EndLaws.{AreSets}
-use Rattle.rule_law.proofs.QuietLaws.{has_low}
+use Rattle.box_view.proofs.CutLaws.{low_within, top_within}
+use Rattle.box_view.proofs.EndLaws.{AreSets, has_low}
 use Rattle.rule_law.proofs.Reasoning.{set_valid}
 use Rattle.pack_prop.specs.Collected.{with_set, said, IsFalse, AreCollected, SaysMore}
 use Rattle.ground_form.specs.Bounds.{low_of}

@@ -10,11 +10,11 @@ use Rattle.signed_clause.proofs.SetFacts.{misses_law, inside_law}
 use Rattle.signed_clause.proofs.RangeSteps.{has-less_valid, IsValid-less}
 use Rattle.ground_form.specs.declared.con.Con.{Con}
 use Rattle.ground_form.specs.Bounds.{low_of, high_of}
-use Rattle.rule_law.specs.Justified.{cut, justified}
+use Rattle.box_view.specs.Views.{cut}
+use Rattle.box_rules.specs.Justified.{justified}
 use Rattle.rule_law.specs.Reasons.{IsReason, Acts}
-use Rattle.rule_law.proofs.CutLaws.{cut_box}
-use Rattle.rule_law.proofs.EndLaws.{AreSets, above_low, below_high}
-use Rattle.rule_law.proofs.QuietLaws.{has_low, has_high}
+use Rattle.box_view.proofs.CutLaws.{cut_box}
+use Rattle.box_view.proofs.EndLaws.{AreSets, above_low, below_high, has_low, has_high}
 use Rattle.pack_prop.specs.Collected.{IsFalse, AreCollected, SaysMore}
 use Rattle.pack_prop.proofs.Collecting.{collected_sets}
 

@@ -10,13 +10,13 @@ use Rattle.signed_clause.specs.Clauses.{Boxes, Literals, box_of, set_of, false_i
 use Rattle.signed_clause.proofs.SetFacts.{misses_law, inside_law}
 use Rattle.signed_clause.proofs.RangeSteps.{has-less_valid, IsValid-less}
 use Rattle.ground_form.specs.declared.con.Con.TheVariants.{AllDiff}
-use Rattle.rule_law.specs.Justified.{cut}
-use Rattle.rule_law.specs.Refuted.{width, lies_in, count_in, some_crowded, refuted, some_empty}
+use Rattle.box_view.specs.Views.{cut}
+use Rattle.box_rules.specs.Refuted.{width, lies_in, count_in, some_crowded, refuted, some_empty}
 use Rattle.rule_law.specs.Answers.{AreBoxesWithin}
 use Rattle.rule_law.specs.Reasons.{has_number, no_repeat, kept_one, kept, IsReason, Acts}
-use Rattle.rule_law.proofs.EndLaws.{AreSets, are_sets, above_low, below_high}
-use Rattle.rule_law.proofs.CutLaws.{cut_box}
-use Rattle.rule_law.proofs.CrowdLaws.{in_parts, crowded_anywhere}
+use Rattle.box_view.proofs.EndLaws.{AreSets, are_sets, above_low, below_high}
+use Rattle.box_view.proofs.CutLaws.{cut_box}
+use Rattle.box_rules.proofs.CrowdLaws.{in_parts, crowded_anywhere}
 use Rattle.rule_law.proofs.Reasoning.{set_valid}
 use Rattle.pack_prop.specs.Intervals.{IsCrowd, IsIntruder}
 use Rattle.pack_prop.specs.Within.{within, outside}

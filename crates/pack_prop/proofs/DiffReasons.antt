@@ -10,11 +10,10 @@ use Rattle.signed_clause.specs.Clauses.{Boxes, box_of}
 use Rattle.signed_clause.proofs.SetFacts.{inside_law}
 use Rattle.signed_clause.proofs.RangeSteps.{has-less_valid, IsValid-less, has-meet_valid, IsValid-meet}
 use Rattle.ground_form.specs.Bounds.{low_of, high_of}
-use Rattle.rule_law.specs.Refuted.{lies_in, count_in}
+use Rattle.box_rules.specs.Refuted.{lies_in, count_in}
 use Rattle.rule_law.specs.Reasons.{has_number, no_repeat}
-use Rattle.rule_law.proofs.EndLaws.{below_high}
-use Rattle.rule_law.proofs.QuietLaws.{has_low, has_high}
-use Rattle.rule_law.proofs.CrowdLaws.{in_parts, in_from}
+use Rattle.box_view.proofs.EndLaws.{below_high, has_low, has_high}
+use Rattle.box_rules.proofs.CrowdLaws.{in_parts, in_from}
 use Rattle.pack_prop.specs.Within.{within}
 use Rattle.pack_prop.proofs.Calm.{stands_at}
 

@@ -4,7 +4,7 @@ use Rattle.std.specs.Prelude.{slice_index_or}
 use Rattle.std.proofs.lemmas.Bool.{cases_lt}
 use Rattle.signed_clause.specs.Clauses.{Boxes, box_of}
 use Rattle.ground_form.specs.Bounds.{low_of}
-use Rattle.rule_law.specs.Named.{IsItemNamed, AreItemsNamed}
+use Rattle.box_rules.specs.Named.{IsItemNamed, AreItemsNamed}
 use Rattle.pack_prop.proofs.Collecting.{any_default}
 
 -- the item has boxes, and a size of at least 0 in its domain

@@ -12,11 +12,11 @@ use Rattle.ground_form.specs.declared.con.Con.{Con}
 use Rattle.ground_form.specs.declared.con.Con.TheVariants.{Pack}
 use Rattle.ground_form.specs.Meaning.{item_vars}
 use Rattle.ground_form.specs.Bounds.{low_of, high_of}
-use Rattle.rule_law.specs.Justified.{cut}
-use Rattle.rule_law.specs.Named.{AreItemsNamed, IsItemNamed}
+use Rattle.box_view.specs.Views.{cut}
+use Rattle.box_rules.specs.Named.{AreItemsNamed, IsItemNamed}
 use Rattle.rule_law.specs.Reasons.{IsReason}
-use Rattle.rule_law.specs.Refuted.{fixed_at, fixed_load, some_overfull, some_empty, all_room, least_sizes, refuted}
-use Rattle.rule_law.proofs.EndLaws.{ends_in_order}
+use Rattle.box_rules.specs.Refuted.{fixed_at, fixed_load, some_overfull, some_empty, all_room, least_sizes, refuted}
+use Rattle.box_view.proofs.EndLaws.{ends_in_order}
 use Rattle.pack_prop.specs.Collected.{said, AreCollected, SaysMore}
 use Rattle.pack_prop.specs.LoadSteps.{loads_at, AreLoaded}
 use Rattle.pack_prop.specs.Sources.{parted, IsPart}

@@ -9,9 +9,9 @@ use Rattle.signed_clause.proofs.RangeSteps.{has-less_valid, IsValid-less}
 use Rattle.ground_form.specs.declared.con.Con.{Con}
 use Rattle.ground_form.specs.declared.con.Con.TheVariants.{Pack}
 use Rattle.ground_form.specs.Bounds.{low_of, high_of}
-use Rattle.rule_law.specs.Justified.{cut}
+use Rattle.box_view.specs.Views.{cut}
 use Rattle.rule_law.specs.Reasons.{IsReason}
-use Rattle.rule_law.specs.Refuted.{fixed_at, fixed_load}
+use Rattle.box_rules.specs.Refuted.{fixed_at, fixed_load}
 use Rattle.pack_prop.specs.Collected.{said, AreCollected}
 use Rattle.pack_prop.specs.LoadSteps.{AreOverfull}
 use Rattle.pack_prop.specs.Sources.{parted, IsPart, IsOverfilled}

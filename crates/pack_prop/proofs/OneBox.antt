@@ -9,11 +9,11 @@ use Rattle.signed_clause.specs.Ranges.{has}
 use Rattle.signed_clause.specs.Clauses.{Boxes, box_of}
 use Rattle.ground_form.specs.Meaning.{item_vars}
 use Rattle.ground_form.specs.Bounds.{low_of, high_of}
-use Rattle.rule_law.specs.Quiet.{fixing}
-use Rattle.rule_law.specs.Refuted.{fixed_at, fixed_load, overfull, some_overfull, least_sizes, best_room}
+use Rattle.box_view.specs.Views.{fixing}
+use Rattle.box_rules.specs.Refuted.{fixed_at, fixed_load, overfull, some_overfull, least_sizes, best_room}
 use Rattle.rule_law.specs.Reasons.{has_number}
-use Rattle.rule_law.proofs.EndLaws.{AreSets, ends_in_order}
-use Rattle.rule_law.proofs.SetLaws.{fixing_other}
+use Rattle.box_view.proofs.EndLaws.{AreSets, ends_in_order}
+use Rattle.box_view.proofs.SetLaws.{fixing_other}
 use Rattle.pack_prop.specs.Packing.{tight_room, fits, all_fit}
 
 -- ---- boxes of other variables

@@ -10,8 +10,8 @@ use Rattle.signed_clause.specs.Clauses.{Boxes, box_of}
 use Rattle.signed_clause.proofs.SetFacts.{inside_law}
 use Rattle.signed_clause.proofs.RangeSteps.{has-meet_valid, IsValid-meet}
 use Rattle.ground_form.specs.Bounds.{low_of, high_of}
-use Rattle.rule_law.specs.Refuted.{fixed_at, overfull, some_overfull}
-use Rattle.rule_law.proofs.EndLaws.{are_sets}
+use Rattle.box_rules.specs.Refuted.{fixed_at, overfull, some_overfull}
+use Rattle.box_view.proofs.EndLaws.{are_sets}
 use Rattle.pack_prop.specs.Sources.{parted, IsPart}
 
 -- ---- the boxes with a part of one

@@ -9,11 +9,11 @@ use Rattle.signed_clause.specs.Ranges.{Ranges, has, is_nil}
 use Rattle.signed_clause.specs.Clauses.{Boxes, box_of}
 use Rattle.ground_form.specs.Meaning.{item_vars}
 use Rattle.ground_form.specs.Bounds.{low_of, high_of}
-use Rattle.rule_law.specs.Quiet.{fixing}
-use Rattle.rule_law.specs.Refuted.{fixed_at, fixed_load, overfull, some_overfull}
+use Rattle.box_view.specs.Views.{fixing}
+use Rattle.box_rules.specs.Refuted.{fixed_at, fixed_load, overfull, some_overfull}
 use Rattle.rule_law.specs.Reasons.{has_number}
-use Rattle.rule_law.proofs.EndLaws.{AreSets, ends_in_order, above_low, below_high}
-use Rattle.rule_law.proofs.SetLaws.{fixing_same}
+use Rattle.box_view.proofs.EndLaws.{AreSets, ends_in_order, above_low, below_high}
+use Rattle.box_view.proofs.SetLaws.{fixing_same}
 use Rattle.rule_law.specs.Repeats.{is_one}
 use Rattle.pack_prop.specs.Packing.{tight_room, fits, all_fit}
 use Rattle.pack_prop.proofs.Spots.{Role, Place, Size, Room}

@@ -11,13 +11,16 @@ use Rattle.ground_form.specs.declared.con.Con.TheVariants.{Pack}
 use Rattle.ground_form.specs.Meaning.{item_vars}
 use Rattle.ground_form.specs.Bounds.{low_of}
 use Rattle.rule_law.specs.Answers.{AreBoxesWithin}
-use Rattle.rule_law.specs.Quiet.{fixing, quiet}
-use Rattle.rule_law.specs.Refuted.{some_overfull, least_sizes, all_room, some_empty, refuted}
-use Rattle.rule_law.specs.Reasons.{has_number, Agree}
-use Rattle.rule_law.proofs.EndLaws.{AreSets, are_sets, fixed_value, single_has}
-use Rattle.rule_law.proofs.SetLaws.{fixing_same, fixing_other}
-use Rattle.rule_law.proofs.CutLaws.{low_within, top_within}
-use Rattle.rule_law.proofs.Agreeing.{agree_refuted}
+use Rattle.box_view.specs.Views.{fixing}
+use Rattle.box_rules.specs.Quiet.{quiet}
+use Rattle.box_rules.specs.Refuted.{some_overfull, least_sizes, all_room, some_empty, refuted}
+use Rattle.box_rules.specs.Named.{Agree}
+use Rattle.rule_law.specs.Reasons.{has_number, no_repeat}
+use Rattle.box_rules.proofs.FixedLaws.{fixed_value}
+use Rattle.box_view.proofs.EndLaws.{AreSets, are_sets, single_has}
+use Rattle.box_view.proofs.SetLaws.{fixing_same, fixing_other}
+use Rattle.box_view.proofs.CutLaws.{low_within, top_within}
+use Rattle.box_rules.proofs.Agreeing.{agree_refuted}
 use Rattle.rule_law.specs.Repeats.{is_one}
 use Rattle.pack_prop.specs.Packing.{fits, all_fit}
 use Rattle.pack_prop.proofs.Calm.{all_at}
@@ -26,7 +29,6 @@ use Rattle.pack_prop.proofs.QuietFrom.{quiet_from}
 use Rattle.pack_prop.proofs.Spots.{spot}
 use Rattle.pack_prop.proofs.OneBox.{tight_at_most}
 use Rattle.pack_prop.specs.Packing.{AllFit, opens}
-use Rattle.rule_law.specs.Reasons.{no_repeat}
 use Rattle.pack_prop.proofs.PackLoads.{Roomy, now_fine, loads_fine}
 use Rattle.pack_prop.proofs.PackTotal.{HasRoom}
 

@@ -9,12 +9,12 @@ use Rattle.signed_clause.specs.Ranges.{Ranges, has, IsValid}
 use Rattle.signed_clause.specs.Clauses.{Boxes, box_of}
 use Rattle.ground_form.specs.Meaning.{item_vars}
 use Rattle.ground_form.specs.Bounds.{low_of, high_of}
-use Rattle.rule_law.specs.Quiet.{fixing}
-use Rattle.rule_law.specs.Refuted.{least_sizes, best_room, all_room}
+use Rattle.box_view.specs.Views.{fixing}
+use Rattle.box_rules.specs.Refuted.{least_sizes, best_room, all_room}
 use Rattle.rule_law.specs.Reasons.{has_number}
-use Rattle.rule_law.proofs.EndLaws.{AreSets, ends_in_order, below_high}
-use Rattle.rule_law.proofs.SetLaws.{fixing_same, fixing_other}
-use Rattle.rule_law.proofs.CutLaws.{low_within, top_within}
+use Rattle.box_view.proofs.EndLaws.{AreSets, ends_in_order, below_high}
+use Rattle.box_view.proofs.SetLaws.{fixing_same, fixing_other}
+use Rattle.box_view.proofs.CutLaws.{low_within, top_within}
 use Rattle.rule_law.specs.Repeats.{is_one}
 use Rattle.pack_prop.specs.Packing.{two_rooms, seconds_from, growth}
 use Rattle.pack_prop.proofs.Spots.{Role, Place, Size, Room}

@@ -11,10 +11,9 @@ use Rattle.signed_clause.specs.Clauses.{Boxes, box_of}
 use Rattle.signed_clause.proofs.RangeSteps.{left_at}
 use Rattle.ground_form.specs.Bounds.{low_of, high_of}
 use Rattle.ground_form.specs.Meaning.{item_vars}
-use Rattle.rule_law.specs.Refuted.{fixed_at, fixed_load, first_place, last_place}
-use Rattle.rule_law.proofs.EndLaws.{AreSets, are_sets, above_low, below_high}
-use Rattle.rule_law.proofs.QuietLaws.{has_low}
-use Rattle.rule_law.proofs.PackLaws.{first_place-le, last_place-ge}
+use Rattle.box_rules.specs.Refuted.{fixed_at, fixed_load, first_place, last_place}
+use Rattle.box_view.proofs.EndLaws.{AreSets, are_sets, above_low, below_high, has_low}
+use Rattle.box_rules.proofs.PackLaws.{first_place-le, last_place-ge}
 use Rattle.pack_prop.specs.Packing.{AllFit, tight_room, fits, all_fit, two_rooms, seconds_from, growth}
 
 pub tight_upto : (v : ℤ) (is : List (ℕ × ℕ × ℕ)) (boxes : Boxes) → tight_room v is boxes ≤ℤ pos 9223372036854775807

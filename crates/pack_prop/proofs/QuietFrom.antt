@@ -8,12 +8,12 @@ use Rattle.ground_form.specs.declared.con.Con.{Con}
 use Rattle.ground_form.specs.declared.con.Con.TheVariants.{AllDiff}
 use Rattle.ground_form.specs.Meaning.{vars_of}
 use Rattle.ground_form.specs.Bounds.{low_of, high_of}
-use Rattle.rule_law.specs.Quiet.{fixing, values_from, values_of, probed, none_refutes, quiet_at, quiet}
-use Rattle.rule_law.specs.Refuted.{width, refuted, some_empty, some_crowded}
+use Rattle.box_view.specs.Views.{fixing}
+use Rattle.box_rules.specs.Quiet.{values_from, values_of, probed, none_refutes, quiet_at, quiet}
+use Rattle.box_rules.specs.Refuted.{width, refuted, some_empty, some_crowded}
 use Rattle.ground_form.specs.WellMade.{IsWellMadeCon}
 use Rattle.rule_law.specs.Answers.{AreBoxesWithin}
-use Rattle.rule_law.proofs.EndLaws.{AreSets, are_sets}
-use Rattle.rule_law.proofs.QuietLaws.{has_low, has_high}
+use Rattle.box_view.proofs.EndLaws.{AreSets, are_sets, has_low, has_high}
 use Rattle.rule_law.specs.Reasons.{has_number, no_repeat}
 use Rattle.pack_prop.specs.Intervals.{AreCalm}
 use Rattle.pack_prop.proofs.CalmQuiet.{none_empty, fixed_not_empty, none_crowded, fixed_not_crowded}

@@ -7,7 +7,7 @@ use Rattle.std.proofs.lemmas.Bool.{cases_eq}
 use Rattle.signed_clause.specs.Ranges.{Ranges, in_range, has}
 use Rattle.signed_clause.specs.Clauses.{Boxes, box_of}
 use Rattle.ground_form.specs.Bounds.{high_of}
-use Rattle.rule_law.specs.Refuted.{best_room}
+use Rattle.box_rules.specs.Refuted.{best_room}
 use Rattle.pack_prop.specs.declared.spans.Span.{Span}
 use Rattle.pack_prop.specs.Spans.{is_in}
 use Rattle.pack_prop.specs.RoomRows.{best_rooms, HasRooms, lifted}

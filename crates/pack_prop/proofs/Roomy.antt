@@ -8,11 +8,11 @@ use Rattle.ground_form.specs.Meaning.{item_vars, vars_of}
 use Rattle.ground_form.specs.Bounds.{low_of, IsBounded}
 use Rattle.ground_form.specs.WellMade.{IsWellMadeCon}
 use Rattle.rule_law.specs.Answers.{AreBoxesWithin}
-use Rattle.rule_law.specs.Named.{AreItemsNamed}
-use Rattle.rule_law.specs.Quiet.{quiet}
+use Rattle.box_rules.specs.Named.{AreItemsNamed}
+use Rattle.box_rules.specs.Quiet.{quiet}
 use Rattle.rule_law.specs.Reasons.{no_repeat}
 use Rattle.rule_law.specs.Repeats.{open_vars}
-use Rattle.rule_law.proofs.EndLaws.{are_sets}
+use Rattle.box_view.proofs.EndLaws.{are_sets}
 use Rattle.pack_prop.specs.Packing.{AllFit, HasEnough, AreRoomy, opens}
 use Rattle.pack_prop.specs.Tight.{HasEach}
 use Rattle.pack_prop.proofs.PackTotal.{HasRoom, enough_room}

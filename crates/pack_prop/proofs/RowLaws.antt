@@ -10,8 +10,8 @@ use Rattle.std.proofs.lemmas.List.Elements.{All-cons, All-nil}
 use Rattle.signed_clause.specs.Ranges.{Ranges, has}
 use Rattle.signed_clause.specs.Clauses.{Boxes, box_of}
 use Rattle.ground_form.specs.Bounds.{low_of, high_of}
-use Rattle.rule_law.specs.Refuted.{best_room, rooms_from, first_place, last_place, width, all_room}
-use Rattle.rule_law.proofs.PackLaws.{best_room-ge}
+use Rattle.box_rules.specs.Refuted.{best_room, rooms_from, first_place, last_place, width, all_room}
+use Rattle.box_rules.proofs.PackLaws.{best_room-ge}
 use Rattle.pack_prop.specs.RoomRows.{best_rooms, IsRow, row_sum, raised, is_short}
 
 -- the row has at least the best room of each of its values

@@ -10,9 +10,9 @@ use Rattle.signed_clause.proofs.RangeLaws.{has-below}
 use Rattle.signed_clause.proofs.RangeSteps.{Ascends-drop}
 use Rattle.std.specs.Int.{int_min}
 use Rattle.ground_form.specs.Bounds.{low_of}
-use Rattle.rule_law.specs.Refuted.{first_place}
-use Rattle.rule_law.proofs.PackLaws.{first_place-le}
-use Rattle.rule_law.proofs.EndLaws.{AreSets, are_sets}
+use Rattle.box_rules.specs.Refuted.{first_place}
+use Rattle.box_rules.proofs.PackLaws.{first_place-le}
+use Rattle.box_view.proofs.EndLaws.{AreSets, are_sets}
 use Rattle.pack_prop.specs.Survey.{begun_at, ended_at, gone_on, all_begun, all_ended, all_gone_on, hits}
 
 -- ---- one set

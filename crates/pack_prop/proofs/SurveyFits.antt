@@ -9,9 +9,10 @@ use Rattle.std.proofs.lemmas.Bool.Decides.{Decides-int_eq, nat_tests}
 use Rattle.signed_clause.specs.Ranges.{Ranges, has, is_nil, IsValid}
 use Rattle.signed_clause.specs.Clauses.{Boxes, box_of}
 use Rattle.ground_form.specs.Bounds.{low_of, high_of}
-use Rattle.rule_law.specs.Refuted.{fixed_at, fixed_load}
+use Rattle.box_rules.specs.Refuted.{fixed_at, fixed_load}
 use Rattle.rule_law.specs.Repeats.{is_one}
-use Rattle.rule_law.proofs.EndLaws.{AreSets, are_sets, fixed_value}
+use Rattle.box_rules.proofs.FixedLaws.{fixed_value}
+use Rattle.box_view.proofs.EndLaws.{AreSets, are_sets}
 use Rattle.pack_prop.specs.declared.survey.Spot.{Spot}
 use Rattle.pack_prop.specs.Packing.{tight_room, fits, all_fit, two_rooms}
 use Rattle.pack_prop.specs.Survey.{IsSpot, IsSettled, least_room, growth_at, fixed_count, some_frozen, hits, open_size, open_floor, room_where, least_second}

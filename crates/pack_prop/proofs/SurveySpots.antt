@@ -8,9 +8,9 @@ use Rattle.signed_clause.specs.Ranges.{Ranges, IsValid}
 use Rattle.signed_clause.specs.Clauses.{Boxes, box_of}
 use Rattle.signed_clause.proofs.RangeLaws.{Ascends-ends}
 use Rattle.ground_form.specs.Bounds.{low_of, high_of}
-use Rattle.rule_law.specs.Refuted.{fixed_at, fixed_load}
+use Rattle.box_rules.specs.Refuted.{fixed_at, fixed_load}
 use Rattle.rule_law.specs.Repeats.{is_one}
-use Rattle.rule_law.proofs.EndLaws.{AreSets, are_sets}
+use Rattle.box_view.proofs.EndLaws.{AreSets, are_sets}
 use Rattle.pack_prop.specs.declared.survey.Spot.{Spot}
 use Rattle.pack_prop.specs.Survey.{IsSpot, AreSpots, fixed_count}
 

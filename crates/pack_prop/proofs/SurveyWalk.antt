@@ -3,8 +3,8 @@ use Rattle.std.proofs.Common.{◌≡◌, ℕ, zero, suc, ◌+◌, ◌-◌, ◌*�
 use Rattle.std.proofs.lemmas.Int.{ints}
 use Rattle.signed_clause.specs.Ranges.{IsValid}
 use Rattle.signed_clause.specs.Clauses.{Boxes}
-use Rattle.rule_law.specs.Refuted.{width}
-use Rattle.rule_law.proofs.EndLaws.{are_sets}
+use Rattle.box_rules.specs.Refuted.{width}
+use Rattle.box_view.proofs.EndLaws.{are_sets}
 use Rattle.pack_prop.specs.declared.survey.Spot.{Spot}
 use Rattle.pack_prop.specs.Packing.{tight_room, all_fit, seconds_from}
 use Rattle.pack_prop.specs.Survey.{IsSpot, AreSpots, AreBegun, AreEnded, all_begun, all_ended, all_gone_on, hits, open_floor, least_second}

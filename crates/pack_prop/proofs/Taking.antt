@@ -4,7 +4,7 @@ use Rattle.signed_clause.specs.SetAlgebra.{less}
 use Rattle.signed_clause.specs.Clauses.{Boxes, Literals, box_of}
 use Rattle.ground_form.specs.declared.con.Con.{Con}
 use Rattle.ground_form.specs.declared.con.Con.TheVariants.{AllDiff}
-use Rattle.rule_law.specs.Refuted.{width, lies_in}
+use Rattle.box_rules.specs.Refuted.{width, lies_in}
 use Rattle.rule_law.specs.Reasons.{kept_one, IsReason}
 use Rattle.pack_prop.specs.Intervals.{IsCrowd, IsIntruder}
 use Rattle.pack_prop.specs.Within.{within, outside}

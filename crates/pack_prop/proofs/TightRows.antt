@@ -6,8 +6,8 @@ use Rattle.std.proofs.lemmas.Int.{ints}
 use Rattle.signed_clause.specs.Ranges.{has}
 use Rattle.signed_clause.specs.Clauses.{Boxes, box_of}
 use Rattle.ground_form.specs.Bounds.{low_of, high_of}
-use Rattle.rule_law.specs.Refuted.{first_place, last_place, least_sizes}
-use Rattle.rule_law.proofs.PackLaws.{first_place-le, last_place-ge}
+use Rattle.box_rules.specs.Refuted.{first_place, last_place, least_sizes}
+use Rattle.box_rules.proofs.PackLaws.{first_place-le, last_place-ge}
 use Rattle.pack_prop.specs.declared.bests.Best.{Best}
 use Rattle.pack_prop.specs.Tight.{IsBest, AreBests, firsts, seconds, lefts, all_grow, may_be_in, may_move, may_shrink, all_loose, IsBetween, HasEach}
 use Rattle.rule_law.specs.Repeats.{is_one}

@@ -8,12 +8,12 @@ use Rattle.std.proofs.lemmas.Bool.Decides.{Decides-int_eq}
 use Rattle.signed_clause.specs.Ranges.{has}
 use Rattle.signed_clause.specs.Clauses.{Boxes, box_of}
 use Rattle.ground_form.specs.Bounds.{low_of, high_of}
-use Rattle.rule_law.specs.Quiet.{fixing}
-use Rattle.rule_law.specs.Refuted.{least_sizes, best_room, rooms_from, all_room}
+use Rattle.box_view.specs.Views.{fixing}
+use Rattle.box_rules.specs.Refuted.{least_sizes, best_room, rooms_from, all_room}
 use Rattle.rule_law.specs.Repeats.{is_one}
-use Rattle.rule_law.proofs.EndLaws.{AreSets, above_low, below_high, single_has}
-use Rattle.rule_law.proofs.PackLaws.{best_room-ge}
-use Rattle.rule_law.proofs.SetLaws.{fixing_same}
+use Rattle.box_view.proofs.EndLaws.{AreSets, above_low, below_high, single_has}
+use Rattle.box_rules.proofs.PackLaws.{best_room-ge}
+use Rattle.box_view.proofs.SetLaws.{fixing_same}
 use Rattle.pack_prop.specs.declared.bests.Best.{Best}
 use Rattle.pack_prop.specs.Tight.{IsBest, AreBests, firsts, left_at, lefts, may_grow, may_be_at, may_be_in, may_move, may_shrink, all_grow, all_loose, IsBetween, HasEach}
 use Rattle.pack_prop.proofs.Spots.{Role, Place, Size, Room}

@@ -12,14 +12,14 @@ use Rattle.ground_form.specs.declared.con.Con.{Con}
 use Rattle.ground_form.specs.declared.con.Con.TheVariants.{Pack}
 use Rattle.ground_form.specs.Meaning.{clause_vars, item_vars}
 use Rattle.ground_form.specs.Bounds.{low_of, high_of}
-use Rattle.rule_law.specs.Justified.{cut, justified}
-use Rattle.rule_law.specs.Named.{AreItemsNamed, IsItemNamed}
+use Rattle.box_view.specs.Views.{cut}
+use Rattle.box_rules.specs.Justified.{justified}
+use Rattle.box_rules.specs.Named.{AreItemsNamed, IsItemNamed}
 use Rattle.rule_law.specs.Reasons.{has_number, no_repeat, Acts, IsReason}
-use Rattle.rule_law.specs.Refuted.{best_room, all_room, least_sizes, some_overfull, some_empty, refuted}
-use Rattle.rule_law.proofs.EndLaws.{are_sets, above_low, below_high}
+use Rattle.box_rules.specs.Refuted.{best_room, all_room, least_sizes, some_overfull, some_empty, refuted}
+use Rattle.box_view.proofs.EndLaws.{are_sets, above_low, below_high, has_low, has_high}
 use Rattle.rule_law.proofs.Keeping.{acts_next, acts_first}
-use Rattle.rule_law.proofs.PackLaws.{best_room-ge}
-use Rattle.rule_law.proofs.QuietLaws.{has_low, has_high}
+use Rattle.box_rules.proofs.PackLaws.{best_room-ge}
 use Rattle.pack_prop.specs.Collected.{said, IsFalse, AreCollected, SaysMore}
 use Rattle.pack_prop.specs.RoomRows.{best_rooms, IsRow, row_sum, raised, is_short}
 use Rattle.pack_prop.specs.Sources.{parted, IsPart}

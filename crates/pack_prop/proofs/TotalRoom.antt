@@ -7,9 +7,9 @@ use Rattle.std.proofs.lemmas.Bool.{false_from_ne_true}
 use Rattle.signed_clause.specs.Ranges.{has}
 use Rattle.signed_clause.specs.Clauses.{Boxes, box_of}
 use Rattle.ground_form.specs.Bounds.{low_of, high_of}
-use Rattle.rule_law.specs.Refuted.{best_room, rooms_from, first_place, last_place, width, all_room}
-use Rattle.rule_law.proofs.EndLaws.{AreSets, ends_in_order, above_low, below_high}
-use Rattle.rule_law.proofs.PackLaws.{best_room-ge, first_place-le, last_place-ge}
+use Rattle.box_rules.specs.Refuted.{best_room, rooms_from, first_place, last_place, width, all_room}
+use Rattle.box_view.proofs.EndLaws.{AreSets, ends_in_order, above_low, below_high}
+use Rattle.box_rules.proofs.PackLaws.{best_room-ge, first_place-le, last_place-ge}
 use Rattle.rule_law.specs.Repeats.{is_one}
 use Rattle.pack_prop.specs.Packing.{put, two_rooms, seconds_from}
 

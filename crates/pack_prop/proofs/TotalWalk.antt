@@ -9,10 +9,10 @@ use Rattle.signed_clause.specs.Clauses.{Boxes, Literals, box_of}
 use Rattle.ground_form.specs.declared.con.Con.{Con}
 use Rattle.ground_form.specs.declared.con.Con.TheVariants.{Pack}
 use Rattle.ground_form.specs.Bounds.{low_of, high_of}
-use Rattle.rule_law.specs.Justified.{cut}
+use Rattle.box_view.specs.Views.{cut}
 use Rattle.rule_law.specs.Reasons.{IsReason}
-use Rattle.rule_law.specs.Refuted.{least_sizes, first_place, last_place}
-use Rattle.rule_law.proofs.PackLaws.{first_place-le, last_place-ge}
+use Rattle.box_rules.specs.Refuted.{least_sizes, first_place, last_place}
+use Rattle.box_rules.proofs.PackLaws.{first_place-le, last_place-ge}
 use Rattle.pack_prop.specs.Collected.{said, AreCollected, SaysMore}
 use Rattle.pack_prop.specs.RoomRows.{best_rooms, row_sum, raised, is_short}
 use Rattle.pack_prop.specs.Sources.{parted, IsPart}

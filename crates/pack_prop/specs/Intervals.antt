@@ -6,7 +6,7 @@ use Rattle.signed_clause.specs.Ranges.{Ranges}
 use Rattle.signed_clause.specs.SetAlgebra.{misses}
 use Rattle.signed_clause.specs.Clauses.{Boxes, box_of}
 use Rattle.ground_form.specs.Bounds.{low_of, high_of}
-use Rattle.rule_law.specs.Refuted.{width, lies_in, count_in}
+use Rattle.box_rules.specs.Refuted.{width, lies_in, count_in}
 use Rattle.rule_law.specs.Reasons.{has_number}
 use Rattle.pack_prop.specs.declared.interval.Finding.{Finding}
 use Rattle.pack_prop.specs.declared.interval.Finding.TheVariants.{Crowded, Full}

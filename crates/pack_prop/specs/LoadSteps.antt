@@ -3,8 +3,8 @@
 use Rattle.std.specs.Prelude.{◌≡◌, ◌<◌, ℕ, zero, suc, true, cond, List, [], ◌∷◌, ℤ, pos, ◌+ℤ◌, ◌≤ℤ◌, slice_index_or, length}
 use Rattle.signed_clause.specs.Clauses.{Boxes, Literals, box_of}
 use Rattle.ground_form.specs.Bounds.{low_of, high_of}
-use Rattle.rule_law.specs.Justified.{cut}
-use Rattle.rule_law.specs.Refuted.{fixed_at}
+use Rattle.box_view.specs.Views.{cut}
+use Rattle.box_rules.specs.Refuted.{fixed_at}
 use Rattle.pack_prop.specs.Collected.{AreCollected}
 
 -- the least sizes of the items whose place is fixed at v, of the first k items in the first boxes, of the others in the second

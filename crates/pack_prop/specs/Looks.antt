@@ -5,8 +5,8 @@ use Rattle.pack_prop.specs.declared.room.Look.{Look}
 use Rattle.pack_prop.specs.declared.room.Look.TheVariants.{Roomy, Misfit, Unsure}
 use Rattle.pack_prop.specs.declared.room.Walk.{Walk}
 use Rattle.pack_prop.specs.declared.room.Walk.TheVariants as walk
-use Rattle.rule_law.specs.Named.{IsItemNamed}
-use Rattle.rule_law.specs.Refuted.{fixed_load}
+use Rattle.box_rules.specs.Named.{IsItemNamed}
+use Rattle.box_rules.specs.Refuted.{fixed_load}
 use Rattle.pack_prop.specs.Packing.{tight_room, fits, all_fit, seconds_from, AllFit, HasEnough}
 
 -- the item doesn't fit at v

@@ -6,7 +6,7 @@ use Rattle.signed_clause.specs.Ranges.{has}
 use Rattle.signed_clause.specs.Clauses.{Boxes, box_of}
 use Rattle.ground_form.specs.Meaning.{item_vars}
 use Rattle.ground_form.specs.Bounds.{low_of, high_of}
-use Rattle.rule_law.specs.Refuted.{fixed_at, fixed_load, least_sizes}
+use Rattle.box_rules.specs.Refuted.{fixed_at, fixed_load, least_sizes}
 use Rattle.rule_law.specs.Reasons.{no_repeat}
 use Rattle.rule_law.specs.Repeats.{is_one, open_vars}
 

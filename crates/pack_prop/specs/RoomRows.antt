@@ -5,7 +5,7 @@ use Rattle.std.specs.Int.{int_max}
 use Rattle.std.specs.Ordering.{int_eq}
 use Rattle.signed_clause.specs.Ranges.{Ranges, has}
 use Rattle.signed_clause.specs.Clauses.{Boxes}
-use Rattle.rule_law.specs.Refuted.{best_room}
+use Rattle.box_rules.specs.Refuted.{best_room}
 
 -- values and rooms: n values from v on, each with the best room there
 abbrev pub best_rooms : ℕ → ℤ → List (ℕ × ℕ × ℕ) → Boxes → List (ℤ × ℤ)

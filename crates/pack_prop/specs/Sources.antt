@@ -5,9 +5,9 @@ use Rattle.signed_clause.specs.Ranges.{Ranges, is_nil, IsValid}
 use Rattle.signed_clause.specs.SetAlgebra.{inside}
 use Rattle.signed_clause.specs.Clauses.{Boxes, box_of}
 use Rattle.ground_form.specs.Bounds.{low_of, high_of}
-use Rattle.rule_law.specs.Refuted.{fixed_at, fixed_load}
+use Rattle.box_rules.specs.Refuted.{fixed_at, fixed_load}
 use Rattle.rule_law.specs.Answers.{AreBoxesWithin}
-use Rattle.rule_law.specs.Named.{AreItemsNamed}
+use Rattle.box_rules.specs.Named.{AreItemsNamed}
 
 -- the boxes with a part of that of x in its place
 abbrev pub parted : Boxes → ℕ → Ranges → Boxes

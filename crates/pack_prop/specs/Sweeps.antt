@@ -3,7 +3,7 @@ use Rattle.std.specs.Prelude.{◌≡◌, ℕ, suc, ◌<◌, ◌≤◌, ◌⊎◌
 use Rattle.std.specs.List.{All}
 use Rattle.signed_clause.specs.Clauses.{Boxes, box_of}
 use Rattle.ground_form.specs.Bounds.{low_of}
-use Rattle.rule_law.specs.Refuted.{count_in}
+use Rattle.box_rules.specs.Refuted.{count_in}
 use Rattle.pack_prop.specs.Intervals.{apart, AreApart}
 use Rattle.pack_prop.specs.Slots.{reaches}
 

@@ -7,7 +7,7 @@ use Rattle.std.specs.List.{All}
 use Rattle.signed_clause.specs.Ranges.{has}
 use Rattle.signed_clause.specs.Clauses.{Boxes, box_of}
 use Rattle.ground_form.specs.Bounds.{low_of, high_of}
-use Rattle.rule_law.specs.Refuted.{least_sizes}
+use Rattle.box_rules.specs.Refuted.{least_sizes}
 use Rattle.rule_law.specs.Repeats.{is_one}
 use Rattle.pack_prop.specs.declared.bests.Best.{Best}
 use Rattle.pack_prop.specs.Packing.{put, two_rooms}

@@ -5,8 +5,8 @@ use Rattle.std.specs.List.{All}
 use Rattle.signed_clause.specs.Ranges.{has}
 use Rattle.signed_clause.specs.Clauses.{Boxes, Literals, box_of}
 use Rattle.ground_form.specs.Bounds.{low_of, high_of}
-use Rattle.rule_law.specs.Justified.{cut}
-use Rattle.rule_law.specs.Refuted.{best_room}
+use Rattle.box_view.specs.Views.{cut}
+use Rattle.box_rules.specs.Refuted.{best_room}
 use Rattle.pack_prop.specs.Collected.{AreCollected}
 use Rattle.pack_prop.specs.RoomRows.{IsRow, row_sum}
 

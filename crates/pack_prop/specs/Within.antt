@@ -1,7 +1,7 @@
 -- The boxes that a reason takes of an interval.
 use Rattle.std.specs.Prelude.{ℕ, zero, suc, cond, List, [], ◌∷◌, ℤ}
 use Rattle.signed_clause.specs.Clauses.{Boxes, Literals, box_of}
-use Rattle.rule_law.specs.Refuted.{lies_in}
+use Rattle.box_rules.specs.Refuted.{lies_in}
 use Rattle.rule_law.specs.Reasons.{kept}
 
 -- the first n variables of the list whose boxes lie within a..b

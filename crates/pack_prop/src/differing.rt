@@ -11,7 +11,7 @@ ghost use Rattle.signed_clause.specs.Ranges.{IsValid};
 ghost use Rattle.ground_form.specs.declared.con.Con.TheVariants.{AllDiff};
 ghost use Rattle.ground_form.specs.WellMade.{IsWellMadeCon};
 ghost use Rattle.rule_law.specs.Answers.{AreBoxesWithin, IsAnswer};
-ghost use Rattle.rule_law.specs.Quiet.{quiet};
+ghost use Rattle.box_rules.specs.Quiet.{quiet};
 ghost use Rattle.rule_law.specs.Reasons.{no_repeat};
 
 use crate::explain::explain;

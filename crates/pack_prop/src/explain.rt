@@ -9,7 +9,7 @@ ghost use Rattle.signed_clause.specs.SetAlgebra.{less};
 ghost use Rattle.signed_clause.specs.Clauses.{box_of};
 ghost use Rattle.ground_form.specs.declared.con.Con.TheVariants.{AllDiff};
 ghost use Rattle.rule_law.specs.Answers.{AreBoxesWithin, IsPruning};
-ghost use Rattle.rule_law.specs.Refuted.{width};
+ghost use Rattle.box_rules.specs.Refuted.{width};
 ghost use Rattle.rule_law.specs.Reasons.{no_repeat, kept_one};
 ghost use Rattle.pack_prop.specs.Intervals.{IsCrowd, IsIntruder, IsFinding};
 ghost use Rattle.pack_prop.specs.Within.{within, outside};

@@ -6,7 +6,7 @@ ghost use Rattle.signed_clause.specs.Clauses.{box_of};
 ghost use Rattle.ground_form.specs.declared.con.Con.TheVariants.{Pack};
 ghost use Rattle.ground_form.specs.Bounds.{low_of};
 ghost use Rattle.rule_law.specs.Answers.{AreBoxesWithin};
-ghost use Rattle.rule_law.specs.Named.{AreItemsNamed, IsItemNamed};
+ghost use Rattle.box_rules.specs.Named.{AreItemsNamed, IsItemNamed};
 
 use crate::loads::least;
 use crate::overfull::{explain_part, overfilled};

@@ -4,7 +4,7 @@ ghost use Rattle.std.specs.List.{All};
 ghost use Rattle.signed_clause.specs.Ranges.{IsValid};
 ghost use Rattle.signed_clause.specs.Clauses.{box_of};
 ghost use Rattle.ground_form.specs.Bounds.{low_of, high_of};
-ghost use Rattle.rule_law.specs.Refuted.{lies_in, width, count_in};
+ghost use Rattle.box_rules.specs.Refuted.{lies_in, width, count_in};
 ghost use Rattle.pack_prop.specs.Intervals.{is_narrow, apart, AreApart, IsIntruder};
 ghost use Rattle.pack_prop.specs.Slots.{is_upto, begins_in};
 
@@ -22,7 +22,7 @@ pub enum Finding {
 }
 
 /// The least and the greatest value of a set, 0 of the empty one.
-#[tactic(auto, using(rule_law::proofs::EndLaws::ends_in_order))]
+#[tactic(auto, using(box_view::proofs::EndLaws::ends_in_order))]
 pub fn ends_in_order(set: &IntSet) -> (i64, i64)
     ensures ends { result ≡ (low_of set.now, high_of set.now) }
     ensures order { low_of set.now ≤ℤ high_of set.now }

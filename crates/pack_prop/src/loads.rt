@@ -4,8 +4,8 @@ ghost use Rattle.std.specs.Int.{int_max, int_min};
 ghost use Rattle.signed_clause.specs.Ranges.{has, IsValid};
 ghost use Rattle.signed_clause.specs.Clauses.{box_of};
 ghost use Rattle.ground_form.specs.Bounds.{low_of, high_of};
-ghost use Rattle.rule_law.specs.Refuted.{fixed_at, fixed_load, least_sizes};
-ghost use Rattle.rule_law.specs.Named.{AreItemsNamed, IsItemNamed};
+ghost use Rattle.box_rules.specs.Refuted.{fixed_at, fixed_load, least_sizes};
+ghost use Rattle.box_rules.specs.Named.{AreItemsNamed, IsItemNamed};
 ghost use Rattle.rule_law.specs.Repeats.{is_one};
 ghost use Rattle.pack_prop.specs.Packing.{tight_room};
 

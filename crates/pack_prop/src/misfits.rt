@@ -11,7 +11,7 @@ ghost use Rattle.signed_clause.specs.Clauses.{box_of};
 ghost use Rattle.ground_form.specs.declared.con.Con.TheVariants.{Pack};
 ghost use Rattle.ground_form.specs.Bounds.{low_of};
 ghost use Rattle.rule_law.specs.Answers.{AreBoxesWithin, IsPruning};
-ghost use Rattle.rule_law.specs.Named.{AreItemsNamed, IsItemNamed};
+ghost use Rattle.box_rules.specs.Named.{AreItemsNamed, IsItemNamed};
 
 use crate::loads::{greatest, is_fixed, least, load_at, tight_at};
 use crate::overfull::{explain_part, overfilled};

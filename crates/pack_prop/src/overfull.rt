@@ -9,8 +9,8 @@ ghost use Rattle.signed_clause.specs.Clauses.{box_of};
 ghost use Rattle.ground_form.specs.declared.con.Con.TheVariants.{Pack};
 ghost use Rattle.ground_form.specs.Bounds.{low_of, high_of};
 ghost use Rattle.rule_law.specs.Answers.{IsPruning};
-ghost use Rattle.rule_law.specs.Named.{AreItemsNamed, IsItemNamed};
-ghost use Rattle.rule_law.specs.Refuted.{fixed_at, fixed_load};
+ghost use Rattle.box_rules.specs.Named.{AreItemsNamed, IsItemNamed};
+ghost use Rattle.box_rules.specs.Refuted.{fixed_at, fixed_load};
 ghost use Rattle.pack_prop.specs.LoadSteps.{AreOverfull};
 ghost use Rattle.pack_prop.specs.Sources.{parted, IsPart, IsOverfilled, some_over};
 

@@ -15,8 +15,8 @@ ghost use Rattle.ground_form.specs.declared.con.Con.TheVariants.{Pack};
 ghost use Rattle.ground_form.specs.Meaning.{item_vars};
 ghost use Rattle.ground_form.specs.WellMade.{IsWellMadeCon};
 ghost use Rattle.rule_law.specs.Answers.{AreBoxesWithin, IsAnswer};
-ghost use Rattle.rule_law.specs.Named.{AreItemsNamed, IsItemNamed};
-ghost use Rattle.rule_law.specs.Quiet.{quiet};
+ghost use Rattle.box_rules.specs.Named.{AreItemsNamed, IsItemNamed};
+ghost use Rattle.box_rules.specs.Quiet.{quiet};
 ghost use Rattle.pack_prop.specs.Packing.{AllFit, HasEnough};
 
 use crate::misfits::prune_misfit;

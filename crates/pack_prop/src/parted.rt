@@ -2,7 +2,7 @@
 ghost use Rattle.std.specs.Prelude.{◌≡◌, ◌<◌, length};
 ghost use Rattle.signed_clause.specs.Clauses.{box_of};
 ghost use Rattle.ground_form.specs.Bounds.{low_of, high_of};
-ghost use Rattle.rule_law.specs.Refuted.{fixed_at};
+ghost use Rattle.box_rules.specs.Refuted.{fixed_at};
 ghost use Rattle.pack_prop.specs.Sources.{parted};
 
 use ground_form::{Number, ends_of};

@@ -6,7 +6,7 @@ ghost use Rattle.std.specs.Ordering.{int_eq};
 ghost use Rattle.signed_clause.specs.Ranges.{has, in_range, IsValid};
 ghost use Rattle.signed_clause.specs.Clauses.{Boxes, box_of};
 ghost use Rattle.ground_form.specs.Bounds.{high_of};
-ghost use Rattle.rule_law.specs.Named.{AreItemsNamed, IsItemNamed};
+ghost use Rattle.box_rules.specs.Named.{AreItemsNamed, IsItemNamed};
 ghost use Rattle.pack_prop.specs.RoomRows.{best_rooms, HasRooms, lifted, row_sum, raised, is_short};
 ghost use Rattle.pack_prop.specs.Sources.{parted};
 ghost use Rattle.pack_prop.specs.Spans.{is_in};

@@ -3,7 +3,7 @@ ghost use Rattle.std.specs.Prelude.{◌≡◌, ◌<◌, ◌≤ℤ◌, IfOk, OnOk
 ghost use Rattle.signed_clause.specs.SetAlgebra.{less};
 ghost use Rattle.signed_clause.specs.Clauses.{box_of};
 ghost use Rattle.ground_form.specs.Bounds.{high_of};
-ghost use Rattle.rule_law.specs.Justified.{cut};
+ghost use Rattle.box_view.specs.Views.{cut};
 ghost use Rattle.pack_prop.specs.Collected.{said, AreCollected, SaysMore};
 ghost use Rattle.pack_prop.specs.Sources.{parted, IsPart};
 

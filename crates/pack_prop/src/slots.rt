@@ -2,7 +2,7 @@
 ghost use Rattle.std.specs.Prelude.{◌≡◌, ◌<◌, ◌≤◌, ◌+ℤ◌, ℕ, suc, pos, cond, IfOk, IfSome, length};
 ghost use Rattle.std.specs.List.{All};
 ghost use Rattle.signed_clause.specs.Clauses.{box_of};
-ghost use Rattle.rule_law.specs.Refuted.{count_in};
+ghost use Rattle.box_rules.specs.Refuted.{count_in};
 ghost use Rattle.pack_prop.specs.Slots.{total, is_upto, count_begun};
 
 use crate::interval::{end_from, start_from};

@@ -9,8 +9,8 @@ ghost use Rattle.std.specs.Ordering.{int_eq};
 ghost use Rattle.signed_clause.specs.Ranges.{IsValid};
 ghost use Rattle.signed_clause.specs.Clauses.{Boxes, box_of};
 ghost use Rattle.ground_form.specs.Bounds.{low_of, high_of};
-ghost use Rattle.rule_law.specs.Refuted.{fixed_at, width};
-ghost use Rattle.rule_law.specs.Named.{AreItemsNamed, IsItemNamed};
+ghost use Rattle.box_rules.specs.Refuted.{fixed_at, width};
+ghost use Rattle.box_rules.specs.Named.{AreItemsNamed, IsItemNamed};
 ghost use Rattle.rule_law.specs.Repeats.{is_one};
 ghost use Rattle.pack_prop.specs.Survey.{IsSpot, AreSpots, AreBegun, AreEnded, begun_at, ended_at, is_slot};
 

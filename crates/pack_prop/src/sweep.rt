@@ -4,7 +4,7 @@ ghost use Rattle.std.specs.List.{All};
 ghost use Rattle.signed_clause.specs.Ranges.{IsValid};
 ghost use Rattle.signed_clause.specs.Clauses.{box_of};
 ghost use Rattle.ground_form.specs.Bounds.{low_of};
-ghost use Rattle.rule_law.specs.Refuted.{count_in};
+ghost use Rattle.box_rules.specs.Refuted.{count_in};
 ghost use Rattle.pack_prop.specs.Intervals.{AreApart, IsFinding, IsCalmFrom, AreCalm, is_narrow};
 ghost use Rattle.pack_prop.specs.Slots.{total, count_begun, reaches};
 ghost use Rattle.pack_prop.specs.Sweeps.{ReachesEnd, IsCalmBehind, newest, IsKept};

@@ -8,8 +8,8 @@ ghost use Rattle.std.specs.Prelude.{◌≡◌, ◌<◌, ◌≤◌, ◌+◌, ◌�
 ghost use Rattle.std.specs.List.{All};
 ghost use Rattle.ground_form.specs.declared.con.Con.TheVariants.{Pack};
 ghost use Rattle.rule_law.specs.Answers.{IsPruning};
-ghost use Rattle.rule_law.specs.Named.{AreItemsNamed};
-ghost use Rattle.rule_law.specs.Refuted.{least_sizes};
+ghost use Rattle.box_rules.specs.Named.{AreItemsNamed};
+ghost use Rattle.box_rules.specs.Refuted.{least_sizes};
 ghost use Rattle.pack_prop.specs.Sources.{parted, IsPart};
 ghost use Rattle.pack_prop.specs.TotalSteps.{AreTotalled, AreWeighed, IsWindow};
 

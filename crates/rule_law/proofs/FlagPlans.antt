@@ -12,16 +12,14 @@ use Rattle.ground_form.specs.declared.con.Con.{Con}
 use Rattle.ground_form.specs.Meaning.{bit}
 use Rattle.ground_form.specs.Bounds.{low_of, LiesWithin}
 use Rattle.rule_law.specs.Answers.{AreBoxesWithin}
-use Rattle.rule_law.specs.Refuted.{excluded}
-use Rattle.rule_law.specs.Quiet.{fixing}
+use Rattle.box_rules.specs.Refuted.{excluded}
+use Rattle.box_view.specs.Views.{fixing}
 use Rattle.rule_law.specs.Reasons.{no_repeat, Acts, IsReason}
-use Rattle.rule_law.proofs.EndLaws.{AreSets, are_sets, above_low, below_high}
-use Rattle.rule_law.proofs.SetLaws.{fixing_same, fixing_other}
-use Rattle.rule_law.proofs.QuietLaws.{has_low}
-use Rattle.rule_law.specs.Plans.{literals_of}
-use Rattle.rule_law.specs.Plans.{IsFlag}
-use Rattle.rule_law.proofs.QuietFrom.{AreSome}
-use Rattle.rule_law.proofs.Leaving.{one_valid, has_one, one_inside}
+use Rattle.box_view.proofs.EndLaws.{AreSets, are_sets, above_low, below_high, has_low}
+use Rattle.box_view.proofs.SetLaws.{fixing_same, fixing_other}
+use Rattle.rule_law.specs.Plans.{literals_of, IsFlag}
+use Rattle.box_rules.proofs.QuietFrom.{AreSome}
+use Rattle.box_view.proofs.Leaving.{one_valid, has_one, one_inside}
 use Rattle.rule_law.proofs.PlanLaws.{ArePlanned, plan_reason, plan_acts_head, plan_acts_tail, plan_acts_over}
 
 -- ---- boxes within domains

@@ -8,11 +8,13 @@ use Rattle.signed_clause.proofs.RangeSteps.{has-less_valid, IsValid-less}
 use Rattle.signed_clause.proofs.SetFacts.{misses_law, inside_law, same_law}
 use Rattle.ground_form.specs.declared.con.Con.{Con}
 use Rattle.ground_form.specs.Meaning.{clause_vars, vars_of}
-use Rattle.rule_law.specs.Refuted.{refuted}
-use Rattle.rule_law.specs.Justified.{cut, justified}
-use Rattle.rule_law.specs.Reasons.{has_number, no_repeat, Acts, IsReason, kept_one, kept, Agree}
-use Rattle.rule_law.proofs.CutLaws.{cut_box}
-use Rattle.rule_law.proofs.Agreeing.{agree_refuted}
+use Rattle.box_rules.specs.Refuted.{refuted}
+use Rattle.box_view.specs.Views.{cut}
+use Rattle.box_rules.specs.Justified.{justified}
+use Rattle.box_rules.specs.Named.{Agree}
+use Rattle.rule_law.specs.Reasons.{has_number, no_repeat, Acts, IsReason, kept_one, kept}
+use Rattle.box_view.proofs.CutLaws.{cut_box}
+use Rattle.box_rules.proofs.Agreeing.{agree_refuted}
 
 -- ---- sets
 

@@ -4,7 +4,7 @@ use Rattle.std.specs.List.{Contains, AllPairs}
 use Rattle.std.specs.List.Sorted.{IsStrictlyIncreasing}
 use Rattle.std.proofs.lemmas.List.Kept.{AllPairs-from_increasing}
 use Rattle.rule_law.specs.Reasons.{has_number, no_repeat}
-use Rattle.rule_law.proofs.DiffLaws.{bool_same}
+use Rattle.box_view.proofs.SetLaws.{bool_same}
 
 pub number_at : (x : ℕ) (xs : List ℕ) (k d : ℕ) → k < length xs → get_or xs k d ≡ x → has_number x xs ≡ true
 number_at x [] k d h e = absurd (omega arith)

@@ -10,13 +10,13 @@ use Rattle.signed_clause.specs.Clauses.{Boxes, Literal, Literals, box_of, set_of
 use Rattle.signed_clause.proofs.RangeSteps.{IsValid-less}
 use Rattle.ground_form.specs.declared.con.Con.{Con}
 use Rattle.ground_form.specs.Meaning.{vars_of, clause_vars}
-use Rattle.rule_law.specs.Refuted.{some_empty, excluded}
-use Rattle.rule_law.specs.Justified.{cut}
+use Rattle.box_rules.specs.Refuted.{some_empty, excluded}
+use Rattle.box_view.specs.Views.{cut}
 use Rattle.rule_law.specs.Reasons.{has_number, no_repeat, Acts, IsReason, kept_one}
-use Rattle.rule_law.proofs.EndLaws.{AreSets}
-use Rattle.rule_law.proofs.CutLaws.{cut_box}
+use Rattle.box_view.proofs.EndLaws.{AreSets}
+use Rattle.box_view.proofs.CutLaws.{cut_box}
 use Rattle.rule_law.specs.Plans.{literals_of}
-use Rattle.rule_law.proofs.Leaving.{left_is, left_misses, left_open}
+use Rattle.box_view.proofs.Leaving.{left_is, left_misses, left_open}
 
 -- each variable exists, and what is left of it lies within its domain
 abbrev pub ArePlanned : Boxes → ℕ → Literals → Type 0

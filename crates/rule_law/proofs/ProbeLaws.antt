@@ -11,17 +11,17 @@ use Rattle.ground_form.specs.declared.con.Con.{Con}
 use Rattle.ground_form.specs.Meaning.{vars_of}
 use Rattle.ground_form.specs.Bounds.{low_of, high_of, reach_of, IsBounded}
 use Rattle.ground_form.specs.WellMade.{IsWellMadeCon}
-use Rattle.rule_law.specs.Named.{IsNamed}
-use Rattle.rule_law.specs.Refuted.{refuted}
-use Rattle.rule_law.specs.Quiet.{fixing, quiet, quiet_at}
+use Rattle.box_rules.specs.Named.{IsNamed}
+use Rattle.box_rules.specs.Refuted.{refuted}
+use Rattle.box_view.specs.Views.{fixing}
+use Rattle.box_rules.specs.Quiet.{quiet, quiet_at, IsCulprit}
 use Rattle.rule_law.specs.Answers.{AreBoxesWithin}
-use Rattle.rule_law.specs.Reasons.{has_number, no_repeat, IsReason, IsCulprit, kept_one, kept}
-use Rattle.rule_law.proofs.EndLaws.{are_sets, above_low, below_high}
-use Rattle.rule_law.proofs.FlagLaws.{inside-single}
-use Rattle.rule_law.proofs.SetLaws.{fixing_same, fixing_other}
-use Rattle.rule_law.proofs.QuietLaws.{AreNarrower, bounded_narrower, has_low, has_high}
-use Rattle.rule_law.proofs.CutLaws.{low_within, top_within}
-use Rattle.rule_law.proofs.NamedVars.{named}
+use Rattle.rule_law.specs.Reasons.{has_number, no_repeat, IsReason, kept_one, kept}
+use Rattle.box_view.proofs.EndLaws.{are_sets, above_low, below_high, has_low, has_high}
+use Rattle.box_view.proofs.SetLaws.{inside-single, fixing_same, fixing_other}
+use Rattle.box_rules.proofs.QuietLaws.{AreNarrower, bounded_narrower}
+use Rattle.box_view.proofs.CutLaws.{low_within, top_within}
+use Rattle.box_rules.proofs.NamedVars.{named}
 use Rattle.rule_law.proofs.NumberLists.{number_at, number_below}
 use Rattle.rule_law.proofs.Keeping.{AreLeft, kept_follows, kept_reason, kept_false, kept_acts, acts_false, rest_apart, rest_takes}
 

@@ -13,8 +13,8 @@ use Rattle.signed_clause.specs.Clauses.{Boxes, Literal, Literals, box_of, set_of
 use Rattle.signed_clause.proofs.SetFacts.{same_law}
 use Rattle.ground_form.specs.declared.con.Con.{Con}
 use Rattle.ground_form.specs.Meaning.{clause_vars}
-use Rattle.rule_law.specs.Refuted.{refuted}
-use Rattle.rule_law.specs.Justified.{cut_from}
+use Rattle.box_rules.specs.Refuted.{refuted}
+use Rattle.box_view.specs.Views.{cut_from}
 use Rattle.rule_law.specs.Answers.{IsPruning}
 use Rattle.rule_law.specs.Reasons.{has_number, no_repeat, Acts, IsReason}
 

@@ -6,8 +6,8 @@ use Rattle.signed_clause.specs.Ranges.{is_nil, IsValid}
 use Rattle.signed_clause.specs.SetAlgebra.{inside}
 use Rattle.signed_clause.specs.Clauses.{Boxes, Literals, box_of, IsClause, IsWithinBoxes, false_in, unit_of}
 use Rattle.ground_form.specs.declared.con.Con.{Con}
-use Rattle.rule_law.specs.Justified.{justified}
-use Rattle.rule_law.specs.Quiet.{quiet}
+use Rattle.box_rules.specs.Justified.{justified}
+use Rattle.box_rules.specs.Quiet.{quiet}
 
 -- each variable has a box within its domain, and none is empty
 pub record AreBoxesWithin (domains boxes : Boxes) : Type 0 where

@@ -1,10 +1,3 @@
-pub mod Refuted
-pub mod Justified
-pub mod Quiet
-pub mod Points
-pub mod Named
-pub mod Firsts
-pub mod Left
 pub mod Answers
 pub mod Cover
 pub mod Reasons

@@ -1,16 +1,14 @@
 -- Reasons, of which prunings are made. What a reader believes after this file: literals of different variables, in any order,
 -- that a constraint justifies and that take something away are those of a pruning; and the usual literals say that a variable
 -- is in its domain and outside what the reason leaves of it.
-use Rattle.std.specs.Prelude.{◌≡◌, ℕ, ◌<◌, ◌==◌, Bool, true, false, not, ◌&&◌, ◌||◌, cond, List, [], ◌∷◌, ℤ, is_some, length}
+use Rattle.std.specs.Prelude.{◌≡◌, ℕ, ◌<◌, ◌==◌, Bool, true, false, not, ◌&&◌, ◌||◌, cond, List, [], ◌∷◌, is_some, length}
 use Rattle.std.specs.List.{All}
-use Rattle.signed_clause.specs.Ranges.{Ranges, has, is_nil, IsValid}
+use Rattle.signed_clause.specs.Ranges.{Ranges, is_nil, IsValid}
 use Rattle.signed_clause.specs.SetAlgebra.{less}
 use Rattle.signed_clause.specs.Clauses.{Boxes, Literals, box_of, false_in, unit_of}
 use Rattle.ground_form.specs.declared.con.Con.{Con}
 use Rattle.ground_form.specs.Meaning.{clause_vars}
-use Rattle.rule_law.specs.Refuted.{refuted}
-use Rattle.rule_law.specs.Quiet.{fixing}
-use Rattle.rule_law.specs.Justified.{justified}
+use Rattle.box_rules.specs.Justified.{justified}
 
 -- the number stands in the list
 abbrev pub has_number : ℕ → List ℕ → Bool
@@ -43,13 +41,3 @@ kept_one x s rest = cond (is_nil s) rest ((x, s) ∷ rest)
 abbrev pub kept : Boxes → (ℕ → Ranges) → List ℕ → Literals
 kept domains leaves [] = []
 kept domains leaves (x ∷ xs) = kept_one x (less (box_of domains x) (leaves x)) (kept domains leaves xs)
-
--- the variables of the list have the same boxes in both
-abbrev pub Agree : Boxes → Boxes → List ℕ → Type 0
-Agree a b [] = Unit {0}
-Agree a b (x ∷ xs) = (box_of a x ≡ box_of b x) × Agree a b xs
-
--- the value of the box of x refutes the constraint when it stands alone there
-pub record IsCulprit (con : Con) (boxes : Boxes) (x : ℕ) (v : ℤ) : Type 0 where
-  pub member : has (box_of boxes x) v ≡ true
-  pub refutes : refuted con (fixing boxes x v) ≡ true

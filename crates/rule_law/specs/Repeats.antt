@@ -4,7 +4,7 @@ use Rattle.std.specs.Prelude.{◌≡◌, ℕ, suc, ◌<◌, ◌==◌, Bool, true
 use Rattle.signed_clause.specs.Ranges.{Ranges}
 use Rattle.signed_clause.specs.Clauses.{Boxes, box_of}
 use Rattle.ground_form.specs.Bounds.{low_of}
-use Rattle.rule_law.specs.Refuted.{fixed_at}
+use Rattle.box_rules.specs.Refuted.{fixed_at}
 use Rattle.rule_law.specs.Reasons.{has_number}
 
 -- the number stands twice in the list

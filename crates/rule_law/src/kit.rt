@@ -9,7 +9,7 @@ ghost use Rattle.ground_form.specs.WellMade.{IsWellMade};
 ghost use Rattle.rule_law.specs.Answers.{AreBoxesWithin, IsAnswer};
 ghost use Rattle.rule_law.specs.Cover.{rank, covers, CoversAll, IsLeastMissing};
 
-use crate::plain_probe::probe;
+use crate::probing::probe;
 use crate::propagator::Propagator;
 use ground_form::{Ground, Kind, kind_of};
 use signed_clause::{Clause, IntSet};

@@ -1,334 +1,184 @@
-//! Whether a constraint has nothing to say in boxes.
+//! Plain probing with an explanation, for constraints of every kind.
 //!
-//! `quiet` asks at each variable of the constraint whether one of its probed values, alone in its box, refutes the constraint.
-//! Boxes with one value in place of a box are a view (`Fixing`), so nothing is built.
-ghost use Rattle.std.specs.Prelude.{◌≡◌, ◌<◌, ◌≤ℤ◌, ◌&&◌, ℤ, true, false, not, is_some, IfSome, [], ◌∷◌, length};
+//! Where the boxes refute the constraint, its variables' boxes are the explanation. Else the first value is looked for that
+//! refutes it alone in its box: the explanation then is the boxes of the other variables, and what is pruned is that value.
+ghost use Rattle.std.specs.Prelude.{◌≡◌, ◌<◌, ◌++◌, [], ℕ, true, false, OnOk, IfOk, length};
 ghost use Rattle.std.specs.List.{All};
-ghost use Rattle.signed_clause.specs.Ranges.{has, in_range, is_nil, IsValid};
+ghost use Rattle.signed_clause.specs.Ranges.{IsValid};
+ghost use Rattle.signed_clause.specs.SetAlgebra.{less};
 ghost use Rattle.signed_clause.specs.Clauses.{box_of};
-ghost use Rattle.ground_form.specs.Meaning.{vars_of, term_vars, part_vars, clause_vars, item_vars};
-ghost use Rattle.ground_form.specs.Bounds.{low_of, high_of, IsBounded};
-ghost use Rattle.rule_law.specs.Named.{IsNamed, AreTermsNamed, IsItemNamed, AreItemsNamed};
-ghost use Rattle.rule_law.specs.Refuted.{width, refuted};
-ghost use Rattle.rule_law.specs.Justified.{justified};
-ghost use Rattle.rule_law.specs.Quiet.{fixing, values_from, values_of, probed, none_refutes, quiet_at, quiet};
-ghost use Rattle.rule_law.specs.Reasons.{IsCulprit};
+ghost use Rattle.ground_form.specs.Meaning.{vars_of};
+ghost use Rattle.ground_form.specs.Bounds.{IsBounded};
+ghost use Rattle.ground_form.specs.WellMade.{IsWellMadeCon};
+ghost use Rattle.box_rules.specs.Named.{IsNamed};
+ghost use Rattle.box_rules.specs.Refuted.{refuted};
+ghost use Rattle.box_view.specs.Views.{fixing};
+ghost use Rattle.box_rules.specs.Quiet.{quiet_at, IsCulprit};
+ghost use Rattle.rule_law.specs.Answers.{AreBoxesWithin, IsAnswer, IsPruning};
+ghost use Rattle.rule_law.specs.Reasons.{has_number, kept_one, kept};
 
-use crate::cut::Cut;
-use crate::numbers::{end_of, is_below, next, start_of};
-use crate::rules::refutes_in;
-use crate::view::{Fixing, Plain};
-use ground_form::{Con, Number, ends_of};
+use crate::explain::{keep_out, pruning};
+use crate::variables::{all_vars, distinct};
+use box_rules::{are_all_quiet, first_at, refutes};
+use ground_form::{Con, Number};
 use signed_clause::{Clause, IntSet};
+use std::alloc::{AllocError, Global};
 
-/// Whether the constraint is quiet in the boxes: it isn't refuted, and would not be by any probed value alone in the box of
-/// its variable. Probed are all values of a box that has at most 64, else the least and the greatest. It takes no memory.
-#[tactic(auto, using(crate::proofs::NamedVars::named), unfolding(crate::specs::Quiet::quiet))]
-pub fn quiet(con: &Con, boxes: &[IntSet]) -> bool
-    requires variables { All (λ x. x < length boxes.now) (vars_of con.now) }
-    requires bounded { IsBounded con.now boxes.now }
-    ensures { result ≡ quiet con.now boxes.now }
-{
-    !refutes(con, boxes) && are_all_quiet(con, boxes)
-}
-
-/// Whether the constraint is refuted in the boxes, by the rule of its kind. It takes no memory.
-#[tactic(auto, using(crate::proofs::NamedVars::named))]
-pub fn refutes(con: &Con, boxes: &[IntSet]) -> bool
-    requires variables { All (λ x. x < length boxes.now) (vars_of con.now) }
-    requires bounded { IsBounded con.now boxes.now }
-    ensures { result ≡ refuted con.now boxes.now }
-{
-    refutes_in(con, &Plain { boxes })
-}
-
-/// Whether the constraint justifies the clause: it is refuted in what the clause's literals leave of the domains. It takes
-/// no memory.
-#[tactic(auto, using(crate::proofs::CutLaws::cut_named))]
-pub fn justified(con: &Con, domains: &[IntSet], clause: &Clause) -> bool
-    requires variables { All (λ x. x < length domains.now) (vars_of con.now) }
-    requires bounded { IsBounded con.now domains.now }
-    ensures { result ≡ justified con.now domains.now clause.now }
-{
-    refutes_in(con, &Cut { domains, clause })
-}
-
-/// Whether the value alone in the box of `x`, of which it is one, refutes the constraint.
-#[tactic(auto, using(crate::proofs::QuietLaws::fixing_bounded, crate::proofs::QuietLaws::fixing_named))]
-fn does_value_refute(con: &Con, boxes: &[IntSet], x: u32, at: Number) -> bool
-    requires named { IsNamed con.now boxes.now }
-    requires bounded { IsBounded con.now boxes.now }
+/// Adds the literal 'x is outside its box', where that says anything.
+fn keep_out_of_box(
+    literals: &mut Vec<(u32, IntSet)>,
+    domains: &[IntSet],
+    boxes: &[IntSet],
+    x: u32,
+) -> Result<(), AllocError>
+    requires domain { x < length domains.now }
     requires var { x < length boxes.now }
-    requires member { has (box_of boxes.now x) at.value ≡ true }
-    ensures { result ≡ refuted con.now (fixing boxes.now x at.value) }
+    ensures { OnOk result (literals.new.items ≡ literals.old.items ++ kept_one x (less (box_of domains.now x) (box_of boxes.now x)) []) }
 {
-    boxes[x as usize].ranges();
-    let view = Fixing {
-        boxes,
-        var: x,
-        value: at,
-    };
-    refutes_in(con, &view)
+    keep_out(literals, x, &domains[x as usize], &boxes[x as usize])
 }
 
-/// The first of the values from `first` to `last`, all of the box of `x`, that refutes the constraint.
-fn first_between(con: &Con, boxes: &[IntSet], x: u32, first: Number, last: Number) -> Option<Number>
-    requires named { IsNamed con.now boxes.now }
-    requires bounded { IsBounded con.now boxes.now }
+/// The same where the box of `var` is the value alone.
+#[tactic(auto, using(box_view::proofs::SetLaws::fixing_same, box_view::proofs::SetLaws::fixing_other))]
+fn keep_out_of_fixed(
+    literals: &mut Vec<(u32, IntSet)>,
+    domains: &[IntSet],
+    boxes: &[IntSet],
+    var: u32,
+    value: Number,
+    x: u32,
+) -> Result<(), AllocError>
+    requires domain { x < length domains.now }
     requires var { x < length boxes.now }
-    requires order { first.value ≤ℤ last.value }
-    requires members { (v : ℤ) → in_range (first.value, last.value) v ≡ true → has (box_of boxes.now x) v ≡ true }
-    ensures none { not (is_some result) ≡ none_refutes con.now boxes.now x (values_from (width first.value last.value) first.value) }
-    ensures some { IfSome result (λ v. IsCulprit con.now boxes.now x v.value) }
+    ensures { OnOk result (literals.new.items ≡ literals.old.items ++ kept_one x (less (box_of domains.now x) (box_of (fixing boxes.now var value.value) x)) []) }
 {
-    let mut at = first;
-    if does_value_refute(con, boxes, x, at) {
-        return Some(at);
-    }
-    while is_below(at, last) {
-        at = next(at, last);
-        if does_value_refute(con, boxes, x, at) {
-            return Some(at);
-        }
-    }
-    None
-}
-
-/// The first of the values of the range, all of the box of `x`, that refutes the constraint.
-fn first_in_range(con: &Con, boxes: &[IntSet], x: u32, r: (i64, i64)) -> Option<Number>
-    requires named { IsNamed con.now boxes.now }
-    requires bounded { IsBounded con.now boxes.now }
-    requires var { x < length boxes.now }
-    requires order { r.0 ≤ℤ r.1 }
-    requires members { (v : ℤ) → in_range r v ≡ true → has (box_of boxes.now x) v ≡ true }
-    ensures none { not (is_some result) ≡ none_refutes con.now boxes.now x (values_from (width r.0 r.1) r.0) }
-    ensures some { IfSome result (λ v. IsCulprit con.now boxes.now x v.value) }
-{
-    first_between(con, boxes, x, start_of(r), end_of(r))
-}
-
-/// The first value of the ranges, which are those of the box of `x`, that refutes the constraint.
-fn first_in_ranges(con: &Con, boxes: &[IntSet], x: u32, ranges: &[(i64, i64)]) -> Option<Number>
-    requires named { IsNamed con.now boxes.now }
-    requires bounded { IsBounded con.now boxes.now }
-    requires var { x < length boxes.now }
-    requires of_x { ranges.now ≡ box_of boxes.now x }
-    requires valid { IsValid ranges.now }
-    ensures none { not (is_some result) ≡ none_refutes con.now boxes.now x (values_of ranges.now) }
-    ensures some { IfSome result (λ v. IsCulprit con.now boxes.now x v.value) }
-{
-    for r in ranges {
-        let found = first_in_range(con, boxes, x, *r);
-        if found.is_some() {
-            return found;
-        }
-    }
-    None
-}
-
-/// The first value of the box of `x` that refutes the constraint.
-fn first_of_all(con: &Con, boxes: &[IntSet], x: u32) -> Option<Number>
-    requires named { IsNamed con.now boxes.now }
-    requires bounded { IsBounded con.now boxes.now }
-    requires var { x < length boxes.now }
-    ensures none { not (is_some result) ≡ none_refutes con.now boxes.now x (values_of (box_of boxes.now x)) }
-    ensures some { IfSome result (λ v. IsCulprit con.now boxes.now x v.value) }
-{
-    first_in_ranges(con, boxes, x, boxes[x as usize].ranges())
-}
-
-/// The least or the greatest value of the box of `x`, which isn't empty, where it refutes the constraint.
-fn first_of_ends(con: &Con, boxes: &[IntSet], x: u32) -> Option<Number>
-    requires named { IsNamed con.now boxes.now }
-    requires bounded { IsBounded con.now boxes.now }
-    requires var { x < length boxes.now }
-    requires some { is_nil (box_of boxes.now x) ≡ false }
-    ensures none { not (is_some result) ≡ none_refutes con.now boxes.now x (low_of (box_of boxes.now x) ∷ high_of (box_of boxes.now x) ∷ []) }
-    ensures some { IfSome result (λ v. IsCulprit con.now boxes.now x v.value) }
-{
-    let ends = set_ends(&boxes[x as usize]);
-    if does_value_refute(con, boxes, x, ends.0) {
-        Some(ends.0)
-    } else if does_value_refute(con, boxes, x, ends.1) {
-        Some(ends.1)
+    if x == var {
+        let alone = IntSet::range(*literals.allocator(), value.value, value.value);
+        keep_out(literals, x, &domains[x as usize], &alone)
     } else {
-        None
+        keep_out(literals, x, &domains[x as usize], &boxes[x as usize])
     }
 }
 
-/// The least and the greatest value of a set that isn't empty.
-#[tactic(auto, using(crate::proofs::QuietLaws::has_low, crate::proofs::QuietLaws::has_high))]
-fn set_ends(set: &IntSet) -> (Number, Number)
-    requires { is_nil set.now ≡ false }
-    ensures low { result.0.value ≡ low_of set.now }
-    ensures high { result.1.value ≡ high_of set.now }
-    ensures low_in { has set.now result.0.value ≡ true }
-    ensures high_in { has set.now result.1.value ≡ true }
+/// Of each variable of the list, 'it is outside its box'.
+fn box_literals(
+    domains: &[IntSet],
+    boxes: &[IntSet],
+    vars: &[u32],
+    alloc: Global,
+) -> Result<Vec<(u32, IntSet)>, AllocError>
+    requires domains { All (λ x. x < length domains.now) vars.now }
+    requires vars { All (λ x. x < length boxes.now) vars.now }
+    ensures { IfOk result (λ ls. ls.items ≡ kept domains.now (λ x. box_of boxes.now x) vars.now) }
 {
-    set.ranges();
-    let ends = ends_of(set);
-    (start_of(ends), end_of(ends))
-}
-
-/// The first probed value of the box of `x` that refutes the constraint.
-#[tactic(auto, using(crate::proofs::QuietLaws::many_some, crate::proofs::QuietLaws::few_probed, crate::proofs::QuietLaws::many_probed))]
-pub(crate) fn first_at(con: &Con, boxes: &[IntSet], x: u32) -> Option<Number>
-    requires named { IsNamed con.now boxes.now }
-    requires bounded { IsBounded con.now boxes.now }
-    requires var { x < length boxes.now }
-    ensures none { not (is_some result) ≡ none_refutes con.now boxes.now x (probed (box_of boxes.now x)) }
-    ensures some { IfSome result (λ v. IsCulprit con.now boxes.now x v.value) }
-{
-    if boxes[x as usize].at_most(64) {
-        first_of_all(con, boxes, x)
-    } else {
-        first_of_ends(con, boxes, x)
+    let mut literals = Vec::new(alloc);
+    for x in vars {
+        keep_out_of_box(&mut literals, domains, boxes, *x)?;
     }
+    Ok(literals)
 }
 
-/// Whether no probed value of the box of `x` refutes the constraint.
-fn is_quiet_at(con: &Con, boxes: &[IntSet], x: u32) -> bool
-    requires named { IsNamed con.now boxes.now }
-    requires bounded { IsBounded con.now boxes.now }
-    requires var { x < length boxes.now }
-    ensures { result ≡ none_refutes con.now boxes.now x (probed (box_of boxes.now x)) }
+/// The same where the box of `var` is the value alone.
+fn value_literals(
+    domains: &[IntSet],
+    boxes: &[IntSet],
+    vars: &[u32],
+    var: u32,
+    value: Number,
+    alloc: Global,
+) -> Result<Vec<(u32, IntSet)>, AllocError>
+    requires domains { All (λ x. x < length domains.now) vars.now }
+    requires vars { All (λ x. x < length boxes.now) vars.now }
+    ensures { IfOk result (λ ls. ls.items ≡ kept domains.now (λ x. box_of (fixing boxes.now var value.value) x) vars.now) }
 {
-    first_at(con, boxes, x).is_none()
-}
-
-/// Whether that is so at each term's variable.
-fn are_terms_quiet(con: &Con, boxes: &[IntSet], terms: &[(i64, u32)]) -> bool
-    requires named { IsNamed con.now boxes.now }
-    requires bounded { IsBounded con.now boxes.now }
-    requires terms { AreTermsNamed terms.now boxes.now }
-    ensures { result ≡ quiet_at con.now boxes.now (term_vars terms.now) }
-{
-    for t in terms {
-        if !is_quiet_at(con, boxes, t.1) {
-            return false;
-        }
+    let mut literals = Vec::new(alloc);
+    for x in vars {
+        keep_out_of_fixed(&mut literals, domains, boxes, var, value, *x)?;
     }
-    true
+    Ok(literals)
 }
 
-/// Whether that is so at each part's variable.
-fn are_parts_quiet(con: &Con, boxes: &[IntSet], parts: &[(u32, bool)]) -> bool
-    requires named { IsNamed con.now boxes.now }
-    requires bounded { IsBounded con.now boxes.now }
-    requires parts { All (λ p. p.0 < length boxes.now) parts.now }
-    ensures { result ≡ quiet_at con.now boxes.now (part_vars parts.now) }
-{
-    for p in parts {
-        if !is_quiet_at(con, boxes, p.0) {
-            return false;
-        }
-    }
-    true
-}
-
-/// Whether that is so at the literal's variable.
-fn is_literal_quiet(con: &Con, boxes: &[IntSet], l: &(u32, IntSet)) -> bool
-    requires named { IsNamed con.now boxes.now }
-    requires bounded { IsBounded con.now boxes.now }
-    requires literal { l.now.0 < length boxes.now }
-    ensures { result ≡ none_refutes con.now boxes.now l.now.0 (probed (box_of boxes.now l.now.0)) }
-{
-    is_quiet_at(con, boxes, l.0)
-}
-
-/// Whether that is so at each literal's variable.
-fn are_literals_quiet(con: &Con, boxes: &[IntSet], literals: &[(u32, IntSet)]) -> bool
-    requires named { IsNamed con.now boxes.now }
-    requires bounded { IsBounded con.now boxes.now }
-    requires literals { All (λ l. l.0 < length boxes.now) literals.now }
-    ensures { result ≡ quiet_at con.now boxes.now (clause_vars literals.now) }
-{
-    for l in literals {
-        if !is_literal_quiet(con, boxes, l) {
-            return false;
-        }
-    }
-    true
-}
-
-/// Whether that is so at each variable of the list.
-fn are_vars_quiet(con: &Con, boxes: &[IntSet], vars: &[u32]) -> bool
+/// The first variable of the list of which a probed value refutes the constraint, and that value.
+fn first_culprit(con: &Con, boxes: &[IntSet], vars: &[u32]) -> (u32, Number)
     requires named { IsNamed con.now boxes.now }
     requires bounded { IsBounded con.now boxes.now }
     requires vars { All (λ x. x < length boxes.now) vars.now }
-    ensures { result ≡ quiet_at con.now boxes.now vars.now }
+    requires some { quiet_at con.now boxes.now vars.now ≡ false }
+    ensures var { has_number result.0 vars.now ≡ true }
+    ensures culprit { IsCulprit con.now boxes.now result.0 result.1.value }
 {
     for x in vars {
-        if !is_quiet_at(con, boxes, *x) {
-            return false;
+        if let Some(value) = first_at(con, boxes, *x) {
+            return (*x, value);
         }
     }
-    true
+    unreachable!()
 }
 
-/// Whether that is so at the item's three variables.
-fn is_item_quiet(con: &Con, boxes: &[IntSet], i: (u32, u32, u32)) -> bool
-    requires named { IsNamed con.now boxes.now }
-    requires bounded { IsBounded con.now boxes.now }
-    requires item { IsItemNamed i boxes.now }
-    ensures { result ≡ (none_refutes con.now boxes.now i.0 (probed (box_of boxes.now i.0))
-        && (none_refutes con.now boxes.now i.1 (probed (box_of boxes.now i.1)) && none_refutes con.now boxes.now i.2 (probed (box_of boxes.now i.2)))) }
+/// The clause of boxes that refute the constraint.
+fn refuted_pruning(
+    con: &Con,
+    domains: &[IntSet],
+    boxes: &[IntSet],
+    alloc: Global,
+) -> Result<Clause, AllocError>
+    requires well_made { IsWellMadeCon domains.now con.now }
+    requires boxes { AreBoxesWithin domains.now boxes.now }
+    requires sets { All (λ d. IsValid d) domains.now }
+    requires refuted { refuted con.now boxes.now ≡ true }
+    ensures { IfOk result (λ c. IsPruning con.now domains.now boxes.now c) }
 {
-    is_quiet_at(con, boxes, i.0) && (is_quiet_at(con, boxes, i.1) && is_quiet_at(con, boxes, i.2))
+    let vars = distinct(all_vars(con, alloc)?);
+    let literals = box_literals(domains, boxes, vars.as_slice(), alloc)?;
+    let clause = pruning(con, domains, boxes, literals);
+    Ok(clause)
 }
 
-/// Whether that is so at each item's variables.
-fn are_items_quiet(con: &Con, boxes: &[IntSet], items: &[(u32, u32, u32)]) -> bool
-    requires named { IsNamed con.now boxes.now }
-    requires bounded { IsBounded con.now boxes.now }
-    requires items { AreItemsNamed items.now boxes.now }
-    ensures { result ≡ quiet_at con.now boxes.now (item_vars items.now) }
+/// The clause of a value that refutes the constraint when it stands alone in its box.
+fn value_pruning(
+    con: &Con,
+    domains: &[IntSet],
+    boxes: &[IntSet],
+    alloc: Global,
+) -> Result<Clause, AllocError>
+    requires well_made { IsWellMadeCon domains.now con.now }
+    requires boxes { AreBoxesWithin domains.now boxes.now }
+    requires sets { All (λ d. IsValid d) domains.now }
+    requires some { quiet_at con.now boxes.now (vars_of con.now) ≡ false }
+    ensures { IfOk result (λ c. IsPruning con.now domains.now boxes.now c) }
 {
-    for i in items {
-        if !is_item_quiet(con, boxes, *i) {
-            return false;
-        }
+    let named = all_vars(con, alloc)?;
+    let found = first_culprit(con, boxes, named.as_slice());
+    let vars = distinct(named);
+    let literals = value_literals(domains, boxes, vars.as_slice(), found.0, found.1, alloc)?;
+    let clause = pruning(con, domains, boxes, literals);
+    Ok(clause)
+}
+
+/// A clause that the constraint justifies and that is unit or false in the boxes, found by probing each value that `quiet`
+/// speaks of and explained by all variables of the constraint; None where the constraint is quiet, and then no memory is
+/// taken.
+///
+/// # Errors
+/// Want of memory.
+pub fn probe(
+    con: &Con,
+    domains: &[IntSet],
+    boxes: &[IntSet],
+    alloc: Global,
+) -> Result<Option<Clause>, AllocError>
+    requires well_made { IsWellMadeCon domains.now con.now }
+    requires boxes { AreBoxesWithin domains.now boxes.now }
+    requires sets { All (λ d. IsValid d) domains.now }
+    ensures answer { IfOk result (λ answer. IsAnswer con.now domains.now boxes.now answer) }
+{
+    if refutes(con, boxes) {
+        let clause = refuted_pruning(con, domains, boxes, alloc)?;
+        return Ok(Some(clause));
     }
-    true
-}
-
-/// Whether that is so at each variable of the constraint.
-pub(crate) fn are_all_quiet(con: &Con, boxes: &[IntSet]) -> bool
-    requires named { IsNamed con.now boxes.now }
-    requires bounded { IsBounded con.now boxes.now }
-    ensures { result ≡ quiet_at con.now boxes.now (vars_of con.now) }
-{
-    match con {
-        Con::LinLe { terms, .. } => are_terms_quiet(con, boxes, terms.items()),
-        Con::LinDef { out, terms, .. } => {
-            is_quiet_at(con, boxes, *out) && are_terms_quiet(con, boxes, terms.items())
-        }
-        Con::ReifLe { flag, terms, .. } => {
-            is_quiet_at(con, boxes, *flag) && are_terms_quiet(con, boxes, terms.items())
-        }
-        Con::AndDef { flag, parts } => {
-            is_quiet_at(con, boxes, *flag) && are_parts_quiet(con, boxes, parts.items())
-        }
-        Con::MemberDef { flag, var, .. } => {
-            is_quiet_at(con, boxes, *flag) && is_quiet_at(con, boxes, *var)
-        }
-        Con::EqDef { flag, left, right } => {
-            is_quiet_at(con, boxes, *flag)
-                && is_quiet_at(con, boxes, *left)
-                && is_quiet_at(con, boxes, *right)
-        }
-        Con::ElementDef { out, index, items } => {
-            is_quiet_at(con, boxes, *out)
-                && is_quiet_at(con, boxes, *index)
-                && are_terms_quiet(con, boxes, items.items())
-        }
-        Con::CondDef { out, flag, item } => {
-            is_quiet_at(con, boxes, *out)
-                && is_quiet_at(con, boxes, *flag)
-                && is_quiet_at(con, boxes, *item)
-        }
-        Con::ClauseCon { clause } => are_literals_quiet(con, boxes, clause.literals()),
-        Con::AllDiff { vars } => are_vars_quiet(con, boxes, vars.items()),
-        Con::Pack { items } => are_items_quiet(con, boxes, items.items()),
+    if are_all_quiet(con, boxes) {
+        return Ok(None);
     }
+    let pruned = value_pruning(con, domains, boxes, alloc)?;
+    Ok(Some(pruned))
 }

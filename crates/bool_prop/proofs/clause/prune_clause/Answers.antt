@@ -4,7 +4,7 @@ use Rattle.ground_form.specs.declared.con.Con.TheVariants.{ClauseCon}
 use Rattle.ground_form.specs.Meaning.{clause_vars}
 use Rattle.ground_form.proofs.VarLists.{all_literals}
 use Rattle.rule_law.specs.Answers.{IsPruning}
-use Rattle.rule_law.proofs.EndLaws.{are_sets}
+use Rattle.box_view.proofs.EndLaws.{are_sets}
 use Rattle.bool_prop.proofs.ClauseQuiet.{named_here, clause_quiet, clause_pruning}
 use Rattle.bool_prop.proofs.clause.prune_clause.Goals as goal
 

@@ -1,6 +1,6 @@
 use Rattle.std.proofs.Common.{◌≡◌, ◌-◌, ◌&&◌, not, drop, length}
 use Rattle.ground_form.specs.Meaning.{part_vars}
-use Rattle.rule_law.specs.Refuted.{some_barred, all_fixed}
+use Rattle.box_rules.specs.Refuted.{some_barred, all_fixed}
 use Rattle.rule_law.specs.Reasons.{has_number}
 use Rattle.bool_prop.proofs.conjunction.find_open.Given as goal
 

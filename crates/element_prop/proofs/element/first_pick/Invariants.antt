@@ -1,5 +1,5 @@
 use Rattle.std.proofs.Common.{◌≡◌, ◌≤◌, ◌-◌, drop, length}
-use Rattle.rule_law.specs.Refuted.{none_picked}
+use Rattle.box_rules.specs.Refuted.{none_picked}
 use Rattle.element_prop.proofs.element.first_pick.Given as goal
 
 abbrev pub invariant-loop-i : goal.invariant-loop-i

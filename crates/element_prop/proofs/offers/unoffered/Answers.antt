@@ -1,5 +1,5 @@
 use Rattle.std.proofs.Common.{sym, ◌∙◌}
-use Rattle.rule_law.proofs.EndLaws.{are_sets}
+use Rattle.box_view.proofs.EndLaws.{are_sets}
 use Rattle.element_prop.proofs.OfferLaws.{covered_offered, all_values_offered, none_then}
 use Rattle.element_prop.proofs.offers.unoffered.Goals as goal
 

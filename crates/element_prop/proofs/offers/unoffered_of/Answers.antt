@@ -1,7 +1,7 @@
 use Rattle.std.proofs.Common.{◌≡◌, true, pos, get_or, refl, subst, sym}
 use Rattle.std.proofs.lemmas.Option.{IfSome_then}
 use Rattle.signed_clause.specs.Ranges.{Ranges, has, IsValid}
-use Rattle.rule_law.proofs.QuietLaws.{range_order, range_values}
+use Rattle.box_rules.proofs.QuietLaws.{range_order, range_values}
 use Rattle.element_prop.proofs.offers.unoffered_of.Goals as goal
 
 pub unoffered_in-found-requires-clause-order : goal.unoffered_in-found-requires-clause-order

@@ -2,7 +2,7 @@ use Rattle.std.proofs.Common.{◌≡◌, pos, ◌-ℤ◌, ◌*ℤ◌, arith}
 use Rattle.std.proofs.lemmas.Int.{ints}
 use Rattle.ground_form.specs.Bounds.{low_of, high_of}
 use Rattle.ground_form.proofs.Products.{mul_least}
-use Rattle.rule_law.proofs.EndLaws.{ends_in_order}
+use Rattle.box_view.proofs.EndLaws.{ends_in_order}
 use Rattle.linear_prop.specs.Falls.{least_at}
 use Rattle.linear_prop.proofs.Products.{some_factor}
 use Rattle.linear_prop.proofs.Falling.{product_fits, least_fits}

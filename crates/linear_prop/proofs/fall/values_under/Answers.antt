@@ -1,7 +1,7 @@
 use Rattle.std.proofs.Common.{pos, ◌≤ℤ◌, ◌<ℤ◌, arith}
 use Rattle.std.proofs.lemmas.Int.{ints}
 use Rattle.ground_form.specs.Bounds.{low_of, high_of}
-use Rattle.rule_law.proofs.EndLaws.{ends_in_order}
+use Rattle.box_view.proofs.EndLaws.{ends_in_order}
 use Rattle.linear_prop.proofs.Products.{above_low_end, below_high_end}
 use Rattle.linear_prop.proofs.Falling.{under_positive, under_negative}
 use Rattle.linear_prop.proofs.fall.values_under.Goals as goal

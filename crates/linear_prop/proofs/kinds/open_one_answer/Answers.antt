@@ -1,6 +1,6 @@
 use Rattle.std.proofs.Common.{arith}
 use Rattle.std.proofs.lemmas.Int.{ints}
-use Rattle.rule_law.proofs.EndLaws.{are_sets}
+use Rattle.box_view.proofs.EndLaws.{are_sets}
 use Rattle.linear_prop.proofs.KindLaws.{over_one, flag_apart}
 use Rattle.linear_prop.proofs.KindAnswers.{follows_one_con, open_one}
 use Rattle.linear_prop.proofs.kinds.open_one_answer.Goals as goal

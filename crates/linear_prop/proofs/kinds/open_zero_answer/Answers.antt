@@ -1,6 +1,6 @@
 use Rattle.std.proofs.Common.{arith}
 use Rattle.std.proofs.lemmas.Int.{ints}
-use Rattle.rule_law.proofs.EndLaws.{are_sets}
+use Rattle.box_view.proofs.EndLaws.{are_sets}
 use Rattle.linear_prop.proofs.KindLaws.{over_zero, flag_apart_turned}
 use Rattle.linear_prop.proofs.KindAnswers.{follows_zero_con, open_zero}
 use Rattle.linear_prop.proofs.kinds.open_zero_answer.Goals as goal

@@ -1,6 +1,6 @@
 use Rattle.std.proofs.Common.{◌≡◌, ℕ, suc, ◌+◌, ◌++◌, arith, ap, ◌∙◌}
 use Rattle.signed_clause.specs.Clauses.{Literals}
-use Rattle.rule_law.specs.Refuted.{width}
+use Rattle.box_rules.specs.Refuted.{width}
 use Rattle.pack_prop.specs.Within.{within, outside}
 use Rattle.pack_prop.proofs.Taking.{crowd_size, crowd_is}
 use Rattle.pack_prop.proofs.DiffExplained.{IsGround}

@@ -1,6 +1,6 @@
 use Rattle.std.proofs.Common.{get_or, refl, arith}
 use Rattle.std.proofs.lemmas.Int.{ints}
-use Rattle.rule_law.proofs.PackSteps.{load_step}
+use Rattle.box_rules.proofs.PackSteps.{load_step}
 use Rattle.pack_prop.proofs.loads.load_at.Goals as goal
 
 pub loop-i-preserved : goal.loop-i-preserved

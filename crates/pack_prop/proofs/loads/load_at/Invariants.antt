@@ -1,5 +1,5 @@
 use Rattle.std.proofs.Common.{◌≡◌, ◌+ℤ◌, ◌≤ℤ◌, ◌*◌, pos, drop}
-use Rattle.rule_law.specs.Refuted.{fixed_load}
+use Rattle.box_rules.specs.Refuted.{fixed_load}
 use Rattle.pack_prop.proofs.loads.load_at.Given as goal
 
 abbrev pub invariant-loop-i : goal.invariant-loop-i

@@ -1,5 +1,5 @@
 use Rattle.std.proofs.Common.{◌≡◌, ◌+ℤ◌, ◌≤ℤ◌, ◌*◌, pos, drop}
-use Rattle.rule_law.specs.Refuted.{least_sizes}
+use Rattle.box_rules.specs.Refuted.{least_sizes}
 use Rattle.pack_prop.proofs.loads.sizes_of.Given as goal
 
 abbrev pub invariant-loop-i : goal.invariant-loop-i

@@ -1,5 +1,5 @@
 use Rattle.std.proofs.Common.{◌≡◌, ◌≤ℤ◌, drop}
-use Rattle.rule_law.specs.Refuted.{last_place}
+use Rattle.box_rules.specs.Refuted.{last_place}
 use Rattle.pack_prop.proofs.room.last_place.Given as goal
 
 abbrev pub invariant-loop-i : goal.invariant-loop-i

@@ -1,5 +1,5 @@
 use Rattle.std.proofs.Common.{length, arith}
-use Rattle.rule_law.proofs.EndLaws.{are_sets}
+use Rattle.box_view.proofs.EndLaws.{are_sets}
 use Rattle.ground_form.specs.Bounds.{low_of}
 use Rattle.signed_clause.specs.Clauses.{box_of}
 use Rattle.std.proofs.lemmas.Int.{ints}

@@ -1,5 +1,5 @@
 use Rattle.std.proofs.Common.{◌≡◌, ◌+◌, ◌<◌, ◌≤◌, ◌+ℤ◌, ℕ, suc, pos, drop, length}
-use Rattle.rule_law.specs.Refuted.{count_in}
+use Rattle.box_rules.specs.Refuted.{count_in}
 use Rattle.pack_prop.specs.Slots.{total}
 use Rattle.pack_prop.proofs.slots.add_ends.Given as goal
 

@@ -1,5 +1,5 @@
 use Rattle.std.proofs.Common.{◌≡◌, ◌+ℤ◌, ◌≤ℤ◌, ◌*◌, pos, drop}
-use Rattle.rule_law.specs.Refuted.{least_sizes}
+use Rattle.box_rules.specs.Refuted.{least_sizes}
 use Rattle.pack_prop.specs.Sources.{parted}
 use Rattle.pack_prop.proofs.total.sizes_of.Given as goal
 

@@ -1,0 +1,14 @@
+pub mod FixedLaws
+pub mod SumLaws
+pub mod FlagLaws
+pub mod DiffLaws
+pub mod PackLaws
+pub mod RefutedLaws
+pub mod SumSteps
+pub mod PackSteps
+pub mod NamedVars
+pub mod QuietLaws
+pub mod CrowdLaws
+pub mod FewPlaces
+pub mod Agreeing
+pub mod QuietFrom

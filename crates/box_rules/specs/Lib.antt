@@ -1,0 +1,5 @@
+pub mod Refuted
+pub mod Justified
+pub mod Quiet
+pub mod Points
+pub mod Named

@@ -1,0 +1,215 @@
+//! Flags, conjunctions, memberships, equalities, elements, conditionals and clauses over a view of boxes.
+//!
+//! One function for each rule, and small ones that ask of one variable. None takes memory; a list is walked once, up to the
+//! first item that decides.
+ghost use Rattle.std.specs.Prelude.{◌≡◌, ◌<◌, ◌&&◌, ◌||◌, not, pos, true, false, length};
+ghost use Rattle.std.specs.List.{All};
+ghost use Rattle.signed_clause.specs.Ranges.{has};
+ghost use Rattle.signed_clause.specs.SetAlgebra.{misses, inside};
+ghost use Rattle.signed_clause.specs.Clauses.{box_of, false_in};
+ghost use Rattle.ground_form.specs.Meaning.{bit};
+ghost use Rattle.ground_form.specs.Bounds.{low_of, high_of};
+ghost use Rattle.box_rules.specs.Refuted.{fixed_at, barred, some_barred, all_fixed, same_single, none_picked};
+
+use box_view::View;
+use ground_form::Number;
+use signed_clause::IntSet;
+
+/// Whether the flag can't have the truth.
+pub fn is_barred<V: View>(view: &V, flag: u32, truth: bool) -> bool
+    requires { flag < length (V.boxes view.now) }
+    ensures { result ≡ barred (V.boxes view.now) flag truth }
+{
+    if truth {
+        !view.has(flag, 1)
+    } else {
+        !view.has(flag, 0)
+    }
+}
+
+/// Whether the box of `x` is the value alone.
+pub fn is_fixed_at<V: View>(view: &V, x: u32, at: Number) -> bool
+    requires { x < length (V.boxes view.now) }
+    ensures { result ≡ fixed_at (box_of (V.boxes view.now) x) at.value }
+{
+    let ends = view.ends(x);
+    !view.is_empty(x) && (ends.0 == at.value && ends.1 == at.value)
+}
+
+/// Whether the part can't be as it wants.
+fn is_part_barred<V: View>(view: &V, p: (u32, bool)) -> bool
+    requires { p.0 < length (V.boxes view.now) }
+    ensures { result ≡ barred (V.boxes view.now) p.0 p.1 }
+{
+    is_barred(view, p.0, p.1)
+}
+
+/// Whether the part is fixed at what it wants.
+fn is_part_fixed<V: View>(view: &V, p: (u32, bool)) -> bool
+    requires { p.0 < length (V.boxes view.now) }
+    ensures { result ≡ fixed_at (box_of (V.boxes view.now) p.0) (bit p.1) }
+{
+    is_fixed_at(
+        view,
+        p.0,
+        Number {
+            value: i64::from(p.1),
+        },
+    )
+}
+
+/// Whether some part can't be as it wants.
+fn is_some_barred<V: View>(view: &V, parts: &[(u32, bool)]) -> bool
+    requires { All (λ p. p.0 < length (V.boxes view.now)) parts.now }
+    ensures { result ≡ some_barred parts.now (V.boxes view.now) }
+{
+    for p in parts {
+        if is_part_barred(view, *p) {
+            return true;
+        }
+    }
+    false
+}
+
+/// Whether each part is fixed at what it wants.
+fn are_all_fixed<V: View>(view: &V, parts: &[(u32, bool)]) -> bool
+    requires { All (λ p. p.0 < length (V.boxes view.now)) parts.now }
+    ensures { result ≡ all_fixed parts.now (V.boxes view.now) }
+{
+    for p in parts {
+        if !is_part_fixed(view, *p) {
+            return false;
+        }
+    }
+    true
+}
+
+/// Whether a flag can be neither: not 1 since it is barred or denied, and not 0 since it is barred or held.
+pub fn is_flag_excluded<V: View>(view: &V, flag: u32, denied: bool, held: bool) -> bool
+    requires { flag < length (V.boxes view.now) }
+    ensures { result ≡ ((barred (V.boxes view.now) flag true || denied) && (barred (V.boxes view.now) flag false || held)) }
+{
+    (is_barred(view, flag, true) || denied) && (is_barred(view, flag, false) || held)
+}
+
+/// The rule of a conjunction.
+pub fn excludes_conjunction<V: View>(view: &V, flag: u32, parts: &[(u32, bool)]) -> bool
+    requires flag { flag < length (V.boxes view.now) }
+    requires parts { All (λ p. p.0 < length (V.boxes view.now)) parts.now }
+    ensures { result ≡ ((barred (V.boxes view.now) flag true || some_barred parts.now (V.boxes view.now))
+        && (barred (V.boxes view.now) flag false || all_fixed parts.now (V.boxes view.now))) }
+{
+    (is_barred(view, flag, true) || is_some_barred(view, parts))
+        && (is_barred(view, flag, false) || are_all_fixed(view, parts))
+}
+
+/// The rule of a membership.
+pub fn excludes_member<V: View>(view: &V, flag: u32, var: u32, set: &IntSet) -> bool
+    requires flag { flag < length (V.boxes view.now) }
+    requires var { var < length (V.boxes view.now) }
+    ensures { result ≡ ((barred (V.boxes view.now) flag true || misses (box_of (V.boxes view.now) var) set.now)
+        && (barred (V.boxes view.now) flag false || inside (box_of (V.boxes view.now) var) set.now)) }
+{
+    (is_barred(view, flag, true) || view.misses(var, set))
+        && (is_barred(view, flag, false) || view.is_inside(var, set))
+}
+
+/// Whether both boxes are the same single value.
+fn is_same_single<V: View>(view: &V, left: u32, right: u32) -> bool
+    requires left { left < length (V.boxes view.now) }
+    requires right { right < length (V.boxes view.now) }
+    ensures { result ≡ same_single (box_of (V.boxes view.now) left) (box_of (V.boxes view.now) right) }
+{
+    let at = least(view, left);
+    is_fixed_at(view, left, at) && is_fixed_at(view, right, at)
+}
+
+/// The least value of the box of `x`, 0 where it is empty.
+pub fn least<V: View>(view: &V, x: u32) -> Number
+    requires { x < length (V.boxes view.now) }
+    ensures { result.value ≡ low_of (box_of (V.boxes view.now) x) }
+{
+    Number {
+        value: view.ends(x).0,
+    }
+}
+
+/// The greatest value of the box of `x`, 0 where it is empty.
+pub fn greatest<V: View>(view: &V, x: u32) -> Number
+    requires { x < length (V.boxes view.now) }
+    ensures { result.value ≡ high_of (box_of (V.boxes view.now) x) }
+{
+    Number {
+        value: view.ends(x).1,
+    }
+}
+
+/// The rule of an equality.
+pub fn excludes_equality<V: View>(view: &V, flag: u32, left: u32, right: u32) -> bool
+    requires flag { flag < length (V.boxes view.now) }
+    requires left { left < length (V.boxes view.now) }
+    requires right { right < length (V.boxes view.now) }
+    ensures { result ≡ ((barred (V.boxes view.now) flag true || misses (box_of (V.boxes view.now) left) (box_of (V.boxes view.now) right))
+        && (barred (V.boxes view.now) flag false || same_single (box_of (V.boxes view.now) left) (box_of (V.boxes view.now) right))) }
+{
+    (is_barred(view, flag, true) || view.are_apart(left, right))
+        && (is_barred(view, flag, false) || is_same_single(view, left, right))
+}
+
+/// Whether the item can't be picked: its value isn't in the index's box, or its variable's box misses that of `out`.
+fn is_not_picked<V: View>(view: &V, out: u32, index: u32, t: (i64, u32)) -> bool
+    requires out { out < length (V.boxes view.now) }
+    requires index { index < length (V.boxes view.now) }
+    requires item { t.1 < length (V.boxes view.now) }
+    ensures { result ≡ (not (has (box_of (V.boxes view.now) index) t.0) || misses (box_of (V.boxes view.now) t.1) (box_of (V.boxes view.now) out)) }
+{
+    !view.has(index, t.0) || view.are_apart(t.1, out)
+}
+
+/// The rule of an element.
+pub fn excludes_element<V: View>(view: &V, out: u32, index: u32, items: &[(i64, u32)]) -> bool
+    requires out { out < length (V.boxes view.now) }
+    requires index { index < length (V.boxes view.now) }
+    requires items { All (λ t. t.1 < length (V.boxes view.now)) items.now }
+    ensures { result ≡ none_picked (box_of (V.boxes view.now) out) (box_of (V.boxes view.now) index) items.now (V.boxes view.now) }
+{
+    for t in items {
+        if !is_not_picked(view, out, index, *t) {
+            return false;
+        }
+    }
+    true
+}
+
+/// The rule of a conditional.
+pub fn excludes_conditional<V: View>(view: &V, out: u32, flag: u32, item: u32) -> bool
+    requires out { out < length (V.boxes view.now) }
+    requires flag { flag < length (V.boxes view.now) }
+    requires item { item < length (V.boxes view.now) }
+    ensures { result ≡ ((barred (V.boxes view.now) flag true || misses (box_of (V.boxes view.now) out) (box_of (V.boxes view.now) item))
+        && (barred (V.boxes view.now) flag false || not (has (box_of (V.boxes view.now) out) (pos 0)))) }
+{
+    (is_barred(view, flag, true) || view.are_apart(out, item))
+        && (is_barred(view, flag, false) || !view.has(out, 0))
+}
+
+/// Whether the literal's set misses its box.
+fn is_literal_false<V: View>(view: &V, l: &(u32, IntSet)) -> bool
+    requires { l.now.0 < length (V.boxes view.now) }
+    ensures { result ≡ misses l.now.1 (box_of (V.boxes view.now) l.now.0) }
+{
+    view.misses(l.0, &l.1)
+}
+
+/// The rule of a clause.
+pub fn excludes_clause<V: View>(view: &V, literals: &[(u32, IntSet)]) -> bool
+    requires { All (λ l. l.0 < length (V.boxes view.now)) literals.now }
+    ensures { result ≡ false_in (V.boxes view.now) literals.now }
+{
+    for l in literals {
+        if !is_literal_false(view, l) {
+            return false;
+        }
+    }
+    true
+}

@@ -1,0 +1,212 @@
+//! Items to be packed, over a view of boxes.
+//!
+//! Two loads are compared with room: at a place where items are fixed, and over all places. The room of all places is added up
+//! value by value, from where the first place's box begins to where the last one's ends. Sums are of 128 bits, which as many
+//! values of 64 bits as a list can have don't fill.
+ghost use Rattle.std.specs.Prelude.{◌≡◌, ◌<◌, ◌≤◌, ◌≤ℤ◌, ◌<ℤ◌, ◌^◌, ◌-◌, ◌&&◌, ◌||◌, ◌+ℤ◌, cond, pos, int_lt, length};
+ghost use Rattle.std.specs.Int.{int_max, int_min};
+ghost use Rattle.std.specs.List.{All};
+ghost use Rattle.signed_clause.specs.Ranges.{has};
+ghost use Rattle.signed_clause.specs.Clauses.{box_of};
+ghost use Rattle.ground_form.specs.Bounds.{low_of, high_of};
+ghost use Rattle.box_rules.specs.Refuted.{fixed_at, fixed_load, overfull, some_overfull, least_sizes, best_room, rooms_from, first_place, last_place, width, all_room};
+ghost use Rattle.box_rules.specs.Named.{AreItemsNamed, IsItemNamed};
+
+use crate::flags::{greatest, is_fixed_at, least};
+use box_view::{View, greater, is_below, next, smaller};
+use ground_form::Number;
+
+/// A sum of many numbers.
+#[derive(Clone, Copy)]
+struct Total {
+    value: i128,
+}
+
+impl Total {
+    /// The sum with one more number.
+    fn plus(self, n: Number) -> Total
+        requires low { pos 0 ≤ℤ (self.value +ℤ pos (2 ^ 127 - 2 ^ 63)) }
+        requires high { self.value ≤ℤ pos (2 ^ 127 - 2 ^ 63) }
+        ensures sum { result.value ≡ self.value +ℤ n.value }
+        ensures low { self.value ≤ℤ (result.value +ℤ pos (2 ^ 63)) }
+        ensures high { result.value ≤ℤ (self.value +ℤ pos (2 ^ 63 - 1)) }
+    {
+        Total {
+            value: self.value + i128::from(n.value),
+        }
+    }
+
+    /// Whether the number is below the sum.
+    fn is_above(self, n: Number) -> bool
+        ensures { result ≡ int_lt n.value self.value }
+    {
+        i128::from(n.value) < self.value
+    }
+
+    /// Whether the other sum is below this one.
+    fn is_more_than(self, o: Total) -> bool
+        ensures { result ≡ int_lt o.value self.value }
+    {
+        o.value < self.value
+    }
+}
+
+/// The load with the item's least size, where its place is fixed at the value.
+fn with_load<V: View>(load: Total, i: (u32, u32, u32), view: &V, at: Number) -> Total
+    requires item { IsItemNamed i (V.boxes view.now) }
+    requires low { pos 0 ≤ℤ (load.value +ℤ pos (2 ^ 127 - 2 ^ 63)) }
+    requires high { load.value ≤ℤ pos (2 ^ 127 - 2 ^ 63) }
+    ensures load { result.value ≡ cond (fixed_at (box_of (V.boxes view.now) i.0) at.value) (load.value +ℤ low_of (box_of (V.boxes view.now) i.1)) load.value }
+    ensures low { load.value ≤ℤ (result.value +ℤ pos (2 ^ 63)) }
+    ensures high { result.value ≤ℤ (load.value +ℤ pos (2 ^ 63 - 1)) }
+{
+    if is_fixed_at(view, i.0, at) {
+        load.plus(least(view, i.1))
+    } else {
+        load
+    }
+}
+
+/// The least sizes of the items whose place is fixed at the value, added up.
+fn fixed_load<V: View>(view: &V, items: &[(u32, u32, u32)], at: Number) -> Total
+    requires { AreItemsNamed items.now (V.boxes view.now) }
+    ensures { result.value ≡ fixed_load at.value items.now (V.boxes view.now) }
+{
+    let mut load = Total { value: 0 };
+    for i in items {
+        load = with_load(load, *i, view, at);
+    }
+    load
+}
+
+/// Whether the item's place is fixed, and the load there is more than its greatest room.
+fn is_overfull<V: View>(view: &V, items: &[(u32, u32, u32)], i: (u32, u32, u32)) -> bool
+    requires item { IsItemNamed i (V.boxes view.now) }
+    requires items { AreItemsNamed items.now (V.boxes view.now) }
+    ensures { result ≡ overfull i items.now (V.boxes view.now) }
+{
+    let at = least(view, i.0);
+    is_fixed_at(view, i.0, at) && fixed_load(view, items, at).is_above(greatest(view, i.2))
+}
+
+/// Whether some item's place is so.
+fn is_some_overfull<V: View>(view: &V, items: &[(u32, u32, u32)]) -> bool
+    requires { AreItemsNamed items.now (V.boxes view.now) }
+    ensures { result ≡ some_overfull items.now items.now (V.boxes view.now) }
+{
+    for i in items {
+        if is_overfull(view, items, *i) {
+            return true;
+        }
+    }
+    false
+}
+
+/// All least sizes, added up.
+fn least_sizes<V: View>(view: &V, items: &[(u32, u32, u32)]) -> Total
+    requires { AreItemsNamed items.now (V.boxes view.now) }
+    ensures { result.value ≡ least_sizes items.now (V.boxes view.now) }
+{
+    let mut sum = Total { value: 0 };
+    for i in items {
+        sum = sum.plus(least(view, i.1));
+    }
+    sum
+}
+
+/// Whether the place's box has the value.
+fn may_be_at<V: View>(view: &V, place: u32, at: Number) -> bool
+    requires { place < length (V.boxes view.now) }
+    ensures { result ≡ has (box_of (V.boxes view.now) place) at.value }
+{
+    view.has(place, at.value)
+}
+
+/// The greatest room so far, with the item's where its place's box has the value.
+fn with_room<V: View>(best: Number, i: (u32, u32, u32), view: &V, at: Number) -> Number
+    requires item { IsItemNamed i (V.boxes view.now) }
+    ensures { result.value ≡ cond (has (box_of (V.boxes view.now) i.0) at.value) (int_max best.value (high_of (box_of (V.boxes view.now) i.2))) best.value }
+{
+    if may_be_at(view, i.0, at) {
+        greater(best, greatest(view, i.2))
+    } else {
+        best
+    }
+}
+
+/// The greater of 0 and the greatest room among the items whose place's box has the value.
+fn best_room<V: View>(view: &V, items: &[(u32, u32, u32)], at: Number) -> Number
+    requires { AreItemsNamed items.now (V.boxes view.now) }
+    ensures { result.value ≡ best_room at.value items.now (V.boxes view.now) }
+{
+    let mut best = Number { value: 0 };
+    for i in items {
+        best = with_room(best, *i, view, at);
+    }
+    best
+}
+
+/// The least of the number and what the places' boxes begin with.
+fn first_place<V: View>(view: &V, items: &[(u32, u32, u32)], from: Number) -> Number
+    requires { AreItemsNamed items.now (V.boxes view.now) }
+    ensures value { result.value ≡ first_place from.value items.now (V.boxes view.now) }
+    ensures order { result.value ≤ℤ from.value }
+{
+    let mut first = from;
+    for i in items {
+        first = smaller(first, least(view, i.0));
+    }
+    first
+}
+
+/// The greatest of the number and what the places' boxes end with.
+fn last_place<V: View>(view: &V, items: &[(u32, u32, u32)], from: Number) -> Number
+    requires { AreItemsNamed items.now (V.boxes view.now) }
+    ensures value { result.value ≡ last_place from.value items.now (V.boxes view.now) }
+    ensures order { from.value ≤ℤ result.value }
+{
+    let mut last = from;
+    for i in items {
+        last = greater(last, greatest(view, i.0));
+    }
+    last
+}
+
+/// The best rooms of the values from `first` to `last`, added up.
+fn rooms_between<V: View>(view: &V, items: &[(u32, u32, u32)], first: Number, last: Number) -> Total
+    requires items { AreItemsNamed items.now (V.boxes view.now) }
+    requires order { first.value ≤ℤ last.value }
+    ensures { result.value ≡ rooms_from (width first.value last.value) first.value items.now (V.boxes view.now) }
+{
+    let mut at = first;
+    let mut sum = Total { value: 0 }.plus(best_room(view, items, at));
+    while is_below(at, last) {
+        at = next(at, last);
+        sum = sum.plus(best_room(view, items, at));
+    }
+    sum
+}
+
+/// The room of all places.
+fn all_room<V: View>(view: &V, items: &[(u32, u32, u32)]) -> Total
+    requires { AreItemsNamed items.now (V.boxes view.now) }
+    ensures { result.value ≡ all_room items.now (V.boxes view.now) }
+{
+    match items {
+        [] => Total { value: 0 },
+        [head, rest @ ..] => {
+            let ends = view.ends(head.0);
+            let first = first_place(view, rest, Number { value: ends.0 });
+            let last = last_place(view, rest, Number { value: ends.1 });
+            rooms_between(view, items, first, last)
+        }
+    }
+}
+
+/// The rule of items to be packed.
+pub fn excludes_packing<V: View>(view: &V, items: &[(u32, u32, u32)]) -> bool
+    requires { AreItemsNamed items.now (V.boxes view.now) }
+    ensures { result ≡ (some_overfull items.now items.now (V.boxes view.now) || int_lt (all_room items.now (V.boxes view.now)) (least_sizes items.now (V.boxes view.now))) }
+{
+    is_some_overfull(view, items) || least_sizes(view, items).is_more_than(all_room(view, items))
+}

@@ -1,0 +1,225 @@
+//! Domains less the sets of a clause, as a view.
+//!
+//! What is left of a domain is not built: its questions are those of numbers that the domain has and the clause's set for the
+//! variable lacks (`values`). The set is looked up by halving the clause; a variable that the clause doesn't name keeps its
+//! domain, and the questions are then the domain's own.
+ghost use Rattle.std.specs.Prelude.{◌≡◌, ◌≤◌, ◌<◌, ◌≤ℤ◌, ℤ, true, false, IfSome, IfNone, pos, [], length, negsuc};
+ghost use Rattle.signed_clause.specs.Ranges.{has, is_nil};
+ghost use Rattle.signed_clause.specs.SetAlgebra.{misses, inside, less};
+ghost use Rattle.ground_form.specs.Bounds.{low_of, high_of, reach_of};
+ghost use Rattle.signed_clause.specs.Clauses.{box_of};
+ghost use Rattle.box_view.specs.Views.{cut};
+ghost use Rattle.box_view.specs.Left.{left_of};
+ghost use Rattle.box_view.specs.Firsts.{HasNoneFrom};
+
+use crate::values::{Both, Inside, Outside, Values};
+use crate::view::{View, ends_in_order, sets_miss};
+use ground_form::Number;
+use signed_clause::{Clause, IntSet};
+
+/// What is left of a domain: all of it, or what a set doesn't have.
+#[derive(Clone, Copy)]
+enum Left<'a> {
+    /// The domain.
+    Whole(&'a IntSet),
+    /// The domain less the set.
+    Rest(&'a IntSet, &'a IntSet),
+}
+
+/// Domains less the sets of a clause.
+#[derive(Drop)]
+pub struct Cut<'a> {
+    /// The domains.
+    pub domains: &'a [IntSet],
+    /// The clause.
+    pub clause: &'a Clause,
+}
+
+impl<'a> Cut<'a> {
+    /// What is left of the domain of `x`.
+    #[tactic(auto, using(crate::proofs::CutLaws::cut_box, crate::proofs::CutLaws::cut_within, crate::proofs::CutLaws::kept_box, crate::proofs::CutLaws::rest_reach))]
+    fn left(&self, x: u32) -> Left<'a>
+        requires { x < length (cut self.now.domains.now self.now.clause.now) }
+        ensures box_of { left_of result ≡ box_of (cut self.now.domains.now self.now.clause.now) x }
+        ensures reach { reach_of (left_of result) ≤ reach_of (box_of self.now.domains.now x) }
+    {
+        let domain = &self.domains[x as usize];
+        domain.ranges();
+        match self.clause.set_of(x) {
+            Some(out) => {
+                out.ranges();
+                Left::Rest(domain, out)
+            }
+            None => Left::Whole(domain),
+        }
+    }
+}
+
+impl<'a> View for Cut<'a> {
+    ghost boxes = { λ v. cut v.domains.now v.clause.now };
+
+    ghost outer = { λ v. v.domains.now };
+
+    fn is_empty(&self, x: u32) -> bool {
+        match self.left(x) {
+            Left::Whole(domain) => domain.is_empty(),
+            Left::Rest(domain, out) => domain.within(out),
+        }
+    }
+
+    fn ends(&self, x: u32) -> (i64, i64) {
+        match self.left(x) {
+            Left::Whole(domain) => ends_in_order(domain),
+            Left::Rest(domain, out) => rest_ends(domain, out),
+        }
+    }
+
+    fn has(&self, x: u32, v: i64) -> bool {
+        match self.left(x) {
+            Left::Whole(domain) => domain.contains(v),
+            Left::Rest(domain, out) => is_left(domain, out, v),
+        }
+    }
+
+    fn misses(&self, x: u32, set: &IntSet) -> bool {
+        match self.left(x) {
+            Left::Whole(domain) => sets_miss(domain, set),
+            Left::Rest(domain, out) => rest_misses(domain, out, set),
+        }
+    }
+
+    fn is_inside(&self, x: u32, set: &IntSet) -> bool {
+        match self.left(x) {
+            Left::Whole(domain) => domain.within(set),
+            Left::Rest(domain, out) => is_rest_inside(domain, out, set),
+        }
+    }
+
+    fn are_apart(&self, x: u32, y: u32) -> bool {
+        match (self.left(x), self.left(y)) {
+            (Left::Whole(one), Left::Whole(other)) => one.disjoint(other),
+            (Left::Rest(one, out), Left::Whole(other)) => rest_misses(one, out, other),
+            (Left::Whole(one), Left::Rest(other, out)) => rest_misses(other, out, one),
+            (Left::Rest(one, out), Left::Rest(other, other_out)) => {
+                are_rests_apart(one, out, other, other_out)
+            }
+        }
+    }
+}
+
+/// Whether no number passes.
+fn has_none<A: Values>(a: &A) -> bool
+    ensures none { result ≡ true → HasNoneFrom (A.holds a.now) (negsuc 9223372036854775807) }
+    ensures some { result ≡ false → (w : ℤ) × (A.holds a.now w ≡ true) }
+{
+    a.next(Number { value: i64::MIN }).is_none()
+}
+
+/// Whether no value of the domain that `out` lacks is in the set.
+fn rest_misses(domain: &IntSet, out: &IntSet, set: &IntSet) -> bool
+    ensures missed { result ≡ misses (less domain.now out.now) set.now }
+    ensures set_missed { result ≡ misses set.now (less domain.now out.now) }
+{
+    domain.ranges();
+    out.ranges();
+    set.ranges();
+    has_none(&Both {
+        a: Both {
+            a: Inside { set: domain },
+            b: Outside { set: out },
+        },
+        b: Inside { set },
+    })
+}
+
+/// Whether every value of the domain that `out` lacks is in the set.
+pub fn is_rest_inside(domain: &IntSet, out: &IntSet, set: &IntSet) -> bool
+    ensures { result ≡ inside (less domain.now out.now) set.now }
+{
+    domain.ranges();
+    out.ranges();
+    set.ranges();
+    has_none(&Both {
+        a: Both {
+            a: Inside { set: domain },
+            b: Outside { set: out },
+        },
+        b: Outside { set },
+    })
+}
+
+/// Whether what two domains keep has no common value.
+fn are_rests_apart(one: &IntSet, out: &IntSet, other: &IntSet, other_out: &IntSet) -> bool
+    ensures { result ≡ misses (less one.now out.now) (less other.now other_out.now) }
+{
+    one.ranges();
+    out.ranges();
+    other.ranges();
+    other_out.ranges();
+    has_none(&Both {
+        a: Both {
+            a: Inside { set: one },
+            b: Outside { set: out },
+        },
+        b: Both {
+            a: Inside { set: other },
+            b: Outside { set: other_out },
+        },
+    })
+}
+
+/// Whether the domain has the value and `out` lacks it.
+fn is_left(domain: &IntSet, out: &IntSet, v: i64) -> bool
+    ensures { result ≡ has (less domain.now out.now) v }
+{
+    domain.ranges();
+    out.ranges();
+    domain.contains(v) && !out.contains(v)
+}
+
+/// The least value of the domain that `out` lacks, 0 where there is none.
+fn rest_least(domain: &IntSet, out: &IntSet) -> Number
+    ensures { result.value ≡ low_of (less domain.now out.now) }
+{
+    domain.ranges();
+    out.ranges();
+    let left = Both {
+        a: Inside { set: domain },
+        b: Outside { set: out },
+    };
+    match left.next(Number { value: i64::MIN }) {
+        Some(n) => n,
+        None => Number { value: 0 },
+    }
+}
+
+/// The greatest value of the domain that `out` lacks, 0 where there is none.
+fn rest_greatest(domain: &IntSet, out: &IntSet) -> Number
+    ensures { result.value ≡ high_of (less domain.now out.now) }
+{
+    domain.ranges();
+    out.ranges();
+    let left = Both {
+        a: Inside { set: domain },
+        b: Outside { set: out },
+    };
+    match left.previous(Number { value: i64::MAX }) {
+        Some(n) => n,
+        None => Number { value: 0 },
+    }
+}
+
+/// The least and the greatest value of the domain that `out` lacks, 0 where there is none.
+#[tactic(auto, using(crate::proofs::CutLaws::rest_order, crate::proofs::CutLaws::rest_reach))]
+fn rest_ends(domain: &IntSet, out: &IntSet) -> (i64, i64)
+    ensures ends { result ≡ (low_of (less domain.now out.now), high_of (less domain.now out.now)) }
+    ensures order { low_of (less domain.now out.now) ≤ℤ high_of (less domain.now out.now) }
+    ensures reach { reach_of (less domain.now out.now) ≤ reach_of domain.now }
+{
+    domain.ranges();
+    out.ranges();
+    (
+        rest_least(domain, out).value,
+        rest_greatest(domain, out).value,
+    )
+}

@@ -1,0 +1,195 @@
+//! Views of boxes that needn't be built.
+//!
+//! The rules of the constraints ask little of boxes: their ends, whether they have a value, and how they lie to a set or to
+//! one another. `View` is that face. Behind it stand boxes as they are (`Plain`), boxes of which one is replaced by a single
+//! value (`Fixing`), and domains less the sets of a clause (`Cut`). So a rule is written once, and takes no memory.
+ghost use Rattle.std.specs.Prelude.{◌≡◌, ◌<◌, ◌≤◌, ◌≤ℤ◌, [], ◌∷◌, length};
+ghost use Rattle.signed_clause.specs.Ranges.{has, is_nil};
+ghost use Rattle.signed_clause.specs.SetAlgebra.{misses, inside};
+ghost use Rattle.signed_clause.specs.Clauses.{Boxes, box_of};
+ghost use Rattle.ground_form.specs.Bounds.{low_of, high_of, reach_of};
+ghost use Rattle.box_view.specs.Views.{fixing};
+
+use ground_form::{Number, ends_of};
+use signed_clause::IntSet;
+
+/// What the rules ask of boxes.
+pub trait View {
+    // the boxes
+    ghost boxes: { Self → Boxes };
+    // boxes whose values reach at least as far
+    ghost outer: { Self → Boxes };
+
+    /// Whether the box of `x` has no value.
+    fn is_empty(&self, x: u32) -> bool
+        requires { x < length (boxes self.now) }
+        ensures { result ≡ is_nil (box_of (boxes self.now) x) };
+
+    /// The least and the greatest value of the box of `x`, 0 where it is empty.
+    fn ends(&self, x: u32) -> (i64, i64)
+        requires { x < length (boxes self.now) }
+        ensures ends { result ≡ (low_of (box_of (boxes self.now) x), high_of (box_of (boxes self.now) x)) }
+        ensures order { low_of (box_of (boxes self.now) x) ≤ℤ high_of (box_of (boxes self.now) x) }
+        ensures reach { reach_of (box_of (boxes self.now) x) ≤ reach_of (box_of (outer self.now) x) };
+
+    /// Whether the box of `x` has the value.
+    fn has(&self, x: u32, v: i64) -> bool
+        requires { x < length (boxes self.now) }
+        ensures { result ≡ has (box_of (boxes self.now) x) v };
+
+    /// Whether no value of the box of `x` is in the set.
+    fn misses(&self, x: u32, set: &IntSet) -> bool
+        requires { x < length (boxes self.now) }
+        ensures missed { result ≡ misses (box_of (boxes self.now) x) set.now }
+        ensures set_missed { result ≡ misses set.now (box_of (boxes self.now) x) };
+
+    /// Whether every value of the box of `x` is in the set.
+    fn is_inside(&self, x: u32, set: &IntSet) -> bool
+        requires { x < length (boxes self.now) }
+        ensures { result ≡ inside (box_of (boxes self.now) x) set.now };
+
+    /// Whether the boxes of `x` and `y` have no common value.
+    fn are_apart(&self, x: u32, y: u32) -> bool
+        requires x { x < length (boxes self.now) }
+        requires y { y < length (boxes self.now) }
+        ensures { result ≡ misses (box_of (boxes self.now) x) (box_of (boxes self.now) y) };
+}
+
+/// Boxes as they are.
+#[derive(Drop)]
+pub struct Plain<'a> {
+    /// They.
+    pub boxes: &'a [IntSet],
+}
+
+impl<'a> View for Plain<'a> {
+    ghost boxes = { λ v. v.boxes.now };
+
+    ghost outer = { λ v. v.boxes.now };
+
+    fn is_empty(&self, x: u32) -> bool {
+        self.boxes[x as usize].is_empty()
+    }
+
+    fn ends(&self, x: u32) -> (i64, i64) {
+        ends_in_order(&self.boxes[x as usize])
+    }
+
+    fn has(&self, x: u32, v: i64) -> bool {
+        self.boxes[x as usize].contains(v)
+    }
+
+    fn misses(&self, x: u32, set: &IntSet) -> bool {
+        sets_miss(&self.boxes[x as usize], set)
+    }
+
+    fn is_inside(&self, x: u32, set: &IntSet) -> bool {
+        self.boxes[x as usize].within(set)
+    }
+
+    fn are_apart(&self, x: u32, y: u32) -> bool {
+        self.boxes[x as usize].disjoint(&self.boxes[y as usize])
+    }
+}
+
+/// The least and the greatest value of a set, 0 of the empty one.
+#[tactic(auto, using(crate::proofs::EndLaws::ends_in_order))]
+pub fn ends_in_order(set: &IntSet) -> (i64, i64)
+    ensures ends { result ≡ (low_of set.now, high_of set.now) }
+    ensures order { low_of set.now ≤ℤ high_of set.now }
+{
+    set.ranges();
+    ends_of(set)
+}
+
+/// Whether no value is in both sets.
+#[tactic(auto, using(crate::proofs::SetLaws::misses_sym))]
+pub fn sets_miss(a: &IntSet, b: &IntSet) -> bool
+    ensures one { result ≡ misses a.now b.now }
+    ensures other { result ≡ misses b.now a.now }
+{
+    a.ranges();
+    b.ranges();
+    a.disjoint(b)
+}
+
+/// Whether the set lacks the value.
+#[tactic(auto, using(crate::proofs::SetLaws::alone_misses, crate::proofs::SetLaws::misses_alone))]
+fn lacks(set: &IntSet, v: i64) -> bool
+    ensures one { result ≡ misses ((v, v) ∷ []) set.now }
+    ensures other { result ≡ misses set.now ((v, v) ∷ []) }
+{
+    set.ranges();
+    !set.contains(v)
+}
+
+/// Whether the set holds the value.
+#[tactic(auto, using(crate::proofs::SetLaws::alone_inside))]
+fn holds(set: &IntSet, v: i64) -> bool
+    ensures { result ≡ inside ((v, v) ∷ []) set.now }
+{
+    set.ranges();
+    set.contains(v)
+}
+
+/// Boxes of which one is replaced by a single value.
+#[derive(Drop)]
+pub struct Fixing<'a> {
+    /// The boxes.
+    pub boxes: &'a [IntSet],
+    /// The variable whose box is replaced.
+    pub var: u32,
+    /// The value.
+    pub value: Number,
+}
+
+impl<'a> View for Fixing<'a> {
+    ghost boxes = { λ v. fixing v.boxes.now v.var v.value.value };
+
+    ghost outer = { λ v. fixing v.boxes.now v.var v.value.value };
+
+    fn is_empty(&self, x: u32) -> bool {
+        x != self.var && self.boxes[x as usize].is_empty()
+    }
+
+    fn ends(&self, x: u32) -> (i64, i64) {
+        if x == self.var {
+            (self.value.value, self.value.value)
+        } else {
+            ends_in_order(&self.boxes[x as usize])
+        }
+    }
+
+    fn has(&self, x: u32, v: i64) -> bool {
+        if x == self.var {
+            self.value.value == v
+        } else {
+            self.boxes[x as usize].contains(v)
+        }
+    }
+
+    fn misses(&self, x: u32, set: &IntSet) -> bool {
+        if x == self.var {
+            lacks(set, self.value.value)
+        } else {
+            sets_miss(&self.boxes[x as usize], set)
+        }
+    }
+
+    fn is_inside(&self, x: u32, set: &IntSet) -> bool {
+        if x == self.var {
+            holds(set, self.value.value)
+        } else {
+            self.boxes[x as usize].within(set)
+        }
+    }
+
+    fn are_apart(&self, x: u32, y: u32) -> bool {
+        match (x == self.var, y == self.var) {
+            (true, true) => false,
+            (true, false) => lacks(&self.boxes[y as usize], self.value.value),
+            (false, true) => lacks(&self.boxes[x as usize], self.value.value),
+            (false, false) => self.boxes[x as usize].disjoint(&self.boxes[y as usize]),
+        }
+    }
+}

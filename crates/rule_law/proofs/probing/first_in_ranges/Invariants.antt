@@ -1,6 +1,0 @@
-use Rattle.std.proofs.Common.{◌≡◌, drop}
-use Rattle.rule_law.specs.Quiet.{values_of, none_refutes}
-use Rattle.rule_law.proofs.probing.first_in_ranges.Given as goal
-
-abbrev pub invariant-loop-r : goal.invariant-loop-r
-invariant-loop-r l = none_refutes l.con l.boxes l.x (values_of (drop l.r-index l.ranges)) ≡ none_refutes l.con l.boxes l.x (values_of l.ranges)

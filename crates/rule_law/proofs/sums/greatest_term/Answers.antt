@@ -1,9 +1,0 @@
-use Rattle.std.proofs.Common.{ap, ℤ}
-use Rattle.rule_law.proofs.SumSteps.{greatest_fits}
-use Rattle.rule_law.proofs.sums.greatest_term.Goals as goal
-
-pub returns-clause-fits : goal.returns-clause-fits
-returns-clause-fits g c =
-    let ends = c.ends.ensures.ends in
-    greatest_fits c.args.t (g.V.View.boxes c.args.view.now) (g.V.View.outer c.args.view.now) c.ends.result.0 c.ends.result.1 c.greatest_of.result.value c.greatest_of.ensures
-    (ap (λ (p : ℤ × ℤ). p.0) ends) (ap (λ (p : ℤ × ℤ). p.1) ends) c.ends.ensures.reach
