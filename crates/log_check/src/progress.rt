@@ -21,9 +21,9 @@ use crate::chains::derives;
 use crate::derived::Derived;
 use crate::solution::{are_all_true, are_goal_values, is_better, is_point};
 use crate::verdict::Verdict;
+use box_rules::justified;
 use ground_form::Ground;
 use log_form::{Line, Values};
-use box_rules::justified;
 use signed_clause::Clause;
 use std::alloc::{AllocError, Global};
 

@@ -13,8 +13,8 @@ ghost use Rattle.log_check.specs.Marks.{needs};
 use crate::closing::is_closed;
 use crate::needed::{count_clauses, needed_lines};
 use ground_form::Ground;
-use numbered_clauses::{Chain, ChainSteps};
 use log_form::{Line, Lines};
+use numbered_clauses::{Chain, ChainSteps};
 use std::alloc::{AllocError, Global};
 
 /// The lines that are needed of accepted ones, in their order; all of them where the empty clause

@@ -2,8 +2,8 @@
 ghost use Rattle.std.specs.Prelude.{◌+◌, ◌<◌, IfOk, length};
 ghost use Rattle.ground_form.specs.WellMade.{IsWellMade};
 
-use log_check::{CheckError, Checker, VerdictKind, check, trim};
 use ground_form::{Con, Cons, Domains, Goals, Ground, GroundGoal, Terms};
+use log_check::{CheckError, Checker, VerdictKind, check, trim};
 use log_form::Line;
 use proof_log::{LineError, lines_text, read_line};
 use signed_clause::IntSet;

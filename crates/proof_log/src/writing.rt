@@ -7,8 +7,8 @@ ghost use Rattle.std.specs.Fmt.{signed_decimal};
 ghost use Rattle.proof_log.specs.Spelling as spelling;
 ghost use Rattle.proof_log.specs.Spelling.{behind, range_text, set_text, literal_text, step_text};
 
-use log_form::Line;
 use itoa::Buffer;
+use log_form::Line;
 use numbered_clauses::Chain;
 use signed_clause::{Clause, IntSet};
 use std::alloc::{AllocError, Global};
