@@ -8,13 +8,13 @@ use Rattle.signed_clause.specs.Clauses.{Boxes, box_of}
 use Rattle.signed_clause.proofs.RangeLaws.{has-below}
 use Rattle.ground_form.specs.Bounds.{high_of}
 use Rattle.rule_law.specs.Repeats.{is_one}
-use Rattle.pack_prop.specs.declared.bests.Best.{Best}
+use Rattle.pack_prop.specs.declared.best_rooms.Best.{Best}
 use Rattle.pack_prop.specs.declared.spans.Span.{Span}
-use Rattle.pack_prop.specs.Packing.{put, two_rooms}
+use Rattle.pack_fit.specs.Packing.{put, two_rooms}
 use Rattle.pack_prop.specs.Spans.{is_in}
-use Rattle.pack_prop.specs.Tight.{IsBest, AreBests, HaveBests, IsRaised}
+use Rattle.pack_prop.specs.Tight.{IsBest, AreBestRooms, HaveBestRooms, IsRaised}
 use Rattle.pack_prop.proofs.SpanLaws.{in_here, in_now, in_others}
-use Rattle.pack_prop.proofs.SurveyCounts.{left, left_valid}
+use Rattle.pack_fit.proofs.SurveyCounts.{left, left_valid}
 
 -- ---- one entry
 
@@ -88,25 +88,25 @@ item_step v b c items boxes k i rs room stays lt is set high one h r =
     subst (λ (z : List (ℕ × ℕ × ℕ)). IsBest v c z boxes) (sym (drop-cons items k (0, 0, 0) lt ∙ ap (λ (j : ℕ × ℕ × ℕ). j ∷ drop (suc k) items) (sym is)))
     (record { value_is = r.at ∙ h.value_is; first_is = ap (λ (p : ℤ × ℤ). p.0) now; second_is = ap (λ (p : ℤ × ℤ). p.1) now })
 
-pub bests_have : (v : ℤ) (rows : List Best) (items : List (ℕ × ℕ × ℕ)) (boxes : Boxes) → AreBests v rows items boxes → HaveBests rows v items boxes
-bests_have v [] items boxes h d e lt = absurd (omega arith)
-bests_have v (b ∷ bs) items boxes h d zero lt = let same : v ≡ v +ℤ pos 0 = omega (arith, ints) in subst (λ (z : ℤ). IsBest z b items boxes) same h.0
-bests_have v (b ∷ bs) items boxes h d (suc e) lt =
+pub best_rooms_have : (v : ℤ) (rows : List Best) (items : List (ℕ × ℕ × ℕ)) (boxes : Boxes) → AreBestRooms v rows items boxes → HaveBestRooms rows v items boxes
+best_rooms_have v [] items boxes h d e lt = absurd (omega arith)
+best_rooms_have v (b ∷ bs) items boxes h d zero lt = let same : v ≡ v +ℤ pos 0 = omega (arith, ints) in subst (λ (z : ℤ). IsBest z b items boxes) same h.0
+best_rooms_have v (b ∷ bs) items boxes h d (suc e) lt =
     let same : (v +ℤ pos 1) +ℤ pos e ≡ v +ℤ pos (suc e) = omega (arith, ints) in
-    subst (λ (z : ℤ). IsBest z (slice_index_or bs e d) items boxes) same (bests_have (v +ℤ pos 1) bs items boxes h.1 d e (omega arith))
+    subst (λ (z : ℤ). IsBest z (slice_index_or bs e d) items boxes) same (best_rooms_have (v +ℤ pos 1) bs items boxes h.1 d e (omega arith))
 
-pub bests_are : (v : ℤ) (rows : List Best) (items : List (ℕ × ℕ × ℕ)) (boxes : Boxes) → HaveBests rows v items boxes → AreBests v rows items boxes
-bests_are v [] items boxes h = tt
-bests_are v (b ∷ bs) items boxes h =
+pub best_rooms_are : (v : ℤ) (rows : List Best) (items : List (ℕ × ℕ × ℕ)) (boxes : Boxes) → HaveBestRooms rows v items boxes → AreBestRooms v rows items boxes
+best_rooms_are v [] items boxes h = tt
+best_rooms_are v (b ∷ bs) items boxes h =
     let same : v +ℤ pos 0 ≡ v = omega (arith, ints) in (
       subst (λ (z : ℤ). IsBest z b items boxes) same (h b zero (omega arith)),
-      bests_are (v +ℤ pos 1) bs items boxes (λ d e lt.
+      best_rooms_are (v +ℤ pos 1) bs items boxes (λ d e lt.
           let next : v +ℤ pos (suc e) ≡ (v +ℤ pos 1) +ℤ pos e = omega (arith, ints) in
           subst (λ (z : ℤ). IsBest z (slice_index_or bs e d) items boxes) next (h d (suc e) (omega arith))),
     )
 
-pub as_slice : (a b : List Best) (first : ℤ) (items : List (ℕ × ℕ × ℕ)) (boxes : Boxes) → a ≡ b → HaveBests b first items boxes → HaveBests a first items boxes
-as_slice a b first items boxes e h = subst (λ (z : List Best). HaveBests z first items boxes) (sym e) h
+pub as_slice : (a b : List Best) (first : ℤ) (items : List (ℕ × ℕ × ℕ)) (boxes : Boxes) → a ≡ b → HaveBestRooms b first items boxes → HaveBestRooms a first items boxes
+as_slice a b first items boxes e h = subst (λ (z : List Best). HaveBestRooms z first items boxes) (sym e) h
 
 -- the entries that a call wrote through a reference to a vector's elements
 pub written : (n : ℕ) (xs ys zs now : List Best) → zs ≡ ys → length ys ≡ n → length xs ≡ length zs → now ≡ take n (xs ++ drop (length xs) ys) → now ≡ xs

@@ -12,7 +12,8 @@ use Rattle.signed_clause.proofs.SetFacts.{misses_law}
 use Rattle.ground_form.specs.Meaning.{clause_vars}
 use Rattle.rule_law.specs.Reasons.{has_number, no_repeat}
 use Rattle.box_view.proofs.CutLaws.{low_within, top_within}
-use Rattle.box_view.proofs.EndLaws.{AreSets, has_low}
+use Rattle.box_view.proofs.EndLaws.{AreSets}
+use Rattle.box_view.proofs.EndLaws.{has_low}
 use Rattle.rule_law.proofs.Reasoning.{set_valid}
 use Rattle.pack_prop.specs.Collected.{with_set, said, IsFalse, AreCollected, SaysMore}
 use Rattle.ground_form.specs.Bounds.{low_of}

@@ -14,7 +14,8 @@ use Rattle.box_view.specs.Views.{cut}
 use Rattle.box_rules.specs.Justified.{justified}
 use Rattle.rule_law.specs.Reasons.{IsReason, Acts}
 use Rattle.box_view.proofs.CutLaws.{cut_box}
-use Rattle.box_view.proofs.EndLaws.{AreSets, above_low, below_high, has_low, has_high}
+use Rattle.box_view.proofs.EndLaws.{AreSets, above_low, below_high}
+use Rattle.box_view.proofs.EndLaws.{has_low, has_high}
 use Rattle.pack_prop.specs.Collected.{IsFalse, AreCollected, SaysMore}
 use Rattle.pack_prop.proofs.Collecting.{collected_sets}
 

@@ -1,4 +1,4 @@
--- Why a place is overfull in what the literals leave: each step keeps what was counted.
+-- Why a bin is overfull in what the literals leave: each step keeps what was counted.
 use Rattle.std.proofs.Common.{◌≡◌, ℕ, zero, suc, ◌+◌, ◌<◌, ◌≤◌, Bool, true, false, not, ◌&&◌, ◌||◌, cond, List, [], ◌∷◌, ℤ, pos, ◌+ℤ◌, ◌≤ℤ◌, All, length, get_or, refl, arith, subst, sym}
 use Rattle.std.specs.Prelude.{int_lt, slice_index_or}
 use Rattle.std.specs.Ordering.{int_eq}
@@ -19,7 +19,7 @@ use Rattle.box_rules.specs.Refuted.{fixed_at, fixed_load, some_overfull, some_em
 use Rattle.box_view.proofs.EndLaws.{ends_in_order}
 use Rattle.pack_prop.specs.Collected.{said, AreCollected, SaysMore}
 use Rattle.pack_prop.specs.LoadSteps.{loads_at, AreLoaded}
-use Rattle.pack_prop.specs.Sources.{parted, IsPart}
+use Rattle.pack_prop.specs.Sources.{with_part, IsPart}
 use Rattle.pack_prop.proofs.Collecting.{MaySay, said_collected, said_more, said_here}
 use Rattle.pack_prop.proofs.CutBoxes.{AreOver, cut_valid, cut_some, cut_in, cut_less, cut_low, cut_high, cut_passes, low_within, high_within}
 use Rattle.pack_prop.proofs.OverReason.{or_right, or_left, some_at, fixed_low}
@@ -130,18 +130,18 @@ loaded_more v i items domains boxes m room spare old new o n j z t h says = reco
       let before = t.more in omega (arith, ints);
 }
 
--- ---- a place
+-- ---- a bin
 
-pub place_said : (domains boxes : Boxes) (y : ℕ) (s : Ranges) → AreOver domains boxes → y < length boxes → IsValid s → ((v : ℤ) → has s v ≡ (has (box_of domains y) v && not (has (box_of boxes y) v))) → MaySay boxes y s
-place_said domains boxes y s o n f w = record {
+pub bin_said : (domains boxes : Boxes) (y : ℕ) (s : Ranges) → AreOver domains boxes → y < length boxes → IsValid s → ((v : ℤ) → has s v ≡ (has (box_of domains y) v && not (has (box_of boxes y) v))) → MaySay boxes y s
+bin_said domains boxes y s o n f w = record {
   named = n;
   valid = f;
   missed = (misses_law s (box_of boxes y) f (o.box_sets y)).1 (λ v q. false_from_ne_true (has (box_of boxes y) v) (λ t. let is = w v in grind arith));
 }
 
-pub place_fixed : (domains boxes : Boxes) (y : ℕ) (v : ℤ) (s : Ranges) (ls : Literals) → AreOver domains boxes → y < length boxes → AreCollected boxes ls → MaySay boxes y s →
+pub bin_fixed : (domains boxes : Boxes) (y : ℕ) (v : ℤ) (s : Ranges) (ls : Literals) → AreOver domains boxes → y < length boxes → AreCollected boxes ls → MaySay boxes y s →
     ((w : ℤ) → has s w ≡ (has (box_of domains y) w && not (has (box_of boxes y) w))) → fixed_at (box_of boxes y) v ≡ true → fixed_at (box_of (cut domains (said y s ls)) y) v ≡ true
-place_fixed domains boxes y v s ls o n c m w f =
+bin_fixed domains boxes y v s ls o n c m w f =
     let new = said_collected boxes y s ls o.box_sets m c in
     fixed_within (box_of boxes y) (box_of (cut domains (said y s ls)) y) v (o.box_sets y) (cut_valid domains boxes (said y s ls) o.domain_sets new y) (cut_some domains boxes (said y s ls) y o new n)
     (λ u q. cut_passes domains boxes (said y s ls) y u (has (box_of boxes y) u) o new (λ d b. let is = w u in said_here boxes y s u ls m.valid c (grind arith)) q) f
@@ -180,7 +180,7 @@ load_is true true a b e h k = k
 load_is true false a b e h k = absurd cc
 load_is false g a b e h k = absurd cc
 
--- an item whose place and size are said
+-- an item whose bin and size are said
 pub loaded_said : (v : ℤ) (i : ℕ × ℕ × ℕ) (items : List (ℕ × ℕ × ℕ)) (domains boxes : Boxes) (m : ℕ) (room spare low : ℤ) (p s : Ranges) (ls : Literals) → AreOver domains boxes → AreItemsNamed items boxes → IsItemNamed i boxes → Sizes items domains → m < length items →
     fixed_at (box_of boxes (slice_index_or items m (0, 0, 0)).0) v ≡ true → low ≡ low_of (box_of boxes (slice_index_or items m (0, 0, 0)).1) → IsValid p → IsValid s →
     ((w : ℤ) → has p w ≡ (has (box_of domains (slice_index_or items m (0, 0, 0)).0) w && not (has (box_of boxes (slice_index_or items m (0, 0, 0)).0) w))) →
@@ -190,7 +190,7 @@ loaded_said v i items domains boxes m room spare low p s ls o n named z u f e a 
     let j = slice_index_or items m (0, 0, 0) in
     let jn = n m (0, 0, 0) u in
     let one = said j.0 p ls in let two = said j.1 s one in
-    let place = place_said domains boxes j.0 p o jn.place a g in
+    let place = bin_said domains boxes j.0 p o jn.place a g in
     let c1 = said_collected boxes j.0 p ls o.box_sets place t.literals in
     let size = size_said domains boxes j.1 low low s o jn.size b e (omega (arith, ints)) h in
     let c2 = said_collected boxes j.1 s one o.box_sets size c1 in
@@ -198,7 +198,7 @@ loaded_said v i items domains boxes m room spare low p s ls o n named z u f e a 
     let m2 = said_more boxes j.1 s one b c1 in
     let t1 = loaded_more v i items domains boxes m room spare ls one o n named z t c1 m1 in
     let t2 = loaded_more v i items domains boxes m room spare one two o n named z t1 c2 m2 in
-    let fixed = cut_fixed domains boxes one two j.0 v o c1 c2 m2 jn.place (place_fixed domains boxes j.0 v p ls o jn.place t.literals place g f) in
+    let fixed = cut_fixed domains boxes one two j.0 v o c1 c2 m2 jn.place (bin_fixed domains boxes j.0 v p ls o jn.place t.literals place g f) in
     let from = size_from domains boxes j.1 low s one o jn.size c1 size h in
     let loads = load_is (fixed_at (box_of boxes j.0) v) (fixed_at (box_of (cut domains two) j.0) v) (low_of (box_of boxes j.1)) (low_of (box_of (cut domains two) j.1)) f fixed (omega (arith, ints)) in
     loaded_next v i items domains boxes m room spare spare two u t.some (omega (arith, ints)) t2
@@ -228,9 +228,9 @@ loaded_overfull v k items domains boxes room spare ls lt t =
     (subst (λ (z : ℤ). (fixed_at b z && int_lt (high_of (box_of cuts i.2)) (fixed_load z items cuts)) ≡ true) (sym low) (and_from _ _ t.fixed over))
 
 pub loaded_reason : (con : Con) (v : ℤ) (k : ℕ) (items : List (ℕ × ℕ × ℕ)) (domains boxes : Boxes) (x : ℕ) (s : Ranges) (room spare : ℤ) (ls : Literals) → con ≡ Pack items → IsPart domains boxes items x s → k < length items →
-    AreLoaded v (slice_index_or items k (0, 0, 0)) items domains (parted boxes x s) (length items) room spare ls → IsReason con domains boxes ls
+    AreLoaded v (slice_index_or items k (0, 0, 0)) items domains (with_part boxes x s) (length items) room spare ls → IsReason con domains boxes ls
 loaded_reason con v k items domains boxes x s room spare ls e p lt t =
     let cuts = cut domains ls in
-    let over = loaded_overfull v k items domains (parted boxes x s) room spare ls lt t in
+    let over = loaded_overfull v k items domains (with_part boxes x s) room spare ls lt t in
     let follows : refuted (Pack items) cuts ≡ true = or_right (some_empty (item_vars items) cuts) (some_overfull items items cuts || int_lt (all_room items cuts) (least_sizes items cuts)) (or_left (some_overfull items items cuts) (int_lt (all_room items cuts) (least_sizes items cuts)) over) in
     subst (λ (z : Con). IsReason z domains boxes ls) (sym e) (part_reason (Pack items) domains boxes items x s ls p t.literals follows)

@@ -1,4 +1,4 @@
--- Boxes with a part of one in its place, and which places are overfull.
+-- Boxes with a part of one in its place, and which bins are overfull.
 use Rattle.std.proofs.Common.{◌≡◌, ℕ, zero, suc, ◌<◌, Bool, true, false, not, ◌&&◌, ◌||◌, cond, List, [], ◌∷◌, ℤ, length, refl, arith, inl, inr, subst, sym, ◌∙◌}
 use Rattle.std.specs.Prelude.{◌==◌, slice_index_or}
 use Rattle.std.specs.Ordering.{int_eq}
@@ -12,32 +12,32 @@ use Rattle.signed_clause.proofs.RangeSteps.{has-meet_valid, IsValid-meet}
 use Rattle.ground_form.specs.Bounds.{low_of, high_of}
 use Rattle.box_rules.specs.Refuted.{fixed_at, overfull, some_overfull}
 use Rattle.box_view.proofs.EndLaws.{are_sets}
-use Rattle.pack_prop.specs.Sources.{parted, IsPart}
+use Rattle.pack_prop.specs.Sources.{with_part, IsPart}
 
 -- ---- the boxes with a part of one
 
-pub part_same : (boxes : Boxes) (x : ℕ) (s : Ranges) → x < length boxes → box_of (parted boxes x s) x ≡ s
+pub part_same : (boxes : Boxes) (x : ℕ) (s : Ranges) → x < length boxes → box_of (with_part boxes x s) x ≡ s
 part_same [] x s h = absurd (omega arith)
 part_same (b ∷ boxes) zero s h = refl
 part_same (b ∷ boxes) (suc x) s h = part_same boxes x s (omega arith)
 
-pub part_other : (boxes : Boxes) (x y : ℕ) (s : Ranges) → (y ≡ x → ⊥) → box_of (parted boxes x s) y ≡ box_of boxes y
+pub part_other : (boxes : Boxes) (x y : ℕ) (s : Ranges) → (y ≡ x → ⊥) → box_of (with_part boxes x s) y ≡ box_of boxes y
 part_other [] x y s n = refl
 part_other (b ∷ boxes) zero zero s n = absurd (n refl)
 part_other (b ∷ boxes) zero (suc y) s n = refl
 part_other (b ∷ boxes) (suc x) zero s n = refl
 part_other (b ∷ boxes) (suc x) (suc y) s n = part_other boxes x y s (λ e. n (omega arith))
 
-pub part_box : (boxes : Boxes) (x y : ℕ) (s : Ranges) → x < length boxes → box_of (parted boxes x s) y ≡ cond (y == x) s (box_of boxes y)
+pub part_box : (boxes : Boxes) (x y : ℕ) (s : Ranges) → x < length boxes → box_of (with_part boxes x s) y ≡ cond (y == x) s (box_of boxes y)
 part_box boxes x y s h =
     elim (cases_eq y x) [
-      | inl e ↦ let t : (y == x) ≡ true = grind (arith, nat_tests) in rw t (subst (λ (z : ℕ). box_of (parted boxes x s) z ≡ s) (sym e) (part_same boxes x s h))
+      | inl e ↦ let t : (y == x) ≡ true = grind (arith, nat_tests) in rw t (subst (λ (z : ℕ). box_of (with_part boxes x s) z ≡ s) (sym e) (part_same boxes x s h))
       | inr e ↦ let t : (y == x) ≡ false = false_from_ne_true (y == x) (λ q. e (grind (arith, nat_tests))) in rw t (part_other boxes x y s e)
     ]
 
 -- ---- what the explanation stands on
 
-pub part_valid : (domains boxes : Boxes) (items : List (ℕ × ℕ × ℕ)) (x : ℕ) (s : Ranges) → IsPart domains boxes items x s → (y : ℕ) → IsValid (box_of (parted boxes x s) y)
+pub part_valid : (domains boxes : Boxes) (items : List (ℕ × ℕ × ℕ)) (x : ℕ) (s : Ranges) → IsPart domains boxes items x s → (y : ℕ) → IsValid (box_of (with_part boxes x s) y)
 part_valid domains boxes items x s p y =
     subst (λ (b : Ranges). IsValid b) (sym (part_box boxes x y s p.var))
     (elim (y == x) as (λ t. IsValid (cond t s (box_of boxes y))) [ true ↦ p.valid | false ↦ are_sets boxes p.boxes_within.sets y ])
@@ -45,7 +45,7 @@ part_valid domains boxes items x s p y =
 inside_on : (a b c : Ranges) → IsValid a → IsValid b → IsValid c → inside a b ≡ true → inside b c ≡ true → inside a c ≡ true
 inside_on a b c f g h i j = (inside_law a c f h).1 (λ v m. (inside_law b c g h).0 j v ((inside_law a b f g).0 i v m))
 
-pub part_within : (domains boxes : Boxes) (items : List (ℕ × ℕ × ℕ)) (x : ℕ) (s : Ranges) → IsPart domains boxes items x s → (y : ℕ) → y < length boxes → inside (box_of (parted boxes x s) y) (box_of domains y) ≡ true
+pub part_within : (domains boxes : Boxes) (items : List (ℕ × ℕ × ℕ)) (x : ℕ) (s : Ranges) → IsPart domains boxes items x s → (y : ℕ) → y < length boxes → inside (box_of (with_part boxes x s) y) (box_of domains y) ≡ true
 part_within domains boxes items x s p y n =
     let w = p.boxes_within in
     subst (λ (b : Ranges). inside b (box_of domains y) ≡ true) (sym (part_box boxes x y s p.var))
@@ -56,7 +56,7 @@ part_within domains boxes items x s p y n =
       | false ↦ λ e. w.within y n
     ]) refl)
 
--- ---- overfull places
+-- ---- overfull bins
 
 pub fixed_low : (s : Ranges) (v : ℤ) → fixed_at s v ≡ true → low_of s ≡ v
 fixed_low s v h =

@@ -15,22 +15,23 @@ use Rattle.box_view.specs.Views.{fixing}
 use Rattle.box_rules.specs.Quiet.{quiet}
 use Rattle.box_rules.specs.Refuted.{some_overfull, least_sizes, all_room, some_empty, refuted}
 use Rattle.box_rules.specs.Named.{Agree}
-use Rattle.rule_law.specs.Reasons.{has_number, no_repeat}
+use Rattle.rule_law.specs.Reasons.{has_number}
 use Rattle.box_rules.proofs.FixedLaws.{fixed_value}
 use Rattle.box_view.proofs.EndLaws.{AreSets, are_sets, single_has}
 use Rattle.box_view.proofs.SetLaws.{fixing_same, fixing_other}
 use Rattle.box_view.proofs.CutLaws.{low_within, top_within}
 use Rattle.box_rules.proofs.Agreeing.{agree_refuted}
 use Rattle.rule_law.specs.Repeats.{is_one}
-use Rattle.pack_prop.specs.Packing.{fits, all_fit}
-use Rattle.pack_prop.proofs.Calm.{all_at}
-use Rattle.pack_prop.proofs.CalmQuiet.{none_empty, fixed_not_empty}
-use Rattle.pack_prop.proofs.QuietFrom.{quiet_from}
-use Rattle.pack_prop.proofs.Spots.{spot}
-use Rattle.pack_prop.proofs.OneBox.{tight_at_most}
-use Rattle.pack_prop.specs.Packing.{AllFit, opens}
-use Rattle.pack_prop.proofs.PackLoads.{Roomy, now_fine, loads_fine}
-use Rattle.pack_prop.proofs.PackTotal.{HasRoom}
+use Rattle.pack_fit.specs.Packing.{fits, all_fit}
+use Rattle.all_different.proofs.Fixpoint.{all_at}
+use Rattle.all_different.proofs.FixpointQuiet.{none_empty, fixed_not_empty}
+use Rattle.all_different.proofs.QuietFrom.{quiet_from}
+use Rattle.pack_fit.proofs.Spots.{spot}
+use Rattle.pack_fit.proofs.OneBox.{tight_at_most}
+use Rattle.pack_fit.specs.Packing.{AllFit, opens}
+use Rattle.rule_law.specs.Reasons.{no_repeat}
+use Rattle.pack_fit.proofs.PackLoads.{HasSlack, now_fine, loads_fine}
+use Rattle.pack_fit.proofs.PackTotal.{HasRoom}
 
 -- ---- a box that is one value
 
@@ -72,7 +73,7 @@ open_fine : (items : List (ℕ × ℕ × ℕ)) (boxes : Boxes) (x : ℕ) (v : �
 open_fine items boxes x v s once fits room n o m h =
     let at = spot x items boxes o once h in
     let fit : (p : ℤ) → all_fit p (at.front ++ at.item ∷ at.back) (at.front ++ at.item ∷ at.back) boxes ≡ true = subst (λ (z : List (ℕ × ℕ × ℕ)). (p : ℤ) → all_fit p z z boxes ≡ true) at.is fits in
-    let r : Roomy at.front at.item at.back boxes x v = record { sets = s; named = n; is_open = o; member = m; not_front = at.not_front; not_back = at.not_back; fit = fit } in
+    let r : HasSlack at.front at.item at.back boxes x v = record { sets = s; named = n; is_open = o; member = m; not_front = at.not_front; not_back = at.not_back; fit = fit } in
     record {
       loads = subst (λ (z : List (ℕ × ℕ × ℕ)). some_overfull z z (fixing boxes x v) ≡ false) (sym at.is) (loads_fine at.front at.item at.back boxes x v r at.role);
       total = room.narrowed at.front at.item at.back x v at.is r at.role;

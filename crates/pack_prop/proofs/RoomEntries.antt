@@ -12,7 +12,7 @@ use Rattle.pack_prop.specs.declared.spans.Span.{Span}
 use Rattle.pack_prop.specs.Spans.{is_in}
 use Rattle.pack_prop.specs.RoomRows.{best_rooms, HasRooms, lifted}
 use Rattle.pack_prop.proofs.SpanLaws.{in_here, in_now, in_others}
-use Rattle.pack_prop.proofs.SurveyCounts.{left}
+use Rattle.pack_fit.proofs.SurveyCounts.{left}
 
 -- ---- one entry
 

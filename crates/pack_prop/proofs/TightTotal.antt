@@ -14,13 +14,13 @@ use Rattle.rule_law.specs.Repeats.{is_one}
 use Rattle.box_view.proofs.EndLaws.{AreSets, above_low, below_high, single_has}
 use Rattle.box_rules.proofs.PackLaws.{best_room-ge}
 use Rattle.box_view.proofs.SetLaws.{fixing_same}
-use Rattle.pack_prop.specs.declared.bests.Best.{Best}
-use Rattle.pack_prop.specs.Tight.{IsBest, AreBests, firsts, left_at, lefts, may_grow, may_be_at, may_be_in, may_move, may_shrink, all_grow, all_loose, IsBetween, HasEach}
-use Rattle.pack_prop.proofs.Spots.{Role, Place, Size, Room}
-use Rattle.pack_prop.proofs.OneBox.{other_box, best_away, sizes_away, sizes_split}
-use Rattle.pack_prop.proofs.TotalRoom.{first_is, second_without, in_all}
-use Rattle.pack_prop.proofs.PackLoads.{Roomy}
-use Rattle.pack_prop.proofs.PackTotal.{HasRoom, fixed_sets, vars_joined, best_same}
+use Rattle.pack_prop.specs.declared.best_rooms.Best.{Best}
+use Rattle.pack_prop.specs.Tight.{IsBest, AreBestRooms, firsts, left_at, lefts, may_grow, may_be_at, may_be_in, may_move, may_shrink, all_grow, all_loose, IsBetween, HasEach}
+use Rattle.pack_fit.proofs.Spots.{Role, Bin, Size, Room}
+use Rattle.pack_fit.proofs.OneBox.{other_box, best_away, sizes_away, sizes_split}
+use Rattle.pack_fit.proofs.TotalRoom.{first_is, second_without, in_all}
+use Rattle.pack_fit.proofs.PackLoads.{HasSlack}
+use Rattle.pack_fit.proofs.PackTotal.{HasRoom, fixed_sets, vars_joined, best_same}
 
 -- ---- truths and numbers
 
@@ -100,20 +100,20 @@ left_upto w b front i back boxes room f is =
 abbrev Lefts : List (ℕ × ℕ × ℕ) → Boxes → ℤ → ℕ × ℕ × ℕ → Boxes → Type 0
 Lefts items boxes room i later = (w : ℤ) (b : Best) → IsBest w b items boxes → left_at b room i boxes ≤ℤ best_room w items later
 
-lefts_le : (v : ℤ) (bs : List Best) (items : List (ℕ × ℕ × ℕ)) (boxes : Boxes) (room : ℤ) (i : ℕ × ℕ × ℕ) (later : Boxes) → Lefts items boxes room i later → AreBests v bs items boxes →
+lefts_le : (v : ℤ) (bs : List Best) (items : List (ℕ × ℕ × ℕ)) (boxes : Boxes) (room : ℤ) (i : ℕ × ℕ × ℕ) (later : Boxes) → Lefts items boxes room i later → AreBestRooms v bs items boxes →
     lefts bs room i boxes ≤ℤ rooms_from (length bs) v items later
 lefts_le v [] items boxes room i later h a = omega (arith, ints)
 lefts_le v (b ∷ bs) items boxes room i later h a =
     let one = h v b a.0 in let more = lefts_le (v +ℤ pos 1) bs items boxes room i later h a.1 in omega (arith, ints, one, more)
 
-firsts_le : (v : ℤ) (bs : List Best) (items : List (ℕ × ℕ × ℕ)) (boxes later : Boxes) → ((w : ℤ) → best_room w items later ≡ best_room w items boxes) → AreBests v bs items boxes →
+firsts_le : (v : ℤ) (bs : List Best) (items : List (ℕ × ℕ × ℕ)) (boxes later : Boxes) → ((w : ℤ) → best_room w items later ≡ best_room w items boxes) → AreBestRooms v bs items boxes →
     firsts bs ≤ℤ rooms_from (length bs) v items later
 firsts_le v [] items boxes later h a = omega (arith, ints)
 firsts_le v (b ∷ bs) items boxes later h a =
     let one = h v in let first = a.0.first_is in let is = first_is v items boxes in
     let more = firsts_le (v +ℤ pos 1) bs items boxes later h a.1 in omega (arith, ints, one, first, is, more)
 
--- what is gained at the place
+-- what is gained at the bin
 gain_at : (need sum : ℤ) (b : Best) (i : ℕ × ℕ × ℕ) (boxes : Boxes) (u : ℤ) → may_be_at need sum b i boxes ≡ true → has (box_of boxes i.0) u ≡ true → b.at.value ≡ u → need ≤ℤ (sum +ℤ (b.first.value -ℤ left_at b (pos 0) i boxes))
 gain_at need sum b i boxes u h there e =
     let at : has (box_of boxes i.0) b.at.value ≡ true = subst (λ (z : ℤ). has (box_of boxes i.0) z ≡ true) (sym e) there in
@@ -121,7 +121,7 @@ gain_at need sum b i boxes u h there e =
     le_from need (sum +ℤ (b.first.value -ℤ left_at b (pos 0) i boxes)) k
 
 gain_le : (need sum v u : ℤ) (bs : List Best) (items : List (ℕ × ℕ × ℕ)) (boxes : Boxes) (i : ℕ × ℕ × ℕ) (later : Boxes) → Lefts items boxes (pos 0) i later → best_room u items boxes ≤ℤ best_room u items later →
-    has (box_of boxes i.0) u ≡ true → v ≤ℤ u → u <ℤ (v +ℤ pos (length bs)) → AreBests v bs items boxes → may_be_in need sum bs i boxes ≡ true →
+    has (box_of boxes i.0) u ≡ true → v ≤ℤ u → u <ℤ (v +ℤ pos (length bs)) → AreBestRooms v bs items boxes → may_be_in need sum bs i boxes ≡ true →
     (need +ℤ lefts bs (pos 0) i boxes) ≤ℤ (sum +ℤ rooms_from (length bs) v items later)
 gain_le need sum v u [] items boxes i later h m there l k a e = absurd (omega (arith, ints))
 gain_le need sum v u (b ∷ bs) items boxes i later h m there l k a e =
@@ -141,14 +141,14 @@ gain_le need sum v u (b ∷ bs) items boxes i later h m there l k a e =
 
 -- ---- sizes
 
-sizes_change : (front : List (ℕ × ℕ × ℕ)) (i : ℕ × ℕ × ℕ) (back : List (ℕ × ℕ × ℕ)) (boxes : Boxes) (x : ℕ) (v : ℤ) → Roomy front i back boxes x v →
+sizes_change : (front : List (ℕ × ℕ × ℕ)) (i : ℕ × ℕ × ℕ) (back : List (ℕ × ℕ × ℕ)) (boxes : Boxes) (x : ℕ) (v : ℤ) → HasSlack front i back boxes x v →
     least_sizes (front ++ i ∷ back) (fixing boxes x v) +ℤ low_of (box_of boxes i.1) ≡ least_sizes (front ++ i ∷ back) boxes +ℤ low_of (box_of (fixing boxes x v) i.1)
 sizes_change front i back boxes x v r =
     let one = sizes_split front i back (fixing boxes x v) in let two = sizes_split front i back boxes in
     let f = sizes_away front boxes x v r.not_front in let b = sizes_away back boxes x v r.not_back in omega (arith, ints)
 
 -- the rest's greatest room stays
-rest_same : (w : ℤ) (front : List (ℕ × ℕ × ℕ)) (i : ℕ × ℕ × ℕ) (back : List (ℕ × ℕ × ℕ)) (boxes : Boxes) (x : ℕ) (v : ℤ) → Roomy front i back boxes x v → best_room w (front ++ back) (fixing boxes x v) ≡ best_room w (front ++ back) boxes
+rest_same : (w : ℤ) (front : List (ℕ × ℕ × ℕ)) (i : ℕ × ℕ × ℕ) (back : List (ℕ × ℕ × ℕ)) (boxes : Boxes) (x : ℕ) (v : ℤ) → HasSlack front i back boxes x v → best_room w (front ++ back) (fixing boxes x v) ≡ best_room w (front ++ back) boxes
 rest_same w front i back boxes x v r = best_away w (front ++ back) boxes x v (vars_joined x front back r.not_front r.not_back)
 
 -- ---- what is tested of the item
@@ -179,16 +179,16 @@ between_at a b (j ∷ front) i back boxes h = between_at a b front i back boxes 
 record Rows (items : List (ℕ × ℕ × ℕ)) (i : ℕ × ℕ × ℕ) (boxes : Boxes) : Type 0 where
   start : ℤ
   rows : List Best
-  rooms : AreBests start rows items boxes
+  rooms : AreBestRooms start rows items boxes
   place : IsBetween start (start +ℤ pos (length rows)) i boxes
   grow : may_grow (least_sizes items boxes) (firsts rows) i boxes ≡ true
   loose : IsLoose (least_sizes items boxes) rows i boxes
 
-size_later : (front : List (ℕ × ℕ × ℕ)) (i : ℕ × ℕ × ℕ) (back : List (ℕ × ℕ × ℕ)) (boxes : Boxes) (x : ℕ) (v : ℤ) → Roomy front i back boxes x v → (i.1 == x) ≡ false → least_sizes (front ++ i ∷ back) (fixing boxes x v) ≡ least_sizes (front ++ i ∷ back) boxes
+size_later : (front : List (ℕ × ℕ × ℕ)) (i : ℕ × ℕ × ℕ) (back : List (ℕ × ℕ × ℕ)) (boxes : Boxes) (x : ℕ) (v : ℤ) → HasSlack front i back boxes x v → (i.1 == x) ≡ false → least_sizes (front ++ i ∷ back) (fixing boxes x v) ≡ least_sizes (front ++ i ∷ back) boxes
 size_later front i back boxes x v r f =
     let size = ap (λ (z : List (ℤ × ℤ)). low_of z) (other_box boxes x i.1 v f) in let change = sizes_change front i back boxes x v r in omega (arith, ints, size, change)
 
-room_total : (front : List (ℕ × ℕ × ℕ)) (i : ℕ × ℕ × ℕ) (back : List (ℕ × ℕ × ℕ)) (boxes : Boxes) (x : ℕ) (v : ℤ) → Roomy front i back boxes x v → Rows (front ++ i ∷ back) i boxes → (i.0 == x) ≡ false → (i.1 == x) ≡ false → i.2 ≡ x →
+room_total : (front : List (ℕ × ℕ × ℕ)) (i : ℕ × ℕ × ℕ) (back : List (ℕ × ℕ × ℕ)) (boxes : Boxes) (x : ℕ) (v : ℤ) → HasSlack front i back boxes x v → Rows (front ++ i ∷ back) i boxes → (i.0 == x) ≡ false → (i.1 == x) ≡ false → i.2 ≡ x →
     least_sizes (front ++ i ∷ back) (fixing boxes x v) ≤ℤ all_room (front ++ i ∷ back) (fixing boxes x v)
 room_total front i back boxes x v r t e f g =
     let items = front ++ i ∷ back in let later = fixing boxes x v in let low = low_of (box_of boxes i.2) in
@@ -207,7 +207,7 @@ room_total front i back boxes x v r t e f g =
     let all = in_all (length t.rows) t.start items later (fixed_sets boxes x v r.sets r.named r.member) in
     let sizes = size_later front i back boxes x v r f in omega (arith, ints, need, rooms, all, sizes)
 
-size_total : (front : List (ℕ × ℕ × ℕ)) (i : ℕ × ℕ × ℕ) (back : List (ℕ × ℕ × ℕ)) (boxes : Boxes) (x : ℕ) (v : ℤ) → Roomy front i back boxes x v → Rows (front ++ i ∷ back) i boxes → (i.0 == x) ≡ false → i.1 ≡ x → (i.2 == x) ≡ false →
+size_total : (front : List (ℕ × ℕ × ℕ)) (i : ℕ × ℕ × ℕ) (back : List (ℕ × ℕ × ℕ)) (boxes : Boxes) (x : ℕ) (v : ℤ) → HasSlack front i back boxes x v → Rows (front ++ i ∷ back) i boxes → (i.0 == x) ≡ false → i.1 ≡ x → (i.2 == x) ≡ false →
     least_sizes (front ++ i ∷ back) (fixing boxes x v) ≤ℤ all_room (front ++ i ∷ back) (fixing boxes x v)
 size_total front i back boxes x v r t e f g =
     let items = front ++ i ∷ back in let later = fixing boxes x v in
@@ -219,21 +219,21 @@ size_total front i back boxes x v r t e f g =
     let rooms = firsts_le t.start t.rows items boxes later (λ w. best_same w front i back boxes x v r.not_front r.not_back e g) t.rooms in
     let all = in_all (length t.rows) t.start items later (fixed_sets boxes x v r.sets r.named r.member) in omega (arith, ints, size, below, change, grow, rooms, all)
 
--- ---- a place
+-- ---- a bin
 
 -- where the item isn't at the value, the rest's greatest room is left; where it is, all of it
-place_left : (front : List (ℕ × ℕ × ℕ)) (i : ℕ × ℕ × ℕ) (back : List (ℕ × ℕ × ℕ)) (boxes : Boxes) (x : ℕ) (v : ℤ) → Roomy front i back boxes x v → i.0 ≡ x → Lefts (front ++ i ∷ back) boxes (pos 0) i (fixing boxes x v)
-place_left front i back boxes x v r e w b is =
+bin_left : (front : List (ℕ × ℕ × ℕ)) (i : ℕ × ℕ × ℕ) (back : List (ℕ × ℕ × ℕ)) (boxes : Boxes) (x : ℕ) (v : ℤ) → HasSlack front i back boxes x v → i.0 ≡ x → Lefts (front ++ i ∷ back) boxes (pos 0) i (fixing boxes x v)
+bin_left front i back boxes x v r e w b is =
     let later = fixing boxes x v in
-    let open_place : is_one (box_of boxes i.0) ≡ false = subst (λ (z : ℕ). is_one (box_of boxes z) ≡ false) (sym e) r.is_open in
-    let one = left_upto w b front i back boxes (pos 0) (and_first (is_one (box_of boxes i.0)) (is_one (box_of boxes i.2)) open_place) is in
+    let open_bin : is_one (box_of boxes i.0) ≡ false = subst (λ (z : ℕ). is_one (box_of boxes z) ≡ false) (sym e) r.is_open in
+    let one = left_upto w b front i back boxes (pos 0) (and_first (is_one (box_of boxes i.0)) (is_one (box_of boxes i.2)) open_bin) is in
     let some = best_room-ge w (front ++ back) boxes in
     let split = best_split w front i back later in let same = rest_same w front i back boxes x v r in
     let least = at_rest (has (box_of boxes i.0) w) (best_room w (front ++ back) boxes) some in
     let most = with_any (has (box_of later i.0) w) (high_of (box_of later i.2)) (best_room w (front ++ back) later) in omega (arith, ints, one, split, same, least, most)
 
-place_gain : (front : List (ℕ × ℕ × ℕ)) (i : ℕ × ℕ × ℕ) (back : List (ℕ × ℕ × ℕ)) (boxes : Boxes) (x : ℕ) (v : ℤ) → Roomy front i back boxes x v → i.0 ≡ x → (i.2 == x) ≡ false → best_room v (front ++ i ∷ back) boxes ≤ℤ best_room v (front ++ i ∷ back) (fixing boxes x v)
-place_gain front i back boxes x v r e g =
+bin_gain : (front : List (ℕ × ℕ × ℕ)) (i : ℕ × ℕ × ℕ) (back : List (ℕ × ℕ × ℕ)) (boxes : Boxes) (x : ℕ) (v : ℤ) → HasSlack front i back boxes x v → i.0 ≡ x → (i.2 == x) ≡ false → best_room v (front ++ i ∷ back) boxes ≤ℤ best_room v (front ++ i ∷ back) (fixing boxes x v)
+bin_gain front i back boxes x v r e g =
     let later = fixing boxes x v in
     let place : box_of later i.0 ≡ (v, v) ∷ [] = subst (λ (z : ℕ). box_of later z ≡ (v, v) ∷ []) (sym e) (fixing_same boxes x v r.named) in
     let here : has (box_of later i.0) v ≡ true = ap (λ (z : List (ℤ × ℤ)). has z v) place ∙ single_has v v ∙ (Decides-int_eq v v).1 refl in
@@ -242,31 +242,31 @@ place_gain front i back boxes x v r e g =
     let now : best_room v (front ++ i ∷ back) boxes ≡ int_max (high_of (box_of boxes i.2)) (best_room v (front ++ back) boxes) = best_split v front i back boxes ∙ rw there refl in
     let then : best_room v (front ++ i ∷ back) later ≡ int_max (high_of (box_of boxes i.2)) (best_room v (front ++ back) boxes) = best_split v front i back later ∙ rw (here, room, same) refl in omega (arith, ints, now, then)
 
-place_total : (front : List (ℕ × ℕ × ℕ)) (i : ℕ × ℕ × ℕ) (back : List (ℕ × ℕ × ℕ)) (boxes : Boxes) (x : ℕ) (v : ℤ) → Roomy front i back boxes x v → Rows (front ++ i ∷ back) i boxes → i.0 ≡ x → (i.1 == x) ≡ false → (i.2 == x) ≡ false →
+bin_total : (front : List (ℕ × ℕ × ℕ)) (i : ℕ × ℕ × ℕ) (back : List (ℕ × ℕ × ℕ)) (boxes : Boxes) (x : ℕ) (v : ℤ) → HasSlack front i back boxes x v → Rows (front ++ i ∷ back) i boxes → i.0 ≡ x → (i.1 == x) ≡ false → (i.2 == x) ≡ false →
     least_sizes (front ++ i ∷ back) (fixing boxes x v) ≤ℤ all_room (front ++ i ∷ back) (fixing boxes x v)
-place_total front i back boxes x v r t e f g =
+bin_total front i back boxes x v r t e f g =
     let items = front ++ i ∷ back in let later = fixing boxes x v in let need = least_sizes items boxes in let sum = lefts t.rows (pos 0) i boxes in
-    let open_place : is_one (box_of boxes i.0) ≡ false = subst (λ (z : ℕ). is_one (box_of boxes z) ≡ false) (sym e) r.is_open in
+    let open_bin : is_one (box_of boxes i.0) ≡ false = subst (λ (z : ℕ). is_one (box_of boxes z) ≡ false) (sym e) r.is_open in
     let there : has (box_of boxes i.0) v ≡ true = subst (λ (z : ℕ). has (box_of boxes z) v ≡ true) (sym e) r.member in
     let low = above_low (box_of boxes i.0) v (r.sets i.0) there in let high = below_high (box_of boxes i.0) v (r.sets i.0) there in
-    let left = place_left front i back boxes x v r e in
+    let left = bin_left front i back boxes x v r e in
     let rooms = lefts_le t.start t.rows items boxes (pos 0) i later left t.rooms in
     let all = in_all (length t.rows) t.start items later (fixed_sets boxes x v r.sets r.named r.member) in
     let sizes = size_later front i back boxes x v r f in
-    let test = open_test (is_one (box_of boxes i.0)) (int_le need sum || may_be_in need sum t.rows i boxes) t.loose.move open_place in
+    let test = open_test (is_one (box_of boxes i.0)) (int_le need sum || may_be_in need sum t.rows i boxes) t.loose.move open_bin in
     let a = t.place.low in let b = t.place.high in
     elim (or_cases (int_le need sum) (may_be_in need sum t.rows i boxes) test) [
       | inl q ↦ let enough = le_from need sum q in omega (arith, ints, enough, rooms, all, sizes)
       | inr q ↦
-          let gain = gain_le need sum t.start v t.rows items boxes i later left (place_gain front i back boxes x v r e g) there (omega (arith, ints, low, a)) (omega (arith, ints, high, b)) t.rooms q in
+          let gain = gain_le need sum t.start v t.rows items boxes i later left (bin_gain front i back boxes x v r e g) there (omega (arith, ints, low, a)) (omega (arith, ints, high, b)) t.rooms q in
           omega (arith, ints, gain, rooms, all, sizes)
     ]
 
 -- ---- all of it
 
-role_total : (front : List (ℕ × ℕ × ℕ)) (i : ℕ × ℕ × ℕ) (back : List (ℕ × ℕ × ℕ)) (boxes : Boxes) (x : ℕ) (v : ℤ) → Roomy front i back boxes x v → Rows (front ++ i ∷ back) i boxes → Role x i →
+role_total : (front : List (ℕ × ℕ × ℕ)) (i : ℕ × ℕ × ℕ) (back : List (ℕ × ℕ × ℕ)) (boxes : Boxes) (x : ℕ) (v : ℤ) → HasSlack front i back boxes x v → Rows (front ++ i ∷ back) i boxes → Role x i →
     least_sizes (front ++ i ∷ back) (fixing boxes x v) ≤ℤ all_room (front ++ i ∷ back) (fixing boxes x v)
-role_total front i back boxes x v r t (Place e f g) = place_total front i back boxes x v r t e f g
+role_total front i back boxes x v r t (Bin e f g) = bin_total front i back boxes x v r t e f g
 role_total front i back boxes x v r t (Size e f g) = size_total front i back boxes x v r t e f g
 role_total front i back boxes x v r t (Room e f g) = room_total front i back boxes x v r t e f g
 

@@ -17,12 +17,13 @@ use Rattle.box_rules.specs.Justified.{justified}
 use Rattle.box_rules.specs.Named.{AreItemsNamed, IsItemNamed}
 use Rattle.rule_law.specs.Reasons.{has_number, no_repeat, Acts, IsReason}
 use Rattle.box_rules.specs.Refuted.{best_room, all_room, least_sizes, some_overfull, some_empty, refuted}
-use Rattle.box_view.proofs.EndLaws.{are_sets, above_low, below_high, has_low, has_high}
+use Rattle.box_view.proofs.EndLaws.{are_sets, above_low, below_high}
 use Rattle.rule_law.proofs.Keeping.{acts_next, acts_first}
 use Rattle.box_rules.proofs.PackLaws.{best_room-ge}
+use Rattle.box_view.proofs.EndLaws.{has_low, has_high}
 use Rattle.pack_prop.specs.Collected.{said, IsFalse, AreCollected, SaysMore}
 use Rattle.pack_prop.specs.RoomRows.{best_rooms, IsRow, row_sum, raised, is_short}
-use Rattle.pack_prop.specs.Sources.{parted, IsPart}
+use Rattle.pack_prop.specs.Sources.{with_part, IsPart}
 use Rattle.pack_prop.specs.TotalSteps.{IsSeated, sizes_at, AreTotalled}
 use Rattle.pack_prop.proofs.Collecting.{any_default, MaySay, said_collected, said_more, said_here, collected_none}
 use Rattle.pack_prop.proofs.CutBoxes.{AreOver, cut_valid, cut_some, cut_in, cut_less, cut_low, cut_high, cut_passes, low_within, collected_reason}
@@ -38,17 +39,17 @@ set_length (b ∷ boxes) (suc x) s = let more = set_length boxes x s in omega ar
 
 -- ---- the boxes with a part of one
 
-part_some : (domains boxes : Boxes) (items : List (ℕ × ℕ × ℕ)) (x : ℕ) (s : Ranges) → IsPart domains boxes items x s → (y : ℕ) → y < length boxes → is_nil (box_of (parted boxes x s) y) ≡ false
+part_some : (domains boxes : Boxes) (items : List (ℕ × ℕ × ℕ)) (x : ℕ) (s : Ranges) → IsPart domains boxes items x s → (y : ℕ) → y < length boxes → is_nil (box_of (with_part boxes x s) y) ≡ false
 part_some domains boxes items x s p y n =
-    (elim (y == x) as (λ t. (y == x) ≡ t → is_nil (box_of (parted boxes x s) y) ≡ false) [
+    (elim (y == x) as (λ t. (y == x) ≡ t → is_nil (box_of (with_part boxes x s) y) ≡ false) [
       | true ↦ λ e. let same : x ≡ y = grind (arith, nat_tests) in
-          subst (λ (z : ℕ). is_nil (box_of (parted boxes x s) z) ≡ false) same (subst (λ (b : Ranges). is_nil b ≡ false) (sym (part_same boxes x s p.var)) p.some)
+          subst (λ (z : ℕ). is_nil (box_of (with_part boxes x s) z) ≡ false) same (subst (λ (b : Ranges). is_nil b ≡ false) (sym (part_same boxes x s p.var)) p.some)
       | false ↦ λ e.
-          let other : box_of (parted boxes x s) y ≡ box_of boxes y = part_other boxes x y s (λ q. let t : (y == x) ≡ true = grind (arith, nat_tests) in absurd cc) in
+          let other : box_of (with_part boxes x s) y ≡ box_of boxes y = part_other boxes x y s (λ q. let t : (y == x) ≡ true = grind (arith, nat_tests) in absurd cc) in
           subst (λ (b : Ranges). is_nil b ≡ false) (sym other) (p.boxes_within.some y n)
     ]) refl
 
-pub part_over : (domains boxes : Boxes) (items : List (ℕ × ℕ × ℕ)) (x : ℕ) (s : Ranges) → IsPart domains boxes items x s → AreOver domains (parted boxes x s)
+pub part_over : (domains boxes : Boxes) (items : List (ℕ × ℕ × ℕ)) (x : ℕ) (s : Ranges) → IsPart domains boxes items x s → AreOver domains (with_part boxes x s)
 part_over domains boxes items x s p =
     let size = set_length boxes x s in record {
       domain_sets = are_sets domains p.domain_sets;
@@ -57,7 +58,7 @@ part_over domains boxes items x s p =
       some = λ y n. part_some domains boxes items x s p y (omega arith);
     }
 
-pub part_named : (boxes : Boxes) (x : ℕ) (s : Ranges) (items : List (ℕ × ℕ × ℕ)) → AreItemsNamed items boxes → AreItemsNamed items (parted boxes x s)
+pub part_named : (boxes : Boxes) (x : ℕ) (s : Ranges) (items : List (ℕ × ℕ × ℕ)) → AreItemsNamed items boxes → AreItemsNamed items (with_part boxes x s)
 part_named boxes x s items h k d lt =
     let size = set_length boxes x s in let i = h k d lt in
     let place = i.place in let size_var = i.size in let room = i.room in record {
@@ -68,22 +69,22 @@ part_named boxes x s items h k d lt =
 
 -- ---- what acts
 
-missed_other : (boxes : Boxes) (x : ℕ) (s : Ranges) (l : Literal) → (l.0 == x) ≡ false → IsFalse (parted boxes x s) l → misses l.1 (box_of boxes l.0) ≡ true
+missed_other : (boxes : Boxes) (x : ℕ) (s : Ranges) (l : Literal) → (l.0 == x) ≡ false → IsFalse (with_part boxes x s) l → misses l.1 (box_of boxes l.0) ≡ true
 missed_other boxes x s l e h =
-    let other : box_of (parted boxes x s) l.0 ≡ box_of boxes l.0 = part_other boxes x l.0 s (λ q. let t : (l.0 == x) ≡ true = grind (arith, nat_tests) in absurd cc) in
+    let other : box_of (with_part boxes x s) l.0 ≡ box_of boxes l.0 = part_other boxes x l.0 s (λ q. let t : (l.0 == x) ≡ true = grind (arith, nat_tests) in absurd cc) in
     subst (λ (b : Ranges). misses l.1 b ≡ true) other h.missed
 
-others_false : (boxes : Boxes) (x : ℕ) (s : Ranges) (ls : Literals) → has_number x (clause_vars ls) ≡ false → All (λ l. IsFalse (parted boxes x s) l) ls → false_in boxes ls ≡ true
+others_false : (boxes : Boxes) (x : ℕ) (s : Ranges) (ls : Literals) → has_number x (clause_vars ls) ≡ false → All (λ l. IsFalse (with_part boxes x s) l) ls → false_in boxes ls ≡ true
 others_false boxes x s [] n a = refl
 others_false boxes x s (l ∷ ls) n a =
     let here = missed_other boxes x s l (grind arith) (a 0 l (omega arith)) in
     let more = others_false boxes x s ls (grind arith) (λ k d lt. a (suc k) d (omega arith)) in grind arith
 
-acts_from : (domains boxes : Boxes) (items : List (ℕ × ℕ × ℕ)) (x : ℕ) (s : Ranges) (ls : Literals) → IsPart domains boxes items x s → no_repeat (clause_vars ls) ≡ true → All (λ l. IsFalse (parted boxes x s) l) ls → Acts boxes ls
+acts_from : (domains boxes : Boxes) (items : List (ℕ × ℕ × ℕ)) (x : ℕ) (s : Ranges) (ls : Literals) → IsPart domains boxes items x s → no_repeat (clause_vars ls) ≡ true → All (λ l. IsFalse (with_part boxes x s) l) ls → Acts boxes ls
 acts_from domains boxes items x s [] p d a = refl
 acts_from domains boxes items x s (l ∷ ls) p d a =
     let head = a 0 l (omega arith) in
-    let tail : All (λ l. IsFalse (parted boxes x s) l) ls = λ k e lt. a (suc k) e (omega arith) in
+    let tail : All (λ l. IsFalse (with_part boxes x s) l) ls = λ k e lt. a (suc k) e (omega arith) in
     let parts = and_parts (not (has_number l.0 (clause_vars ls))) (no_repeat (clause_vars ls)) d in
     (elim (l.0 == x) as (λ t. (l.0 == x) ≡ t → Acts boxes (l ∷ ls)) [
       | true ↦ λ e.
@@ -92,7 +93,7 @@ acts_from domains boxes items x s (l ∷ ls) p d a =
           let sets = are_sets boxes p.boxes_within.sets in
           let value = has_low s p.valid p.some in
           let of_box : has (box_of boxes x) (low_of s) ≡ true = (inside_law s (box_of boxes x) p.valid (sets x)).0 p.within (low_of s) value in
-          let at : box_of (parted boxes x s) l.0 ≡ s = subst (λ (z : ℕ). box_of (parted boxes x s) z ≡ s) (sym same) (part_same boxes x s p.var) in
+          let at : box_of (with_part boxes x s) l.0 ≡ s = subst (λ (z : ℕ). box_of (with_part boxes x s) z ≡ s) (sym same) (part_same boxes x s p.var) in
           let missed : misses l.1 s ≡ true = subst (λ (b : Ranges). misses l.1 b ≡ true) at head.missed in
           let open_box : inside (box_of boxes x) l.1 ≡ false = false_from_ne_true (inside (box_of boxes x) l.1) (λ q.
           let there = (inside_law (box_of boxes x) l.1 (sets x) head.valid).0 q (low_of s) of_box in
@@ -101,9 +102,9 @@ acts_from domains boxes items x s (l ∷ ls) p d a =
       | false ↦ λ e. acts_next boxes l ls (missed_other boxes x s l e head) (acts_from domains boxes items x s ls p parts.1 tail)
     ]) refl
 
-pub part_reason : (con : Con) (domains boxes : Boxes) (items : List (ℕ × ℕ × ℕ)) (x : ℕ) (s : Ranges) (ls : Literals) → IsPart domains boxes items x s → AreCollected (parted boxes x s) ls → justified con domains ls ≡ true → IsReason con domains boxes ls
+pub part_reason : (con : Con) (domains boxes : Boxes) (items : List (ℕ × ℕ × ℕ)) (x : ℕ) (s : Ranges) (ls : Literals) → IsPart domains boxes items x s → AreCollected (with_part boxes x s) ls → justified con domains ls ≡ true → IsReason con domains boxes ls
 part_reason con domains boxes items x s ls p h f =
-    collected_reason con domains boxes (parted boxes x s) ls (set_length boxes x s) h f (acts_from domains boxes items x s ls p h.differ h.each)
+    collected_reason con domains boxes (with_part boxes x s) ls (set_length boxes x s) h f (acts_from domains boxes items x s ls p h.differ h.each)
 
 -- ---- sizes
 
@@ -189,7 +190,7 @@ room_upto domains boxes y h s ls o n c m w =
     (λ d b. let above : int_lt h (high_of box) ≡ true = grind (arith, ints) in let is = w (high_of box) in said_here boxes y s (high_of box) ls m.valid c (grind arith)) top in
     grind (arith, ints)
 
--- ---- an item's place
+-- ---- an item's bin
 
 next_seated : (items : List (ℕ × ℕ × ℕ)) (k : ℕ) (P : ℕ × ℕ × ℕ → Type 0) → ((j : ℕ) → j < k → P (slice_index_or items j (0, 0, 0))) → P (slice_index_or items k (0, 0, 0)) → (j : ℕ) → j < k + 1 → P (slice_index_or items j (0, 0, 0))
 next_seated items k P h here j lt =
@@ -359,9 +360,9 @@ totalled_excluded items domains boxes row spare ls o t =
     let more = t.more in let some = t.some in grind (arith, ints)
 
 pub totalled_reason : (con : Con) (items : List (ℕ × ℕ × ℕ)) (domains boxes : Boxes) (x : ℕ) (s : Ranges) (row : List (ℤ × ℤ)) (spare : ℤ) (ls : Literals) → con ≡ Pack items → IsPart domains boxes items x s →
-    AreTotalled items domains (parted boxes x s) (length items) (length items) row spare ls → IsReason con domains boxes ls
+    AreTotalled items domains (with_part boxes x s) (length items) (length items) row spare ls → IsReason con domains boxes ls
 totalled_reason con items domains boxes x s row spare ls e p t =
     let cuts = cut domains ls in
-    let over = totalled_excluded items domains (parted boxes x s) row spare ls (part_over domains boxes items x s p) t in
+    let over = totalled_excluded items domains (with_part boxes x s) row spare ls (part_over domains boxes items x s p) t in
     let follows : refuted (Pack items) cuts ≡ true = or_right (some_empty (item_vars items) cuts) (some_overfull items items cuts || int_lt (all_room items cuts) (least_sizes items cuts)) (or_right (some_overfull items items cuts) (int_lt (all_room items cuts) (least_sizes items cuts)) over) in
     subst (λ (z : Con). IsReason z domains boxes ls) (sym e) (part_reason (Pack items) domains boxes items x s ls p t.literals follows)

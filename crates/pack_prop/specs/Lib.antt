@@ -1,12 +1,5 @@
-pub mod Intervals
-pub mod Slots
-pub mod Sweeps
-pub mod Within
 pub mod Handled
-pub mod Packing
-pub mod Looks
 pub mod Sources
-pub mod Survey
 pub mod Tight
 pub mod Collected
 pub mod RoomRows

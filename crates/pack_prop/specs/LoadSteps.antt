@@ -1,5 +1,5 @@
--- How it is explained that a place is overfull. What a reader believes after this file: with what the literals leave of the domains,
--- the load at the place is still more than an item's room there.
+-- How it is explained that a bin is overfull. What a reader believes after this file: with what the literals leave of the domains,
+-- the load at the bin is still more than an item's room there.
 use Rattle.std.specs.Prelude.{◌≡◌, ◌<◌, ℕ, zero, suc, true, cond, List, [], ◌∷◌, ℤ, pos, ◌+ℤ◌, ◌≤ℤ◌, slice_index_or, length}
 use Rattle.signed_clause.specs.Clauses.{Boxes, Literals, box_of}
 use Rattle.ground_form.specs.Bounds.{low_of, high_of}
@@ -7,7 +7,7 @@ use Rattle.box_view.specs.Views.{cut}
 use Rattle.box_rules.specs.Refuted.{fixed_at}
 use Rattle.pack_prop.specs.Collected.{AreCollected}
 
--- the least sizes of the items whose place is fixed at v, of the first k items in the first boxes, of the others in the second
+-- the least sizes of the items whose bin is fixed at v, of the first k items in the first boxes, of the others in the second
 abbrev pub loads_at : ℤ → ℕ → List (ℕ × ℕ × ℕ) → Boxes → Boxes → ℤ
 loads_at v k [] one two = pos 0
 loads_at v zero (i ∷ is) one two =

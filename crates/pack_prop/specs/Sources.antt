@@ -1,4 +1,4 @@
--- What an overfull place is, and what its explanation stands on.
+-- What an overfull bin is, and what its explanation stands on.
 use Rattle.std.specs.Prelude.{ℕ, ◌≡◌, ◌<◌, true, false, pos, ◌≤ℤ◌, List, ℤ, slice_set, slice_index_or, int_lt, length, Bool, ◌&&◌, ◌||◌, [], ◌∷◌}
 use Rattle.std.specs.List.{All}
 use Rattle.signed_clause.specs.Ranges.{Ranges, is_nil, IsValid}
@@ -10,8 +10,8 @@ use Rattle.rule_law.specs.Answers.{AreBoxesWithin}
 use Rattle.box_rules.specs.Named.{AreItemsNamed}
 
 -- the boxes with a part of that of x in its place
-abbrev pub parted : Boxes → ℕ → Ranges → Boxes
-parted boxes x part = slice_set boxes x part
+abbrev pub with_part : Boxes → ℕ → Ranges → Boxes
+with_part boxes x part = slice_set boxes x part
 
 -- item k is fixed at v, and the load there is more than its greatest room
 pub record IsOverfilled (v : ℤ) (items : List (ℕ × ℕ × ℕ)) (boxes : Boxes) (k : ℕ) : Type 0 where

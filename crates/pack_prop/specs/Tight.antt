@@ -1,5 +1,5 @@
 -- When a tight packing has nothing to say of all its room. What a reader believes after this file: where there is room for all least
--- sizes, and still is where any one size grows, any one place is fixed, or any one room shrinks, no value of a box takes too
+-- sizes, and still is where any one size grows, any one bin is fixed, or any one room shrinks, no value of a box takes too
 -- much of it.
 use Rattle.std.specs.Prelude.{ℕ, ◌≡◌, ◌<◌, ◌≤ℤ◌, ◌<ℤ◌, Bool, true, not, ◌&&◌, ◌||◌, cond, List, [], ◌∷◌, ℤ, pos, ◌+ℤ◌, ◌-ℤ◌, int_le, length, slice_index_or}
 use Rattle.std.specs.Int.{int_max}
@@ -9,8 +9,8 @@ use Rattle.signed_clause.specs.Clauses.{Boxes, box_of}
 use Rattle.ground_form.specs.Bounds.{low_of, high_of}
 use Rattle.box_rules.specs.Refuted.{least_sizes}
 use Rattle.rule_law.specs.Repeats.{is_one}
-use Rattle.pack_prop.specs.declared.bests.Best.{Best}
-use Rattle.pack_prop.specs.Packing.{put, two_rooms}
+use Rattle.pack_prop.specs.declared.best_rooms.Best.{Best}
+use Rattle.pack_fit.specs.Packing.{put, two_rooms}
 
 -- ---- the rooms of the values
 
@@ -20,13 +20,13 @@ pub record IsBest (v : ℤ) (b : Best) (items : List (ℕ × ℕ × ℕ)) (boxes
   pub second_is : b.second.value ≡ (two_rooms v items boxes).1
 
 -- those of the values from v on
-abbrev pub AreBests : ℤ → List Best → List (ℕ × ℕ × ℕ) → Boxes → Type 0
-AreBests v [] items boxes = Unit {0}
-AreBests v (b ∷ bs) items boxes = IsBest v b items boxes × AreBests (v +ℤ pos 1) bs items boxes
+abbrev pub AreBestRooms : ℤ → List Best → List (ℕ × ℕ × ℕ) → Boxes → Type 0
+AreBestRooms v [] items boxes = Unit {0}
+AreBestRooms v (b ∷ bs) items boxes = IsBest v b items boxes × AreBestRooms (v +ℤ pos 1) bs items boxes
 
 -- the same, entry by entry
-abbrev pub HaveBests : List Best → ℤ → List (ℕ × ℕ × ℕ) → Boxes → Type 0
-HaveBests rows v items boxes = (d : Best) (e : ℕ) → e < length rows → IsBest (v +ℤ pos e) (slice_index_or rows e d) items boxes
+abbrev pub HaveBestRooms : List Best → ℤ → List (ℕ × ℕ × ℕ) → Boxes → Type 0
+HaveBestRooms rows v items boxes = (d : Best) (e : ℕ) → e < length rows → IsBest (v +ℤ pos e) (slice_index_or rows e d) items boxes
 
 -- the second is the first with one more room, if there is one
 pub record IsRaised (there : Bool) (room : ℤ) (stays : Bool) (b c : Best) : Type 0 where
@@ -66,7 +66,7 @@ abbrev pub all_grow : ℤ → ℤ → List (ℕ × ℕ × ℕ) → Boxes → Boo
 all_grow need all [] boxes = true
 all_grow need all (i ∷ is) boxes = may_grow need all i boxes && all_grow need all is boxes
 
--- where the place of the item is that of b, if it may be, and `sum` is left without the item
+-- where the bin of the item is that of b, if it may be, and `sum` is left without the item
 abbrev pub may_be_at : ℤ → ℤ → Best → ℕ × ℕ × ℕ → Boxes → Bool
 may_be_at need sum b i boxes = not (has (box_of boxes i.0) b.at.value) || int_le need (sum +ℤ (b.first.value -ℤ left_at b (pos 0) i boxes))
 
@@ -75,21 +75,21 @@ abbrev pub may_be_in : ℤ → ℤ → List Best → ℕ × ℕ × ℕ → Boxes
 may_be_in need sum [] i boxes = true
 may_be_in need sum (b ∷ bs) i boxes = may_be_at need sum b i boxes && may_be_in need sum bs i boxes
 
--- where its place, if it is open, is any
+-- where its bin, if it is open, is any
 abbrev pub may_move : ℤ → List Best → ℕ × ℕ × ℕ → Boxes → Bool
-may_move need bests i boxes =
-    is_one (box_of boxes i.0) || (int_le need (lefts bests (pos 0) i boxes) || may_be_in need (lefts bests (pos 0) i boxes) bests i boxes)
+may_move need best_rooms i boxes =
+    is_one (box_of boxes i.0) || (int_le need (lefts best_rooms (pos 0) i boxes) || may_be_in need (lefts best_rooms (pos 0) i boxes) best_rooms i boxes)
 
 -- where its room, if it is open, is any
 abbrev pub may_shrink : ℤ → List Best → ℕ × ℕ × ℕ → Boxes → Bool
-may_shrink need bests i boxes = is_one (box_of boxes i.2) || int_le need (lefts bests (low_of (box_of boxes i.2)) i boxes)
+may_shrink need best_rooms i boxes = is_one (box_of boxes i.2) || int_le need (lefts best_rooms (low_of (box_of boxes i.2)) i boxes)
 
--- where any one place or room of the list is any
+-- where any one bin or room of the list is any
 abbrev pub all_loose : ℤ → List Best → List (ℕ × ℕ × ℕ) → Boxes → Bool
-all_loose need bests [] boxes = true
-all_loose need bests (i ∷ is) boxes = may_move need bests i boxes && (may_shrink need bests i boxes && all_loose need bests is boxes)
+all_loose need best_rooms [] boxes = true
+all_loose need best_rooms (i ∷ is) boxes = may_move need best_rooms i boxes && (may_shrink need best_rooms i boxes && all_loose need best_rooms is boxes)
 
--- the place's box lies from v to below `end`
+-- the bin's box lies from v to below `end`
 pub record IsBetween (v end : ℤ) (i : ℕ × ℕ × ℕ) (boxes : Boxes) : Type 0 where
   pub low : v ≤ℤ low_of (box_of boxes i.0)
   pub high : high_of (box_of boxes i.0) <ℤ end
@@ -98,7 +98,7 @@ pub record IsBetween (v end : ℤ) (i : ℕ × ℕ × ℕ) (boxes : Boxes) : Typ
 pub record HasEach (items : List (ℕ × ℕ × ℕ)) (boxes : Boxes) : Type 0 where
   pub start : ℤ
   pub rows : List Best
-  pub rooms : AreBests start rows items boxes
+  pub rooms : AreBestRooms start rows items boxes
   pub places : All (λ i. IsBetween start (start +ℤ pos (length rows)) i boxes) items
   pub enough : least_sizes items boxes ≤ℤ firsts rows
   pub grow : all_grow (least_sizes items boxes) (firsts rows) items boxes ≡ true

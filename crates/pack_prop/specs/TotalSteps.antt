@@ -33,12 +33,12 @@ pub record AreTotalled (items : List (ℕ × ℕ × ℕ)) (domains boxes : Boxes
   pub some : pos 0 ≤ℤ spare
   pub more : ((row_sum row +ℤ pos 1) +ℤ spare) ≤ℤ sizes_at m items (cut domains ls) boxes
 
--- the same of all items' places and of the sizes of the first m items, for some row
+-- the same of all items' bins and of the sizes of the first m items, for some row
 pub record AreWeighed (items : List (ℕ × ℕ × ℕ)) (domains boxes : Boxes) (m : ℕ) (spare : ℤ) (ls : Literals) : Type 0 where
   pub row : List (ℤ × ℤ)
   pub totalled : AreTotalled items domains boxes (length items) m row spare ls
 
--- n values from the first on, none below 0, hold all that the places have in their domains
+-- n values from the first on, none below 0, hold all that the bins have in their domains
 pub record IsWindow (first : ℤ) (n : ℕ) (items : List (ℕ × ℕ × ℕ)) (domains : Boxes) : Type 0 where
   pub low : pos 0 ≤ℤ first
   pub high : first ≤ℤ pos 9999

@@ -8,10 +8,10 @@ ghost use Rattle.ground_form.specs.Bounds.{low_of};
 ghost use Rattle.rule_law.specs.Answers.{AreBoxesWithin};
 ghost use Rattle.box_rules.specs.Named.{AreItemsNamed, IsItemNamed};
 
-use crate::loads::least;
 use crate::overfull::{explain_part, overfilled};
 use crate::total::explain_total;
 use ground_form::{Con, Number, PackItems};
+use pack_fit::least;
 use rule_law::are_boxes_within;
 use signed_clause::{Clause, IntSet};
 use std::alloc::{AllocError, Global};

@@ -1,12 +1,12 @@
 //! Items to be packed.
 //!
-//! Of each item (place, size, room), the sizes at its place add up to at most its room; and all sizes to at most the best rooms
-//! of the places that are open to them. `room` shows in one pass over items and places that neither rule has anything to say,
-//! or finds an item that doesn't fit, which `misfits` explains; where each fits and there may be too little room in all, `tight`
-//! looks at each box in turn. What they find to take too much, and cannot explain, is probed.
+//! Of each item (bin, size, room), the sizes at its bin add up to at most its room; and all sizes to at most the best rooms
+//! of the bins that are open to them. `pack_fit` shows in one pass over items and bins that neither rule has anything to say,
+//! or finds an item that doesn't fit, which `unplaceable` explains; where each fits and there may be too little room in all,
+//! `tight` looks at each box in turn. What they find to take too much, and cannot explain, is probed.
 //!
-//! Cost: the number of items, of the ranges of their places' boxes and of places, where they are roomy; where they are tight, the
-//! number of places times that of items.
+//! Cost: the number of items, of the ranges of their bins' boxes and of bins, where they have slack; where they are tight, the
+//! number of bins times that of items.
 ghost use Rattle.std.specs.Prelude.{◌≡◌, ◌<◌, true, false, IfOk, length};
 ghost use Rattle.std.specs.List.{All};
 ghost use Rattle.signed_clause.specs.Ranges.{is_nil, IsValid};
@@ -17,20 +17,20 @@ ghost use Rattle.ground_form.specs.WellMade.{IsWellMadeCon};
 ghost use Rattle.rule_law.specs.Answers.{AreBoxesWithin, IsAnswer};
 ghost use Rattle.box_rules.specs.Named.{AreItemsNamed, IsItemNamed};
 ghost use Rattle.box_rules.specs.Quiet.{quiet};
-ghost use Rattle.pack_prop.specs.Packing.{AllFit, HasEnough};
+ghost use Rattle.pack_fit.specs.Packing.{AllFit, HasEnough};
 
-use crate::misfits::prune_misfit;
 use crate::propagator::Kept;
-use crate::room::{Look, look_at_items};
 use crate::tight::prune_tight;
+use crate::unplaceable::prune_unplaceable;
 use ground_form::{Con, Number};
+use pack_fit::{Look, look_at_items};
 use rule_law::{Differing, probe};
 use signed_clause::{Clause, IntSet};
 use std::alloc::{AllocError, Global};
 
-/// What roomy items answer: nothing, where none of their open variables stands twice.
-#[tactic(auto, using(crate::proofs::Roomy::roomy_from, crate::proofs::Roomy::pack_quiet))]
-fn prune_roomy(
+/// What items with slack answer: nothing, where none of their open variables stands twice.
+#[tactic(auto, using(crate::proofs::Slack::slack_from, crate::proofs::Slack::pack_quiet))]
+fn prune_with_slack(
     alloc: Global,
     differing: &mut Differing,
     k: u32,
@@ -56,7 +56,7 @@ fn prune_roomy(
 }
 
 /// What an item that doesn't fit at the value answers.
-#[tactic(auto, using(crate::proofs::Roomy::pack_sizes))]
+#[tactic(auto, using(crate::proofs::Slack::pack_sizes))]
 fn prune_by_item(
     alloc: Global,
     con: &Con,
@@ -74,7 +74,7 @@ fn prune_by_item(
     requires sets { All (λ d. IsValid d) domains.now }
     ensures { IfOk result (λ a. IsAnswer con.now domains.now boxes.now a) }
 {
-    let pruned = prune_misfit(alloc, con, items, domains, boxes, at, i)?;
+    let pruned = prune_unplaceable(alloc, con, items, domains, boxes, at, i)?;
     if pruned.is_some() {
         return Ok(pruned);
     }
@@ -82,7 +82,7 @@ fn prune_by_item(
 }
 
 /// What items answer of which each fits wherever it may be.
-fn prune_unsure(
+fn prune_undecided(
     alloc: Global,
     kept: &mut Kept,
     k: u32,
@@ -101,7 +101,7 @@ fn prune_unsure(
 {
     let differ = kept.differing.do_open_differ(k, con, boxes)?;
     if differ {
-        prune_tight(alloc, &mut kept.bests, con, items, domains, boxes)
+        prune_tight(alloc, &mut kept.best_rooms, con, items, domains, boxes)
     } else {
         probe(con, domains, boxes, alloc)
     }
@@ -111,7 +111,7 @@ fn prune_unsure(
 ///
 /// # Errors
 /// Want of memory.
-#[tactic(auto, using(crate::proofs::Roomy::pack_named, crate::proofs::Roomy::pack_some))]
+#[tactic(auto, using(crate::proofs::Slack::pack_named, crate::proofs::Slack::pack_some))]
 pub fn prune_packing(
     alloc: Global,
     kept: &mut Kept,
@@ -128,8 +128,16 @@ pub fn prune_packing(
     ensures { IfOk result (λ a. IsAnswer con.now domains.now boxes.now a) }
 {
     match look_at_items(&mut kept.survey, items, boxes)? {
-        Look::Roomy => prune_roomy(alloc, &mut kept.differing, k, con, items, domains, boxes),
-        Look::Misfit(at, i) => prune_by_item(alloc, con, items, domains, boxes, at, i),
-        Look::Unsure => prune_unsure(alloc, kept, k, con, items, domains, boxes),
+        Look::WithSlack => prune_with_slack(
+            alloc,
+            &mut kept.differing,
+            k,
+            con,
+            items,
+            domains,
+            boxes,
+        ),
+        Look::Unplaceable(at, i) => prune_by_item(alloc, con, items, domains, boxes, at, i),
+        Look::Undecided => prune_undecided(alloc, kept, k, con, items, domains, boxes),
     }
 }

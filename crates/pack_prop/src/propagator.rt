@@ -7,12 +7,11 @@ ghost use Rattle.ground_form.specs.WellMade.{IsWellMade, IsWellMadeCon};
 ghost use Rattle.rule_law.specs.Answers.{AreBoxesWithin, IsAnswer};
 ghost use Rattle.pack_prop.specs.Handled.{is_handled};
 
-use crate::bests::Bests;
-use crate::differing::prune_differing;
+use crate::best_rooms::BestRooms;
 use crate::packing::prune_packing;
-use crate::survey::Survey;
-use crate::sweep::Slots;
+use all_different::AllDifferent;
 use ground_form::{Con, Ground, Kind};
+use pack_fit::Survey;
 use rule_law::{Differing, Propagator, probe};
 use signed_clause::{Clause, IntSet};
 use std::alloc::{AllocError, Global};
@@ -20,10 +19,10 @@ use std::alloc::{AllocError, Global};
 /// What is kept between calls.
 #[derive(Drop)]
 pub struct Kept {
-    /// Counters for a sweep.
-    pub slots: Slots,
+    /// What is kept of places that differ.
+    pub all_different: AllDifferent,
     /// The greatest rooms of values.
-    pub bests: Bests,
+    pub best_rooms: BestRooms,
     /// Which variables of a constraint stand twice.
     pub differing: Differing,
     /// What is counted of items to be packed.
@@ -33,19 +32,16 @@ pub struct Kept {
 impl Kept {
     /// Nothing yet. It takes no memory.
     pub fn new(alloc: Global) -> Kept
-        ensures no_starts { result.slots.starts.items ≡ [] }
-        ensures no_ends { result.slots.ends.items ≡ [] }
+        ensures no_starts { result.all_different.counters.starts.items ≡ [] }
+        ensures no_ends { result.all_different.counters.ends.items ≡ [] }
         ensures no_spots { result.survey.spots.items ≡ [] }
         ensures no_begun { result.survey.begun.items ≡ [] }
         ensures no_ended { result.survey.ended.items ≡ [] }
-        ensures no_bests { result.bests.rows.items ≡ [] }
+        ensures no_best_rooms { result.best_rooms.rows.items ≡ [] }
     {
         Kept {
-            slots: Slots {
-                starts: Vec::new(alloc),
-                ends: Vec::new(alloc),
-            },
-            bests: Bests::new(alloc),
+            all_different: AllDifferent::new(alloc),
+            best_rooms: BestRooms::new(alloc),
             differing: Differing::new(alloc),
             survey: Survey::new(alloc),
         }
@@ -63,12 +59,12 @@ impl PackProp {
     /// A propagator, without memory.
     pub fn new(alloc: Global) -> PackProp
         ensures alloc { result.alloc ≡ alloc }
-        ensures no_starts { result.kept.slots.starts.items ≡ [] }
-        ensures no_ends { result.kept.slots.ends.items ≡ [] }
+        ensures no_starts { result.kept.all_different.counters.starts.items ≡ [] }
+        ensures no_ends { result.kept.all_different.counters.ends.items ≡ [] }
         ensures no_spots { result.kept.survey.spots.items ≡ [] }
         ensures no_begun { result.kept.survey.begun.items ≡ [] }
         ensures no_ended { result.kept.survey.ended.items ≡ [] }
-        ensures no_bests { result.kept.bests.rows.items ≡ [] }
+        ensures no_best_rooms { result.kept.best_rooms.rows.items ≡ [] }
     {
         PackProp {
             alloc,
@@ -93,7 +89,8 @@ pub fn answer(
 {
     match con {
         Con::AllDiff { vars } => {
-            prune_differing(alloc, kept, k, con, vars.items(), domains, boxes)
+            kept.all_different
+                .prune(k, con, vars.items(), domains, boxes)
         }
         Con::Pack { items } => { prune_packing(alloc, kept, k, con, items.items(), domains, boxes) }
         _ => probe(con, domains, boxes, alloc),
@@ -111,8 +108,7 @@ impl Propagator for PackProp {
     }
 
     fn begin(&mut self) {
-        self.kept.slots.starts.clear();
-        self.kept.slots.ends.clear();
+        self.kept.all_different.begin();
         self.kept.differing.forget();
         self.kept.survey.clear();
     }

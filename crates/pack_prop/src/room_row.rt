@@ -1,5 +1,5 @@
 //! Rows of rooms: for each of some values that follow one another the best room there. `best_row` goes over the items once, and
-//! each lifts the entries of its place's box to its room.
+//! each lifts the entries of its bin's box to its room.
 ghost use Rattle.std.specs.Prelude.{◌≡◌, ◌≤◌, ◌<◌, ◌≤ℤ◌, ◌+ℤ◌, ◌&&◌, ◌||◌, ◌^◌, ℕ, ℤ, [], suc, true, cond, pos, IfOk, OnOk, int_lt, length, drop, slice_index_or};
 ghost use Rattle.std.specs.Int.{int_max};
 ghost use Rattle.std.specs.Ordering.{int_eq};
@@ -8,13 +8,13 @@ ghost use Rattle.signed_clause.specs.Clauses.{Boxes, box_of};
 ghost use Rattle.ground_form.specs.Bounds.{high_of};
 ghost use Rattle.box_rules.specs.Named.{AreItemsNamed, IsItemNamed};
 ghost use Rattle.pack_prop.specs.RoomRows.{best_rooms, HasRooms, lifted, row_sum, raised, is_short};
-ghost use Rattle.pack_prop.specs.Sources.{parted};
+ghost use Rattle.pack_prop.specs.Sources.{with_part};
 ghost use Rattle.pack_prop.specs.Spans.{is_in};
 
-use crate::loads::{Total, greater};
-use crate::parted::{box_at, greatest};
 use crate::spans::{Span, span_of};
+use crate::with_part::{box_at, greatest};
 use ground_form::Number;
+use pack_fit::{Total, greater};
 use signed_clause::IntSet;
 use std::alloc::{AllocError, Global};
 
@@ -68,7 +68,7 @@ fn lift_ranges(row: &mut [(i64, i64)], ranges: &[(i64, i64)], high: Number, firs
 fn ranges_of<'a>(boxes: &'a [IntSet], x: u32, part: &'a IntSet, y: u32) -> &'a [(i64, i64)]
     requires var { x < length boxes.now }
     requires named { y < length boxes.now }
-    ensures { result.now ≡ box_of (parted boxes.now x part.now) y }
+    ensures { result.now ≡ box_of (with_part boxes.now x part.now) y }
 {
     box_at(boxes, x, part, y).ranges()
 }
@@ -86,9 +86,9 @@ fn add_item(
     requires var { x < length boxes.now }
     requires items { AreItemsNamed items.now boxes.now }
     requires within { k < length items.now }
-    requires behind { HasRooms row.old first.value (drop (suc k) items.now) (parted boxes.now x part.now) }
+    requires behind { HasRooms row.old first.value (drop (suc k) items.now) (with_part boxes.now x part.now) }
     ensures size { length row.new ≡ length row.old }
-    ensures row { HasRooms row.new first.value (drop k items.now) (parted boxes.now x part.now) }
+    ensures row { HasRooms row.new first.value (drop k items.now) (with_part boxes.now x part.now) }
 {
     let i = items[k];
     let high = greatest(boxes, x, part, i.2);
@@ -106,9 +106,9 @@ fn add_items(
 )
     requires var { x < length boxes.now }
     requires items { AreItemsNamed items.now boxes.now }
-    requires none { HasRooms row.old first.value [] (parted boxes.now x part.now) }
+    requires none { HasRooms row.old first.value [] (with_part boxes.now x part.now) }
     ensures size { length row.new ≡ length row.old }
-    ensures row { HasRooms row.new first.value items.now (parted boxes.now x part.now) }
+    ensures row { HasRooms row.new first.value items.now (with_part boxes.now x part.now) }
 {
     let mut k = items.len();
     while 0 < k {
@@ -171,7 +171,7 @@ pub fn best_row(
     requires low { pos 0 ≤ℤ first.value }
     requires high { first.value ≤ℤ pos 9999 }
     requires few { n ≤ 10000 }
-    ensures { IfOk result (λ row. row.items ≡ best_rooms n first.value items.now (parted boxes.now x part.now)) }
+    ensures { IfOk result (λ row. row.items ≡ best_rooms n first.value items.now (with_part boxes.now x part.now)) }
 {
     let mut row = bare_row(alloc, first, n)?;
     add_items(row.as_mut_slice(), items, boxes, x, part, first);

@@ -7,10 +7,10 @@ ghost use Rattle.ground_form.specs.declared.con.Con.TheVariants.{Pack};
 ghost use Rattle.ground_form.specs.WellMade.{IsWellMadeCon};
 ghost use Rattle.rule_law.specs.Answers.{AreBoxesWithin, IsAnswer};
 
-use crate::bests::Bests;
-use crate::misfits::part_of;
+use crate::best_rooms::BestRooms;
 use crate::propagator::{Kept, answer};
 use crate::tight::find_excess;
+use crate::unplaceable::part_of;
 use ground_form::{Con, PackItems, VarList};
 use rule_law::{are_boxes_within, justified, probe};
 use signed_clause::{Clause, IntSet};
@@ -294,7 +294,7 @@ fn is_too_much(items: &[(u32, u32, u32)], boxes: &[IntSet], x: u32, part: &IntSe
 }
 
 /// Whether what is found to take too much room does so, where something is found.
-#[tactic(auto, using(crate::proofs::Roomy::pack_named))]
+#[tactic(auto, using(crate::proofs::Slack::pack_named))]
 fn is_found_right(
     alloc: Global,
     con: &Con,
@@ -309,7 +309,7 @@ fn is_found_right(
     if items.is_empty() {
         return Ok(None);
     }
-    let mut bests = Bests::new(alloc);
+    let mut bests = BestRooms::new(alloc);
     let Some(trial) = find_excess(&mut bests, items, boxes, items[0])? else {
         return Ok(None);
     };

@@ -1,10 +1,10 @@
 //! Packings in which there may be too little room in all.
 //!
 //! With the greatest and the second greatest room of each value it is told of each box of an item whether a value of it takes too
-//! much room: whether there is room enough where the size is greatest, where the place is each that it may be, and where the room
+//! much room: whether there is room enough where the size is greatest, where the bin is each that it may be, and where the room
 //! is least. What would take too much is tried, and explained by `total`.
 //!
-//! Cost: the number of places times that of items.
+//! Cost: the number of bins times that of items.
 ghost use Rattle.std.specs.Prelude.{◌≡◌, ◌<◌, ◌≤ℤ◌, ◌<ℤ◌, ◌+ℤ◌, pos, true, false, IfOk, IfSome, IfNone, length};
 ghost use Rattle.std.specs.List.{All};
 ghost use Rattle.signed_clause.specs.Ranges.{IsValid};
@@ -18,15 +18,14 @@ ghost use Rattle.box_rules.specs.Named.{AreItemsNamed, IsItemNamed};
 ghost use Rattle.rule_law.specs.Reasons.{no_repeat};
 ghost use Rattle.box_rules.specs.Refuted.{least_sizes};
 ghost use Rattle.rule_law.specs.Repeats.{open_vars};
-ghost use Rattle.pack_prop.specs.Packing.{AllFit};
-ghost use Rattle.pack_prop.specs.Tight.{AreBests, firsts, seconds, left_at, lefts, may_grow, all_grow, may_be_at, may_move, may_shrink, all_loose, HasEach};
+ghost use Rattle.pack_fit.specs.Packing.{AllFit};
+ghost use Rattle.pack_prop.specs.Tight.{AreBestRooms, firsts, seconds, left_at, lefts, may_grow, all_grow, may_be_at, may_move, may_shrink, all_loose, HasEach};
 
-use crate::bests::{Best, Bests};
-use crate::loads::{Total, greater, greatest, is_single, least, may_be, sizes_of};
-use crate::misfits::{Trial, clamped, part_of};
-use crate::room::{ends_at, places_of};
+use crate::best_rooms::{Best, BestRooms};
 use crate::total::explain_total;
+use crate::unplaceable::{Trial, clamped, part_of};
 use ground_form::{Con, Number};
+use pack_fit::{Total, bins_of, ends_at, greater, greatest, is_single, least, may_be, sizes_of};
 use rule_law::probe;
 use signed_clause::{Clause, IntSet};
 use std::alloc::{AllocError, Global};
@@ -41,11 +40,11 @@ fn first_at(b: Best) -> Number
 }
 
 /// The greatest rooms, added up.
-fn firsts_of(bests: &[Best]) -> Total
-    ensures { result.value ≡ firsts bests.now }
+fn firsts_of(best_rooms: &[Best]) -> Total
+    ensures { result.value ≡ firsts best_rooms.now }
 {
     let mut sum = Total { value: 0 };
-    for b in bests {
+    for b in best_rooms {
         sum = sum.plus(first_at(*b));
     }
     sum
@@ -59,11 +58,11 @@ fn second_at(b: Best) -> Number
 }
 
 /// The second greatest rooms, added up.
-fn seconds_of(bests: &[Best]) -> Total
-    ensures { result.value ≡ seconds bests.now }
+fn seconds_of(best_rooms: &[Best]) -> Total
+    ensures { result.value ≡ seconds best_rooms.now }
 {
     let mut sum = Total { value: 0 };
-    for b in bests {
+    for b in best_rooms {
         sum = sum.plus(second_at(*b));
     }
     sum
@@ -82,12 +81,12 @@ fn left_at(boxes: &[IntSet], i: (u32, u32, u32), b: Best, room: Number) -> Numbe
 }
 
 /// What is left of all, added up.
-fn lefts_of(boxes: &[IntSet], i: (u32, u32, u32), bests: &[Best], room: Number) -> Total
+fn lefts_of(boxes: &[IntSet], i: (u32, u32, u32), best_rooms: &[Best], room: Number) -> Total
     requires { IsItemNamed i boxes.now }
-    ensures { result.value ≡ lefts bests.now room.value i boxes.now }
+    ensures { result.value ≡ lefts best_rooms.now room.value i boxes.now }
 {
     let mut sum = Total { value: 0 };
-    for b in bests {
+    for b in best_rooms {
         sum = sum.plus(left_at(boxes, i, *b, room));
     }
     sum
@@ -143,9 +142,9 @@ fn excess_of_sizes(
     None
 }
 
-// ---- places and rooms
+// ---- bins and rooms
 
-/// Whether there is room enough where the place of the item is that of `b`, and `sum` is left without the item.
+/// Whether there is room enough where the bin of the item is that of `b`, and `sum` is left without the item.
 fn is_enough_at(boxes: &[IntSet], i: (u32, u32, u32), b: Best, sum: Total, need: Total) -> bool
     requires { IsItemNamed i boxes.now }
     ensures { result ≡ true → may_be_at need.value sum.value b i boxes.now ≡ true }
@@ -160,25 +159,25 @@ fn is_enough_at(boxes: &[IntSet], i: (u32, u32, u32), b: Best, sum: Total, need:
     }
 }
 
-/// A value of the item's place at which it takes too much room, where there is one.
-fn excess_of_place(
+/// A value of the item's bin at which it takes too much room, where there is one.
+fn excess_of_bin(
     boxes: &[IntSet],
     i: (u32, u32, u32),
-    bests: &[Best],
+    best_rooms: &[Best],
     need: Total,
 ) -> Option<Trial>
     requires { IsItemNamed i boxes.now }
     ensures some { IfSome result (λ t. t.var < length boxes.now) }
-    ensures none { IfNone result (may_move need.value bests.now i boxes.now ≡ true) }
+    ensures none { IfNone result (may_move need.value best_rooms.now i boxes.now ≡ true) }
 {
     if is_single(boxes, i.0) {
         return None;
     }
-    let sum = lefts_of(boxes, i, bests, Number { value: 0 });
+    let sum = lefts_of(boxes, i, best_rooms, Number { value: 0 });
     if need.is_at_most(sum) {
         return None;
     }
-    for b in bests {
+    for b in best_rooms {
         if !is_enough_at(boxes, i, *b, sum, need) {
             return Some(Trial {
                 var: i.0,
@@ -205,7 +204,7 @@ fn middle(low: Number, high: Number) -> Number
 fn most_too_little(
     boxes: &[IntSet],
     i: (u32, u32, u32),
-    bests: &[Best],
+    best_rooms: &[Best],
     need: Total,
     ends: (Number, Number),
 ) -> Number
@@ -217,7 +216,7 @@ fn most_too_little(
     let mut high = ends.1;
     while i128::from(low.value) + 1 < i128::from(high.value) {
         let at = middle(low, high);
-        if need.is_at_most(lefts_of(boxes, i, bests, at)) {
+        if need.is_at_most(lefts_of(boxes, i, best_rooms, at)) {
             high = at;
         } else {
             low = at;
@@ -230,41 +229,41 @@ fn most_too_little(
 fn excess_of_room(
     boxes: &[IntSet],
     i: (u32, u32, u32),
-    bests: &[Best],
+    best_rooms: &[Best],
     need: Total,
 ) -> Option<Trial>
     requires item { IsItemNamed i boxes.now }
     ensures some { IfSome result (λ t. t.var < length boxes.now) }
-    ensures none { IfNone result (may_shrink need.value bests.now i boxes.now ≡ true) }
+    ensures none { IfNone result (may_shrink need.value best_rooms.now i boxes.now ≡ true) }
 {
     let ends = ends_at(boxes, i.2);
-    if is_single(boxes, i.2) || need.is_at_most(lefts_of(boxes, i, bests, ends.0)) {
+    if is_single(boxes, i.2) || need.is_at_most(lefts_of(boxes, i, best_rooms, ends.0)) {
         return None;
     }
-    let most = most_too_little(boxes, i, bests, need, ends);
+    let most = most_too_little(boxes, i, best_rooms, need, ends);
     Some(Trial {
         var: i.2,
         span: (i64::MIN, most.value),
     })
 }
 
-/// What takes too much room of the place or the room of an item, where something does.
-fn excess_of_places(
+/// What takes too much room of the bin or the room of an item, where something does.
+fn excess_of_bins(
     items: &[(u32, u32, u32)],
     boxes: &[IntSet],
-    bests: &[Best],
+    best_rooms: &[Best],
     need: Total,
 ) -> Option<Trial>
     requires { AreItemsNamed items.now boxes.now }
     ensures some { IfSome result (λ t. t.var < length boxes.now) }
-    ensures none { IfNone result (all_loose need.value bests.now items.now boxes.now ≡ true) }
+    ensures none { IfNone result (all_loose need.value best_rooms.now items.now boxes.now ≡ true) }
 {
     for i in items {
-        let place = excess_of_place(boxes, *i, bests, need);
-        if place.is_some() {
-            return place;
+        let bin = excess_of_bin(boxes, *i, best_rooms, need);
+        if bin.is_some() {
+            return bin;
         }
-        let room = excess_of_room(boxes, *i, bests, need);
+        let room = excess_of_room(boxes, *i, best_rooms, need);
         if room.is_some() {
             return room;
         }
@@ -274,26 +273,26 @@ fn excess_of_places(
 
 // ---- all boxes
 
-/// What takes too much room, where something does: all of a place's box, where the least sizes do. Where the second greatest rooms
-/// are enough, no place or room takes too much.
+/// What takes too much room, where something does: all of a bin's box, where the least sizes do. Where the second greatest rooms
+/// are enough, no bin or room takes too much.
 #[tactic(auto, using(crate::proofs::TightRows::sure_loose))]
 fn excess(
     items: &[(u32, u32, u32)],
     boxes: &[IntSet],
-    bests: &[Best],
+    best_rooms: &[Best],
     head: (u32, u32, u32),
     first: Number,
 ) -> Option<Trial>
     requires items { AreItemsNamed items.now boxes.now }
     requires head { IsItemNamed head boxes.now }
-    requires rooms { AreBests first.value bests.now items.now boxes.now }
+    requires rooms { AreBestRooms first.value best_rooms.now items.now boxes.now }
     ensures some { IfSome result (λ t. t.var < length boxes.now) }
-    ensures enough { IfNone result (least_sizes items.now boxes.now ≤ℤ firsts bests.now) }
-    ensures grow { IfNone result (all_grow (least_sizes items.now boxes.now) (firsts bests.now) items.now boxes.now ≡ true) }
-    ensures loose { IfNone result (all_loose (least_sizes items.now boxes.now) bests.now items.now boxes.now ≡ true) }
+    ensures enough { IfNone result (least_sizes items.now boxes.now ≤ℤ firsts best_rooms.now) }
+    ensures grow { IfNone result (all_grow (least_sizes items.now boxes.now) (firsts best_rooms.now) items.now boxes.now ≡ true) }
+    ensures loose { IfNone result (all_loose (least_sizes items.now boxes.now) best_rooms.now items.now boxes.now ≡ true) }
 {
     let need = sizes_of(items, boxes);
-    let all = firsts_of(bests);
+    let all = firsts_of(best_rooms);
     if !need.is_at_most(all) {
         return Some(Trial {
             var: head.0,
@@ -304,10 +303,10 @@ fn excess(
     if size.is_some() {
         return size;
     }
-    if need.is_at_most(seconds_of(bests)) {
+    if need.is_at_most(seconds_of(best_rooms)) {
         return None;
     }
-    excess_of_places(items, boxes, bests, need)
+    excess_of_bins(items, boxes, best_rooms, need)
 }
 
 // ---- what is answered
@@ -340,7 +339,7 @@ fn prune_excess(
 }
 
 /// What something that takes too much room answers.
-#[tactic(auto, using(crate::proofs::Roomy::pack_sizes))]
+#[tactic(auto, using(crate::proofs::Slack::pack_sizes))]
 fn prune_or_probe(
     alloc: Global,
     con: &Con,
@@ -366,7 +365,7 @@ fn prune_or_probe(
 
 /// What takes too much room of the items, where something does.
 pub fn find_excess(
-    bests: &mut Bests,
+    best_rooms: &mut BestRooms,
     items: &[(u32, u32, u32)],
     boxes: &[IntSet],
     head: (u32, u32, u32),
@@ -377,19 +376,19 @@ pub fn find_excess(
     ensures some { IfOk result (λ r. IfSome r (λ t. t.var < length boxes.now)) }
     ensures none { IfOk result (λ r. IfNone r (HasEach items.now boxes.now)) }
 {
-    let places = places_of(items, boxes, head);
-    let rows = bests.find(items, boxes, places.0, places.1)?;
-    Ok(excess(items, boxes, rows, head, places.0))
+    let bins = bins_of(items, boxes, head);
+    let rows = best_rooms.find(items, boxes, bins.0, bins.1)?;
+    Ok(excess(items, boxes, rows, head, bins.0))
 }
 
 /// What items answer of which each fits wherever it may be, and no open variable stands twice.
 ///
 /// # Errors
 /// Want of memory.
-#[tactic(auto, using(crate::proofs::Roomy::tight_quiet))]
+#[tactic(auto, using(crate::proofs::Slack::tight_quiet))]
 pub fn prune_tight(
     alloc: Global,
-    bests: &mut Bests,
+    best_rooms: &mut BestRooms,
     con: &Con,
     items: &[(u32, u32, u32)],
     domains: &[IntSet],
@@ -407,7 +406,7 @@ pub fn prune_tight(
     if items.is_empty() {
         return probe(con, domains, boxes, alloc);
     }
-    let excess = find_excess(bests, items, boxes, items[0])?;
+    let excess = find_excess(best_rooms, items, boxes, items[0])?;
     match excess {
         None => Ok(None),
         Some(trial) => prune_or_probe(alloc, con, items, domains, boxes, trial),

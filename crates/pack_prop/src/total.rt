@@ -1,8 +1,8 @@
 //! Why all sizes are more than all room.
 //!
-//! Of a room the literals say that it is at most what its box has; of a size that it is at least that; of a place that it is
+//! Of a room the literals say that it is at most what its box has; of a size that it is at least that; of a bin that it is
 //! none of the values of its domain whose best room is less than the item's. What the sizes have more than is needed is spent:
-//! a place needs no literal where its domain's values may have the item's room as well, and then they are counted with it; and
+//! a bin needs no literal where its domain's values may have the item's room as well, and then they are counted with it; and
 //! a size may be less.
 ghost use Rattle.std.specs.Prelude.{◌≡◌, ◌<◌, ◌≤◌, ◌+◌, ◌≤ℤ◌, ◌<ℤ◌, ◌+ℤ◌, ◌-ℤ◌, ℤ, pos, IfOk, IfSome, length};
 ghost use Rattle.std.specs.List.{All};
@@ -10,22 +10,21 @@ ghost use Rattle.ground_form.specs.declared.con.Con.TheVariants.{Pack};
 ghost use Rattle.rule_law.specs.Answers.{IsPruning};
 ghost use Rattle.box_rules.specs.Named.{AreItemsNamed};
 ghost use Rattle.box_rules.specs.Refuted.{least_sizes};
-ghost use Rattle.pack_prop.specs.Sources.{parted, IsPart};
+ghost use Rattle.pack_prop.specs.Sources.{with_part, IsPart};
 ghost use Rattle.pack_prop.specs.TotalSteps.{AreTotalled, AreWeighed, IsWindow};
 
 use crate::collected::{below, say};
-use crate::loads::{Total, least};
-use crate::parted;
-use crate::room::{first_place, last_place};
+use crate::literals::{domain_at, say_room};
 use crate::room_row::{best_row, raise, short_values, sum_of};
-use crate::said::{domain_at, say_room};
+use crate::with_part;
 use ground_form::{Con, Number};
+use pack_fit::{Total, first_bin, last_bin, least};
 use rule_law::pruning;
 use signed_clause::{Clause, IntSet};
 use std::alloc::{AllocError, Global};
 
-/// The greatest value that a place of a well made problem has.
-const LAST_PLACE: i64 = 9999;
+/// The greatest value that a bin of a well made problem has.
+const LAST_BIN: i64 = 9999;
 
 /// How many values there are from the first to the last.
 fn count_of(first: Number, last: Number) -> usize
@@ -37,15 +36,15 @@ fn count_of(first: Number, last: Number) -> usize
     (last.value - first.value) as usize + 1
 }
 
-/// The first value that a place has in its domain, and how many there are up to the last; None where they aren't those of a
+/// The first value that a bin has in its domain, and how many there are up to the last; None where they aren't those of a
 /// well made problem.
 fn window(items: &[(u32, u32, u32)], domains: &[IntSet]) -> Option<(Number, usize)>
     requires { AreItemsNamed items.now domains.now }
     ensures { IfSome result (λ w. IsWindow w.0.value w.1 items.now domains.now) }
 {
-    let first = first_place(items, domains, Number { value: LAST_PLACE });
-    let last = last_place(items, domains, Number { value: 0 });
-    if first.value < 0 || last.value < first.value || LAST_PLACE < last.value {
+    let first = first_bin(items, domains, Number { value: LAST_BIN });
+    let last = last_bin(items, domains, Number { value: 0 });
+    if first.value < 0 || last.value < first.value || LAST_BIN < last.value {
         return None;
     }
     Some((first, count_of(first, last)))
@@ -55,16 +54,16 @@ fn window(items: &[(u32, u32, u32)], domains: &[IntSet]) -> Option<(Number, usiz
 fn sizes_of(items: &[(u32, u32, u32)], boxes: &[IntSet], x: u32, part: &IntSet) -> Total
     requires var { x < length boxes.now }
     requires items { AreItemsNamed items.now boxes.now }
-    ensures { result.value ≡ least_sizes items.now (parted boxes.now x part.now) }
+    ensures { result.value ≡ least_sizes items.now (with_part boxes.now x part.now) }
 {
     let mut sum = Total { value: 0 };
     for i in items {
-        sum = sum.plus(parted::least(boxes, x, part, i.1));
+        sum = sum.plus(with_part::least(boxes, x, part, i.1));
     }
     sum
 }
 
-/// Says what has to be said of the place and the room of item `k`, and gives the row with which it is counted.
+/// Says what has to be said of the bin and the room of item `k`, and gives the row with which it is counted.
 fn seat(
     alloc: Global,
     literals: &mut Vec<(u32, IntSet)>,
@@ -79,9 +78,9 @@ fn seat(
 ) -> Result<Vec<(i64, i64)>, AllocError>
     requires ground { IsPart domains.now boxes.now items.now x part.now }
     requires there { k < length items.now }
-    requires sizes { sizes.value ≡ least_sizes items.now (parted boxes.now x part.now) }
-    requires so_far { AreTotalled items.now domains.now (parted boxes.now x part.now) k 0 row.items (pos 0) literals.old.items }
-    ensures { IfOk result (λ r. AreTotalled items.now domains.now (parted boxes.now x part.now) (k + 1) 0 r.items (pos 0) literals.new.items) }
+    requires sizes { sizes.value ≡ least_sizes items.now (with_part boxes.now x part.now) }
+    requires so_far { AreTotalled items.now domains.now (with_part boxes.now x part.now) k 0 row.items (pos 0) literals.old.items }
+    ensures { IfOk result (λ r. AreTotalled items.now domains.now (with_part boxes.now x part.now) (k + 1) 0 r.items (pos 0) literals.new.items) }
 {
     let y = items[k].0;
     let high = say_room(alloc, literals, items, k, domains, boxes, x, part)?;
@@ -94,7 +93,7 @@ fn seat(
     Ok(row)
 }
 
-/// Says what has to be said of the places and rooms, and gives the row with which they are counted.
+/// Says what has to be said of the bins and rooms, and gives the row with which they are counted.
 fn seat_all(
     alloc: Global,
     literals: &mut Vec<(u32, IntSet)>,
@@ -107,9 +106,9 @@ fn seat_all(
     sizes: Total,
 ) -> Result<Vec<(i64, i64)>, AllocError>
     requires ground { IsPart domains.now boxes.now items.now x part.now }
-    requires sizes { sizes.value ≡ least_sizes items.now (parted boxes.now x part.now) }
-    requires so_far { AreTotalled items.now domains.now (parted boxes.now x part.now) 0 0 row.items (pos 0) literals.old.items }
-    ensures { IfOk result (λ r. AreTotalled items.now domains.now (parted boxes.now x part.now) (length items.now) 0 r.items (pos 0) literals.new.items) }
+    requires sizes { sizes.value ≡ least_sizes items.now (with_part boxes.now x part.now) }
+    requires so_far { AreTotalled items.now domains.now (with_part boxes.now x part.now) 0 0 row.items (pos 0) literals.old.items }
+    ensures { IfOk result (λ r. AreTotalled items.now domains.now (with_part boxes.now x part.now) (length items.now) 0 r.items (pos 0) literals.new.items) }
 {
     let mut seated = row;
     for k in 0..items.len() {
@@ -159,11 +158,11 @@ fn weigh(
 ) -> Result<Number, AllocError>
     requires ground { IsPart domains.now boxes.now items.now x part.now }
     requires there { m < length items.now }
-    requires so_far { AreWeighed items.now domains.now (parted boxes.now x part.now) m spare.value literals.old.items }
-    ensures { IfOk result (λ left. AreWeighed items.now domains.now (parted boxes.now x part.now) (m + 1) left.value literals.new.items) }
+    requires so_far { AreWeighed items.now domains.now (with_part boxes.now x part.now) m spare.value literals.old.items }
+    ensures { IfOk result (λ left. AreWeighed items.now domains.now (with_part boxes.now x part.now) (m + 1) left.value literals.new.items) }
 {
     let y = items[m].1;
-    let low = parted::least(boxes, x, part, y);
+    let low = with_part::least(boxes, x, part, y);
     let fall = difference(low, least(domains, y));
     if fall.value <= spare.value {
         return Ok(difference(spare, fall));
@@ -185,8 +184,8 @@ fn weigh_all(
     spare: Number,
 ) -> Result<Number, AllocError>
     requires ground { IsPart domains.now boxes.now items.now x part.now }
-    requires so_far { AreWeighed items.now domains.now (parted boxes.now x part.now) 0 spare.value literals.old.items }
-    ensures { IfOk result (λ left. AreWeighed items.now domains.now (parted boxes.now x part.now) (length items.now) left.value literals.new.items) }
+    requires so_far { AreWeighed items.now domains.now (with_part boxes.now x part.now) 0 spare.value literals.old.items }
+    ensures { IfOk result (λ left. AreWeighed items.now domains.now (with_part boxes.now x part.now) (length items.now) left.value literals.new.items) }
 {
     let mut left = spare;
     for m in 0..items.len() {

@@ -19,7 +19,7 @@ returns-then-is_left_out c =
 pub returns : goal.returns
 returns c =
     over_said c.args.domains.now c.args.boxes.now c.args.items.now c.args.x c.args.m c.args.part.now c.domain_at.result.now c.in_ok-under.under c.args.at.value c.args.spare.value c.least-low.result.value
-    c.args.literals.now.items c.say_place.new.literals.items c.say.new.literals.items c.requires.ground c.requires.there (sym c.is_fixed.ensures ∙ c.if-not-is_fixed.false) c.least-low.ensures c.in_ok-say_place.ensures
+    c.args.literals.now.items c.say_bin.new.literals.items c.say.new.literals.items c.requires.ground c.requires.there (sym c.is_fixed.ensures ∙ c.if-not-is_fixed.false) c.least-low.ensures c.in_ok-say_bin.ensures
     c.domain_at.ensures c.in_ok-under.ensures.valid c.in_ok-under.ensures.values c.in_ok-say.ensures c.requires.so_far
 
 pub is_fixed-requires-clause-named : goal.is_fixed-requires-clause-named

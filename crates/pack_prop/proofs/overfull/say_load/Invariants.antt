@@ -1,6 +1,6 @@
-use Rattle.pack_prop.specs.Sources.{parted}
+use Rattle.pack_prop.specs.Sources.{with_part}
 use Rattle.pack_prop.specs.LoadSteps.{AreOverfull}
 use Rattle.pack_prop.proofs.overfull.say_load.Given as goal
 
 abbrev pub invariant-loop-m : goal.invariant-loop-m
-invariant-loop-m l = AreOverfull l.at.value l.items l.domains (parted l.boxes l.x l.part) l.m l.left.value l.literals.items
+invariant-loop-m l = AreOverfull l.at.value l.items l.domains (with_part l.boxes l.x l.part) l.m l.left.value l.literals.items

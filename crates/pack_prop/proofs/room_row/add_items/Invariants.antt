@@ -1,12 +1,12 @@
 use Rattle.std.proofs.Common.{◌≡◌, ◌≤◌, drop, length}
 use Rattle.pack_prop.specs.RoomRows.{HasRooms}
-use Rattle.pack_prop.specs.Sources.{parted}
+use Rattle.pack_prop.specs.Sources.{with_part}
 use Rattle.pack_prop.proofs.room_row.add_items.Given as goal
 
 abbrev pub invariant-loop-k : goal.invariant-loop-k
 invariant-loop-k l = record {
   size : length l.row ≡ length l.fn.row;
-  behind : HasRooms l.row l.first.value (drop l.k l.items) (parted l.boxes l.x l.part);
+  behind : HasRooms l.row l.first.value (drop l.k l.items) (with_part l.boxes l.x l.part);
   upto : l.k ≤ length l.items;
 }
 

@@ -6,5 +6,5 @@ use Rattle.pack_prop.proofs.tight.find_excess.Goals as goal
 pub returns-clause-none : goal.returns-clause-none
 returns-clause-none c =
     each_enough c.excess.result c.args.items.now c.args.boxes.now (low_of (box_of c.args.boxes.now c.args.head.0)) (high_of (box_of c.args.boxes.now c.args.head.0))
-    c.places_of-places.result.0.value c.places_of-places.result.1.value c.in_ok-rows.rows.now c.places_of-places.ensures.first c.places_of-places.ensures.last
+    c.bins_of-bins.result.0.value c.bins_of-bins.result.1.value c.in_ok-rows.rows.now c.bins_of-bins.ensures.first c.bins_of-bins.ensures.last
     c.in_ok-rows.ensures.rooms c.in_ok-rows.ensures.all c.excess.ensures.enough c.excess.ensures.grow c.excess.ensures.loose

@@ -4,7 +4,7 @@ use Rattle.pack_prop.proofs.tight.lefts_of.Given as goal
 
 abbrev pub invariant-loop-b : goal.invariant-loop-b
 invariant-loop-b l = record {
-  value : l.sum.value +ℤ lefts (drop l.b-index l.bests) l.room.value l.i l.boxes ≡ lefts l.bests l.room.value l.i l.boxes;
+  value : l.sum.value +ℤ lefts (drop l.b-index l.best_rooms) l.room.value l.i l.boxes ≡ lefts l.best_rooms l.room.value l.i l.boxes;
   low : pos 0 ≤ℤ (l.sum.value +ℤ pos (l.b-index * 9223372036854775808));
   high : l.sum.value ≤ℤ pos (l.b-index * 9223372036854775807);
 }

@@ -1,6 +1,6 @@
 use Rattle.std.proofs.Common.{arith}
 use Rattle.std.proofs.lemmas.Int.{ints}
-use Rattle.pack_prop.specs.Sources.{parted}
+use Rattle.pack_prop.specs.Sources.{with_part}
 use Rattle.pack_prop.proofs.TotalWalk.{total_begins, total_less, total_spare, total_reason}
 use Rattle.pack_prop.proofs.total.explain_total.Goals as goal
 
@@ -12,12 +12,12 @@ seat_all-requires-clause-so_far c =
 
 pub spare_of-spare-requires : goal.spare_of-spare-requires
 spare_of-spare-requires c =
-    total_less c.args.items.now c.args.domains.now (parted c.args.boxes.now c.args.x c.args.part.now) _ c.sizes_of-sizes.result.value c.sum_of-2.result.value c.in_ok-row.row.items c.as_slice-2.result.now c.seat_all.new.literals.items
+    total_less c.args.items.now c.args.domains.now (with_part c.args.boxes.now c.args.x c.args.part.now) _ c.sizes_of-sizes.result.value c.sum_of-2.result.value c.in_ok-row.row.items c.as_slice-2.result.now c.seat_all.new.literals.items
     c.in_ok-row.ensures c.sizes_of-sizes.ensures c.as_slice-2.ensures.value c.sum_of-2.ensures
 
 pub weigh_all-requires-clause-so_far : goal.weigh_all-requires-clause-so_far
 weigh_all-requires-clause-so_far c =
-    total_spare c.args.items.now c.args.domains.now (parted c.args.boxes.now c.args.x c.args.part.now) c.sizes_of-sizes.result.value c.sum_of-2.result.value c.spare_of-spare.result.value c.in_ok-row.row.items c.as_slice-2.result.now
+    total_spare c.args.items.now c.args.domains.now (with_part c.args.boxes.now c.args.x c.args.part.now) c.sizes_of-sizes.result.value c.sum_of-2.result.value c.spare_of-spare.result.value c.in_ok-row.row.items c.as_slice-2.result.now
     c.seat_all.new.literals.items c.in_ok-row.ensures c.sizes_of-sizes.ensures c.as_slice-2.ensures.value c.sum_of-2.ensures c.spare_of-spare.ensures.some c.spare_of-spare.ensures.fits
 
 pub pruning-requires : goal.pruning-requires

@@ -1,11 +1,11 @@
 use Rattle.std.proofs.Common.{◌≡◌, ◌+ℤ◌, ◌≤ℤ◌, ◌*◌, pos, drop}
 use Rattle.box_rules.specs.Refuted.{least_sizes}
-use Rattle.pack_prop.specs.Sources.{parted}
+use Rattle.pack_prop.specs.Sources.{with_part}
 use Rattle.pack_prop.proofs.total.sizes_of.Given as goal
 
 abbrev pub invariant-loop-i : goal.invariant-loop-i
 invariant-loop-i l = record {
-  value : l.sum.value +ℤ least_sizes (drop l.i-index l.items) (parted l.boxes l.x l.part) ≡ least_sizes l.items (parted l.boxes l.x l.part);
+  value : l.sum.value +ℤ least_sizes (drop l.i-index l.items) (with_part l.boxes l.x l.part) ≡ least_sizes l.items (with_part l.boxes l.x l.part);
   low : pos 0 ≤ℤ (l.sum.value +ℤ pos (l.i-index * 9223372036854775808));
   high : l.sum.value ≤ℤ pos (l.i-index * 9223372036854775807);
 }

@@ -1,0 +1,9 @@
+pub mod Fixpoint
+pub mod FixpointQuiet
+pub mod QuietFrom
+pub mod Totals
+pub mod Behind
+pub mod Kept
+pub mod DiffReasons
+pub mod DiffExplained
+pub mod Taking

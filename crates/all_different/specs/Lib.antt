@@ -1,0 +1,4 @@
+pub mod Intervals
+pub mod Counters
+pub mod Sweeps
+pub mod Within

@@ -1,0 +1,116 @@
+//! Places that differ.
+//!
+//! Each interval holds at most as many places as it has numbers. Where fewer numbers than boxes within are found, the places
+//! are refuted; where as many are, the interval's numbers leave every other box. It is enough to look from where each narrow
+//! box begins, and one sweep shows all intervals from there: the cost is the number of narrow boxes times that of places.
+//!
+//! Cost: one walk where no box is narrow. Explained by the boxes within the interval.
+ghost use Rattle.std.specs.Prelude.{◌≡◌, ◌<◌, true, [], IfOk, IfSome, IfNone, length};
+ghost use Rattle.std.specs.List.{All};
+ghost use Rattle.signed_clause.specs.Ranges.{IsValid};
+ghost use Rattle.ground_form.specs.declared.con.Con.TheVariants.{AllDiff};
+ghost use Rattle.ground_form.specs.WellMade.{IsWellMadeCon};
+ghost use Rattle.rule_law.specs.Answers.{AreBoxesWithin, IsAnswer};
+ghost use Rattle.box_rules.specs.Quiet.{quiet};
+ghost use Rattle.rule_law.specs.Reasons.{no_repeat};
+
+use crate::explain::explain;
+use crate::hall_intervals::{Counters, find};
+use ground_form::Con;
+use rule_law::{Differing, probe};
+use signed_clause::{Clause, IntSet};
+use std::alloc::{AllocError, Global};
+
+/// What different variables that differ answer.
+#[tactic(auto, using(crate::proofs::QuietFrom::differing_quiet))]
+fn prune_different(
+    alloc: Global,
+    counters: &mut Counters,
+    con: &Con,
+    vars: &[u32],
+    domains: &[IntSet],
+    boxes: &[IntSet],
+) -> Result<Option<Clause>, AllocError>
+    requires con { con.now ≡ AllDiff vars.now }
+    requires named { All (λ x. x < length boxes.now) vars.now }
+    requires domains { All (λ x. x < length domains.now) vars.now }
+    requires boxes { AreBoxesWithin domains.now boxes.now }
+    requires box_sets { All (λ s. IsValid s) boxes.now }
+    requires sets { All (λ d. IsValid d) domains.now }
+    requires once { no_repeat vars.now ≡ true }
+    ensures { IfOk result (λ a. IsAnswer con.now domains.now boxes.now a) }
+{
+    let found = find(alloc, counters, vars, boxes)?;
+    match found {
+        None => Ok(None),
+        Some(found) => {
+            let clause = explain(alloc, con, vars, domains, boxes, found)?;
+            Ok(Some(clause))
+        }
+    }
+}
+
+/// Prunes by places that differ.
+#[derive(Drop)]
+pub struct AllDifferent {
+    alloc: Global,
+    /// Counters for a sweep.
+    counters: Counters,
+    /// Which variables of a constraint stand twice.
+    differing: Differing,
+}
+
+impl AllDifferent {
+    /// Nothing kept yet. It takes no memory.
+    pub fn new(alloc: Global) -> AllDifferent
+        ensures alloc { result.alloc ≡ alloc }
+        ensures no_starts { result.counters.starts.items ≡ [] }
+        ensures no_ends { result.counters.ends.items ≡ [] }
+    {
+        AllDifferent {
+            alloc,
+            counters: Counters {
+                starts: Vec::new(alloc),
+                ends: Vec::new(alloc),
+            },
+            differing: Differing::new(alloc),
+        }
+    }
+
+    /// Forgets what is kept between calls. The memory stays.
+    pub fn begin(&mut self)
+        ensures no_starts { self.new.counters.starts.items ≡ [] }
+        ensures no_ends { self.new.counters.ends.items ≡ [] }
+    {
+        self.counters.starts.clear();
+        self.counters.ends.clear();
+        self.differing.forget();
+    }
+
+    /// A clause that places that differ justify and that takes something away; None where they are quiet.
+    ///
+    /// # Errors
+    /// Want of memory.
+    #[tactic(auto, using(crate::proofs::QuietFrom::differing_named, crate::proofs::QuietFrom::named_boxes))]
+    pub fn prune(
+        &mut self,
+        k: u32,
+        con: &Con,
+        vars: &[u32],
+        domains: &[IntSet],
+        boxes: &[IntSet],
+    ) -> Result<Option<Clause>, AllocError>
+        requires con { con.now ≡ AllDiff vars.now }
+        requires well_made { IsWellMadeCon domains.now con.now }
+        requires boxes { AreBoxesWithin domains.now boxes.now }
+        requires sets { All (λ d. IsValid d) domains.now }
+        ensures { IfOk result (λ a. IsAnswer con.now domains.now boxes.now a) }
+    {
+        let differ = self.differing.do_differ(k, con)?;
+        if differ {
+            prune_different(self.alloc, &mut self.counters, con, vars, domains, boxes)
+        } else {
+            probe(con, domains, boxes, self.alloc)
+        }
+    }
+}

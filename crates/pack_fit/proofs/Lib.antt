@@ -1,0 +1,10 @@
+pub mod Spots
+pub mod OneBox
+pub mod TotalRoom
+pub mod PackLoads
+pub mod PackTotal
+pub mod PackWalks
+pub mod SurveySpots
+pub mod SurveyCounts
+pub mod SurveyFits
+pub mod SurveyWalk

@@ -1,0 +1,10 @@
+use Rattle.std.proofs.Common.{◌≡◌, ◌+ℤ◌, ◌≤ℤ◌, ◌*◌, pos, drop}
+use Rattle.box_rules.specs.Refuted.{least_sizes}
+use Rattle.pack_fit.proofs.loads.sizes_of.Given as goal
+
+abbrev pub invariant-loop-i : goal.invariant-loop-i
+invariant-loop-i l = record {
+  value : l.sum.value +ℤ least_sizes (drop l.i-index l.items) l.boxes ≡ least_sizes l.items l.boxes;
+  low : pos 0 ≤ℤ (l.sum.value +ℤ pos (l.i-index * 9223372036854775808));
+  high : l.sum.value ≤ℤ pos (l.i-index * 9223372036854775807);
+}

@@ -1,0 +1,13 @@
+use Rattle.std.proofs.Common.{◌≡◌, ◌≤◌, drop, length}
+use Rattle.pack_fit.specs.Survey.{AreSpots}
+use Rattle.pack_fit.proofs.survey.add_items.Given as goal
+
+abbrev pub invariant-loop-k : goal.invariant-loop-k
+invariant-loop-k l = record {
+  size : length l.spots ≡ length l.fn.spots;
+  behind : AreSpots l.spots l.first.value (drop l.k l.items) l.boxes;
+  upto : l.k ≤ length l.items;
+}
+
+abbrev pub decreases-loop-k : goal.decreases-loop-k
+decreases-loop-k l = l.k

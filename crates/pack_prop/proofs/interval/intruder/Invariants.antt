@@ -1,6 +1,0 @@
-use Rattle.std.proofs.Common.{drop}
-use Rattle.pack_prop.specs.Intervals.{AreApart}
-use Rattle.pack_prop.proofs.interval.intruder.Given as goal
-
-abbrev pub invariant-loop-x : goal.invariant-loop-x
-invariant-loop-x l = AreApart l.a.value l.b.value (drop l.x-index l.vars) l.boxes → AreApart l.a.value l.b.value l.vars l.boxes

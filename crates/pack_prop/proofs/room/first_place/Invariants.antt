@@ -1,9 +1,0 @@
-use Rattle.std.proofs.Common.{◌≡◌, ◌≤ℤ◌, drop}
-use Rattle.box_rules.specs.Refuted.{first_place}
-use Rattle.pack_prop.proofs.room.first_place.Given as goal
-
-abbrev pub invariant-loop-i : goal.invariant-loop-i
-invariant-loop-i l = record {
-  value : first_place l.first.value (drop l.i-index l.items) l.boxes ≡ first_place l.fn.from.value l.items l.boxes;
-  order : l.first.value ≤ℤ l.fn.from.value;
-}

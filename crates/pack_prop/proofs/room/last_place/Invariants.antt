@@ -1,9 +1,0 @@
-use Rattle.std.proofs.Common.{◌≡◌, ◌≤ℤ◌, drop}
-use Rattle.box_rules.specs.Refuted.{last_place}
-use Rattle.pack_prop.proofs.room.last_place.Given as goal
-
-abbrev pub invariant-loop-i : goal.invariant-loop-i
-invariant-loop-i l = record {
-  value : last_place l.last.value (drop l.i-index l.items) l.boxes ≡ last_place l.fn.from.value l.items l.boxes;
-  order : l.fn.from.value ≤ℤ l.last.value;
-}

@@ -1,6 +1,0 @@
-use Rattle.std.proofs.Common.{◌≡◌, drop}
-use Rattle.pack_prop.specs.Tight.{all_loose}
-use Rattle.pack_prop.proofs.tight.excess_of_places.Given as goal
-
-abbrev pub invariant-loop-i : goal.invariant-loop-i
-invariant-loop-i l = all_loose l.need.value l.bests (drop l.i-index l.items) l.boxes ≡ all_loose l.need.value l.bests l.items l.boxes
