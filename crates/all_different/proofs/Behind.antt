@@ -6,7 +6,7 @@ use Rattle.std.proofs.lemmas.Int.{ints}
 use Rattle.std.proofs.lemmas.Bool.{cases_eq, cases_lt, false_from_ne_true}
 use Rattle.std.proofs.lemmas.Bool.Decides.{nat_tests}
 use Rattle.signed_clause.specs.Ranges.{Ranges, has, is_nil, in_range, IsValid, Ascends}
-use Rattle.signed_clause.specs.SetAlgebra.{misses, meet, piece}
+use Rattle.signed_clause.specs.SetAlgebra.{is_disjoint, meet, piece}
 use Rattle.signed_clause.specs.Clauses.{Boxes, box_of}
 use Rattle.ground_form.specs.Bounds.{low_of, high_of}
 use Rattle.box_rules.specs.Refuted.{lies_in, count_in}
@@ -18,7 +18,7 @@ use Rattle.signed_clause.proofs.RangeSteps.{left_at}
 use Rattle.all_different.specs.Intervals.{apart, AreApart, IsFixpointAt, IsFixpointFrom, AreAtFixpoint, is_narrow}
 use Rattle.all_different.specs.Counters.{begins_in, count_begun, reaches}
 use Rattle.all_different.specs.Sweeps.{ReachesEnd, IsFixpointBehind, ArePassed, IsKept, newest}
-use Rattle.all_different.proofs.FixpointQuiet.{misses_none}
+use Rattle.all_different.proofs.FixpointQuiet.{disjoint_none}
 
 -- ---- a set without a value of a..b misses it
 
@@ -29,19 +29,19 @@ meet_none a b r rest o h n =
     let out = h (int_max r.0 a) (grind (arith, ints)) in grind (arith, ints)) in
     rw none ((elim (int_lt b r.1) as (λ t. is_nil (cond t [] rest) ≡ true) [ true ↦ refl | false ↦ n ]))
 
-pub misses_from : (low top a b : ℤ) (rs : Ranges) → Ascends low top rs → ((v : ℤ) → (int_le a v && int_le v b) ≡ true → has rs v ≡ false) → misses rs ((a, b) ∷ []) ≡ true
-misses_from low top a b [] s h = refl
-misses_from low top a b (r ∷ rs) s h =
-    let rest = misses_from (r.1 +ℤ pos 2) top a b rs s.2 (λ v k. let all = h v k in grind arith) in
+pub disjoint_from : (low top a b : ℤ) (rs : Ranges) → Ascends low top rs → ((v : ℤ) → (int_le a v && int_le v b) ≡ true → has rs v ≡ false) → is_disjoint rs ((a, b) ∷ []) ≡ true
+disjoint_from low top a b [] s h = refl
+disjoint_from low top a b (r ∷ rs) s h =
+    let rest = disjoint_from (r.1 +ℤ pos 2) top a b rs s.2 (λ v k. let all = h v k in grind arith) in
     meet_none a b r (meet rs ((a, b) ∷ [])) s.1 (λ v k. let all = h v k in grind arith) rest
 
-misses_shorter : (a b c : ℤ) (rs : Ranges) → IsValid rs → c ≤ℤ b → misses rs ((a, b) ∷ []) ≡ true → misses rs ((a, c) ∷ []) ≡ true
-misses_shorter a b c rs s l h =
-    misses_from _ _ a c rs s (λ v k. let out = misses_none _ _ a b v rs s h in grind (arith, ints))
+disjoint_shorter : (a b c : ℤ) (rs : Ranges) → IsValid rs → c ≤ℤ b → is_disjoint rs ((a, b) ∷ []) ≡ true → is_disjoint rs ((a, c) ∷ []) ≡ true
+disjoint_shorter a b c rs s l h =
+    disjoint_from _ _ a c rs s (λ v k. let out = disjoint_none _ _ a b v rs s h in grind (arith, ints))
 
-misses_later : (a b : ℤ) (rs : Ranges) → IsValid rs → b <ℤ low_of rs → misses rs ((a, b) ∷ []) ≡ true
-misses_later a b rs s h =
-    misses_from _ _ a b rs s (λ v k. false_from_ne_true (has rs v) (λ q. let above = above_low rs v s q in grind (arith, ints)))
+disjoint_later : (a b : ℤ) (rs : Ranges) → IsValid rs → b <ℤ low_of rs → is_disjoint rs ((a, b) ∷ []) ≡ true
+disjoint_later a b rs s h =
+    disjoint_from _ _ a b rs s (λ v k. false_from_ne_true (has rs v) (λ q. let above = above_low rs v s q in grind (arith, ints)))
 
 -- ---- where no more boxes begin in a..b than lie within, each that begins there lies within
 
@@ -75,7 +75,7 @@ late_apart a b box s h k =
     let P : Bool → Type 0 = λ t. int_le (low_of box) b ≡ t → apart a b box ≡ true in
     (elim (int_le (low_of box) b) as P [
       | true ↦ λ e. let lies = h (grind arith) in rw lies refl
-      | false ↦ λ e. let later : b <ℤ low_of box = grind (arith, ints) in let out = misses_later a b box s later in grind arith
+      | false ↦ λ e. let later : b <ℤ low_of box = grind (arith, ints) in let out = disjoint_later a b box s later in grind arith
     ]) refl
 
 pub fixpoint_behind : (a : ℤ) (d : ℕ) (xs : List ℕ) (boxes : Boxes) → All (λ s. IsValid s) boxes → count_in a (a +ℤ pos d) xs boxes ≤ suc d → (count_in a (a +ℤ pos d) xs boxes ≡ suc d → count_begun a (a +ℤ pos d) xs boxes ≤ count_in a (a +ℤ pos d) xs boxes) → IsFixpointBehind a d xs boxes
@@ -95,7 +95,7 @@ right_true false = refl
 
 early_apart : (a b c : ℤ) (box : Ranges) → IsValid box → c ≤ℤ b → int_le a (low_of box) ≡ false → apart a b box ≡ true → apart a c box ≡ true
 early_apart a b c box s l e h =
-    let out : misses box ((a, b) ∷ []) ≡ true = grind arith in let shorter = misses_shorter a b c box s l out in rw shorter (right_true (lies_in a c box))
+    let out : is_disjoint box ((a, b) ∷ []) ≡ true = grind arith in let shorter = disjoint_shorter a b c box s l out in rw shorter (right_true (lies_in a c box))
 
 apart_all : (a : ℤ) (e : ℕ) (full : Option ℕ) (xs : List ℕ) (boxes : Boxes) → AreSets boxes → reaches full e ≡ true → IsKept a full xs boxes →
     All (λ x. int_le a (low_of (box_of boxes x)) ≡ true → apart a (a +ℤ pos e) (box_of boxes x) ≡ true) xs → AreApart a (a +ℤ pos e) xs boxes

@@ -5,9 +5,9 @@ use Rattle.std.proofs.lemmas.Int.{ints}
 use Rattle.std.proofs.lemmas.Bool.Decides.{nat_tests}
 use Rattle.std.proofs.lemmas.Bool.{or_cases, false_from_ne_true}
 use Rattle.signed_clause.specs.Ranges.{Ranges, has, is_nil, IsValid}
-use Rattle.signed_clause.specs.SetAlgebra.{less, misses, inside}
+use Rattle.signed_clause.specs.SetAlgebra.{less, is_disjoint, is_within}
 use Rattle.signed_clause.specs.Clauses.{Boxes, Literals, box_of, set_of, false_in}
-use Rattle.signed_clause.proofs.SetFacts.{misses_law, inside_law}
+use Rattle.signed_clause.proofs.SetFacts.{disjoint_law, within_law}
 use Rattle.signed_clause.proofs.RangeSteps.{has-less_valid, IsValid-less}
 use Rattle.ground_form.specs.declared.con.Con.TheVariants.{AllDiff}
 use Rattle.box_view.specs.Views.{cut}
@@ -82,10 +82,10 @@ refuted_by xs a b cuts s o c =
 
 -- ---- it acts
 
-out_misses : (box d : Ranges) (a b : ℤ) → IsValid box → IsValid d → IsValid ((a, b) ∷ []) → ((v : ℤ) → has box v ≡ true → has ((a, b) ∷ []) v ≡ true) → misses (less d ((a, b) ∷ [])) box ≡ true
-out_misses box d a b f g h l =
+out_disjoint : (box d : Ranges) (a b : ℤ) → IsValid box → IsValid d → IsValid ((a, b) ∷ []) → ((v : ℤ) → has box v ≡ true → has ((a, b) ∷ []) v ≡ true) → is_disjoint (less d ((a, b) ∷ [])) box ≡ true
+out_disjoint box d a b f g h l =
     let span : Ranges = (a, b) ∷ [] in
-    (misses_law (less d span) box (IsValid-less d span g h) f).1 (λ v k. false_from_ne_true (has box v) (λ q.
+    (disjoint_law (less d span) box (IsValid-less d span g h) f).1 (λ v k. false_from_ne_true (has box v) (λ q.
     let in_it = l v q in let out = has-less_valid d span g h v in grind arith))
 
 lies_values : (box : Ranges) (a b : ℤ) → IsValid box → lies_in a b box ≡ true → (v : ℤ) → has box v ≡ true → has ((a, b) ∷ []) v ≡ true
@@ -93,10 +93,10 @@ lies_values box a b f l v h =
     let parts = in_parts a b box l in let low = parts.0 in let high = parts.1 in
     let above = above_low box v f h in let below = below_high box v f h in grind (arith, ints)
 
-one_false : (boxes : Boxes) (x : ℕ) (s : Ranges) (rest : Literals) → misses s (box_of boxes x) ≡ true → false_in boxes rest ≡ true → false_in boxes (kept_one x s rest) ≡ true
+one_false : (boxes : Boxes) (x : ℕ) (s : Ranges) (rest : Literals) → is_disjoint s (box_of boxes x) ≡ true → false_in boxes rest ≡ true → false_in boxes (kept_one x s rest) ≡ true
 one_false boxes x s rest h k = elim (is_nil s) as (λ t. false_in boxes (cond t rest ((x, s) ∷ rest)) ≡ true) [ true ↦ k | false ↦ grind arith ]
 
-kept_false : (domains boxes : Boxes) (leaves : ℕ → Ranges) (ps : List ℕ) → ((x : ℕ) → has_number x ps ≡ true → misses (less (box_of domains x) (leaves x)) (box_of boxes x) ≡ true) → false_in boxes (kept domains leaves ps) ≡ true
+kept_false : (domains boxes : Boxes) (leaves : ℕ → Ranges) (ps : List ℕ) → ((x : ℕ) → has_number x ps ≡ true → is_disjoint (less (box_of domains x) (leaves x)) (box_of boxes x) ≡ true) → false_in boxes (kept domains leaves ps) ≡ true
 kept_false domains boxes leaves [] h = refl
 kept_false domains boxes leaves (x ∷ ps) h =
     one_false boxes x (less (box_of domains x) (leaves x)) (kept domains leaves ps) (h x (stands_at x ps)) (kept_false domains boxes leaves ps (λ y q. h y (grind arith)))
@@ -105,7 +105,7 @@ within_false : (domains boxes : Boxes) (xs : List ℕ) (n : ℕ) (a b : ℤ) →
 within_false domains boxes xs n a b g =
     kept_false domains boxes (λ x. (a, b) ∷ []) (within n a b xs boxes) (λ x there.
     let valid = are_sets boxes g.boxes_within.sets x in
-    out_misses (box_of boxes x) (box_of domains x) a b valid (are_sets domains g.domain_sets x) g.span
+    out_disjoint (box_of boxes x) (box_of domains x) a b valid (are_sets domains g.domain_sets x) g.span
     (lies_values (box_of boxes x) a b valid (within_there n a b xs boxes x there).1))
 
 or_left : (x y : Bool) → x ≡ true → (x || y) ≡ true
@@ -130,7 +130,7 @@ crowd_reason domains boxes xs a b g c =
 
 -- ---- the box that is narrowed
 
-unit_first : (boxes : Boxes) (x : ℕ) (s : Ranges) (rest : Literals) → is_nil s ≡ false → misses s (box_of boxes x) ≡ false → inside (box_of boxes x) s ≡ false → false_in boxes rest ≡ true → Acts boxes (kept_one x s rest)
+unit_first : (boxes : Boxes) (x : ℕ) (s : Ranges) (rest : Literals) → is_nil s ≡ false → is_disjoint s (box_of boxes x) ≡ false → is_within (box_of boxes x) s ≡ false → false_in boxes rest ≡ true → Acts boxes (kept_one x s rest)
 unit_first boxes x s rest n m i f = rw (n, m, f, i) refl
 
 pub intruder_reason : (domains boxes : Boxes) (xs : List ℕ) (a b : ℤ) (x : ℕ) → IsGround domains boxes xs a b → IsIntruder a b x xs boxes →
@@ -148,7 +148,7 @@ intruder_reason domains boxes xs a b x g c =
     let d_valid = are_sets domains g.domain_sets x in
     let reaches = c.reaches in
     let lies_not : lies_in a b box ≡ false = grind arith in
-    let meets : misses box span ≡ false = grind arith in
+    let meets : is_disjoint box span ≡ false = grind arith in
     let shared = shared_reaches box d a b valid d_valid g.span (w.within x named) meets in
     let cuts = cut domains (outside a b ps domains) in
     let x_lies = cut_lies domains boxes xs ps a b x g (stands_at x qs) shared in
@@ -157,13 +157,13 @@ intruder_reason domains boxes xs a b x g c =
     let x_not : has_number x qs ≡ false = false_from_ne_true (has_number x qs) (λ q. let l = (within_there n a b xs boxes x q).1 in absurd cc) in
     let others = within_once n a b xs boxes g.once in
     let out = outer box a b valid (w.some x named) lies_not in
-    let out_of_d : has d out.value ≡ true = (inside_law box d valid d_valid).0 (w.within x named) out.value out.of_box in
+    let out_of_d : has d out.value ≡ true = (within_law box d valid d_valid).0 (w.within x named) out.value out.of_box in
     let set = less d span in
     let set_sets : IsValid set = IsValid-less d span d_valid g.span in
     let out_in_set : has set out.value ≡ true = let l = has-less_valid d span d_valid g.span out.value in let o = out.out in grind arith in
-    let set_meets : misses set box ≡ false = false_from_ne_true (misses set box) (λ q. let no = (misses_law set box set_sets valid).0 q out.value out_in_set in let yes = out.of_box in grind arith) in
-    let set_less : inside box set ≡ false = false_from_ne_true (inside box set) (λ q.
-    let yes = (inside_law box set valid set_sets).0 q shared.value shared.of_box in
+    let set_meets : is_disjoint set box ≡ false = false_from_ne_true (is_disjoint set box) (λ q. let no = (disjoint_law set box set_sets valid).0 q out.value out_in_set in let yes = out.of_box in grind arith) in
+    let set_less : is_within box set ≡ false = false_from_ne_true (is_within box set) (λ q.
+    let yes = (within_law box set valid set_sets).0 q shared.value shared.of_box in
     let l = has-less_valid d span d_valid g.span shared.value in let s = shared.of_span in grind arith) in
     record {
       named = outside_named domains boxes xs ps a b g (λ y q. elim (or_cases (x == y) (has_number y qs) q) [

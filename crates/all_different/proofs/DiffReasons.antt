@@ -5,9 +5,9 @@ use Rattle.std.proofs.lemmas.Int.{ints}
 use Rattle.std.proofs.lemmas.Bool.Decides.{nat_tests}
 use Rattle.std.proofs.lemmas.Bool.{and_parts, and_cases, and_from, or_cases, false_from_ne_true}
 use Rattle.signed_clause.specs.Ranges.{Ranges, has, is_nil, IsValid}
-use Rattle.signed_clause.specs.SetAlgebra.{less, meet, misses, inside}
+use Rattle.signed_clause.specs.SetAlgebra.{less, meet, is_disjoint, is_within}
 use Rattle.signed_clause.specs.Clauses.{Boxes, box_of}
-use Rattle.signed_clause.proofs.SetFacts.{inside_law}
+use Rattle.signed_clause.proofs.SetFacts.{within_law}
 use Rattle.signed_clause.proofs.RangeSteps.{has-less_valid, IsValid-less, has-meet_valid, IsValid-meet}
 use Rattle.ground_form.specs.Bounds.{low_of, high_of}
 use Rattle.box_rules.specs.Refuted.{lies_in, count_in}
@@ -51,22 +51,22 @@ pub record Shared (box d : Ranges) (a b : ℤ) : Type 0 where
   pub of_domain : has d value ≡ true
   pub of_span : has ((a, b) ∷ []) value ≡ true
 
-pub shared_lies : (box d : Ranges) (a b : ℤ) → IsValid box → IsValid d → is_nil box ≡ false → inside box d ≡ true → lies_in a b box ≡ true → Shared box d a b
+pub shared_lies : (box d : Ranges) (a b : ℤ) → IsValid box → IsValid d → is_nil box ≡ false → is_within box d ≡ true → lies_in a b box ≡ true → Shared box d a b
 shared_lies box d a b f g n i l =
     let here = has_low box f n in
     let parts = in_parts a b box l in
     let low = parts.0 in
     let top = below_high box (low_of box) f here in
     let high = parts.1 in
-    record { value = low_of box; of_box = here; of_domain = (inside_law box d f g).0 i (low_of box) here; of_span = grind (arith, ints) }
+    record { value = low_of box; of_box = here; of_domain = (within_law box d f g).0 i (low_of box) here; of_span = grind (arith, ints) }
 
-pub shared_reaches : (box d : Ranges) (a b : ℤ) → IsValid box → IsValid d → IsValid ((a, b) ∷ []) → inside box d ≡ true → misses box ((a, b) ∷ []) ≡ false → Shared box d a b
+pub shared_reaches : (box d : Ranges) (a b : ℤ) → IsValid box → IsValid d → IsValid ((a, b) ∷ []) → is_within box d ≡ true → is_disjoint box ((a, b) ∷ []) ≡ false → Shared box d a b
 shared_reaches box d a b f g h i m =
     let both = meet box ((a, b) ∷ []) in
     let v = low_of both in
     let here = has_low both (IsValid-meet box ((a, b) ∷ []) f h) m in
     let parts = and_parts (has box v) (has ((a, b) ∷ []) v) (sym (has-meet_valid box ((a, b) ∷ []) f h v) ∙ here) in
-    record { value = v; of_box = parts.0; of_domain = (inside_law box d f g).0 i v parts.0; of_span = parts.1 }
+    record { value = v; of_box = parts.0; of_domain = (within_law box d f g).0 i v parts.0; of_span = parts.1 }
 
 -- a box that doesn't lie within has a value outside
 pub record Outer (box : Ranges) (a b : ℤ) : Type 0 where

@@ -6,7 +6,7 @@ use Rattle.std.proofs.lemmas.Bool.{cases_eq}
 use Rattle.std.proofs.lemmas.Bool.Decides.{nat_tests}
 use Rattle.std.proofs.lemmas.Bool.{and_parts, false_from_ne_true}
 use Rattle.signed_clause.specs.Ranges.{Ranges, has, is_nil, in_range, Ascends}
-use Rattle.signed_clause.specs.SetAlgebra.{misses, meet, piece}
+use Rattle.signed_clause.specs.SetAlgebra.{is_disjoint, meet, piece}
 use Rattle.std.specs.Int.{int_max, int_min}
 use Rattle.signed_clause.proofs.RangeLaws.{has-below}
 use Rattle.signed_clause.specs.Clauses.{Boxes, box_of}
@@ -117,13 +117,13 @@ meet_step a b v r rest h k =
       )
     ]) refl h
 
-pub misses_none : (low top a b v : ℤ) (rs : Ranges) → Ascends low top rs → misses rs ((a, b) ∷ []) ≡ true → (int_le a v && int_le v b) ≡ true → has rs v ≡ false
-misses_none low top a b v [] s h k = refl
-misses_none low top a b v (r ∷ rs) s h k =
+pub disjoint_none : (low top a b v : ℤ) (rs : Ranges) → Ascends low top rs → is_disjoint rs ((a, b) ∷ []) ≡ true → (int_le a v && int_le v b) ≡ true → has rs v ≡ false
+disjoint_none low top a b v [] s h k = refl
+disjoint_none low top a b v (r ∷ rs) s h k =
     let step = meet_step a b v r (meet rs ((a, b) ∷ [])) h k in
     elim step.1 [
       | inl early ↦ false_from_ne_true (has (r ∷ rs) v) (λ q. let later = has-below (r.1 +ℤ pos 2) top rs v s.2 in let out = step.0 in grind (arith, ints))
-      | inr more ↦ let rest = misses_none (r.1 +ℤ pos 2) top a b v rs s.2 more k in let out = step.0 in grind arith
+      | inr more ↦ let rest = disjoint_none (r.1 +ℤ pos 2) top a b v rs s.2 more k in let out = step.0 in grind arith
     ]
 
 -- ---- quiet
@@ -145,10 +145,10 @@ fixed_crowd a b v x xs boxes s h once there n member c =
             let fixpoint = fixpoint_in a b xs boxes s h (omega arith) (omega arith) in
             let keeps : AreApart a b xs boxes = fixpoint.apart (omega arith) in
             let out = all_at (λ y. apart a b (box_of boxes y) ≡ true) x xs keeps there in
-            let misses_it : misses (box_of boxes x) ((a, b) ∷ []) ≡ true = grind arith in
+            let disjoint_it : is_disjoint (box_of boxes x) ((a, b) ∷ []) ≡ true = grind arith in
             let parts = in_parts a b ((v, v) ∷ []) e in
-            let inside_it : (int_le a v && int_le v b) ≡ true = grind (arith, ints) in
-            let none = misses_none _ _ a b v (box_of boxes x) (s x) misses_it inside_it in
+            let within_it : (int_le a v && int_le v b) ≡ true = grind (arith, ints) in
+            let none = disjoint_none _ _ a b v (box_of boxes x) (s x) disjoint_it within_it in
             absurd cc
       ]) refl
     ]) refl

@@ -3,7 +3,7 @@
 use Rattle.std.specs.Prelude.{◌≡◌, ℕ, suc, ◌<◌, ◌≤◌, ◌≤ℤ◌, Bool, true, false, ◌||◌, List, [], ◌∷◌, ℤ, pos, ◌+ℤ◌, length, nat_lt}
 use Rattle.std.specs.List.{All}
 use Rattle.signed_clause.specs.Ranges.{Ranges}
-use Rattle.signed_clause.specs.SetAlgebra.{misses}
+use Rattle.signed_clause.specs.SetAlgebra.{is_disjoint}
 use Rattle.signed_clause.specs.Clauses.{Boxes, box_of}
 use Rattle.ground_form.specs.Bounds.{low_of, high_of}
 use Rattle.box_rules.specs.Refuted.{width, lies_in, count_in}
@@ -13,7 +13,7 @@ use Rattle.all_different.specs.declared.interval.Finding.TheVariants.{Crowded, F
 
 -- the box lies within a..b or has no number of it
 abbrev pub apart : ℤ → ℤ → Ranges → Bool
-apart a b box = lies_in a b box || misses box ((a, b) ∷ [])
+apart a b box = lies_in a b box || is_disjoint box ((a, b) ∷ [])
 
 -- each box does
 abbrev pub AreApart : ℤ → ℤ → List ℕ → Boxes → Type 0

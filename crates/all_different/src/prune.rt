@@ -17,7 +17,7 @@ ghost use Rattle.rule_law.specs.Reasons.{no_repeat};
 use crate::explain::explain;
 use crate::hall_intervals::{Counters, find};
 use ground_form::Con;
-use rule_law::{Differing, probe};
+use rule_law::{Repeats, probe};
 use signed_clause::{Clause, IntSet};
 use std::alloc::{AllocError, Global};
 
@@ -57,7 +57,7 @@ pub struct AllDifferent {
     /// Counters for a sweep.
     counters: Counters,
     /// Which variables of a constraint stand twice.
-    differing: Differing,
+    repeats: Repeats,
 }
 
 impl AllDifferent {
@@ -73,7 +73,7 @@ impl AllDifferent {
                 starts: Vec::new(alloc),
                 ends: Vec::new(alloc),
             },
-            differing: Differing::new(alloc),
+            repeats: Repeats::new(alloc),
         }
     }
 
@@ -84,7 +84,7 @@ impl AllDifferent {
     {
         self.counters.starts.clear();
         self.counters.ends.clear();
-        self.differing.forget();
+        self.repeats.forget();
     }
 
     /// A clause that places that differ justify and that takes something away; None where they are quiet.
@@ -106,7 +106,7 @@ impl AllDifferent {
         requires sets { All (λ d. IsValid d) domains.now }
         ensures { IfOk result (λ a. IsAnswer con.now domains.now boxes.now a) }
     {
-        let differ = self.differing.do_differ(k, con)?;
+        let differ = self.repeats.has_no_repeat(k, con)?;
         if differ {
             prune_different(self.alloc, &mut self.counters, con, vars, domains, boxes)
         } else {

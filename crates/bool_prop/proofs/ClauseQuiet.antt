@@ -4,9 +4,9 @@ use Rattle.std.specs.Prelude.{is_some, ◌==◌}
 use Rattle.std.proofs.lemmas.Bool.{and_from, cases_eq}
 use Rattle.std.proofs.lemmas.Bool.Decides.{nat_tests}
 use Rattle.signed_clause.specs.Ranges.{Ranges, has, IsValid}
-use Rattle.signed_clause.specs.SetAlgebra.{misses, inside, less}
+use Rattle.signed_clause.specs.SetAlgebra.{is_disjoint, is_within, less}
 use Rattle.signed_clause.specs.Clauses.{Boxes, Literal, Literals, box_of, set_of, false_in, unit_of, alone_of, IsClause, IsClauseFrom}
-use Rattle.signed_clause.proofs.SetFacts.{inside_law}
+use Rattle.signed_clause.proofs.SetFacts.{within_law}
 use Rattle.ground_form.specs.declared.con.Con.TheVariants.{ClauseCon}
 use Rattle.ground_form.specs.Meaning.{clause_vars}
 use Rattle.ground_form.proofs.VarLists.{all_literals}
@@ -16,7 +16,7 @@ use Rattle.box_rules.specs.Refuted.{some_empty}
 use Rattle.box_rules.specs.Quiet.{quiet}
 use Rattle.box_view.proofs.EndLaws.{AreSets}
 use Rattle.box_view.proofs.CutLaws.{cut_box}
-use Rattle.box_view.proofs.SetLaws.{fixing_same, fixing_other, single-misses}
+use Rattle.box_view.proofs.SetLaws.{fixing_same, fixing_other, single-is_disjoint}
 use Rattle.box_rules.proofs.QuietFrom.{AreSome, quiet_from}
 use Rattle.box_view.proofs.Leaving.{value_valid, missed_by_rest}
 
@@ -33,9 +33,9 @@ false_cut domains whole [] n s f h = refl
 false_cut domains whole (l ∷ ls) n s f h =
     let box : box_of (cut domains whole) l.0 ≡ less (box_of domains l.0) l.1 =
     cut_box domains whole l.0 ∙ ap (λ (z : Ranges). less (box_of domains l.0) z) (h l.0 f.0 ∙ set_first l ls) in
-    let this : misses l.1 (box_of (cut domains whole) l.0) ≡ true = ap (λ (z : Ranges). misses l.1 z) box ∙ missed_by_rest (box_of domains l.0) l.1 (s l.0) f.2 in
+    let this : is_disjoint l.1 (box_of (cut domains whole) l.0) ≡ true = ap (λ (z : Ranges). is_disjoint l.1 z) box ∙ missed_by_rest (box_of domains l.0) l.1 (s l.0) f.2 in
     let first = f.0 in
-    and_from (misses l.1 (box_of (cut domains whole) l.0)) (false_in (cut domains whole) ls) this
+    and_from (is_disjoint l.1 (box_of (cut domains whole) l.0)) (false_in (cut domains whole) ls) this
     (false_cut domains whole ls (suc l.0) s f.3 (λ x k. h x (omega arith) ∙ set_later l ls x k))
 
 right_or : (a b : Bool) → b ≡ true → (a || b) ≡ true
@@ -62,16 +62,16 @@ false_above boxes (l ∷ ls) n x v f h =
     rw (same, more) refl
 
 -- a literal that meets its box meets it still where another box has one of its values alone, and where its own has and lies in its set
-still_meets : (boxes : Boxes) (l : Literal) (x : ℕ) (v : ℤ) → x < length boxes → AreSets boxes → IsValid l.1 → has (box_of boxes x) v ≡ true → misses l.1 (box_of boxes l.0) ≡ false →
-    (l.0 ≡ x → has l.1 v ≡ true) → misses l.1 (box_of (fixing boxes x v) l.0) ≡ false
+still_meets : (boxes : Boxes) (l : Literal) (x : ℕ) (v : ℤ) → x < length boxes → AreSets boxes → IsValid l.1 → has (box_of boxes x) v ≡ true → is_disjoint l.1 (box_of boxes l.0) ≡ false →
+    (l.0 ≡ x → has l.1 v ≡ true) → is_disjoint l.1 (box_of (fixing boxes x v) l.0) ≡ false
 still_meets boxes l x v lt s f h m k =
     elim (cases_eq l.0 x) [
       | inl e ↦
           let valid = value_valid (box_of boxes x) v (s x) h in
           let yes = k e in
-          subst (λ (z : ℕ). misses l.1 (box_of (fixing boxes x v) z) ≡ false) (sym e)
-          (subst (λ (b : Ranges). misses l.1 b ≡ false) (sym (fixing_same boxes x v lt)) (single-misses v l.1 valid f ∙ ap (λ (b : Bool). not b) yes))
-      | inr e ↦ subst (λ (b : Ranges). misses l.1 b ≡ false) (sym (fixing_other boxes x l.0 v e)) m
+          subst (λ (z : ℕ). is_disjoint l.1 (box_of (fixing boxes x v) z) ≡ false) (sym e)
+          (subst (λ (b : Ranges). is_disjoint l.1 b ≡ false) (sym (fixing_same boxes x v lt)) (single-is_disjoint v l.1 valid f ∙ ap (λ (b : Bool). not b) yes))
+      | inr e ↦ subst (λ (b : Ranges). is_disjoint l.1 b ≡ false) (sym (fixing_other boxes x l.0 v e)) m
     ]
 
 not_both : (m f : Bool) → m ≡ false → (m && f) ≡ false
@@ -102,22 +102,22 @@ pub still_open : (boxes : Boxes) (c : Literals) (n x : ℕ) (v : ℤ) → x < le
 still_open boxes [] n x v lt s f h k = absurd cc
 still_open boxes (l ∷ ls) n x v lt s f h k =
     let box = box_of boxes l.0 in
-    let P : Bool → Type 0 = λ t. misses l.1 box ≡ t → false_in (fixing boxes x v) (l ∷ ls) ≡ false in
-    (elim (misses l.1 box) as P [
-      | true ↦ λ e. not_second (misses l.1 (box_of (fixing boxes x v) l.0)) (false_in (fixing boxes x v) ls)
-          (still_open boxes ls (suc l.0) x v lt s f.3 h (when_missed (misses l.1 box) (false_in boxes ls) (unit_of boxes ls) (alone_of boxes l ls) e k))
+    let P : Bool → Type 0 = λ t. is_disjoint l.1 box ≡ t → false_in (fixing boxes x v) (l ∷ ls) ≡ false in
+    (elim (is_disjoint l.1 box) as P [
+      | true ↦ λ e. not_second (is_disjoint l.1 (box_of (fixing boxes x v) l.0)) (false_in (fixing boxes x v) ls)
+          (still_open boxes ls (suc l.0) x v lt s f.3 h (when_missed (is_disjoint l.1 box) (false_in boxes ls) (unit_of boxes ls) (alone_of boxes l ls) e k))
       | false ↦ λ e.
-          let none : is_some (alone_of boxes l ls) ≡ false = when_met (misses l.1 box) (false_in boxes ls) (unit_of boxes ls) (alone_of boxes l ls) e k in
+          let none : is_some (alone_of boxes l ls) ≡ false = when_met (is_disjoint l.1 box) (false_in boxes ls) (unit_of boxes ls) (alone_of boxes l ls) e k in
           let Q : Bool → Type 0 = λ t. false_in boxes ls ≡ t → false_in (fixing boxes x v) (l ∷ ls) ≡ false in
           (elim (false_in boxes ls) as Q [
-            | true ↦ λ g. not_both (misses l.1 (box_of (fixing boxes x v) l.0)) (false_in (fixing boxes x v) ls)
+            | true ↦ λ g. not_both (is_disjoint l.1 (box_of (fixing boxes x v) l.0)) (false_in (fixing boxes x v) ls)
                 (still_meets boxes l x v lt s f.2 h e (λ q.
-                let all : inside box l.1 ≡ true = behind (false_in boxes ls) (inside box l.1) _ none g in
-                (inside_law box l.1 (s l.0) f.2).0 all v (subst (λ (z : ℕ). has (box_of boxes z) v ≡ true) (sym q) h)))
+                let all : is_within box l.1 ≡ true = behind (false_in boxes ls) (is_within box l.1) _ none g in
+                (within_law box l.1 (s l.0) f.2).0 all v (subst (λ (z : ℕ). has (box_of boxes z) v ≡ true) (sym q) h)))
             | false ↦ λ g. elim (cases_eq l.0 x) [
-              | inl q ↦ not_second (misses l.1 (box_of (fixing boxes x v) l.0)) (false_in (fixing boxes x v) ls)
+              | inl q ↦ not_second (is_disjoint l.1 (box_of (fixing boxes x v) l.0)) (false_in (fixing boxes x v) ls)
                   (false_above boxes ls (suc l.0) x v f.3 (omega arith) ∙ g)
-              | inr q ↦ not_both (misses l.1 (box_of (fixing boxes x v) l.0)) (false_in (fixing boxes x v) ls)
+              | inr q ↦ not_both (is_disjoint l.1 (box_of (fixing boxes x v) l.0)) (false_in (fixing boxes x v) ls)
                   (still_meets boxes l x v lt s f.2 h e (λ r. absurd (q r)))
             ]
           ]) refl

@@ -3,10 +3,10 @@ use Rattle.std.proofs.Common.{◌≡◌, ℕ, zero, suc, ◌<◌, Bool, true, fa
 use Rattle.std.proofs.lemmas.Bool.{and_parts, and_from, false_from_ne_true}
 use Rattle.std.proofs.lemmas.Bool.Decides.{Decides-int_eq}
 use Rattle.signed_clause.specs.Ranges.{Ranges, has, is_nil, IsValid}
-use Rattle.signed_clause.specs.SetAlgebra.{inside, less}
+use Rattle.signed_clause.specs.SetAlgebra.{is_within, less}
 use Rattle.signed_clause.specs.Clauses.{Boxes, box_of}
 use Rattle.signed_clause.proofs.RangeSteps.{IsValid-less, has-less_valid}
-use Rattle.signed_clause.proofs.SetFacts.{inside_law}
+use Rattle.signed_clause.proofs.SetFacts.{within_law}
 use Rattle.ground_form.specs.declared.con.Con.TheVariants.{AndDef}
 use Rattle.ground_form.specs.Meaning.{bit, part_vars, clause_vars}
 use Rattle.ground_form.specs.Bounds.{low_of, high_of}
@@ -14,10 +14,10 @@ use Rattle.box_rules.specs.Refuted.{fixed_at, barred, some_barred, all_fixed}
 use Rattle.rule_law.specs.Reasons.{no_repeat, Acts, IsReason}
 use Rattle.box_rules.proofs.FixedLaws.{fixed_value, single_fixed}
 use Rattle.box_view.proofs.EndLaws.{AreSets, has_low, has_high}
-use Rattle.box_view.proofs.SetLaws.{single-misses}
+use Rattle.box_view.proofs.SetLaws.{single-is_disjoint}
 use Rattle.rule_law.specs.Plans.{IsFlag, literals_of}
 use Rattle.bool_prop.specs.Findings.{IsPartOpen, IsWholeOpen, part_fixed, one_open, whole_plan}
-use Rattle.box_view.proofs.Leaving.{less_inside, missing_inside, twice_inside, has_one, one_inside, left_over}
+use Rattle.box_view.proofs.Leaving.{less_within, missing_within, twice_within, has_one, one_within, left_over}
 use Rattle.rule_law.proofs.PlanLaws.{ArePlanned, Leaves, AllLeft, plan_reason, plan_acts_head, plan_acts_tail}
 use Rattle.rule_law.proofs.FlagPlans.{AreGood, in_domain, IsPair, PairActs, pair_reason, bit_valid, flag_only, flag_other}
 use Rattle.bool_prop.proofs.ConjunctionQuiet.{fixed_has}
@@ -25,9 +25,9 @@ use Rattle.bool_prop.proofs.ConjunctionQuiet.{fixed_has}
 -- ---- one part
 
 -- a box that lies within one value is it
-only_fixed : (s : Ranges) (w : ℤ) → IsValid s → IsValid ((w, w) ∷ []) → is_nil s ≡ false → inside s ((w, w) ∷ []) ≡ true → fixed_at s w ≡ true
+only_fixed : (s : Ranges) (w : ℤ) → IsValid s → IsValid ((w, w) ∷ []) → is_nil s ≡ false → is_within s ((w, w) ∷ []) ≡ true → fixed_at s w ≡ true
 only_fixed s w f g n h =
-    let within = (inside_law s ((w, w) ∷ []) f g).0 h in
+    let within = (within_law s ((w, w) ∷ []) f g).0 h in
     let low = single_low (low_of s) w g (within (low_of s) (has_low s f n)) in
     let high = single_low (high_of s) w g (within (high_of s) (has_high s f n)) in
     rw (n, (Decides-int_eq (low_of s) w).1 low, (Decides-int_eq (high_of s) w).1 high) refl
@@ -35,9 +35,9 @@ only_fixed s w f g n h =
     single_low : (v u : ℤ) → IsValid ((u, u) ∷ []) → has ((u, u) ∷ []) v ≡ true → v ≡ u
     single_low v u i k = fixed_value ((u, u) ∷ []) u v i (single_fixed u u ∙ (Decides-int_eq u u).1 refl) k
 
-lies_in_one : (s : Ranges) (w : ℤ) → IsValid s → IsValid ((w, w) ∷ []) → fixed_at s w ≡ true → inside s ((w, w) ∷ []) ≡ true
+lies_in_one : (s : Ranges) (w : ℤ) → IsValid s → IsValid ((w, w) ∷ []) → fixed_at s w ≡ true → is_within s ((w, w) ∷ []) ≡ true
 lies_in_one s w f g h =
-    (inside_law s ((w, w) ∷ []) f g).1 (λ v k. let e = fixed_value s w v f h k in subst (λ (z : ℤ). has ((w, w) ∷ []) z ≡ true) (sym e) (has_one w))
+    (within_law s ((w, w) ∷ []) f g).1 (λ v k. let e = fixed_value s w v f h k in subst (λ (z : ℤ). has ((w, w) ∷ []) z ≡ true) (sym e) (has_one w))
 
 some_at : (parts : List (ℕ × Bool)) (i : ℕ) (d : ℕ × Bool) (boxes : Boxes) → i < length parts → barred boxes (get_or parts i d).0 (get_or parts i d).1 ≡ true → some_barred parts boxes ≡ true
 some_at [] i d boxes lt h = absurd (omega arith)
@@ -65,17 +65,17 @@ part_reason domains boxes flag parts i p s lt at o =
     elim o.acts [
       | inl h ↦ inl (
         not_false_is (has (box_of boxes flag) (pos 1)) h.0,
-        missing_inside box domain ((w, w) ∷ []) fb fd valid (s.good.within p.0 s.var) (single-misses w box valid fb ∙ h.1),
+        missing_within box domain ((w, w) ∷ []) fb fd valid (s.good.within p.0 s.var) (single-is_disjoint w box valid fb ∙ h.1),
       )
       | inr h ↦ inr (
         not_true_is (has (box_of boxes flag) (pos 0)) h.0,
         left_over domain (less domain ((w, w) ∷ [])) box ((w, w) ∷ []) fd (IsValid-less domain ((w, w) ∷ []) fd valid) fb valid
-            (λ v k. (inside_law (less domain (less domain ((w, w) ∷ []))) ((w, w) ∷ []) (IsValid-less domain (less domain ((w, w) ∷ [])) fd (IsValid-less domain ((w, w) ∷ []) fd valid)) valid).0
-            (twice_inside domain ((w, w) ∷ []) fd valid) v k)
-            (false_from_ne_true (inside box ((w, w) ∷ [])) (λ q. let yes = only_fixed box w fb valid (s.good.some p.0 s.var) q in let no = h.1 in grind arith)),
+            (λ v k. (within_law (less domain (less domain ((w, w) ∷ []))) ((w, w) ∷ []) (IsValid-less domain (less domain ((w, w) ∷ [])) fd (IsValid-less domain ((w, w) ∷ []) fd valid)) valid).0
+            (twice_within domain ((w, w) ∷ []) fd valid) v k)
+            (false_from_ne_true (is_within box ((w, w) ∷ [])) (λ q. let yes = only_fixed box w fb valid (s.good.some p.0 s.var) q in let no = h.1 in grind arith)),
       )
     ] in
-    pair_reason (AndDef flag parts) domains boxes flag p.0 true (less domain ((w, w) ∷ [])) s (IsValid-less domain ((w, w) ∷ []) fd valid) (less_inside domain ((w, w) ∷ []) fd valid) acts
+    pair_reason (AndDef flag parts) domains boxes flag p.0 true (less domain ((w, w) ∷ [])) s (IsValid-less domain ((w, w) ∷ []) fd valid) (less_within domain ((w, w) ∷ []) fd valid) acts
     (λ rest h k.
     let gone : barred rest p.0 p.1 ≡ true = ap (λ (z : Ranges). not (has z w)) k ∙ no_value domain w fd valid in
     let some = some_at parts i p rest lt (subst (λ (z : ℕ × Bool). barred rest z.0 z.1 ≡ true) (sym (at p)) gone) in
@@ -121,7 +121,7 @@ parts_planned domains boxes (p ∷ ps) g n c =
     let lt : p.0 < length boxes = n 0 p (omega arith) in (
       lt,
       bit_valid p.1,
-      one_inside (box_of domains p.0) (bit p.1) (g.wide p.0) (bit_valid p.1) (in_domain domains boxes p.0 (bit p.1) g lt c.0),
+      one_within (box_of domains p.0) (bit p.1) (g.wide p.0) (bit_valid p.1) (in_domain domains boxes p.0 (bit p.1) g lt c.0),
       parts_planned domains boxes ps g (λ k d l. n (suc k) d (omega arith)) c.1,
     )
 
@@ -172,7 +172,7 @@ pub whole_reason : (domains boxes : Boxes) (flag : ℕ) (parts : List (ℕ × Bo
 whole_reason domains boxes flag parts g f lt n d o =
     let can = can_whole domains boxes flag parts g f o in
     let planned : ArePlanned domains (length boxes) ((flag, (pos 0, pos 0) ∷ []) ∷ whole_plan parts) =
-    (lt, bit_valid false, one_inside (box_of domains flag) (pos 0) (g.wide flag) (bit_valid false) (in_domain domains boxes flag (pos 0) g lt can.0), parts_planned domains boxes parts g n can.1) in
+    (lt, bit_valid false, one_within (box_of domains flag) (pos 0) (g.wide flag) (bit_valid false) (in_domain domains boxes flag (pos 0) g lt can.0), parts_planned domains boxes parts g n can.1) in
     plan_reason (AndDef flag parts) domains boxes ((flag, (pos 0, pos 0) ∷ []) ∷ whole_plan parts) g.wide planned
     (subst (λ (xs : List ℕ). no_repeat (flag ∷ xs) ≡ true) (sym (plan_vars parts)) d)
     (λ rest l.

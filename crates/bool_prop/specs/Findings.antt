@@ -3,7 +3,7 @@
 use Rattle.std.specs.Prelude.{◌≡◌, ℕ, ◌<◌, Bool, true, false, not, ◌&&◌, ◌||◌, cond, List, [], ◌∷◌, pos, Option, Some, None, length, slice_index_or, ◌==◌, ◌⊎◌}
 use Rattle.std.specs.List.{All}
 use Rattle.signed_clause.specs.Ranges.{Ranges, has, is_nil, IsValid}
-use Rattle.signed_clause.specs.SetAlgebra.{misses, inside}
+use Rattle.signed_clause.specs.SetAlgebra.{is_disjoint, is_within}
 use Rattle.signed_clause.specs.Clauses.{Boxes, Literals, box_of}
 use Rattle.ground_form.specs.declared.con.Con.TheVariants.{AndDef}
 use Rattle.ground_form.specs.Meaning.{bit, part_vars}
@@ -17,8 +17,8 @@ use Rattle.bool_prop.specs.declared.conjunction.Finding.TheVariants.{Quiet, Part
 -- neither says anything in the boxes
 abbrev pub member_finding : Ranges → Ranges → Ranges → Option Bool
 member_finding flags box set =
-    cond (has flags (pos 1) && (misses box set || (not (has flags (pos 0)) && not (inside box set)))) (Some true)
-    (cond (has flags (pos 0) && (inside box set || (not (has flags (pos 1)) && not (misses box set)))) (Some false) None)
+    cond (has flags (pos 1) && (is_disjoint box set || (not (has flags (pos 0)) && not (is_within box set)))) (Some true)
+    (cond (has flags (pos 0) && (is_within box set || (not (has flags (pos 1)) && not (is_disjoint box set)))) (Some false) None)
 
 -- ---- conjunctions
 

@@ -18,7 +18,7 @@ ghost use Rattle.rule_law.specs.Plans.{literals_of};
 ghost use Rattle.bool_prop.specs.Findings.{IsScene, part_fixed, open_rest, whole_plan, IsWholeOpen, Says};
 
 use ground_form::{Con, Number, ends_of};
-use rule_law::{Differing, keep_out, planned_pruning, probe, pruning, truth};
+use rule_law::{Repeats, keep_out, planned_pruning, probe, pruning, truth};
 use signed_clause::{Clause, IntSet};
 use std::alloc::{AllocError, Global};
 
@@ -248,7 +248,7 @@ fn explain_whole(
 
 /// What a conjunction says as a whole, which it has to in the boxes.
 fn prune_whole(
-    differing: &mut Differing,
+    repeats: &mut Repeats,
     k: u32,
     con: &Con,
     flag: u32,
@@ -266,7 +266,7 @@ fn prune_whole(
     requires open { IsWholeOpen flag parts.now boxes.now }
     ensures answer { IfOk result (λ a. IsAnswer con.now domains.now boxes.now a) }
 {
-    let differ = differing.do_differ(k, con)?;
+    let differ = repeats.has_no_repeat(k, con)?;
     if !differ {
         return probe(con, domains, boxes, alloc);
     }
@@ -279,7 +279,7 @@ fn prune_whole(
 /// # Errors
 /// Want of memory.
 pub fn prune_conjunction(
-    differing: &mut Differing,
+    repeats: &mut Repeats,
     k: u32,
     con: &Con,
     flag: u32,
@@ -302,7 +302,7 @@ pub fn prune_conjunction(
             let clause = explain_part(con, flag, parts[i], domains, boxes, alloc)?;
             Ok(Some(clause))
         }
-        Finding::Whole => prune_whole(differing, k, con, flag, parts, domains, boxes, alloc),
+        Finding::Whole => prune_whole(repeats, k, con, flag, parts, domains, boxes, alloc),
         Finding::Unclear => probe(con, domains, boxes, alloc),
     }
 }

@@ -11,7 +11,7 @@ use crate::clause::prune_clause;
 use crate::conjunction::prune_conjunction;
 use crate::member::prune_member;
 use ground_form::{Con, Ground, Kind};
-use rule_law::{Differing, Propagator, probe};
+use rule_law::{Propagator, Repeats, probe};
 use signed_clause::{Clause, IntSet};
 use std::alloc::{AllocError, Global};
 
@@ -20,7 +20,7 @@ use std::alloc::{AllocError, Global};
 #[derive(Drop)]
 pub struct BoolProp {
     alloc: Global,
-    differing: Differing,
+    repeats: Repeats,
 }
 
 impl BoolProp {
@@ -30,7 +30,7 @@ impl BoolProp {
     {
         BoolProp {
             alloc,
-            differing: Differing::new(alloc),
+            repeats: Repeats::new(alloc),
         }
     }
 }
@@ -45,7 +45,7 @@ fn is_boolean(kind: Kind) -> bool
 /// What a constraint has to say in the boxes.
 pub(crate) fn prune_one(
     alloc: Global,
-    differing: &mut Differing,
+    repeats: &mut Repeats,
     k: u32,
     con: &Con,
     domains: &[IntSet],
@@ -58,16 +58,7 @@ pub(crate) fn prune_one(
 {
     match con {
         Con::AndDef { flag, parts } => {
-            prune_conjunction(
-                differing,
-                k,
-                con,
-                *flag,
-                parts.items(),
-                domains,
-                boxes,
-                alloc,
-            )
+            prune_conjunction(repeats, k, con, *flag, parts.items(), domains, boxes, alloc)
         }
         Con::MemberDef { flag, var, set } => {
             prune_member(con, *flag, *var, set, domains, boxes, alloc)
@@ -85,7 +76,7 @@ impl Propagator for BoolProp {
     }
 
     fn begin(&mut self) {
-        self.differing.forget();
+        self.repeats.forget();
     }
 
     fn prune(
@@ -97,7 +88,7 @@ impl Propagator for BoolProp {
         let con = &g.cons.items()[k as usize];
         prune_one(
             self.alloc,
-            &mut self.differing,
+            &mut self.repeats,
             k,
             con,
             g.domains.items(),

@@ -11,13 +11,13 @@ ghost use Rattle.bool_prop.specs.Handled.{is_boolean};
 use crate::BoolProp;
 use crate::propagator::prune_one;
 use ground_form::{Con, Cons, Domains, Goals, Ground, Kind, Parts};
-use rule_law::{Differing, Propagator, are_boxes_within, justified, probe};
+use rule_law::{Propagator, Repeats, are_boxes_within, justified, probe};
 use signed_clause::{Clause, IntSet};
 use std::alloc::{AllocError, Global};
 
 /// What the propagator says, or plain probing.
 fn answer(
-    differing: &mut Differing,
+    repeats: &mut Repeats,
     con: &Con,
     domains: &[IntSet],
     boxes: &[IntSet],
@@ -32,7 +32,7 @@ fn answer(
     if plain {
         probe(con, domains, boxes, alloc)
     } else {
-        prune_one(alloc, differing, 3, con, domains, boxes)
+        prune_one(alloc, repeats, 3, con, domains, boxes)
     }
 }
 
@@ -51,7 +51,7 @@ enum Turn {
 
 /// Asks once.
 fn ask(
-    differing: &mut Differing,
+    repeats: &mut Repeats,
     con: &Con,
     domains: &[IntSet],
     boxes: &[IntSet],
@@ -62,7 +62,7 @@ fn ask(
     requires boxes { AreBoxesWithin domains.now boxes.now }
     requires sets { All (λ d. IsValid d) domains.now }
 {
-    let Some(clause) = answer(differing, con, domains, boxes, plain, alloc)? else {
+    let Some(clause) = answer(repeats, con, domains, boxes, plain, alloc)? else {
         return Ok(Turn::Still);
     };
     if !justified(con, domains, &clause) {
@@ -77,7 +77,7 @@ fn ask(
 /// The boxes where there is nothing more to say, or None where nothing is left or something went wrong; and how many calls
 /// it took.
 fn settle(
-    differing: &mut Differing,
+    repeats: &mut Repeats,
     con: &Con,
     domains: &[IntSet],
     mut boxes: Vec<IntSet>,
@@ -91,7 +91,7 @@ fn settle(
         if !are_boxes_within(domains, boxes.as_slice()) {
             return Ok(None);
         }
-        match ask(differing, con, domains, boxes.as_slice(), plain, alloc)? {
+        match ask(repeats, con, domains, boxes.as_slice(), plain, alloc)? {
             Turn::Still => return Ok(Some(boxes)),
             Turn::Narrowed(x, set) => {
                 if (x as usize) < boxes.len() {
@@ -129,7 +129,7 @@ fn are_same(a: &[IntSet], b: &[IntSet]) -> bool {
 /// Whether the propagator and plain probing come to the same from all boxes within the domains, and how many cases there are.
 fn agrees(
     alloc: Global,
-    differing: &mut Differing,
+    repeats: &mut Repeats,
     con: &Con,
     domains: &[IntSet],
     count: u32,
@@ -141,9 +141,9 @@ fn agrees(
     for n in 0..count {
         let boxes = nth_boxes(alloc, domains, n)?;
         if are_boxes_within(domains, boxes.as_slice()) {
-            let quick = settle(differing, con, domains, boxes, false, alloc)?;
+            let quick = settle(repeats, con, domains, boxes, false, alloc)?;
             let plain = settle(
-                differing,
+                repeats,
                 con,
                 domains,
                 nth_boxes(alloc, domains, n)?,
@@ -167,7 +167,7 @@ fn agrees(
 #[test]
 fn conjunctions(rt: HostRuntime) -> Result<(), AllocError> {
     let alloc = rt.alloc();
-    let mut differing = Differing::new(alloc);
+    let mut repeats = Repeats::new(alloc);
     let domains = vec![in alloc;
         IntSet::range(alloc, 0, 1),
         IntSet::range(alloc, 0, 1),
@@ -184,7 +184,7 @@ fn conjunctions(rt: HostRuntime) -> Result<(), AllocError> {
             flag: 0,
             parts: Parts::of(vec![in alloc; parts[0], parts[1], parts[2]]?),
         };
-        assert!(rt; agrees(alloc, &mut differing, &con, domains.as_slice(), 4096)? > 80);
+        assert!(rt; agrees(alloc, &mut repeats, &con, domains.as_slice(), 4096)? > 80);
     }
     Ok(())
 }
@@ -192,7 +192,7 @@ fn conjunctions(rt: HostRuntime) -> Result<(), AllocError> {
 #[test]
 fn memberships(rt: HostRuntime) -> Result<(), AllocError> {
     let alloc = rt.alloc();
-    let mut differing = Differing::new(alloc);
+    let mut repeats = Repeats::new(alloc);
     let domains = vec![in alloc; IntSet::range(alloc, 0, 1), IntSet::range(alloc, 0, 2)]?;
     for set in [(0i64, 0i64), (1, 1), (1, 2), (0, 2), (3, 5)] {
         let con = Con::MemberDef {
@@ -200,21 +200,21 @@ fn memberships(rt: HostRuntime) -> Result<(), AllocError> {
             var: 1,
             set: IntSet::range(alloc, set.0.min(set.1), set.1),
         };
-        assert!(rt; agrees(alloc, &mut differing, &con, domains.as_slice(), 64)? > 20);
+        assert!(rt; agrees(alloc, &mut repeats, &con, domains.as_slice(), 64)? > 20);
     }
     let same = Con::MemberDef {
         flag: 0,
         var: 0,
         set: IntSet::range(alloc, 0, 0),
     };
-    assert!(rt; agrees(alloc, &mut differing, &same, domains.as_slice(), 64)? > 20);
+    assert!(rt; agrees(alloc, &mut repeats, &same, domains.as_slice(), 64)? > 20);
     Ok(())
 }
 
 #[test]
 fn clauses(rt: HostRuntime) -> Result<(), AllocError> {
     let alloc = rt.alloc();
-    let mut differing = Differing::new(alloc);
+    let mut repeats = Repeats::new(alloc);
     let domains = vec![in alloc; IntSet::range(alloc, 0, 2), IntSet::range(alloc, 0, 2)]?;
     for sets in [
         [(0i64, 0i64), (1, 2)],
@@ -237,7 +237,7 @@ fn clauses(rt: HostRuntime) -> Result<(), AllocError> {
             return Ok(());
         };
         let con = Con::ClauseCon { clause };
-        assert!(rt; agrees(alloc, &mut differing, &con, domains.as_slice(), 64)? == 49);
+        assert!(rt; agrees(alloc, &mut repeats, &con, domains.as_slice(), 64)? == 49);
     }
     Ok(())
 }

@@ -5,14 +5,14 @@ use Rattle.std.proofs.lemmas.Int.{ints}
 use Rattle.std.proofs.lemmas.Bool.Decides.{Decides-int_eq}
 use Rattle.std.proofs.lemmas.Bool.{and_parts, false_from_ne_true}
 use Rattle.signed_clause.specs.Ranges.{Ranges, has, IsValid}
-use Rattle.signed_clause.specs.SetAlgebra.{misses, inside}
+use Rattle.signed_clause.specs.SetAlgebra.{is_disjoint, is_within}
 use Rattle.signed_clause.specs.Clauses.{Boxes, Literals, box_of, false_in, clause_true, IsClauseFrom}
-use Rattle.signed_clause.proofs.ClauseLaws.{has_from_misses, has_from_inside}
+use Rattle.signed_clause.proofs.ClauseLaws.{has_from_disjoint, has_from_within}
 use Rattle.ground_form.specs.Meaning.{value_of, bit, part_vars, term_vars, clause_vars, parts_true, picks}
 use Rattle.ground_form.specs.Bounds.{low_of}
 use Rattle.box_rules.specs.Refuted.{fixed_at, some_barred, all_fixed, same_single, none_picked}
 use Rattle.box_rules.proofs.FixedLaws.{fixed_value, single_fixed}
-use Rattle.box_view.proofs.SetLaws.{misses-single, single-misses}
+use Rattle.box_view.proofs.SetLaws.{is_disjoint-single, single-is_disjoint}
 use Rattle.box_view.proofs.EndLaws.{AreSets, AreSingle, values_in, single_head, single_tail, single_has}
 
 -- ---- flags in general
@@ -76,18 +76,18 @@ fixed-single (p ∷ ps) boxes a h =
 
 -- ---- membership and equality
 
-pub missed-false : (box set : Ranges) (v : ℤ) → IsValid box → IsValid set → has box v ≡ true → misses box set ≡ true → has set v ≡ false
+pub missed-false : (box set : Ranges) (v : ℤ) → IsValid box → IsValid set → has box v ≡ true → is_disjoint box set ≡ true → has set v ≡ false
 missed-false box set v s t h k =
-    false_from_ne_true (has set v) (λ q. let n = has_from_misses box set v s t k q in grind arith)
+    false_from_ne_true (has set v) (λ q. let n = has_from_disjoint box set v s t k q in grind arith)
 
-pub within-true : (box set : Ranges) (v : ℤ) → IsValid box → IsValid set → has box v ≡ true → inside box set ≡ true → has set v ≡ true
-within-true box set v s t h k = has_from_inside box set v s t k h
+pub within-true : (box set : Ranges) (v : ℤ) → IsValid box → IsValid set → has box v ≡ true → is_within box set ≡ true → has set v ≡ true
+within-true box set v s t h k = has_from_within box set v s t k h
 
-pub apart-false : (left right : Ranges) (v w : ℤ) → IsValid left → IsValid right → has left v ≡ true → has right w ≡ true → misses left right ≡ true → int_eq v w ≡ false
+pub apart-false : (left right : Ranges) (v w : ℤ) → IsValid left → IsValid right → has left v ≡ true → has right w ≡ true → is_disjoint left right ≡ true → int_eq v w ≡ false
 apart-false left right v w s t h k m =
     let at = Decides-int_eq v w in
     let none : v ≡ w → ⊥ = λ e. let here : has right v ≡ true = subst (λ (z : ℤ). has right z ≡ true) (sym e) k in
-    let n = has_from_misses left right v s t m here in grind arith in
+    let n = has_from_disjoint left right v s t m here in grind arith in
     false_from_ne_true (int_eq v w) (λ q. none (at.0 q))
 
 pub same-true : (left right : Ranges) (v w : ℤ) → IsValid left → IsValid right → has left v ≡ true → has right w ≡ true → same_single left right ≡ true → int_eq v w ≡ true
@@ -115,7 +115,7 @@ pub picked-false : (out index : Ranges) (v i : ℤ) (ts : List (ℤ × ℕ)) (bo
 picked-false out index v i [] boxes a s so h k l m = refl
 picked-false out index v i (t ∷ ts) boxes a s so h k l m =
     let parts = and_parts (has (box_of boxes t.1) (value_of a t.1)) (values_in (term_vars ts) boxes a) l in
-    let none = and_parts (not (has index t.0) || misses (box_of boxes t.1) out) (none_picked out index ts boxes) m in
+    let none = and_parts (not (has index t.0) || is_disjoint (box_of boxes t.1) out) (none_picked out index ts boxes) m in
     let more = picked-false out index v i ts boxes a s so h k parts.1 none.1 in
     let at = Decides-int_eq t.0 i in
     let here : int_eq t.0 i ≡ true → has index t.0 ≡ true = λ q. subst (λ (z : ℤ). has index z ≡ true) (sym (at.0 q)) k in
@@ -131,14 +131,14 @@ picked-single v i (t ∷ ts) boxes a s so h =
     let sw : IsValid ((w, w) ∷ []) = subst (λ (z : Ranges). IsValid z) is (s t.1) in
     let more = picked-single v i ts boxes a s so (single_tail t.1 (term_vars ts) boxes a h) in
     let index : has ((i, i) ∷ []) t.0 ≡ int_eq t.0 i = single_has i t.0 ∙ int_eq-sym i t.0 in
-    let var : misses (box_of boxes t.1) ((v, v) ∷ []) ≡ not (int_eq w v) =
-    ap (λ (z : Ranges). misses z ((v, v) ∷ [])) is ∙ misses-single w ((v, v) ∷ []) sw so ∙ ap (λ (b : Bool). not b) (single_has v w ∙ int_eq-sym v w) in
+    let var : is_disjoint (box_of boxes t.1) ((v, v) ∷ []) ≡ not (int_eq w v) =
+    ap (λ (z : Ranges). is_disjoint z ((v, v) ∷ [])) is ∙ is_disjoint-single w ((v, v) ∷ []) sw so ∙ ap (λ (b : Bool). not b) (single_has v w ∙ int_eq-sym v w) in
     rw (index, var, more) (grind arith)
 
 -- ---- conditionals
 
 pub conditional-false : (out flags item : Ranges) (v f w : ℤ) → IsValid out → IsValid item → has out v ≡ true → has flags f ≡ true → has item w ≡ true →
-    ((not (has flags (pos 1)) || misses out item) && (not (has flags (pos 0)) || not (has out (pos 0)))) ≡ true →
+    ((not (has flags (pos 1)) || is_disjoint out item) && (not (has flags (pos 0)) || not (has out (pos 0)))) ≡ true →
     ((int_eq f (pos 1) && int_eq v w) || (int_eq f (pos 0) && int_eq v (pos 0))) ≡ false
 conditional-false out flags item v f w s t h k l e =
     let apart = apart-false out item v w s t h l in
@@ -162,9 +162,9 @@ pub clause-false : (c : Literals) (n : ℕ) (boxes : Boxes) (a : List ℤ) → A
 clause-false [] n boxes a s f h k = refl
 clause-false (l ∷ c) n boxes a s f h k =
     let parts = and_parts (has (box_of boxes l.0) (value_of a l.0)) (values_in (clause_vars c) boxes a) h in
-    let falses = and_parts (misses l.1 (box_of boxes l.0)) (false_in boxes c) k in
+    let falses = and_parts (is_disjoint l.1 (box_of boxes l.0)) (false_in boxes c) k in
     let more = clause-false c (suc l.0) boxes a s f.3 parts.1 falses.1 in
-    let this = has_from_misses l.1 (box_of boxes l.0) (value_of a l.0) f.2 (s l.0) falses.0 parts.0 in
+    let this = has_from_disjoint l.1 (box_of boxes l.0) (value_of a l.0) f.2 (s l.0) falses.0 parts.0 in
     grind arith
 
 pub clause-single : (c : Literals) (n : ℕ) (boxes : Boxes) (a : List ℤ) → AreSets boxes → IsClauseFrom n c → AreSingle (clause_vars c) boxes a → false_in boxes c ≡ not (clause_true c a)
@@ -174,5 +174,5 @@ clause-single (l ∷ c) n boxes a s f h =
     let is = single_head l.0 (clause_vars c) boxes a h in
     let sv : IsValid ((v, v) ∷ []) = subst (λ (z : Ranges). IsValid z) is (s l.0) in
     let more = clause-single c (suc l.0) boxes a s f.3 (single_tail l.0 (clause_vars c) boxes a h) in
-    let this : misses l.1 (box_of boxes l.0) ≡ not (has l.1 v) = ap (λ (z : Ranges). misses l.1 z) is ∙ single-misses v l.1 sv f.2 in
+    let this : is_disjoint l.1 (box_of boxes l.0) ≡ not (has l.1 v) = ap (λ (z : Ranges). is_disjoint l.1 z) is ∙ single-is_disjoint v l.1 sv f.2 in
     rw (this, more) (grind arith)

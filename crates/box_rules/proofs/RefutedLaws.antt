@@ -6,7 +6,7 @@ use Rattle.std.specs.Ordering.{int_eq}
 use Rattle.std.proofs.lemmas.Int.{ints}
 use Rattle.std.proofs.lemmas.Bool.{and_parts, not-true}
 use Rattle.signed_clause.specs.Ranges.{Ranges, has, IsValid, is_nil}
-use Rattle.signed_clause.specs.SetAlgebra.{misses, inside}
+use Rattle.signed_clause.specs.SetAlgebra.{is_disjoint, is_within}
 use Rattle.signed_clause.specs.Clauses.{Boxes, box_of}
 use Rattle.ground_form.specs.declared.con.Con.{Con}
 use Rattle.ground_form.specs.declared.con.Con.TheVariants.{LinLe, LinDef, ReifLe, AndDef, MemberDef, EqDef, ElementDef, CondDef, ClauseCon, AllDiff, Pack}
@@ -19,7 +19,7 @@ use Rattle.box_rules.specs.Refuted.{some_empty, some_barred, all_fixed, same_sin
 use Rattle.box_rules.proofs.FixedLaws.{some_empty-false}
 use Rattle.box_view.proofs.EndLaws.{AreSets, are_sets, AreSingle, values_in, above_low, below_high, point_values, single_head, single_tail, single_has}
 use Rattle.box_rules.proofs.SumLaws.{least_sum-le, greatest_sum-ge, least_sum-single, greatest_sum-single, at_most-false, sum-false, at_most-single, sum-single}
-use Rattle.box_view.proofs.SetLaws.{misses-single, inside-single, bool_same}
+use Rattle.box_view.proofs.SetLaws.{is_disjoint-single, is_within-single, bool_same}
 use Rattle.box_rules.proofs.FlagLaws.{flag-false, flag-single, barred-false, fixed-true, barred-single, fixed-single, missed-false, within-true, apart-false, same-true, same-single, picked-false, picked-single, conditional-false, conditional-single, not_both, int_eq-sym, clause-false, clause-single}
 use Rattle.box_rules.proofs.DiffLaws.{int_eq-same, some_crowded-false, crowded-single}
 use Rattle.box_rules.proofs.PackLaws.{pack-false, pack-single}
@@ -48,13 +48,13 @@ excluded-false (AndDef flag ps) boxes a s f b h k =
 excluded-false (MemberDef flag var set) boxes a s f b h k =
     let parts = and_parts (has (box_of boxes flag) (value_of a flag)) (values_in (var ∷ []) boxes a) h in
     let more = and_parts (has (box_of boxes var) (value_of a var)) true parts.1 in
-    flag-false (box_of boxes flag) (value_of a flag) (has set (value_of a var)) (misses (box_of boxes var) set) (inside (box_of boxes var) set) parts.0
+    flag-false (box_of boxes flag) (value_of a flag) (has set (value_of a var)) (is_disjoint (box_of boxes var) set) (is_within (box_of boxes var) set) parts.0
     (λ d. missed-false (box_of boxes var) set (value_of a var) (s var) f more.0 d) (λ d. within-true (box_of boxes var) set (value_of a var) (s var) f more.0 d) k
 excluded-false (EqDef flag left right) boxes a s f b h k =
     let parts = and_parts (has (box_of boxes flag) (value_of a flag)) (values_in (left ∷ right ∷ []) boxes a) h in
     let more = and_parts (has (box_of boxes left) (value_of a left)) (values_in (right ∷ []) boxes a) parts.1 in
     let last = and_parts (has (box_of boxes right) (value_of a right)) true more.1 in
-    flag-false (box_of boxes flag) (value_of a flag) (int_eq (value_of a left) (value_of a right)) (misses (box_of boxes left) (box_of boxes right)) (same_single (box_of boxes left) (box_of boxes right)) parts.0
+    flag-false (box_of boxes flag) (value_of a flag) (int_eq (value_of a left) (value_of a right)) (is_disjoint (box_of boxes left) (box_of boxes right)) (same_single (box_of boxes left) (box_of boxes right)) parts.0
     (λ d. apart-false (box_of boxes left) (box_of boxes right) (value_of a left) (value_of a right) (s left) (s right) more.0 last.0 d)
     (λ d. same-true (box_of boxes left) (box_of boxes right) (value_of a left) (value_of a right) (s left) (s right) more.0 last.0 d) k
 excluded-false (ElementDef out index items) boxes a s f b h k =
@@ -125,8 +125,8 @@ excluded-single (MemberDef flag var set) boxes a s f h k =
     let is = single_head var [] boxes a rest in
     let valid = valid_single var [] boxes a s rest in
     flag-rule flag (var ∷ []) boxes a (has set (value_of a var)) _ _ h
-    (ap (λ (z : Ranges). misses z set) is ∙ misses-single (value_of a var) set valid f)
-    (ap (λ (z : Ranges). inside z set) is ∙ inside-single (value_of a var) set valid f) ∙ ap (λ (b : Bool). not b) k
+    (ap (λ (z : Ranges). is_disjoint z set) is ∙ is_disjoint-single (value_of a var) set valid f)
+    (ap (λ (z : Ranges). is_within z set) is ∙ is_within-single (value_of a var) set valid f) ∙ ap (λ (b : Bool). not b) k
 excluded-single (EqDef flag left right) boxes a s f h k =
     let rest = single_tail flag (left ∷ right ∷ []) boxes a h in
     let last = single_tail left (right ∷ []) boxes a rest in
@@ -136,7 +136,7 @@ excluded-single (EqDef flag left right) boxes a s f h k =
     let lv = valid_single left (right ∷ []) boxes a s rest in
     let rv = valid_single right [] boxes a s last in
     flag-rule flag (left ∷ right ∷ []) boxes a (int_eq v w) _ _ h
-    (ap (λ (z : Ranges). misses z (box_of boxes right)) l ∙ ap (λ (z : Ranges). misses ((v, v) ∷ []) z) r ∙ misses-single v ((w, w) ∷ []) lv rv ∙ ap (λ (b : Bool). not b) (eq_either v w))
+    (ap (λ (z : Ranges). is_disjoint z (box_of boxes right)) l ∙ ap (λ (z : Ranges). is_disjoint ((v, v) ∷ []) z) r ∙ is_disjoint-single v ((w, w) ∷ []) lv rv ∙ ap (λ (b : Bool). not b) (eq_either v w))
     (ap (λ (z : Ranges). same_single z (box_of boxes right)) l ∙ ap (λ (z : Ranges). same_single ((v, v) ∷ []) z) r ∙ same-single v w) ∙ ap (λ (b : Bool). not b) k
 excluded-single (ElementDef out index items) boxes a s f h k =
     let rest = single_tail out (index ∷ term_vars items) boxes a h in
@@ -157,8 +157,8 @@ excluded-single (CondDef out flag item) boxes a s f h k =
     let one = barred_single flag (item ∷ []) boxes a (pos 1) rest in
     let zero = barred_single flag (item ∷ []) boxes a (pos 0) rest in
     let none = barred_single out (flag ∷ item ∷ []) boxes a (pos 0) h in
-    let apart : misses (box_of boxes out) (box_of boxes item) ≡ not (int_eq v w) =
-    ap (λ (z : Ranges). misses z (box_of boxes item)) o ∙ ap (λ (z : Ranges). misses ((v, v) ∷ []) z) i ∙ misses-single v ((w, w) ∷ []) ov iv ∙ ap (λ (b : Bool). not b) (eq_either v w) in
+    let apart : is_disjoint (box_of boxes out) (box_of boxes item) ≡ not (int_eq v w) =
+    ap (λ (z : Ranges). is_disjoint z (box_of boxes item)) o ∙ ap (λ (z : Ranges). is_disjoint ((v, v) ∷ []) z) i ∙ is_disjoint-single v ((w, w) ∷ []) ov iv ∙ ap (λ (b : Bool). not b) (eq_either v w) in
     rw (one, zero, none, apart) (conditional-single (int_eq (value_of a flag) (pos 1)) (int_eq (value_of a flag) (pos 0)) (int_eq v w) (int_eq v (pos 0)) (not_both (value_of a flag)) ∙ ap (λ (b : Bool). not b) k)
 excluded-single (ClauseCon clause) boxes a s f h k = clause-single clause 0 boxes a s f h ∙ ap (λ (b : Bool). not b) k
 excluded-single (AllDiff vars) boxes a s f h k = crowded-single vars boxes a h k

@@ -4,7 +4,7 @@ use Rattle.std.specs.Prelude.{ℕ, zero, suc, Bool, true, false, not, ◌&&◌, 
 use Rattle.std.specs.Int.{int_max, int_min}
 use Rattle.std.specs.Ordering.{int_eq}
 use Rattle.signed_clause.specs.Ranges.{Ranges, has, is_nil}
-use Rattle.signed_clause.specs.SetAlgebra.{misses, inside}
+use Rattle.signed_clause.specs.SetAlgebra.{is_disjoint, is_within}
 use Rattle.signed_clause.specs.Clauses.{Boxes, box_of, false_in}
 use Rattle.ground_form.specs.declared.con.Con.{Con}
 use Rattle.ground_form.specs.declared.con.Con.TheVariants.{LinLe, LinDef, ReifLe, AndDef, MemberDef, EqDef, ElementDef, CondDef, ClauseCon, AllDiff, Pack}
@@ -46,7 +46,7 @@ same_single a b = fixed_at a (low_of a) && fixed_at b (low_of a)
 abbrev pub none_picked : Ranges → Ranges → List (ℤ × ℕ) → Boxes → Bool
 none_picked out index [] boxes = true
 none_picked out index (t ∷ ts) boxes =
-    (not (has index t.0) || misses (box_of boxes t.1) out) && none_picked out index ts boxes
+    (not (has index t.0) || is_disjoint (box_of boxes t.1) out) && none_picked out index ts boxes
 
 -- ---- values that differ
 
@@ -147,16 +147,16 @@ excluded (AndDef flag parts) boxes =
     (barred boxes flag true || some_barred parts boxes) && (barred boxes flag false || all_fixed parts boxes)
 -- the flag can't be 1 or no value is in the set, and it can't be 0 or all are
 excluded (MemberDef flag var set) boxes =
-    (barred boxes flag true || misses (box_of boxes var) set) && (barred boxes flag false || inside (box_of boxes var) set)
+    (barred boxes flag true || is_disjoint (box_of boxes var) set) && (barred boxes flag false || is_within (box_of boxes var) set)
 -- the flag can't be 1 or no value is common, and it can't be 0 or both are one value
 excluded (EqDef flag left right) boxes =
-    (barred boxes flag true || misses (box_of boxes left) (box_of boxes right))
+    (barred boxes flag true || is_disjoint (box_of boxes left) (box_of boxes right))
     && (barred boxes flag false || same_single (box_of boxes left) (box_of boxes right))
 -- no item can be the one
 excluded (ElementDef out index items) boxes = none_picked (box_of boxes out) (box_of boxes index) items boxes
 -- the flag can't be 1 or no value is common, and it can't be 0 or out can't be 0
 excluded (CondDef out flag item) boxes =
-    (barred boxes flag true || misses (box_of boxes out) (box_of boxes item))
+    (barred boxes flag true || is_disjoint (box_of boxes out) (box_of boxes item))
     && (barred boxes flag false || not (has (box_of boxes out) (pos 0)))
 -- every literal's set misses its box
 excluded (ClauseCon clause) boxes = false_in boxes clause

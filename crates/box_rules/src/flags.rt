@@ -5,7 +5,7 @@
 ghost use Rattle.std.specs.Prelude.{◌≡◌, ◌<◌, ◌&&◌, ◌||◌, not, pos, true, false, length};
 ghost use Rattle.std.specs.List.{All};
 ghost use Rattle.signed_clause.specs.Ranges.{has};
-ghost use Rattle.signed_clause.specs.SetAlgebra.{misses, inside};
+ghost use Rattle.signed_clause.specs.SetAlgebra.{is_disjoint, is_within};
 ghost use Rattle.signed_clause.specs.Clauses.{box_of, false_in};
 ghost use Rattle.ground_form.specs.Meaning.{bit};
 ghost use Rattle.ground_form.specs.Bounds.{low_of, high_of};
@@ -107,11 +107,11 @@ pub fn excludes_conjunction<V: View>(view: &V, flag: u32, parts: &[(u32, bool)])
 pub fn excludes_member<V: View>(view: &V, flag: u32, var: u32, set: &IntSet) -> bool
     requires flag { flag < length (V.boxes view.now) }
     requires var { var < length (V.boxes view.now) }
-    ensures { result ≡ ((barred (V.boxes view.now) flag true || misses (box_of (V.boxes view.now) var) set.now)
-        && (barred (V.boxes view.now) flag false || inside (box_of (V.boxes view.now) var) set.now)) }
+    ensures { result ≡ ((barred (V.boxes view.now) flag true || is_disjoint (box_of (V.boxes view.now) var) set.now)
+        && (barred (V.boxes view.now) flag false || is_within (box_of (V.boxes view.now) var) set.now)) }
 {
-    (is_barred(view, flag, true) || view.misses(var, set))
-        && (is_barred(view, flag, false) || view.is_inside(var, set))
+    (is_barred(view, flag, true) || view.is_disjoint(var, set))
+        && (is_barred(view, flag, false) || view.is_within(var, set))
 }
 
 /// Whether both boxes are the same single value.
@@ -149,10 +149,10 @@ pub fn excludes_equality<V: View>(view: &V, flag: u32, left: u32, right: u32) ->
     requires flag { flag < length (V.boxes view.now) }
     requires left { left < length (V.boxes view.now) }
     requires right { right < length (V.boxes view.now) }
-    ensures { result ≡ ((barred (V.boxes view.now) flag true || misses (box_of (V.boxes view.now) left) (box_of (V.boxes view.now) right))
+    ensures { result ≡ ((barred (V.boxes view.now) flag true || is_disjoint (box_of (V.boxes view.now) left) (box_of (V.boxes view.now) right))
         && (barred (V.boxes view.now) flag false || same_single (box_of (V.boxes view.now) left) (box_of (V.boxes view.now) right))) }
 {
-    (is_barred(view, flag, true) || view.are_apart(left, right))
+    (is_barred(view, flag, true) || view.are_disjoint(left, right))
         && (is_barred(view, flag, false) || is_same_single(view, left, right))
 }
 
@@ -161,9 +161,9 @@ fn is_not_picked<V: View>(view: &V, out: u32, index: u32, t: (i64, u32)) -> bool
     requires out { out < length (V.boxes view.now) }
     requires index { index < length (V.boxes view.now) }
     requires item { t.1 < length (V.boxes view.now) }
-    ensures { result ≡ (not (has (box_of (V.boxes view.now) index) t.0) || misses (box_of (V.boxes view.now) t.1) (box_of (V.boxes view.now) out)) }
+    ensures { result ≡ (not (has (box_of (V.boxes view.now) index) t.0) || is_disjoint (box_of (V.boxes view.now) t.1) (box_of (V.boxes view.now) out)) }
 {
-    !view.has(index, t.0) || view.are_apart(t.1, out)
+    !view.has(index, t.0) || view.are_disjoint(t.1, out)
 }
 
 /// The rule of an element.
@@ -186,19 +186,19 @@ pub fn excludes_conditional<V: View>(view: &V, out: u32, flag: u32, item: u32) -
     requires out { out < length (V.boxes view.now) }
     requires flag { flag < length (V.boxes view.now) }
     requires item { item < length (V.boxes view.now) }
-    ensures { result ≡ ((barred (V.boxes view.now) flag true || misses (box_of (V.boxes view.now) out) (box_of (V.boxes view.now) item))
+    ensures { result ≡ ((barred (V.boxes view.now) flag true || is_disjoint (box_of (V.boxes view.now) out) (box_of (V.boxes view.now) item))
         && (barred (V.boxes view.now) flag false || not (has (box_of (V.boxes view.now) out) (pos 0)))) }
 {
-    (is_barred(view, flag, true) || view.are_apart(out, item))
+    (is_barred(view, flag, true) || view.are_disjoint(out, item))
         && (is_barred(view, flag, false) || !view.has(out, 0))
 }
 
 /// Whether the literal's set misses its box.
 fn is_literal_false<V: View>(view: &V, l: &(u32, IntSet)) -> bool
     requires { l.now.0 < length (V.boxes view.now) }
-    ensures { result ≡ misses l.now.1 (box_of (V.boxes view.now) l.now.0) }
+    ensures { result ≡ is_disjoint l.now.1 (box_of (V.boxes view.now) l.now.0) }
 {
-    view.misses(l.0, &l.1)
+    view.is_disjoint(l.0, &l.1)
 }
 
 /// The rule of a clause.

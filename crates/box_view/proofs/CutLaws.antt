@@ -4,16 +4,16 @@ use Rattle.std.specs.Prelude.{int_lt}
 use Rattle.std.proofs.lemmas.Int.{ints}
 use Rattle.std.proofs.lemmas.Bool.{and_parts, false_from_ne_true}
 use Rattle.signed_clause.specs.Ranges.{Ranges, has, is_nil, IsValid, Ascends}
-use Rattle.signed_clause.specs.SetAlgebra.{misses, inside, less}
+use Rattle.signed_clause.specs.SetAlgebra.{is_disjoint, is_within, less}
 use Rattle.signed_clause.specs.Clauses.{Boxes, Literals, box_of, set_of, has_var}
 use Rattle.signed_clause.proofs.RangeLaws.{Ascends-ends}
 use Rattle.signed_clause.proofs.RangeSteps.{has-less_valid, IsValid-less}
-use Rattle.signed_clause.proofs.SetFacts.{misses_law, inside_law, same_law}
+use Rattle.signed_clause.proofs.SetFacts.{disjoint_law, within_law, same_law}
 use Rattle.ground_form.specs.Bounds.{low_of, high_of, reach_of}
 use Rattle.box_view.specs.Views.{cut_from, cut}
 use Rattle.box_view.specs.Firsts.{IsFirst, HasNoneFrom, IsLast, HasNoneTo}
 use Rattle.box_view.proofs.EndLaws.{above_low, below_high, ends_in_order, has_low, has_high}
-use Rattle.box_view.proofs.SetLaws.{misses_sym}
+use Rattle.box_view.proofs.SetLaws.{disjoint_sym}
 
 -- values are of 64 bits
 pub low_within : (low top : ℤ) (rs : Ranges) (v : ℤ) → Ascends low top rs → has rs v ≡ true → low ≤ℤ v
@@ -33,59 +33,59 @@ has_rest d s v f g = sym (has-less_valid d s f g v)
 -- ---- tests of what is left
 
 -- where no number passes a test that every common value of two sets does, they have none
-none_common : (a b : Ranges) (test : ℤ → Bool) → IsValid a → IsValid b → ((u : ℤ) → test u ≡ (has a u && has b u)) → HasNoneFrom test (negsuc 9223372036854775807) → misses a b ≡ true
+none_common : (a b : Ranges) (test : ℤ → Bool) → IsValid a → IsValid b → ((u : ℤ) → test u ≡ (has a u && has b u)) → HasNoneFrom test (negsuc 9223372036854775807) → is_disjoint a b ≡ true
 none_common a b test f g t n =
-    (misses_law a b f g).1 (λ v h. false_from_ne_true (has b v) (λ q.
+    (disjoint_law a b f g).1 (λ v h. false_from_ne_true (has b v) (λ q.
     let no = n v (low_within _ _ a v f h) (top_within _ _ a v f h) in let is = t v in grind arith))
 
-some_common : (a b : Ranges) (test : ℤ → Bool) (w : ℤ) → IsValid a → IsValid b → ((u : ℤ) → test u ≡ (has a u && has b u)) → test w ≡ true → misses a b ≡ false
+some_common : (a b : Ranges) (test : ℤ → Bool) (w : ℤ) → IsValid a → IsValid b → ((u : ℤ) → test u ≡ (has a u && has b u)) → test w ≡ true → is_disjoint a b ≡ false
 some_common a b test w f g t h =
-    false_from_ne_true (misses a b) (λ q.
+    false_from_ne_true (is_disjoint a b) (λ q.
     let parts = and_parts (has a w) (has b w) (sym (t w) ∙ h) in
-    let no = (misses_law a b f g).0 q w parts.0 in let yes = parts.1 in grind arith)
+    let no = (disjoint_law a b f g).0 q w parts.0 in let yes = parts.1 in grind arith)
 
 by_cases : (r x : Bool) → (r ≡ true → x ≡ true) → (r ≡ false → x ≡ false) → r ≡ x
 by_cases true x h k = sym (h refl)
 by_cases false x h k = sym (k refl)
 
 common_from : (a b : Ranges) (test : ℤ → Bool) (r : Bool) → IsValid a → IsValid b → ((u : ℤ) → test u ≡ (has a u && has b u)) →
-    (r ≡ true → HasNoneFrom test (negsuc 9223372036854775807)) → (r ≡ false → (w : ℤ) × (test w ≡ true)) → r ≡ misses a b
+    (r ≡ true → HasNoneFrom test (negsuc 9223372036854775807)) → (r ≡ false → (w : ℤ) × (test w ≡ true)) → r ≡ is_disjoint a b
 common_from a b test r f g t n s =
-    by_cases r (misses a b) (λ q. none_common a b test f g t (n q)) (λ q. let w = s q in some_common a b test w.0 f g t w.1)
+    by_cases r (is_disjoint a b) (λ q. none_common a b test f g t (n q)) (λ q. let w = s q in some_common a b test w.0 f g t w.1)
 
-pub misses_from : (d s t : Ranges) (r : Bool) → IsValid d → IsValid s → IsValid t →
-    (r ≡ true → HasNoneFrom (λ u. (has d u && not (has s u)) && has t u) (negsuc 9223372036854775807)) → (r ≡ false → (w : ℤ) × (((has d w && not (has s w)) && has t w) ≡ true)) → r ≡ misses (less d s) t
-misses_from d s t r f g h n some =
+pub disjoint_from : (d s t : Ranges) (r : Bool) → IsValid d → IsValid s → IsValid t →
+    (r ≡ true → HasNoneFrom (λ u. (has d u && not (has s u)) && has t u) (negsuc 9223372036854775807)) → (r ≡ false → (w : ℤ) × (((has d w && not (has s w)) && has t w) ≡ true)) → r ≡ is_disjoint (less d s) t
+disjoint_from d s t r f g h n some =
     common_from (less d s) t (λ u. (has d u && not (has s u)) && has t u) r (IsValid-less d s f g) h (λ u. ap (λ (b : Bool). b && has t u) (has_rest d s u f g)) n some
 
-pub misses_turned_from : (d s t : Ranges) (r : Bool) → IsValid d → IsValid s → IsValid t →
-    (r ≡ true → HasNoneFrom (λ u. (has d u && not (has s u)) && has t u) (negsuc 9223372036854775807)) → (r ≡ false → (w : ℤ) × (((has d w && not (has s w)) && has t w) ≡ true)) → r ≡ misses t (less d s)
-misses_turned_from d s t r f g h n some =
-    misses_from d s t r f g h n some ∙ misses_sym (less d s) t (IsValid-less d s f g) h
+pub disjoint_turned_from : (d s t : Ranges) (r : Bool) → IsValid d → IsValid s → IsValid t →
+    (r ≡ true → HasNoneFrom (λ u. (has d u && not (has s u)) && has t u) (negsuc 9223372036854775807)) → (r ≡ false → (w : ℤ) × (((has d w && not (has s w)) && has t w) ≡ true)) → r ≡ is_disjoint t (less d s)
+disjoint_turned_from d s t r f g h n some =
+    disjoint_from d s t r f g h n some ∙ disjoint_sym (less d s) t (IsValid-less d s f g) h
 
 pub apart_from : (d s e t : Ranges) (r : Bool) → IsValid d → IsValid s → IsValid e → IsValid t →
     (r ≡ true → HasNoneFrom (λ u. (has d u && not (has s u)) && (has e u && not (has t u))) (negsuc 9223372036854775807)) →
-    (r ≡ false → (w : ℤ) × (((has d w && not (has s w)) && (has e w && not (has t w))) ≡ true)) → r ≡ misses (less d s) (less e t)
+    (r ≡ false → (w : ℤ) × (((has d w && not (has s w)) && (has e w && not (has t w))) ≡ true)) → r ≡ is_disjoint (less d s) (less e t)
 apart_from d s e t r f g h i n some =
     common_from (less d s) (less e t) (λ u. (has d u && not (has s u)) && (has e u && not (has t u))) r (IsValid-less d s f g) (IsValid-less e t h i)
     (λ u. ap (λ (b : Bool). b && (has e u && not (has t u))) (has_rest d s u f g) ∙ ap (λ (b : Bool). has (less d s) u && b) (has_rest e t u h i)) n some
 
-none_outside : (a b : Ranges) (test : ℤ → Bool) → IsValid a → IsValid b → ((u : ℤ) → test u ≡ (has a u && not (has b u))) → HasNoneFrom test (negsuc 9223372036854775807) → inside a b ≡ true
+none_outside : (a b : Ranges) (test : ℤ → Bool) → IsValid a → IsValid b → ((u : ℤ) → test u ≡ (has a u && not (has b u))) → HasNoneFrom test (negsuc 9223372036854775807) → is_within a b ≡ true
 none_outside a b test f g t n =
-    (inside_law a b f g).1 (λ v h.
+    (within_law a b f g).1 (λ v h.
     let no = n v (low_within _ _ a v f h) (top_within _ _ a v f h) in let is = t v in grind arith)
 
-some_outside : (a b : Ranges) (test : ℤ → Bool) (w : ℤ) → IsValid a → IsValid b → ((u : ℤ) → test u ≡ (has a u && not (has b u))) → test w ≡ true → inside a b ≡ false
+some_outside : (a b : Ranges) (test : ℤ → Bool) (w : ℤ) → IsValid a → IsValid b → ((u : ℤ) → test u ≡ (has a u && not (has b u))) → test w ≡ true → is_within a b ≡ false
 some_outside a b test w f g t h =
-    false_from_ne_true (inside a b) (λ q.
+    false_from_ne_true (is_within a b) (λ q.
     let parts = and_parts (has a w) (not (has b w)) (sym (t w) ∙ h) in
-    let yes = (inside_law a b f g).0 q w parts.0 in let no = parts.1 in grind arith)
+    let yes = (within_law a b f g).0 q w parts.0 in let no = parts.1 in grind arith)
 
-pub inside_from : (d s t : Ranges) (r : Bool) → IsValid d → IsValid s → IsValid t →
-    (r ≡ true → HasNoneFrom (λ u. (has d u && not (has s u)) && not (has t u)) (negsuc 9223372036854775807)) → (r ≡ false → (w : ℤ) × (((has d w && not (has s w)) && not (has t w)) ≡ true)) → r ≡ inside (less d s) t
-inside_from d s t r f g h n some =
+pub within_from : (d s t : Ranges) (r : Bool) → IsValid d → IsValid s → IsValid t →
+    (r ≡ true → HasNoneFrom (λ u. (has d u && not (has s u)) && not (has t u)) (negsuc 9223372036854775807)) → (r ≡ false → (w : ℤ) × (((has d w && not (has s w)) && not (has t w)) ≡ true)) → r ≡ is_within (less d s) t
+within_from d s t r f g h n some =
     let is : (u : ℤ) → ((has d u && not (has s u)) && not (has t u)) ≡ (has (less d s) u && not (has t u)) = λ u. ap (λ (b : Bool). b && not (has t u)) (has_rest d s u f g) in
-    by_cases r (inside (less d s) t) (λ q. none_outside (less d s) t _ (IsValid-less d s f g) h is (n q)) (λ q. let w = some q in some_outside (less d s) t _ w.0 (IsValid-less d s f g) h is w.1)
+    by_cases r (is_within (less d s) t) (λ q. none_outside (less d s) t _ (IsValid-less d s f g) h is (n q)) (λ q. let w = some q in some_outside (less d s) t _ w.0 (IsValid-less d s f g) h is w.1)
 
 -- ---- the ends of what is left
 

@@ -4,8 +4,8 @@ use Rattle.std.proofs.lemmas.Int.{ints}
 use Rattle.signed_clause.specs.Clauses.{Boxes, box_of}
 use Rattle.box_view.specs.Views.{fixing}
 use Rattle.signed_clause.specs.Ranges.{Ranges, has, IsValid}
-use Rattle.signed_clause.specs.SetAlgebra.{misses, inside}
-use Rattle.signed_clause.proofs.SetFacts.{misses_law, inside_law}
+use Rattle.signed_clause.specs.SetAlgebra.{is_disjoint, is_within}
+use Rattle.signed_clause.proofs.SetFacts.{disjoint_law, within_law}
 use Rattle.std.proofs.lemmas.Bool.{false_from_ne_true}
 
 pub bool_same : (a b : Bool) → (a ≡ true → b ≡ true) → (b ≡ true → a ≡ true) → a ≡ b
@@ -18,47 +18,47 @@ has_only : (v : ℤ) → has ((v, v) ∷ []) v ≡ true
 has_only v = grind (arith, ints)
 
 -- one value misses a set where the set lacks it
-pub misses-single : (v : ℤ) (set : Ranges) → IsValid ((v, v) ∷ []) → IsValid set → misses ((v, v) ∷ []) set ≡ not (has set v)
-misses-single v set s t =
-    let law = misses_law ((v, v) ∷ []) set s t in
-    bool_same (misses ((v, v) ∷ []) set) (not (has set v))
+pub is_disjoint-single : (v : ℤ) (set : Ranges) → IsValid ((v, v) ∷ []) → IsValid set → is_disjoint ((v, v) ∷ []) set ≡ not (has set v)
+is_disjoint-single v set s t =
+    let law = disjoint_law ((v, v) ∷ []) set s t in
+    bool_same (is_disjoint ((v, v) ∷ []) set) (not (has set v))
     (λ h. let n = law.0 h v (has_only v) in rw n refl)
     (λ h. law.1 (λ w k. let e = only_value v w k in subst (λ (z : ℤ). has set z ≡ false) (sym e) (grind arith)))
 
-pub single-misses : (v : ℤ) (set : Ranges) → IsValid ((v, v) ∷ []) → IsValid set → misses set ((v, v) ∷ []) ≡ not (has set v)
-single-misses v set s t =
-    let law = misses_law set ((v, v) ∷ []) t s in
-    bool_same (misses set ((v, v) ∷ [])) (not (has set v))
+pub single-is_disjoint : (v : ℤ) (set : Ranges) → IsValid ((v, v) ∷ []) → IsValid set → is_disjoint set ((v, v) ∷ []) ≡ not (has set v)
+single-is_disjoint v set s t =
+    let law = disjoint_law set ((v, v) ∷ []) t s in
+    bool_same (is_disjoint set ((v, v) ∷ [])) (not (has set v))
     (λ h. let n : has set v ≡ true → ⊥ = λ k. let m = law.0 h v k in let o = has_only v in grind arith in grind arith)
     (λ h. law.1 (λ w k. false_from_ne_true (has ((v, v) ∷ []) w) (λ q. let e = only_value v w q in let n : has set v ≡ true = subst (λ (z : ℤ). has set z ≡ true) e k in grind arith)))
 
-pub inside-single : (v : ℤ) (set : Ranges) → IsValid ((v, v) ∷ []) → IsValid set → inside ((v, v) ∷ []) set ≡ has set v
-inside-single v set s t =
-    let law = inside_law ((v, v) ∷ []) set s t in
-    bool_same (inside ((v, v) ∷ []) set) (has set v)
+pub is_within-single : (v : ℤ) (set : Ranges) → IsValid ((v, v) ∷ []) → IsValid set → is_within ((v, v) ∷ []) set ≡ has set v
+is_within-single v set s t =
+    let law = within_law ((v, v) ∷ []) set s t in
+    bool_same (is_within ((v, v) ∷ []) set) (has set v)
     (λ h. law.0 h v (has_only v))
     (λ h. law.1 (λ w k. let e = only_value v w k in subst (λ (z : ℤ). has set z ≡ true) (sym e) h))
 
-misses_turned : (a b : Ranges) → IsValid a → IsValid b → misses a b ≡ true → misses b a ≡ true
-misses_turned a b s t h =
-    let law = (misses_law a b s t).0 h in
-    (misses_law b a t s).1 (λ v k. false_from_ne_true (has a v) (λ q. let n = law v q in grind arith))
+disjoint_turned : (a b : Ranges) → IsValid a → IsValid b → is_disjoint a b ≡ true → is_disjoint b a ≡ true
+disjoint_turned a b s t h =
+    let law = (disjoint_law a b s t).0 h in
+    (disjoint_law b a t s).1 (λ v k. false_from_ne_true (has a v) (λ q. let n = law v q in grind arith))
 
-pub misses_sym : (a b : Ranges) → IsValid a → IsValid b → misses a b ≡ misses b a
-misses_sym a b s t = bool_same (misses a b) (misses b a) (misses_turned a b s t) (misses_turned b a t s)
+pub disjoint_sym : (a b : Ranges) → IsValid a → IsValid b → is_disjoint a b ≡ is_disjoint b a
+disjoint_sym a b s t = bool_same (is_disjoint a b) (is_disjoint b a) (disjoint_turned a b s t) (disjoint_turned b a t s)
 
 -- one value is a set
 pub valid_alone : (v : ℤ) → SFits w64 v → IsValid ((v, v) ∷ [])
 valid_alone v f = let h = f.sfits in grind (arith, ints)
 
-pub alone_misses : (v : ℤ) (set : Ranges) → SFits w64 v → IsValid set → misses ((v, v) ∷ []) set ≡ not (has set v)
-alone_misses v set f s = misses-single v set (valid_alone v f) s
+pub alone_disjoint : (v : ℤ) (set : Ranges) → SFits w64 v → IsValid set → is_disjoint ((v, v) ∷ []) set ≡ not (has set v)
+alone_disjoint v set f s = is_disjoint-single v set (valid_alone v f) s
 
-pub misses_alone : (v : ℤ) (set : Ranges) → SFits w64 v → IsValid set → misses set ((v, v) ∷ []) ≡ not (has set v)
-misses_alone v set f s = single-misses v set (valid_alone v f) s
+pub disjoint_alone : (v : ℤ) (set : Ranges) → SFits w64 v → IsValid set → is_disjoint set ((v, v) ∷ []) ≡ not (has set v)
+disjoint_alone v set f s = single-is_disjoint v set (valid_alone v f) s
 
-pub alone_inside : (v : ℤ) (set : Ranges) → SFits w64 v → IsValid set → inside ((v, v) ∷ []) set ≡ has set v
-alone_inside v set f s = inside-single v set (valid_alone v f) s
+pub alone_within : (v : ℤ) (set : Ranges) → SFits w64 v → IsValid set → is_within ((v, v) ∷ []) set ≡ has set v
+alone_within v set f s = is_within-single v set (valid_alone v f) s
 
 -- ---- boxes of which one is replaced
 

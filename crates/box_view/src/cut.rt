@@ -5,15 +5,15 @@
 //! domain, and the questions are then the domain's own.
 ghost use Rattle.std.specs.Prelude.{◌≡◌, ◌≤◌, ◌<◌, ◌≤ℤ◌, ℤ, true, false, IfSome, IfNone, pos, [], length, negsuc};
 ghost use Rattle.signed_clause.specs.Ranges.{has, is_nil};
-ghost use Rattle.signed_clause.specs.SetAlgebra.{misses, inside, less};
+ghost use Rattle.signed_clause.specs.SetAlgebra.{is_disjoint, is_within, less};
 ghost use Rattle.ground_form.specs.Bounds.{low_of, high_of, reach_of};
 ghost use Rattle.signed_clause.specs.Clauses.{box_of};
 ghost use Rattle.box_view.specs.Views.{cut};
 ghost use Rattle.box_view.specs.Left.{left_of};
 ghost use Rattle.box_view.specs.Firsts.{HasNoneFrom};
 
-use crate::values::{Both, Inside, Outside, Values};
-use crate::view::{View, ends_in_order, sets_miss};
+use crate::values::{InBoth, InSet, NumberSet, OutOfSet};
+use crate::view::{View, are_sets_disjoint, ends_in_order};
 use ground_form::Number;
 use signed_clause::{Clause, IntSet};
 
@@ -81,25 +81,25 @@ impl<'a> View for Cut<'a> {
         }
     }
 
-    fn misses(&self, x: u32, set: &IntSet) -> bool {
+    fn is_disjoint(&self, x: u32, set: &IntSet) -> bool {
         match self.left(x) {
-            Left::Whole(domain) => sets_miss(domain, set),
-            Left::Rest(domain, out) => rest_misses(domain, out, set),
+            Left::Whole(domain) => are_sets_disjoint(domain, set),
+            Left::Rest(domain, out) => rest_disjoint(domain, out, set),
         }
     }
 
-    fn is_inside(&self, x: u32, set: &IntSet) -> bool {
+    fn is_within(&self, x: u32, set: &IntSet) -> bool {
         match self.left(x) {
             Left::Whole(domain) => domain.within(set),
-            Left::Rest(domain, out) => is_rest_inside(domain, out, set),
+            Left::Rest(domain, out) => is_rest_within(domain, out, set),
         }
     }
 
-    fn are_apart(&self, x: u32, y: u32) -> bool {
+    fn are_disjoint(&self, x: u32, y: u32) -> bool {
         match (self.left(x), self.left(y)) {
             (Left::Whole(one), Left::Whole(other)) => one.disjoint(other),
-            (Left::Rest(one, out), Left::Whole(other)) => rest_misses(one, out, other),
-            (Left::Whole(one), Left::Rest(other, out)) => rest_misses(other, out, one),
+            (Left::Rest(one, out), Left::Whole(other)) => rest_disjoint(one, out, other),
+            (Left::Whole(one), Left::Rest(other, out)) => rest_disjoint(other, out, one),
             (Left::Rest(one, out), Left::Rest(other, other_out)) => {
                 are_rests_apart(one, out, other, other_out)
             }
@@ -108,7 +108,7 @@ impl<'a> View for Cut<'a> {
 }
 
 /// Whether no number passes.
-fn has_none<A: Values>(a: &A) -> bool
+fn has_none<A: NumberSet>(a: &A) -> bool
     ensures none { result ≡ true → HasNoneFrom (A.holds a.now) (negsuc 9223372036854775807) }
     ensures some { result ≡ false → (w : ℤ) × (A.holds a.now w ≡ true) }
 {
@@ -116,54 +116,54 @@ fn has_none<A: Values>(a: &A) -> bool
 }
 
 /// Whether no value of the domain that `out` lacks is in the set.
-fn rest_misses(domain: &IntSet, out: &IntSet, set: &IntSet) -> bool
-    ensures missed { result ≡ misses (less domain.now out.now) set.now }
-    ensures set_missed { result ≡ misses set.now (less domain.now out.now) }
+fn rest_disjoint(domain: &IntSet, out: &IntSet, set: &IntSet) -> bool
+    ensures missed { result ≡ is_disjoint (less domain.now out.now) set.now }
+    ensures set_missed { result ≡ is_disjoint set.now (less domain.now out.now) }
 {
     domain.ranges();
     out.ranges();
     set.ranges();
-    has_none(&Both {
-        a: Both {
-            a: Inside { set: domain },
-            b: Outside { set: out },
+    has_none(&InBoth {
+        a: InBoth {
+            a: InSet { set: domain },
+            b: OutOfSet { set: out },
         },
-        b: Inside { set },
+        b: InSet { set },
     })
 }
 
 /// Whether every value of the domain that `out` lacks is in the set.
-pub fn is_rest_inside(domain: &IntSet, out: &IntSet, set: &IntSet) -> bool
-    ensures { result ≡ inside (less domain.now out.now) set.now }
+pub fn is_rest_within(domain: &IntSet, out: &IntSet, set: &IntSet) -> bool
+    ensures { result ≡ is_within (less domain.now out.now) set.now }
 {
     domain.ranges();
     out.ranges();
     set.ranges();
-    has_none(&Both {
-        a: Both {
-            a: Inside { set: domain },
-            b: Outside { set: out },
+    has_none(&InBoth {
+        a: InBoth {
+            a: InSet { set: domain },
+            b: OutOfSet { set: out },
         },
-        b: Outside { set },
+        b: OutOfSet { set },
     })
 }
 
 /// Whether what two domains keep has no common value.
 fn are_rests_apart(one: &IntSet, out: &IntSet, other: &IntSet, other_out: &IntSet) -> bool
-    ensures { result ≡ misses (less one.now out.now) (less other.now other_out.now) }
+    ensures { result ≡ is_disjoint (less one.now out.now) (less other.now other_out.now) }
 {
     one.ranges();
     out.ranges();
     other.ranges();
     other_out.ranges();
-    has_none(&Both {
-        a: Both {
-            a: Inside { set: one },
-            b: Outside { set: out },
+    has_none(&InBoth {
+        a: InBoth {
+            a: InSet { set: one },
+            b: OutOfSet { set: out },
         },
-        b: Both {
-            a: Inside { set: other },
-            b: Outside { set: other_out },
+        b: InBoth {
+            a: InSet { set: other },
+            b: OutOfSet { set: other_out },
         },
     })
 }
@@ -183,9 +183,9 @@ fn rest_least(domain: &IntSet, out: &IntSet) -> Number
 {
     domain.ranges();
     out.ranges();
-    let left = Both {
-        a: Inside { set: domain },
-        b: Outside { set: out },
+    let left = InBoth {
+        a: InSet { set: domain },
+        b: OutOfSet { set: out },
     };
     match left.next(Number { value: i64::MIN }) {
         Some(n) => n,
@@ -199,9 +199,9 @@ fn rest_greatest(domain: &IntSet, out: &IntSet) -> Number
 {
     domain.ranges();
     out.ranges();
-    let left = Both {
-        a: Inside { set: domain },
-        b: Outside { set: out },
+    let left = InBoth {
+        a: InSet { set: domain },
+        b: OutOfSet { set: out },
     };
     match left.previous(Number { value: i64::MAX }) {
         Some(n) => n,

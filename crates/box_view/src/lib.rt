@@ -14,6 +14,6 @@ mod numbers;
 mod values;
 mod view;
 
-pub use cut::{Cut, is_rest_inside};
+pub use cut::{Cut, is_rest_within};
 pub use numbers::{end_of, greater, is_at_most, is_below, next, smaller, start_of};
 pub use view::{Fixing, Plain, View};

@@ -13,7 +13,7 @@ use ground_form::Number;
 use signed_clause::IntSet;
 
 /// Numbers that pass a test.
-pub trait Values {
+pub trait NumberSet {
     // the test
     ghost holds: { Self → ℤ → Bool };
 
@@ -30,21 +30,21 @@ pub trait Values {
 
 /// The values of a set.
 #[derive(Drop)]
-pub struct Inside<'a> {
+pub struct InSet<'a> {
     /// The set.
     pub set: &'a IntSet,
 }
 
 /// The numbers that a set lacks.
 #[derive(Drop)]
-pub struct Outside<'a> {
+pub struct OutOfSet<'a> {
     /// The set.
     pub set: &'a IntSet,
 }
 
 /// What two have in common.
 #[derive(Drop)]
-pub struct Both<A: Drop, B: Drop> {
+pub struct InBoth<A: Drop, B: Drop> {
     /// The one.
     pub a: A,
     /// The other.
@@ -235,7 +235,7 @@ fn last_lacking(ranges: &[(i64, i64)], from: Number) -> Option<Number>
     }
 }
 
-impl<'a> Values for Inside<'a> {
+impl<'a> NumberSet for InSet<'a> {
     ghost holds = { λ s u. has s.set.now u };
 
     fn next(&self, from: Number) -> Option<Number> {
@@ -247,7 +247,7 @@ impl<'a> Values for Inside<'a> {
     }
 }
 
-impl<'a> Values for Outside<'a> {
+impl<'a> NumberSet for OutOfSet<'a> {
     ghost holds = { λ s u. not (has s.set.now u) };
 
     fn next(&self, from: Number) -> Option<Number> {
@@ -261,7 +261,7 @@ impl<'a> Values for Outside<'a> {
 
 /// The first value of `a` from the number on, and the first of `b` from there on.
 #[tactic(auto, using(crate::proofs::Leaps::none_of_first, crate::proofs::Leaps::none_of_second))]
-fn leap<A: Values, B: Values>(a: &A, b: &B, at: Number) -> Option<(Number, Number)>
+fn leap<A: NumberSet, B: NumberSet>(a: &A, b: &B, at: Number) -> Option<(Number, Number)>
     ensures one { IfSome result (λ p. IsFirst (A.holds a.now) at.value p.0.value) }
     ensures other { IfSome result (λ p. IsFirst (B.holds b.now) p.0.value p.1.value) }
     ensures none { IfNone result (HasNoneFrom (λ u. A.holds a.now u && B.holds b.now u) at.value) }
@@ -273,7 +273,7 @@ fn leap<A: Values, B: Values>(a: &A, b: &B, at: Number) -> Option<(Number, Numbe
 
 /// The last value of `a` up to the number, and the last of `b` up to there.
 #[tactic(auto, using(crate::proofs::Leaps::none_of_last, crate::proofs::Leaps::none_of_second_last))]
-fn leap_back<A: Values, B: Values>(a: &A, b: &B, at: Number) -> Option<(Number, Number)>
+fn leap_back<A: NumberSet, B: NumberSet>(a: &A, b: &B, at: Number) -> Option<(Number, Number)>
     ensures one { IfSome result (λ p. IsLast (A.holds a.now) at.value p.0.value) }
     ensures other { IfSome result (λ p. IsLast (B.holds b.now) p.0.value p.1.value) }
     ensures none { IfNone result (HasNoneTo (λ u. A.holds a.now u && B.holds b.now u) at.value) }
@@ -290,7 +290,7 @@ fn are_same(a: Number, b: Number) -> bool
     a.value == b.value
 }
 
-impl<A: Values + Drop, B: Values + Drop> Values for Both<A, B> {
+impl<A: NumberSet + Drop, B: NumberSet + Drop> NumberSet for InBoth<A, B> {
     ghost holds = { λ s u. A.holds s.a u && B.holds s.b u };
 
     fn next(&self, from: Number) -> Option<Number> {

@@ -5,7 +5,7 @@
 //! value (`Fixing`), and domains less the sets of a clause (`Cut`). So a rule is written once, and takes no memory.
 ghost use Rattle.std.specs.Prelude.{◌≡◌, ◌<◌, ◌≤◌, ◌≤ℤ◌, [], ◌∷◌, length};
 ghost use Rattle.signed_clause.specs.Ranges.{has, is_nil};
-ghost use Rattle.signed_clause.specs.SetAlgebra.{misses, inside};
+ghost use Rattle.signed_clause.specs.SetAlgebra.{is_disjoint, is_within};
 ghost use Rattle.signed_clause.specs.Clauses.{Boxes, box_of};
 ghost use Rattle.ground_form.specs.Bounds.{low_of, high_of, reach_of};
 ghost use Rattle.box_view.specs.Views.{fixing};
@@ -38,21 +38,21 @@ pub trait View {
         ensures { result ≡ has (box_of (boxes self.now) x) v };
 
     /// Whether no value of the box of `x` is in the set.
-    fn misses(&self, x: u32, set: &IntSet) -> bool
+    fn is_disjoint(&self, x: u32, set: &IntSet) -> bool
         requires { x < length (boxes self.now) }
-        ensures missed { result ≡ misses (box_of (boxes self.now) x) set.now }
-        ensures set_missed { result ≡ misses set.now (box_of (boxes self.now) x) };
+        ensures missed { result ≡ is_disjoint (box_of (boxes self.now) x) set.now }
+        ensures set_missed { result ≡ is_disjoint set.now (box_of (boxes self.now) x) };
 
     /// Whether every value of the box of `x` is in the set.
-    fn is_inside(&self, x: u32, set: &IntSet) -> bool
+    fn is_within(&self, x: u32, set: &IntSet) -> bool
         requires { x < length (boxes self.now) }
-        ensures { result ≡ inside (box_of (boxes self.now) x) set.now };
+        ensures { result ≡ is_within (box_of (boxes self.now) x) set.now };
 
     /// Whether the boxes of `x` and `y` have no common value.
-    fn are_apart(&self, x: u32, y: u32) -> bool
+    fn are_disjoint(&self, x: u32, y: u32) -> bool
         requires x { x < length (boxes self.now) }
         requires y { y < length (boxes self.now) }
-        ensures { result ≡ misses (box_of (boxes self.now) x) (box_of (boxes self.now) y) };
+        ensures { result ≡ is_disjoint (box_of (boxes self.now) x) (box_of (boxes self.now) y) };
 }
 
 /// Boxes as they are.
@@ -79,15 +79,15 @@ impl<'a> View for Plain<'a> {
         self.boxes[x as usize].contains(v)
     }
 
-    fn misses(&self, x: u32, set: &IntSet) -> bool {
-        sets_miss(&self.boxes[x as usize], set)
+    fn is_disjoint(&self, x: u32, set: &IntSet) -> bool {
+        are_sets_disjoint(&self.boxes[x as usize], set)
     }
 
-    fn is_inside(&self, x: u32, set: &IntSet) -> bool {
+    fn is_within(&self, x: u32, set: &IntSet) -> bool {
         self.boxes[x as usize].within(set)
     }
 
-    fn are_apart(&self, x: u32, y: u32) -> bool {
+    fn are_disjoint(&self, x: u32, y: u32) -> bool {
         self.boxes[x as usize].disjoint(&self.boxes[y as usize])
     }
 }
@@ -103,10 +103,10 @@ pub fn ends_in_order(set: &IntSet) -> (i64, i64)
 }
 
 /// Whether no value is in both sets.
-#[tactic(auto, using(crate::proofs::SetLaws::misses_sym))]
-pub fn sets_miss(a: &IntSet, b: &IntSet) -> bool
-    ensures one { result ≡ misses a.now b.now }
-    ensures other { result ≡ misses b.now a.now }
+#[tactic(auto, using(crate::proofs::SetLaws::disjoint_sym))]
+pub fn are_sets_disjoint(a: &IntSet, b: &IntSet) -> bool
+    ensures one { result ≡ is_disjoint a.now b.now }
+    ensures other { result ≡ is_disjoint b.now a.now }
 {
     a.ranges();
     b.ranges();
@@ -114,19 +114,19 @@ pub fn sets_miss(a: &IntSet, b: &IntSet) -> bool
 }
 
 /// Whether the set lacks the value.
-#[tactic(auto, using(crate::proofs::SetLaws::alone_misses, crate::proofs::SetLaws::misses_alone))]
+#[tactic(auto, using(crate::proofs::SetLaws::alone_disjoint, crate::proofs::SetLaws::disjoint_alone))]
 fn lacks(set: &IntSet, v: i64) -> bool
-    ensures one { result ≡ misses ((v, v) ∷ []) set.now }
-    ensures other { result ≡ misses set.now ((v, v) ∷ []) }
+    ensures one { result ≡ is_disjoint ((v, v) ∷ []) set.now }
+    ensures other { result ≡ is_disjoint set.now ((v, v) ∷ []) }
 {
     set.ranges();
     !set.contains(v)
 }
 
 /// Whether the set holds the value.
-#[tactic(auto, using(crate::proofs::SetLaws::alone_inside))]
+#[tactic(auto, using(crate::proofs::SetLaws::alone_within))]
 fn holds(set: &IntSet, v: i64) -> bool
-    ensures { result ≡ inside ((v, v) ∷ []) set.now }
+    ensures { result ≡ is_within ((v, v) ∷ []) set.now }
 {
     set.ranges();
     set.contains(v)
@@ -168,15 +168,15 @@ impl<'a> View for Fixing<'a> {
         }
     }
 
-    fn misses(&self, x: u32, set: &IntSet) -> bool {
+    fn is_disjoint(&self, x: u32, set: &IntSet) -> bool {
         if x == self.var {
             lacks(set, self.value.value)
         } else {
-            sets_miss(&self.boxes[x as usize], set)
+            are_sets_disjoint(&self.boxes[x as usize], set)
         }
     }
 
-    fn is_inside(&self, x: u32, set: &IntSet) -> bool {
+    fn is_within(&self, x: u32, set: &IntSet) -> bool {
         if x == self.var {
             holds(set, self.value.value)
         } else {
@@ -184,7 +184,7 @@ impl<'a> View for Fixing<'a> {
         }
     }
 
-    fn are_apart(&self, x: u32, y: u32) -> bool {
+    fn are_disjoint(&self, x: u32, y: u32) -> bool {
         match (x == self.var, y == self.var) {
             (true, true) => false,
             (true, false) => lacks(&self.boxes[y as usize], self.value.value),

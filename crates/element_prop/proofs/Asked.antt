@@ -1,7 +1,7 @@
 -- What is asked of a constraint in boxes, said of equalities and conditionals. F, X and Y are the boxes of their variables.
 use Rattle.std.proofs.Common.{◌≡◌, ℕ, ◌<◌, true, false, [], ◌∷◌, ℤ, pos, length, All, arith, subst, sym}
 use Rattle.signed_clause.specs.Ranges.{Ranges, IsValid}
-use Rattle.signed_clause.specs.SetAlgebra.{inside, less}
+use Rattle.signed_clause.specs.SetAlgebra.{is_within, less}
 use Rattle.signed_clause.specs.Clauses.{Boxes, box_of}
 use Rattle.ground_form.specs.declared.con.Con.{Con}
 use Rattle.ground_form.specs.declared.con.Con.TheVariants.{EqDef, CondDef}
@@ -138,8 +138,8 @@ conditional_zero con domains boxes o f i flags out item a t h =
     subst (λ (k : Con). IsReason k domains boxes (literals_of domains ((f, (pos 0, pos 0) ∷ []) ∷ (o, less (box_of domains o) ((pos 0, pos 0) ∷ [])) ∷ []))) (sym a.is) (zero_reason domains boxes o f i a.triple
     (three_at (λ p q s. HasToBeZero q p) flags out item (box_of boxes f) (box_of boxes o) (box_of boxes i) t.flag t.first t.second h))
 
-pub conditional_either : (con : Con) (domains boxes : Boxes) (o f i : ℕ) (flags out item : Ranges) → IsConditional con domains boxes o f i → AreThose boxes f o i flags out item → inside (less out ((pos 0, pos 0) ∷ [])) item ≡ false →
+pub conditional_either : (con : Con) (domains boxes : Boxes) (o f i : ℕ) (flags out item : Ranges) → IsConditional con domains boxes o f i → AreThose boxes f o i flags out item → is_within (less out ((pos 0, pos 0) ∷ [])) item ≡ false →
     IsReason con domains boxes (literals_of domains (either_plan domains boxes o i))
 conditional_either con domains boxes o f i flags out item a t h =
     subst (λ (k : Con). IsReason k domains boxes (literals_of domains (either_plan domains boxes o i))) (sym a.is) (either_reason domains boxes o f i a.triple
-    (three_at (λ p q s. inside (less q ((pos 0, pos 0) ∷ [])) s ≡ false) flags out item (box_of boxes f) (box_of boxes o) (box_of boxes i) t.flag t.first t.second h))
+    (three_at (λ p q s. is_within (less q ((pos 0, pos 0) ∷ [])) s ≡ false) flags out item (box_of boxes f) (box_of boxes o) (box_of boxes i) t.flag t.first t.second h))

@@ -4,7 +4,7 @@ use Rattle.std.specs.Ordering.{int_eq}
 use Rattle.std.proofs.lemmas.Bool.{and_parts, and_from, false_from_ne_true}
 use Rattle.std.proofs.lemmas.Bool.Decides.{Decides-int_eq}
 use Rattle.signed_clause.specs.Ranges.{Ranges, has, IsValid}
-use Rattle.signed_clause.specs.SetAlgebra.{misses, inside, less}
+use Rattle.signed_clause.specs.SetAlgebra.{is_disjoint, is_within, less}
 use Rattle.signed_clause.specs.Clauses.{Boxes, box_of}
 use Rattle.signed_clause.proofs.RangeSteps.{IsValid-less}
 use Rattle.ground_form.specs.declared.con.Con.{Con}
@@ -17,11 +17,11 @@ use Rattle.box_rules.specs.Refuted.{none_picked, excluded}
 use Rattle.rule_law.specs.Reasons.{Acts, IsReason}
 use Rattle.rule_law.specs.Plans.{literals_of}
 use Rattle.box_view.proofs.EndLaws.{single_has}
-use Rattle.box_view.proofs.Leaving.{less_inside, missing_inside, less_misses, missed_by_rest, has_one, one_inside, left_over, value_valid}
+use Rattle.box_view.proofs.Leaving.{less_within, missing_within, less_disjoint, missed_by_rest, has_one, one_within, left_over, value_valid}
 use Rattle.rule_law.proofs.PlanLaws.{ArePlanned, plan_reason, plan_acts_head, plan_acts_tail, plan_acts_over}
 use Rattle.rule_law.proofs.FlagPlans.{AreGood, are_good, in_domain}
 use Rattle.element_prop.specs.Elements.{HasToPick, pick_plan}
-use Rattle.element_prop.proofs.Triples.{inside_itself, in_other, all_differ}
+use Rattle.element_prop.proofs.Triples.{within_itself, in_other, all_differ}
 use Rattle.element_prop.proofs.EqualityLaws.{fixed_has, lies_in_one}
 
 -- ---- items
@@ -50,12 +50,12 @@ lacks_at v (t ∷ ts) (suc i) d lt h =
     let more : lacks_value v ts ≡ true = (elim (int_eq t.0 v) as P [ true ↦ λ k. absurd (let f : false ≡ true = k in grind arith) | false ↦ λ k. k ]) h in
     lacks_at v ts i d (omega arith) more
 
-pub only_here : (out : Ranges) (items : List (ℤ × ℕ)) (i : ℕ) (d : ℤ × ℕ) (boxes : Boxes) → i < length items → distinct_values items ≡ true → misses (box_of boxes (get_or items i d).1) out ≡ true →
+pub only_here : (out : Ranges) (items : List (ℤ × ℕ)) (i : ℕ) (d : ℤ × ℕ) (boxes : Boxes) → i < length items → distinct_values items ≡ true → is_disjoint (box_of boxes (get_or items i d).1) out ≡ true →
     none_picked out (((get_or items i d).0, (get_or items i d).0) ∷ []) items boxes ≡ true
 only_here out [] i d boxes lt h m = absurd (omega arith)
 only_here out (t ∷ ts) zero d boxes lt h m =
     let parts = and_parts (lacks_value t.0 ts) (distinct_values ts) h in
-    and_from (not (has ((t.0, t.0) ∷ []) t.0) || misses (box_of boxes t.1) out) (none_picked out ((t.0, t.0) ∷ []) ts boxes) (either_true (not (has ((t.0, t.0) ∷ []) t.0)) (misses (box_of boxes t.1) out) m) (none_here out t.0 ts boxes parts.0)
+    and_from (not (has ((t.0, t.0) ∷ []) t.0) || is_disjoint (box_of boxes t.1) out) (none_picked out ((t.0, t.0) ∷ []) ts boxes) (either_true (not (has ((t.0, t.0) ∷ []) t.0)) (is_disjoint (box_of boxes t.1) out) m) (none_here out t.0 ts boxes parts.0)
   where
     either_true : (a b : Bool) → b ≡ true → (a || b) ≡ true
     either_true a b k = grind arith
@@ -85,30 +85,30 @@ can_pick index box other v f (inl h) = h.0
 can_pick index box other v f (inr h) = fixed_has index v f h.0
 
 -- the index is in the set, and the one box isn't inside the other
-lies_acts : (domains boxes : Boxes) (x a b : ℕ) (s : Ranges) → IsPick domains boxes x a b → ArePlanned domains (length boxes) (pick_plan domains boxes x s a b) → inside (box_of boxes x) s ≡ true → inside (box_of boxes a) (box_of boxes b) ≡ false →
+lies_acts : (domains boxes : Boxes) (x a b : ℕ) (s : Ranges) → IsPick domains boxes x a b → ArePlanned domains (length boxes) (pick_plan domains boxes x s a b) → is_within (box_of boxes x) s ≡ true → is_within (box_of boxes a) (box_of boxes b) ≡ false →
     Acts boxes (literals_of domains (pick_plan domains boxes x s a b))
 lies_acts domains boxes x a b s t p h k =
     let g = t.good in let d = box_of domains a in let r = box_of boxes a in let o = box_of boxes b in
     plan_acts_tail domains boxes (length boxes) (x, s) ((a, less d o) ∷ (b, o) ∷ []) g.wide g.narrow p h
     (plan_acts_over domains boxes (length boxes) (a, less d o) ((b, o) ∷ []) g.wide g.narrow p.3
     (left_over d (less d o) r o (g.wide a) (IsValid-less d o (g.wide a) (g.narrow b)) (g.narrow a) (g.narrow b) (in_other d o (g.wide a) (g.narrow b)) k)
-    (inside_itself o (g.narrow b), tt))
+    (within_itself o (g.narrow b), tt))
 
 pick_acts : (domains boxes : Boxes) (x a b : ℕ) (v : ℤ) → IsPick domains boxes x a b → IsValid ((v, v) ∷ []) → ArePlanned domains (length boxes) (pick_plan domains boxes x ((v, v) ∷ []) a b) → HasToPick (box_of boxes x) v (box_of boxes a) (box_of boxes b) →
     Acts boxes (literals_of domains (pick_plan domains boxes x ((v, v) ∷ []) a b))
 pick_acts domains boxes x a b v t one p (inl h) =
     let g = t.good in let d = box_of domains a in let s = box_of boxes a in let o = box_of boxes b in
     plan_acts_head domains boxes (length boxes) (x, (v, v) ∷ []) ((a, less d o) ∷ (b, o) ∷ []) v g.wide g.narrow p h.0 (has_one v)
-    (missing_inside s d o (g.narrow a) (g.wide a) (g.narrow b) (g.within a t.first) h.1, (inside_itself o (g.narrow b), tt))
+    (missing_within s d o (g.narrow a) (g.wide a) (g.narrow b) (g.within a t.first) h.1, (within_itself o (g.narrow b), tt))
 pick_acts domains boxes x a b v t one p (inr h) = lies_acts domains boxes x a b ((v, v) ∷ []) t p (lies_in_one (box_of boxes x) v (t.good.narrow x) one h.0) h.1
 
-pick_planned : (domains boxes : Boxes) (x a b : ℕ) (s : Ranges) → IsPick domains boxes x a b → IsValid s → inside s (box_of domains x) ≡ true → ArePlanned domains (length boxes) (pick_plan domains boxes x s a b)
+pick_planned : (domains boxes : Boxes) (x a b : ℕ) (s : Ranges) → IsPick domains boxes x a b → IsValid s → is_within s (box_of domains x) ≡ true → ArePlanned domains (length boxes) (pick_plan domains boxes x s a b)
 pick_planned domains boxes x a b s t f h =
     let g = t.good in let d = box_of domains a in let o = box_of boxes b in (
       t.index,
       f,
       h,
-      (t.first, IsValid-less d o (g.wide a) (g.narrow b), less_inside d o (g.wide a) (g.narrow b), (t.second, g.narrow b, g.within b t.second, tt)),
+      (t.first, IsValid-less d o (g.wide a) (g.narrow b), less_within d o (g.wide a) (g.narrow b), (t.second, g.narrow b, g.within b t.second, tt)),
     )
 
 pick_reason : (con : Con) (domains boxes : Boxes) (x a b : ℕ) (v : ℤ) → IsPick domains boxes x a b → HasToPick (box_of boxes x) v (box_of boxes a) (box_of boxes b) →
@@ -118,18 +118,18 @@ pick_reason con domains boxes x a b v t h e =
     let g = t.good in let d = box_of domains a in let o = box_of boxes b in
     let can = can_pick (box_of boxes x) (box_of boxes a) o v (g.narrow x) h in
     let one = value_valid (box_of boxes x) v (g.narrow x) can in
-    let planned = pick_planned domains boxes x a b ((v, v) ∷ []) t one (one_inside (box_of domains x) v (g.wide x) one (in_domain domains boxes x v g t.index can)) in
+    let planned = pick_planned domains boxes x a b ((v, v) ∷ []) t one (one_within (box_of domains x) v (g.wide x) one (in_domain domains boxes x v g t.index can)) in
     plan_reason con domains boxes (pick_plan domains boxes x ((v, v) ∷ []) a b) g.wide planned (all_differ x a b t.first_differs t.second_differs t.apart) (λ rest l. e rest l.0 l.1.0 l.1.1.0) (pick_acts domains boxes x a b v t one planned h)
 
 -- of the whole box of the index
-pub lies_reason : (con : Con) (domains boxes : Boxes) (x a b : ℕ) → IsPick domains boxes x a b → inside (box_of boxes a) (box_of boxes b) ≡ false →
+pub lies_reason : (con : Con) (domains boxes : Boxes) (x a b : ℕ) → IsPick domains boxes x a b → is_within (box_of boxes a) (box_of boxes b) ≡ false →
     ((rest : Boxes) → box_of rest x ≡ box_of boxes x → box_of rest a ≡ less (box_of domains a) (box_of boxes b) → box_of rest b ≡ box_of boxes b → excluded con rest ≡ true) →
     IsReason con domains boxes (literals_of domains (pick_plan domains boxes x (box_of boxes x) a b))
 lies_reason con domains boxes x a b t h e =
     let g = t.good in let index = box_of boxes x in
     let planned = pick_planned domains boxes x a b index t (g.narrow x) (g.within x t.index) in
     plan_reason con domains boxes (pick_plan domains boxes x index a b) g.wide planned (all_differ x a b t.first_differs t.second_differs t.apart) (λ rest l. e rest l.0 l.1.0 l.1.1.0)
-    (lies_acts domains boxes x a b index t planned (inside_itself index (g.narrow x)) h)
+    (lies_acts domains boxes x a b index t planned (within_itself index (g.narrow x)) h)
 
 -- ---- the two clauses of an item
 
@@ -150,7 +150,7 @@ element con domains boxes o x items e w b s =
     record { is = e; good = are_good domains boxes s b; out = omega arith; index = omega arith; distinct = m.distinct }
 
 pick_rule : (out index : Ranges) (items : List (ℤ × ℕ)) (i : ℕ) (d : ℤ × ℕ) (rest : Boxes) → i < length items → distinct_values items ≡ true → index ≡ ((get_or items i d).0, (get_or items i d).0) ∷ [] →
-    misses (box_of rest (get_or items i d).1) out ≡ true → none_picked out index items rest ≡ true
+    is_disjoint (box_of rest (get_or items i d).1) out ≡ true → none_picked out index items rest ≡ true
 pick_rule out index items i d rest lt h e m = subst (λ (s : Ranges). none_picked out s items rest ≡ true) (sym e) (only_here out items i d rest lt h m)
 
 pub item_reason : (con : Con) (domains boxes : Boxes) (o x : ℕ) (items : List (ℤ × ℕ)) (i : ℕ) (d : ℤ × ℕ) → IsElement con domains boxes o x items → i < length items → (get_or items i d).1 < length domains →
@@ -163,7 +163,7 @@ item_reason con domains boxes o x items i d t lt named yx ox oy h =
     subst (λ (k : Con). IsReason k domains boxes (literals_of domains (pick_plan domains boxes x ((v, v) ∷ []) y o))) (sym t.is)
     (pick_reason (ElementDef o x items) domains boxes x y o v pick h (λ rest e f k.
     pick_rule (box_of rest o) (box_of rest x) items i d rest lt t.distinct e
-    (ap (λ (z : Ranges). misses z (box_of rest o)) f ∙ ap (λ (z : Ranges). misses (less (box_of domains y) (box_of boxes o)) z) k ∙ less_misses (box_of domains y) (box_of boxes o) (g.wide y) (g.narrow o))))
+    (ap (λ (z : Ranges). is_disjoint z (box_of rest o)) f ∙ ap (λ (z : Ranges). is_disjoint (less (box_of domains y) (box_of boxes o)) z) k ∙ less_disjoint (box_of domains y) (box_of boxes o) (g.wide y) (g.narrow o))))
 
 pub out_reason : (con : Con) (domains boxes : Boxes) (o x : ℕ) (items : List (ℤ × ℕ)) (i : ℕ) (d : ℤ × ℕ) → IsElement con domains boxes o x items → i < length items → (get_or items i d).1 < length domains →
     ((get_or items i d).1 ≡ x → ⊥) → (o ≡ x → ⊥) → (o ≡ (get_or items i d).1 → ⊥) → HasToPick (box_of boxes x) (get_or items i d).0 (box_of boxes o) (box_of boxes (get_or items i d).1) →
@@ -175,7 +175,7 @@ out_reason con domains boxes o x items i d t lt named yx ox oy h =
     subst (λ (k : Con). IsReason k domains boxes (literals_of domains (pick_plan domains boxes x ((v, v) ∷ []) o y))) (sym t.is)
     (pick_reason (ElementDef o x items) domains boxes x o y v pick h (λ rest e f k.
     pick_rule (box_of rest o) (box_of rest x) items i d rest lt t.distinct e
-    (ap (λ (z : Ranges). misses z (box_of rest o)) k ∙ ap (λ (z : Ranges). misses (box_of boxes y) z) f ∙ missed_by_rest (box_of domains o) (box_of boxes y) (g.wide o) (g.narrow y))))
+    (ap (λ (z : Ranges). is_disjoint z (box_of rest o)) k ∙ ap (λ (z : Ranges). is_disjoint (box_of boxes y) z) f ∙ missed_by_rest (box_of domains o) (box_of boxes y) (g.wide o) (g.narrow y))))
 
 pub element_named : (con : Con) (domains : Boxes) (o x : ℕ) (items list : List (ℤ × ℕ)) → con ≡ ElementDef o x items → IsWellMadeCon domains con → list ≡ items → (x < length domains) × All (λ t. t.1 < length domains) list
 element_named con domains o x items list e w i =

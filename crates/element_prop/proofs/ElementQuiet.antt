@@ -6,9 +6,9 @@ use Rattle.std.specs.Ordering.{int_eq}
 use Rattle.std.proofs.lemmas.Bool.{and_parts, or_cases, cases_eq, false_from_ne_true}
 use Rattle.std.proofs.lemmas.Bool.Decides.{nat_tests, Decides-int_eq}
 use Rattle.signed_clause.specs.Ranges.{Ranges, has, count_of, IsValid}
-use Rattle.signed_clause.specs.SetAlgebra.{misses, inside}
+use Rattle.signed_clause.specs.SetAlgebra.{is_disjoint, is_within}
 use Rattle.signed_clause.specs.Clauses.{Boxes, box_of}
-use Rattle.signed_clause.proofs.SetFacts.{inside_law}
+use Rattle.signed_clause.proofs.SetFacts.{within_law}
 use Rattle.ground_form.specs.declared.con.Con.{Con}
 use Rattle.ground_form.specs.declared.con.Con.TheVariants.{ElementDef}
 use Rattle.ground_form.specs.Meaning.{term_vars, vars_of}
@@ -17,13 +17,13 @@ use Rattle.box_rules.specs.Refuted.{none_picked}
 use Rattle.box_view.specs.Views.{fixing}
 use Rattle.box_rules.specs.Quiet.{probed, quiet}
 use Rattle.rule_law.specs.Reasons.{has_number}
-use Rattle.rule_law.specs.Repeats.{stands_twice}
+use Rattle.rule_law.specs.Repeats.{is_repeated}
 use Rattle.ground_form.specs.Bounds.{low_of}
 use Rattle.box_view.proofs.EndLaws.{AreSets, has_low}
-use Rattle.box_view.proofs.SetLaws.{fixing_same, fixing_other, single-misses, misses-single}
+use Rattle.box_view.proofs.SetLaws.{fixing_same, fixing_other, single-is_disjoint, is_disjoint-single}
 use Rattle.box_rules.proofs.QuietFrom.{Each, each_probed}
 use Rattle.box_view.proofs.Leaving.{value_valid, has_one}
-use Rattle.element_prop.specs.declared.element.Further.TheVariants.{Outside}
+use Rattle.element_prop.specs.declared.element.Further.TheVariants.{OutOfSet}
 use Rattle.element_prop.specs.Elements.{count_possible, all_meet, some_with, some_other, some_offers, all_offered, AreHeadsApart, IsIdle, IsFurther}
 use Rattle.element_prop.proofs.OfferLaws.{each_offered}
 use Rattle.element_prop.proofs.ItemCount.{each_value}
@@ -42,16 +42,16 @@ second_false a b h = grind arith
 value_picked : (out index s : Ranges) (v : ℤ) (items : List (ℤ × ℕ)) (boxes : Boxes) → has index v ≡ true → has s v ≡ true → all_meet items out index boxes ≡ true → lacks_value v items ≡ false → none_picked out s items boxes ≡ false
 value_picked out index s v [] boxes h g m l = absurd cc
 value_picked out index s v (t ∷ ts) boxes h g m l =
-    let parts = and_parts (not (has index t.0) || not (misses (box_of boxes t.1) out)) (all_meet ts out index boxes) m in
+    let parts = and_parts (not (has index t.0) || not (is_disjoint (box_of boxes t.1) out)) (all_meet ts out index boxes) m in
     let P : Bool → Type 0 = λ b. int_eq t.0 v ≡ b → cond b false (lacks_value v ts) ≡ false → none_picked out s (t ∷ ts) boxes ≡ false in
     (elim (int_eq t.0 v) as P [
       | true ↦ λ e k.
           let same = (Decides-int_eq t.0 v).0 e in
           let there : has index t.0 ≡ true = subst (λ (z : ℤ). has index z ≡ true) (sym same) h in
           let here : has s t.0 ≡ true = subst (λ (z : ℤ). has s z ≡ true) (sym same) g in
-          let met : misses (box_of boxes t.1) out ≡ false = by_or (has index t.0) (misses (box_of boxes t.1) out) parts.0 there in
-          first_false (not (has s t.0) || misses (box_of boxes t.1) out) (none_picked out s ts boxes) (rw (here, met) refl)
-      | false ↦ λ e k. second_false (not (has s t.0) || misses (box_of boxes t.1) out) (none_picked out s ts boxes) (value_picked out index s v ts boxes h g parts.1 k)
+          let met : is_disjoint (box_of boxes t.1) out ≡ false = by_or (has index t.0) (is_disjoint (box_of boxes t.1) out) parts.0 there in
+          first_false (not (has s t.0) || is_disjoint (box_of boxes t.1) out) (none_picked out s ts boxes) (rw (here, met) refl)
+      | false ↦ λ e k. second_false (not (has s t.0) || is_disjoint (box_of boxes t.1) out) (none_picked out s ts boxes) (value_picked out index s v ts boxes h g parts.1 k)
     ]) refl l
   where
     by_or : (a b : Bool) → (not a || not b) ≡ true → a ≡ true → b ≡ false
@@ -64,25 +64,25 @@ offered_picked index v (t ∷ ts) boxes s c =
     elim (or_cases (has index t.0 && has (box_of boxes t.1) v) (some_offers ts v index boxes) c) [
       | inl e ↦
           let parts = and_parts (has index t.0) (has (box_of boxes t.1) v) e in
-          let met : misses (box_of boxes t.1) ((v, v) ∷ []) ≡ false = single-misses v (box_of boxes t.1) (value_valid (box_of boxes t.1) v (s t.1) parts.1) (s t.1) ∙ ap (λ (b : Bool). not b) parts.1 in
+          let met : is_disjoint (box_of boxes t.1) ((v, v) ∷ []) ≡ false = single-is_disjoint v (box_of boxes t.1) (value_valid (box_of boxes t.1) v (s t.1) parts.1) (s t.1) ∙ ap (λ (b : Bool). not b) parts.1 in
           let can = parts.0 in
-          first_false (not (has index t.0) || misses (box_of boxes t.1) ((v, v) ∷ [])) (none_picked ((v, v) ∷ []) index ts boxes) (rw (can, met) refl)
-      | inr e ↦ second_false (not (has index t.0) || misses (box_of boxes t.1) ((v, v) ∷ [])) (none_picked ((v, v) ∷ []) index ts boxes) (offered_picked index v ts boxes s e)
+          first_false (not (has index t.0) || is_disjoint (box_of boxes t.1) ((v, v) ∷ [])) (none_picked ((v, v) ∷ []) index ts boxes) (rw (can, met) refl)
+      | inr e ↦ second_false (not (has index t.0) || is_disjoint (box_of boxes t.1) ((v, v) ∷ [])) (none_picked ((v, v) ∷ []) index ts boxes) (offered_picked index v ts boxes s e)
     ]
 
 -- an item of another variable than y can be picked whatever y is
 other_picked : (out index : Ranges) (y : ℕ) (v : ℤ) (items : List (ℤ × ℕ)) (boxes : Boxes) → some_other items y out index boxes ≡ true → none_picked out index items (fixing boxes y v) ≡ false
 other_picked out index y v [] boxes h = absurd cc
 other_picked out index y v (t ∷ ts) boxes h =
-    elim (or_cases (not (t.1 == y) && (has index t.0 && not (misses (box_of boxes t.1) out))) (some_other ts y out index boxes) h) [
+    elim (or_cases (not (t.1 == y) && (has index t.0 && not (is_disjoint (box_of boxes t.1) out))) (some_other ts y out index boxes) h) [
       | inl e ↦
-          let parts = and_parts (not (t.1 == y)) (has index t.0 && not (misses (box_of boxes t.1) out)) e in
-          let more = and_parts (has index t.0) (not (misses (box_of boxes t.1) out)) parts.1 in
+          let parts = and_parts (not (t.1 == y)) (has index t.0 && not (is_disjoint (box_of boxes t.1) out)) e in
+          let more = and_parts (has index t.0) (not (is_disjoint (box_of boxes t.1) out)) parts.1 in
           let same = fixing_other boxes y t.1 v (λ q. let yes : (t.1 == y) ≡ true = grind (arith, nat_tests) in let no = parts.0 in grind arith) in
-          let met : misses (box_of (fixing boxes y v) t.1) out ≡ false = ap (λ (s : Ranges). misses s out) same ∙ not_true (misses (box_of boxes t.1) out) more.1 in
+          let met : is_disjoint (box_of (fixing boxes y v) t.1) out ≡ false = ap (λ (s : Ranges). is_disjoint s out) same ∙ not_true (is_disjoint (box_of boxes t.1) out) more.1 in
           let can = more.0 in
-          first_false (not (has index t.0) || misses (box_of (fixing boxes y v) t.1) out) (none_picked out index ts (fixing boxes y v)) (rw (can, met) refl)
-      | inr e ↦ second_false (not (has index t.0) || misses (box_of (fixing boxes y v) t.1) out) (none_picked out index ts (fixing boxes y v)) (other_picked out index y v ts boxes e)
+          first_false (not (has index t.0) || is_disjoint (box_of (fixing boxes y v) t.1) out) (none_picked out index ts (fixing boxes y v)) (rw (can, met) refl)
+      | inr e ↦ second_false (not (has index t.0) || is_disjoint (box_of (fixing boxes y v) t.1) out) (none_picked out index ts (fixing boxes y v)) (other_picked out index y v ts boxes e)
     ]
   where
     not_true : (b : Bool) → not b ≡ true → b ≡ false
@@ -95,19 +95,19 @@ with_picked out index y (t ∷ ts) boxes h =
     let more = with_picked out index y ts boxes in grind arith
 
 -- and where that variable is a value that out can have
-inside_picked : (out index : Ranges) (y : ℕ) (v : ℤ) (items : List (ℤ × ℕ)) (boxes : Boxes) → y < length boxes → IsValid ((v, v) ∷ []) → IsValid out → has out v ≡ true → some_with items y out index boxes ≡ true →
+within_picked : (out index : Ranges) (y : ℕ) (v : ℤ) (items : List (ℤ × ℕ)) (boxes : Boxes) → y < length boxes → IsValid ((v, v) ∷ []) → IsValid out → has out v ≡ true → some_with items y out index boxes ≡ true →
     none_picked out index items (fixing boxes y v) ≡ false
-inside_picked out index y v [] boxes lt one f h w = absurd cc
-inside_picked out index y v (t ∷ ts) boxes lt one f h w =
-    elim (or_cases ((t.1 == y) && (has index t.0 && not (misses (box_of boxes t.1) out))) (some_with ts y out index boxes) w) [
+within_picked out index y v [] boxes lt one f h w = absurd cc
+within_picked out index y v (t ∷ ts) boxes lt one f h w =
+    elim (or_cases ((t.1 == y) && (has index t.0 && not (is_disjoint (box_of boxes t.1) out))) (some_with ts y out index boxes) w) [
       | inl e ↦
-          let parts = and_parts (t.1 == y) (has index t.0 && not (misses (box_of boxes t.1) out)) e in
-          let can = (and_parts (has index t.0) (not (misses (box_of boxes t.1) out)) parts.1).0 in
+          let parts = and_parts (t.1 == y) (has index t.0 && not (is_disjoint (box_of boxes t.1) out)) e in
+          let can = (and_parts (has index t.0) (not (is_disjoint (box_of boxes t.1) out)) parts.1).0 in
           let same : t.1 ≡ y = by_test t.1 y parts.0 in
           let is : box_of (fixing boxes y v) t.1 ≡ (v, v) ∷ [] = ap (λ (z : ℕ). box_of (fixing boxes y v) z) same ∙ fixing_same boxes y v lt in
-          let met : misses (box_of (fixing boxes y v) t.1) out ≡ false = ap (λ (s : Ranges). misses s out) is ∙ misses-single v out one f ∙ ap (λ (b : Bool). not b) h in
-          first_false (not (has index t.0) || misses (box_of (fixing boxes y v) t.1) out) (none_picked out index ts (fixing boxes y v)) (rw (can, met) refl)
-      | inr e ↦ second_false (not (has index t.0) || misses (box_of (fixing boxes y v) t.1) out) (none_picked out index ts (fixing boxes y v)) (inside_picked out index y v ts boxes lt one f h e)
+          let met : is_disjoint (box_of (fixing boxes y v) t.1) out ≡ false = ap (λ (s : Ranges). is_disjoint s out) is ∙ is_disjoint-single v out one f ∙ ap (λ (b : Bool). not b) h in
+          first_false (not (has index t.0) || is_disjoint (box_of (fixing boxes y v) t.1) out) (none_picked out index ts (fixing boxes y v)) (rw (can, met) refl)
+      | inr e ↦ second_false (not (has index t.0) || is_disjoint (box_of (fixing boxes y v) t.1) out) (none_picked out index ts (fixing boxes y v)) (within_picked out index y v ts boxes lt one f h e)
     ]
   where
     by_test : (p q : ℕ) → (p == q) ≡ true → p ≡ q
@@ -117,9 +117,9 @@ inside_picked out index y v (t ∷ ts) boxes lt one f h w =
 with_other : (out index : Ranges) (a y : ℕ) (items : List (ℤ × ℕ)) (boxes : Boxes) → (a ≡ y → ⊥) → some_with items a out index boxes ≡ true → some_other items y out index boxes ≡ true
 with_other out index a y [] boxes n h = absurd cc
 with_other out index a y (t ∷ ts) boxes n h =
-    elim (or_cases ((t.1 == a) && (has index t.0 && not (misses (box_of boxes t.1) out))) (some_with ts a out index boxes) h) [
+    elim (or_cases ((t.1 == a) && (has index t.0 && not (is_disjoint (box_of boxes t.1) out))) (some_with ts a out index boxes) h) [
       | inl e ↦
-          let parts = and_parts (t.1 == a) (has index t.0 && not (misses (box_of boxes t.1) out)) e in
+          let parts = and_parts (t.1 == a) (has index t.0 && not (is_disjoint (box_of boxes t.1) out)) e in
           let same : t.1 ≡ a = by_test t.1 a parts.0 in
           let differs : (t.1 == y) ≡ false = false_from_ne_true (t.1 == y) (λ q. n (sym same ∙ by_test t.1 y q)) in
           let rest = parts.1 in rw (differs, rest) refl
@@ -153,8 +153,8 @@ fixed_picked domains boxes con o x items t i y v n lt h =
         | inr g ↦ other_picked out index y v items boxes (with_other out index i.var y items boxes g i.one)
         | inl g ↦ elim i.free [
           | inl k ↦ other_picked out index y v items boxes (subst (λ (z : ℕ). some_other items z out index boxes ≡ true) g k)
-          | inr k ↦ inside_picked out index y v items boxes lt (value_valid (box_of boxes y) v (valid y) h) (valid o)
-              ((inside_law (box_of boxes y) out (valid y) (valid o)).0 (subst (λ (z : ℕ). inside (box_of boxes z) out ≡ true) g k) v h)
+          | inr k ↦ within_picked out index y v items boxes lt (value_valid (box_of boxes y) v (valid y) h) (valid o)
+              ((within_law (box_of boxes y) out (valid y) (valid o)).0 (subst (λ (z : ℕ). is_within (box_of boxes z) out ≡ true) g k) v h)
               (subst (λ (z : ℕ). some_with items z out index boxes ≡ true) g i.one)
         ]
       ])
@@ -191,12 +191,12 @@ some_open con domains boxes o x items t m f =
 
 -- the variable of an item that can be picked
 pub with_at : (items : List (ℤ × ℕ)) (i : ℕ) (d : ℤ × ℕ) (out index : Ranges) (boxes : Boxes) → i < length items →
-    (has index (get_or items i d).0 && not (misses (box_of boxes (get_or items i d).1) out)) ≡ true → some_with items (get_or items i d).1 out index boxes ≡ true
+    (has index (get_or items i d).0 && not (is_disjoint (box_of boxes (get_or items i d).1) out)) ≡ true → some_with items (get_or items i d).1 out index boxes ≡ true
 with_at [] i d out index boxes lt h = absurd (omega arith)
 with_at (t ∷ ts) zero d out index boxes lt h =
     let self : (t.1 == t.1) ≡ true = grind (arith, nat_tests) in rw (self, h) refl
 with_at (t ∷ ts) (suc i) d out index boxes lt h =
-    either_way (t.1 == (get_or ts i d).1 && (has index t.0 && not (misses (box_of boxes t.1) out))) (some_with ts (get_or ts i d).1 out index boxes) (with_at ts i d out index boxes (omega arith) h)
+    either_way (t.1 == (get_or ts i d).1 && (has index t.0 && not (is_disjoint (box_of boxes t.1) out))) (some_with ts (get_or ts i d).1 out index boxes) (with_at ts i d out index boxes (omega arith) h)
   where
     either_way : (a b : Bool) → b ≡ true → (a || b) ≡ true
     either_way a b k = grind arith
@@ -204,28 +204,28 @@ with_at (t ∷ ts) (suc i) d out index boxes lt h =
 -- what the tests find, of the boxes that they looked at
 pub idle_at : (items : List (ℤ × ℕ)) (o x i : ℕ) (d : ℤ × ℕ) (boxes : Boxes) (out index : Ranges) → out ≡ box_of boxes o → index ≡ box_of boxes x → AreHeadsApart o x items →
     all_meet items (box_of boxes o) (box_of boxes x) boxes ≡ true → count_of (box_of boxes x) ≤ count_possible items (box_of boxes x) → all_offered (probed (box_of boxes o)) items (box_of boxes x) boxes ≡ true → i < length items →
-    (has index (get_or items i d).0 && not (misses (box_of boxes (get_or items i d).1) out)) ≡ true →
-    (some_other items (get_or items i d).1 out index boxes ≡ true) ⊎ (inside (box_of boxes (get_or items i d).1) out ≡ true) → IsIdle items o x boxes
+    (has index (get_or items i d).0 && not (is_disjoint (box_of boxes (get_or items i d).1) out)) ≡ true →
+    (some_other items (get_or items i d).1 out index boxes ≡ true) ⊎ (is_within (box_of boxes (get_or items i d).1) out ≡ true) → IsIdle items o x boxes
 idle_at items o x i d boxes out index eo ex s m f a lt h k =
     let y = (get_or items i d).1 in
-    let F : Ranges → Ranges → Type 0 = λ p q. (has q (get_or items i d).0 && not (misses (box_of boxes y) p)) ≡ true → (some_other items y p q boxes ≡ true) ⊎ (inside (box_of boxes y) p ≡ true) → IsIdle items o x boxes in
+    let F : Ranges → Ranges → Type 0 = λ p q. (has q (get_or items i d).0 && not (is_disjoint (box_of boxes y) p)) ≡ true → (some_other items y p q boxes ≡ true) ⊎ (is_within (box_of boxes y) p ≡ true) → IsIdle items o x boxes in
     let here : F (box_of boxes o) (box_of boxes x) = λ h2 k2. record { apart = s; met = m; full = f; offered = a; var = y; one = with_at items i d (box_of boxes o) (box_of boxes x) boxes lt h2; free = k2 } in
     let there : F out index = subst (λ (q : Ranges). F out q) (sym ex) (subst (λ (p : Ranges). F p (box_of boxes x)) (sym eo) here) in there h k
 
 pub outside_at : (items : List (ℤ × ℕ)) (o x i : ℕ) (d : ℤ × ℕ) (boxes : Boxes) (out index : Ranges) → out ≡ box_of boxes o → index ≡ box_of boxes x → i < length items →
-    (has index (get_or items i d).0 && not (misses (box_of boxes (get_or items i d).1) out)) ≡ true → some_other items (get_or items i d).1 out index boxes ≡ false → inside (box_of boxes (get_or items i d).1) out ≡ false →
-    IsFurther items o x boxes (Outside (get_or items i d).1)
+    (has index (get_or items i d).0 && not (is_disjoint (box_of boxes (get_or items i d).1) out)) ≡ true → some_other items (get_or items i d).1 out index boxes ≡ false → is_within (box_of boxes (get_or items i d).1) out ≡ false →
+    IsFurther items o x boxes (OutOfSet (get_or items i d).1)
 outside_at items o x i d boxes out index eo ex lt h k n =
     let y = (get_or items i d).1 in
-    let F : Ranges → Ranges → Type 0 = λ p q. (has q (get_or items i d).0 && not (misses (box_of boxes y) p)) ≡ true → some_other items y p q boxes ≡ false → inside (box_of boxes y) p ≡ false → IsFurther items o x boxes (Outside y) in
+    let F : Ranges → Ranges → Type 0 = λ p q. (has q (get_or items i d).0 && not (is_disjoint (box_of boxes y) p)) ≡ true → some_other items y p q boxes ≡ false → is_within (box_of boxes y) p ≡ false → IsFurther items o x boxes (OutOfSet y) in
     let here : F (box_of boxes o) (box_of boxes x) = λ h2 k2 n2. (with_at items i d (box_of boxes o) (box_of boxes x) boxes lt h2, k2, n2) in
     let there : F out index = subst (λ (q : Ranges). F out q) (sym ex) (subst (λ (p : Ranges). F p (box_of boxes x)) (sym eo) here) in there h k n
 
 -- what the test of the variables finds
-pub heads_apart : (con : Con) (o x : ℕ) (items : List (ℤ × ℕ)) → con ≡ ElementDef o x items → stands_twice o (vars_of con) ≡ false → stands_twice x (vars_of con) ≡ false → AreHeadsApart o x items
+pub heads_apart : (con : Con) (o x : ℕ) (items : List (ℤ × ℕ)) → con ≡ ElementDef o x items → is_repeated o (vars_of con) ≡ false → is_repeated x (vars_of con) ≡ false → AreHeadsApart o x items
 heads_apart con o x items is first second =
-    let one : stands_twice o (o ∷ x ∷ term_vars items) ≡ false = sym (ap (λ (k : Con). stands_twice o (vars_of k)) is) ∙ first in
-    let two : stands_twice x (o ∷ x ∷ term_vars items) ≡ false = sym (ap (λ (k : Con). stands_twice x (vars_of k)) is) ∙ second in
+    let one : is_repeated o (o ∷ x ∷ term_vars items) ≡ false = sym (ap (λ (k : Con). is_repeated o (vars_of k)) is) ∙ first in
+    let two : is_repeated x (o ∷ x ∷ term_vars items) ≡ false = sym (ap (λ (k : Con). is_repeated x (vars_of k)) is) ∙ second in
     let self : (o == o) ≡ true = grind (arith, nat_tests) in
     let same : (x == x) ≡ true = grind (arith, nat_tests) in
     let there : (x == o) ≡ false = grind arith in

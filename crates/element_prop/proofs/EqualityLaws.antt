@@ -4,9 +4,9 @@ use Rattle.std.specs.Ordering.{int_eq}
 use Rattle.std.proofs.lemmas.Bool.{and_parts, false_from_ne_true}
 use Rattle.std.proofs.lemmas.Bool.Decides.{Decides-int_eq}
 use Rattle.signed_clause.specs.Ranges.{Ranges, has, is_nil, IsValid}
-use Rattle.signed_clause.specs.SetAlgebra.{misses, inside, less}
+use Rattle.signed_clause.specs.SetAlgebra.{is_disjoint, is_within, less}
 use Rattle.signed_clause.specs.Clauses.{Boxes, box_of}
-use Rattle.signed_clause.proofs.SetFacts.{inside_law, misses_law}
+use Rattle.signed_clause.proofs.SetFacts.{within_law, disjoint_law}
 use Rattle.ground_form.specs.declared.con.Con.TheVariants.{EqDef}
 use Rattle.ground_form.specs.Bounds.{low_of, high_of}
 use Rattle.box_rules.specs.Refuted.{fixed_at, same_single}
@@ -14,10 +14,10 @@ use Rattle.box_rules.specs.Quiet.{quiet}
 use Rattle.rule_law.specs.Reasons.{Acts, IsReason}
 use Rattle.rule_law.specs.Plans.{IsFlag, literals_of}
 use Rattle.box_rules.proofs.FixedLaws.{fixed_value, single_fixed}
-use Rattle.box_view.proofs.SetLaws.{misses-single, single-misses}
+use Rattle.box_view.proofs.SetLaws.{is_disjoint-single, single-is_disjoint}
 use Rattle.box_view.proofs.EndLaws.{has_low}
 use Rattle.box_rules.proofs.QuietFrom.{quiet_from}
-use Rattle.box_view.proofs.Leaving.{less_misses, missed_by_rest, has_one, one_inside, value_valid}
+use Rattle.box_view.proofs.Leaving.{less_disjoint, missed_by_rest, has_one, one_within, value_valid}
 use Rattle.rule_law.proofs.PlanLaws.{ArePlanned, plan_reason, plan_acts_head, plan_acts_tail}
 use Rattle.rule_law.proofs.FlagPlans.{in_domain, flag_other, flag_only, bit_valid}
 use Rattle.element_prop.specs.Within.{HasToLie, within_plan}
@@ -41,9 +41,9 @@ fixed_low s w h =
 fixed_here : (v : ℤ) → fixed_at ((v, v) ∷ []) v ≡ true
 fixed_here v = single_fixed v v ∙ (Decides-int_eq v v).1 refl
 
-pub lies_in_one : (s : Ranges) (w : ℤ) → IsValid s → IsValid ((w, w) ∷ []) → fixed_at s w ≡ true → inside s ((w, w) ∷ []) ≡ true
+pub lies_in_one : (s : Ranges) (w : ℤ) → IsValid s → IsValid ((w, w) ∷ []) → fixed_at s w ≡ true → is_within s ((w, w) ∷ []) ≡ true
 lies_in_one s w f g h =
-    (inside_law s ((w, w) ∷ []) f g).1 (λ v k. let e = fixed_value s w v f h k in subst (λ (z : ℤ). has ((w, w) ∷ []) z ≡ true) (sym e) (has_one w))
+    (within_law s ((w, w) ∷ []) f g).1 (λ v k. let e = fixed_value s w v f h k in subst (λ (z : ℤ). has ((w, w) ∷ []) z ≡ true) (sym e) (has_one w))
 
 -- one value beside a set
 one_same : (v : ℤ) (s : Ranges) → same_single ((v, v) ∷ []) s ≡ fixed_at s v
@@ -59,7 +59,7 @@ same_one s v h =
 
 -- the rule of an equality, of boxes
 abbrev Equal : Ranges → Ranges → Ranges → Type 0
-Equal flags left right = ((not (has flags (pos 1)) || misses left right) && (not (has flags (pos 0)) || same_single left right)) ≡ false
+Equal flags left right = ((not (has flags (pos 1)) || is_disjoint left right) && (not (has flags (pos 0)) || same_single left right)) ≡ false
 
 -- where the flag can't be 1 it can be 0
 rule_false : (on off missed same : Bool) → (on ≡ false → off ≡ true) → (on ≡ true → off ≡ true → same ≡ true → missed ≡ false) → (on ≡ true → off ≡ false → missed ≡ false) → (on ≡ false → same ≡ false) →
@@ -80,25 +80,25 @@ flag_rule v missed same (inl e) h k =
 flag_rule v missed same (inr e) h k =
     subst (λ (w : ℤ). ((not (has ((w, w) ∷ []) (pos 1)) || missed) && (not (has ((w, w) ∷ []) (pos 0)) || same)) ≡ false) (sym e) (rw (h e) refl)
 
-in_set : (a b : Ranges) (v : ℤ) → IsValid a → IsValid b → inside a b ≡ true → has a v ≡ true → has b v ≡ true
-in_set a b v f g h k = (inside_law a b f g).0 h v k
+in_set : (a b : Ranges) (v : ℤ) → IsValid a → IsValid b → is_within a b ≡ true → has a v ≡ true → has b v ≡ true
+in_set a b v f g h k = (within_law a b f g).0 h v k
 
 not_of : (b : Bool) → b ≡ true → not b ≡ false
 not_of b h = rw h refl
 
 calm_here : (flags left right : Ranges) → IsFlag flags → IsCalm flags left right → Equal flags left right
 calm_here flags left right f c =
-    rule_false (has flags (pos 1)) (has flags (pos 0)) (misses left right) (same_single left right) (flag_other true flags f)
+    rule_false (has flags (pos 1)) (has flags (pos 0)) (is_disjoint left right) (same_single left right) (flag_other true flags f)
     (λ a b e. c.common a) (λ a b. c.common a) (λ a. c.differ (flag_other true flags f a))
 
 calm_flag : (flags left right : Ranges) (v : ℤ) → IsFlag flags → IsCalm flags left right → has flags v ≡ true → Equal ((v, v) ∷ []) left right
 calm_flag flags left right v f c h =
-    flag_rule v (misses left right) (same_single left right) (f.bits v h) (λ e. c.common (subst (λ (z : ℤ). has flags z ≡ true) e h)) (λ e. c.differ (subst (λ (z : ℤ). has flags z ≡ true) e h))
+    flag_rule v (is_disjoint left right) (same_single left right) (f.bits v h) (λ e. c.common (subst (λ (z : ℤ). has flags z ≡ true) e h)) (λ e. c.differ (subst (λ (z : ℤ). has flags z ≡ true) e h))
 
 calm_left : (flags left right : Ranges) (v : ℤ) → IsFlag flags → IsValid left → IsValid right → IsCalm flags left right → has left v ≡ true → Equal flags ((v, v) ∷ []) right
 calm_left flags left right v f s t c h =
     let valid = value_valid left v s h in
-    rw (misses-single v right valid t, one_same v right)
+    rw (is_disjoint-single v right valid t, one_same v right)
     (rule_false (has flags (pos 1)) (has flags (pos 0)) (not (has right v)) (fixed_at right v) (flag_other true flags f)
     (λ a b e. not_of (has right v) (fixed_has right v t e)) (λ a b. not_of (has right v) (in_set left right v s t (c.left_within b) h))
     (λ a. false_from_ne_true (fixed_at right v) (λ q. let n = c.right_value a v q in grind arith)))
@@ -106,7 +106,7 @@ calm_left flags left right v f s t c h =
 calm_right : (flags left right : Ranges) (v : ℤ) → IsFlag flags → IsValid left → IsValid right → IsCalm flags left right → has right v ≡ true → Equal flags left ((v, v) ∷ [])
 calm_right flags left right v f s t c h =
     let valid = value_valid right v t h in
-    rw (single-misses v left valid s)
+    rw (single-is_disjoint v left valid s)
     (rule_false (has flags (pos 1)) (has flags (pos 0)) (not (has left v)) (same_single left ((v, v) ∷ [])) (flag_other true flags f)
     (λ a b e. not_of (has left v) (fixed_has left v s (same_one left v e))) (λ a b. not_of (has left v) (in_set right left v t s (c.right_within b) h))
     (λ a. false_from_ne_true (same_single left ((v, v) ∷ [])) (λ q. let n = c.left_value a v (same_one left v q) in grind arith)))
@@ -132,17 +132,17 @@ pub left_reason : (domains boxes : Boxes) (f l r : ℕ) → IsTriple domains box
     IsReason (EqDef f l r) domains boxes (literals_of domains (within_plan domains boxes f l r))
 left_reason domains boxes f l r t h =
     within_reason (EqDef f l r) domains boxes f l r t h (λ rest e g i.
-    held_rule (has (box_of rest f) (pos 1)) (has (box_of rest f) (pos 0)) (misses (box_of rest l) (box_of rest r)) (same_single (box_of rest l) (box_of rest r))
+    held_rule (has (box_of rest f) (pos 1)) (has (box_of rest f) (pos 0)) (is_disjoint (box_of rest l) (box_of rest r)) (same_single (box_of rest l) (box_of rest r))
     (ap (λ (z : Ranges). has z (pos 0)) e)
-    (ap (λ (z : Ranges). misses z (box_of rest r)) g ∙ ap (λ (z : Ranges). misses (less (box_of domains l) (box_of boxes r)) z) i ∙ less_misses (box_of domains l) (box_of boxes r) (t.good.wide l) (t.good.narrow r)))
+    (ap (λ (z : Ranges). is_disjoint z (box_of rest r)) g ∙ ap (λ (z : Ranges). is_disjoint (less (box_of domains l) (box_of boxes r)) z) i ∙ less_disjoint (box_of domains l) (box_of boxes r) (t.good.wide l) (t.good.narrow r)))
 
 pub right_reason : (domains boxes : Boxes) (f l r : ℕ) → IsTriple domains boxes f l r → HasToLie (box_of boxes f) (box_of boxes r) (box_of boxes l) →
     IsReason (EqDef f l r) domains boxes (literals_of domains (within_plan domains boxes f r l))
 right_reason domains boxes f l r t h =
     within_reason (EqDef f l r) domains boxes f r l (turned domains boxes f l r t) h (λ rest e g i.
-    held_rule (has (box_of rest f) (pos 1)) (has (box_of rest f) (pos 0)) (misses (box_of rest l) (box_of rest r)) (same_single (box_of rest l) (box_of rest r))
+    held_rule (has (box_of rest f) (pos 1)) (has (box_of rest f) (pos 0)) (is_disjoint (box_of rest l) (box_of rest r)) (same_single (box_of rest l) (box_of rest r))
     (ap (λ (z : Ranges). has z (pos 0)) e)
-    (ap (λ (z : Ranges). misses z (box_of rest r)) i ∙ ap (λ (z : Ranges). misses (box_of boxes l) z) g ∙ missed_by_rest (box_of domains r) (box_of boxes l) (t.good.wide r) (t.good.narrow l)))
+    (ap (λ (z : Ranges). is_disjoint z (box_of rest r)) i ∙ ap (λ (z : Ranges). is_disjoint (box_of boxes l) z) g ∙ missed_by_rest (box_of domains r) (box_of boxes l) (t.good.wide r) (t.good.narrow l)))
 
 record CanBe (flags left right : Ranges) (v : ℤ) : Type 0 where
   flag : has flags (pos 0) ≡ true
@@ -183,30 +183,30 @@ same_reason domains boxes f l r v t h =
     let planned : ArePlanned domains (length boxes) (same_plan f l r v) = (
       t.flag,
       bit_valid false,
-      one_inside (box_of domains f) (pos 0) (g.wide f) (bit_valid false) (in_domain domains boxes f (pos 0) g t.flag can.flag),
+      one_within (box_of domains f) (pos 0) (g.wide f) (bit_valid false) (in_domain domains boxes f (pos 0) g t.flag can.flag),
       (
         t.first,
         one,
-        one_inside (box_of domains l) v (g.wide l) one (in_domain domains boxes l v g t.first can.left_has),
-        (t.second, one, one_inside (box_of domains r) v (g.wide r) one (in_domain domains boxes r v g t.second can.right_has), tt),
+        one_within (box_of domains l) v (g.wide l) one (in_domain domains boxes l v g t.first can.left_has),
+        (t.second, one, one_within (box_of domains r) v (g.wide r) one (in_domain domains boxes r v g t.second can.right_has), tt),
       ),
     ) in
     plan_reason (EqDef f l r) domains boxes (same_plan f l r v) g.wide planned (all_differ f l r t.first_differs t.second_differs t.apart)
-    (λ rest k. denied_rule (has (box_of rest f) (pos 1)) (has (box_of rest f) (pos 0)) (misses (box_of rest l) (box_of rest r)) (same_single (box_of rest l) (box_of rest r))
+    (λ rest k. denied_rule (has (box_of rest f) (pos 1)) (has (box_of rest f) (pos 0)) (is_disjoint (box_of rest l) (box_of rest r)) (same_single (box_of rest l) (box_of rest r))
     (ap (λ (z : Ranges). has z (pos 1)) k.0)
     (ap (λ (z : Ranges). same_single z (box_of rest r)) k.1.0 ∙ ap (λ (z : Ranges). same_single ((v, v) ∷ []) z) k.1.1.0 ∙ same_here v))
     (same_acts domains boxes f l r v t planned one h)
 
 -- ---- what the tests find
 
-pub calm_held : (flags left right : Ranges) → IsFlag flags → has flags (pos 0) ≡ false → is_nil left ≡ false → IsValid left → IsValid right → inside left right ≡ true → inside right left ≡ true → IsCalm flags left right
+pub calm_held : (flags left right : Ranges) → IsFlag flags → has flags (pos 0) ≡ false → is_nil left ≡ false → IsValid left → IsValid right → is_within left right ≡ true → is_within right left ≡ true → IsCalm flags left right
 calm_held flags left right f h n s t i j =
     let on = flag_other false flags f h in
     record {
-      common = λ e. false_from_ne_true (misses left right) (λ q.
+      common = λ e. false_from_ne_true (is_disjoint left right) (λ q.
           let here = has_low left s n in
           let there = in_set left right (low_of left) s t i here in
-          let no = (misses_law left right s t).0 q (low_of left) here in grind arith);
+          let no = (disjoint_law left right s t).0 q (low_of left) here in grind arith);
       left_within = λ e. i;
       right_within = λ e. j;
       differ = λ e. absurd (grind arith);

@@ -2,10 +2,10 @@
 use Rattle.std.proofs.Common.{◌≡◌, ℕ, zero, suc, ◌<◌, Bool, true, false, not, ◌&&◌, cond, List, [], ◌∷◌, ℤ, length, All, refl, arith, subst, sym, ap, ◌∙◌}
 use Rattle.std.proofs.lemmas.Bool.{false_from_ne_true}
 use Rattle.signed_clause.specs.Ranges.{Ranges, has, count_of, IsValid}
-use Rattle.signed_clause.specs.SetAlgebra.{inside, less}
+use Rattle.signed_clause.specs.SetAlgebra.{is_within, less}
 use Rattle.signed_clause.specs.Clauses.{Boxes, box_of}
 use Rattle.signed_clause.proofs.RangeSteps.{has-less_valid}
-use Rattle.signed_clause.proofs.SetFacts.{inside_law}
+use Rattle.signed_clause.proofs.SetFacts.{within_law}
 use Rattle.ground_form.specs.declared.con.Con.{Con}
 use Rattle.ground_form.specs.declared.con.Con.TheVariants.{ElementDef}
 use Rattle.box_rules.specs.Refuted.{none_picked}
@@ -59,7 +59,7 @@ none_there out index (t ∷ ts) boxes h =
     let more = none_there out index ts boxes (λ k d lt. h (suc k) d (omega arith)) in rw (here, more) refl
 
 pub index_reason : (con : Con) (domains boxes : Boxes) (o x : ℕ) (items : List (ℤ × ℕ)) → IsElement con domains boxes o x items →
-    inside (box_of boxes x) (less (box_of domains x) (without_items items (box_of domains x))) ≡ false → IsReason con domains boxes (literals_of domains (index_plan domains x items))
+    is_within (box_of boxes x) (less (box_of domains x) (without_items items (box_of domains x))) ≡ false → IsReason con domains boxes (literals_of domains (index_plan domains x items))
 index_reason con domains boxes o x items t open_left =
     let g = t.good in
     let d = box_of domains x in
@@ -68,7 +68,7 @@ index_reason con domains boxes o x items t open_left =
     let planned : ArePlanned domains (length boxes) (index_plan domains x items) = (
       t.index,
       valid,
-      (inside_law rest d valid (g.wide x)).1 (λ v h. items_less items d v (g.wide x) h),
+      (within_law rest d valid (g.wide x)).1 (λ v h. items_less items d v (g.wide x) h),
       tt,
     ) in
     subst (λ (k : Con). IsReason k domains boxes (literals_of domains (index_plan domains x items))) (sym t.is)

@@ -5,14 +5,14 @@ use Rattle.std.proofs.lemmas.Int.{ints}
 use Rattle.std.proofs.lemmas.Bool.{and_parts, false_from_ne_true}
 use Rattle.std.proofs.lemmas.Bool.Decides.{Decides-int_eq}
 use Rattle.signed_clause.specs.Ranges.{Ranges, has, is_nil, count_of, IsValid}
-use Rattle.signed_clause.specs.SetAlgebra.{inside, less}
+use Rattle.signed_clause.specs.SetAlgebra.{is_within, less}
 use Rattle.signed_clause.proofs.RangeSteps.{IsValid-less, has-less_valid}
 use Rattle.signed_clause.proofs.CountLaws.{count-part, count-some}
-use Rattle.signed_clause.proofs.SetFacts.{inside_law}
+use Rattle.signed_clause.proofs.SetFacts.{within_law}
 use Rattle.ground_form.specs.WellMade.{lacks_value, distinct_values}
 use Rattle.ground_form.specs.Bounds.{low_of}
 use Rattle.box_view.proofs.EndLaws.{single_has, has_low}
-use Rattle.box_view.proofs.Leaving.{value_valid, one_inside}
+use Rattle.box_view.proofs.Leaving.{value_valid, one_within}
 use Rattle.element_prop.specs.Elements.{count_possible, without_one, without_items}
 
 -- ---- as many
@@ -63,7 +63,7 @@ each_value (t ∷ ts) s v f d c h =
                 let one = value_valid s t.0 f k in
                 let rest = less s ((t.0, t.0) ∷ []) in
                 let valid = IsValid-less s ((t.0, t.0) ∷ []) f one in
-                let split = count-part ((t.0, t.0) ∷ []) s one f (one_inside s t.0 f one k) in
+                let split = count-part ((t.0, t.0) ∷ []) s one f (one_within s t.0 f one k) in
                 let single = one_count t.0 in
                 let same = same_count t.0 ts s f one parts.0 in
                 let other : has ((t.0, t.0) ∷ []) v ≡ false = single_has t.0 v ∙ e in
@@ -92,7 +92,7 @@ few_values (t ∷ ts) s f d h =
           let one = value_valid s t.0 f k in
           let rest = less s ((t.0, t.0) ∷ []) in
           let valid = IsValid-less s ((t.0, t.0) ∷ []) f one in
-          let split = count-part ((t.0, t.0) ∷ []) s one f (one_inside s t.0 f one k) in
+          let split = count-part ((t.0, t.0) ∷ []) s one f (one_within s t.0 f one k) in
           let single = one_count t.0 in
           let same = same_count t.0 ts s f one parts.0 in
           let more = few_values ts rest valid parts.1 (λ v m.
@@ -131,12 +131,12 @@ items_kept (t ∷ ts) s w f l h =
     items_kept ts (without_one t.0 s) w (one_valid t.0 s f) (lacks_more w t ts l) (one_kept t.0 w s f (lacks_head w t ts l) h)
 
 -- an index that has more values than are items' has one that is none's
-pub some_without : (items : List (ℤ × ℕ)) (box domain : Ranges) → IsValid box → IsValid domain → IsValid (without_items items domain) → inside box domain ≡ true → distinct_values items ≡ true →
-    (count_of box ≤ count_possible items box → ⊥) → inside box (less domain (without_items items domain)) ≡ false
+pub some_without : (items : List (ℤ × ℕ)) (box domain : Ranges) → IsValid box → IsValid domain → IsValid (without_items items domain) → is_within box domain ≡ true → distinct_values items ≡ true →
+    (count_of box ≤ count_possible items box → ⊥) → is_within box (less domain (without_items items domain)) ≡ false
 some_without items box domain f g w i d more =
     let rest = without_items items domain in
-    false_from_ne_true (inside box (less domain rest)) (λ q. more (few_values items box f d (λ v h. false_from_ne_true (lacks_value v items) (λ l.
-    let there = (inside_law box domain f g).0 i v h in
+    false_from_ne_true (is_within box (less domain rest)) (λ q. more (few_values items box f d (λ v h. false_from_ne_true (lacks_value v items) (λ l.
+    let there = (within_law box domain f g).0 i v h in
     let kept = items_kept items domain v g l there in
-    let gone = (and_parts (has domain v) (not (has rest v)) (sym (has-less_valid domain rest g w v) ∙ (inside_law box (less domain rest) f (IsValid-less domain rest g w)).0 q v h)).1 in
+    let gone = (and_parts (has domain v) (not (has rest v)) (sym (has-less_valid domain rest g w v) ∙ (within_law box (less domain rest) f (IsValid-less domain rest g w)).0 q v h)).1 in
     let bad : not (has rest v) ≡ false = rw kept refl in cc))))

@@ -4,10 +4,10 @@ use Rattle.std.specs.Prelude.{Option, Some, None, IfNone}
 use Rattle.std.proofs.lemmas.Int.{ints}
 use Rattle.std.proofs.lemmas.Bool.{and_parts, or_cases}
 use Rattle.signed_clause.specs.Ranges.{Ranges, has, in_range, is_nil, count_of, IsValid}
-use Rattle.signed_clause.specs.SetAlgebra.{inside}
+use Rattle.signed_clause.specs.SetAlgebra.{is_within}
 use Rattle.signed_clause.specs.Clauses.{Boxes, box_of}
 use Rattle.signed_clause.proofs.RangeSteps.{left_at}
-use Rattle.signed_clause.proofs.SetFacts.{inside_law}
+use Rattle.signed_clause.proofs.SetFacts.{within_law}
 use Rattle.ground_form.specs.Bounds.{low_of, high_of}
 use Rattle.box_rules.specs.Quiet.{probed}
 use Rattle.box_view.proofs.EndLaws.{AreSets}
@@ -47,10 +47,10 @@ offered_at (t ∷ ts) (suc k) d v index boxes lt h = let more = offered_at ts k 
 covers : (out index : Ranges) (v : ℤ) (items : List (ℤ × ℕ)) (boxes : Boxes) → AreSets boxes → IsValid out → has out v ≡ true → some_covers items out index boxes ≡ true → some_offers items v index boxes ≡ true
 covers out index v [] boxes s f h c = absurd cc
 covers out index v (t ∷ ts) boxes s f h c =
-    elim (or_cases (has index t.0 && inside out (box_of boxes t.1)) (some_covers ts out index boxes) c) [
+    elim (or_cases (has index t.0 && is_within out (box_of boxes t.1)) (some_covers ts out index boxes) c) [
       | inl e ↦
-          let parts = and_parts (has index t.0) (inside out (box_of boxes t.1)) e in
-          let there = (inside_law out (box_of boxes t.1) f (s t.1)).0 parts.1 v h in
+          let parts = and_parts (has index t.0) (is_within out (box_of boxes t.1)) e in
+          let there = (within_law out (box_of boxes t.1) f (s t.1)).0 parts.1 v h in
           let can = parts.0 in rw (can, there) refl
       | inr e ↦ let more = covers out index v ts boxes s f h e in grind arith
     ]

@@ -3,10 +3,10 @@ use Rattle.std.proofs.Common.{◌≡◌, ℕ, zero, suc, ◌<◌, Bool, true, fa
 use Rattle.std.specs.Prelude.{◌==◌}
 use Rattle.std.proofs.lemmas.Bool.{and_parts, and_from, false_from_ne_true}
 use Rattle.signed_clause.specs.Ranges.{Ranges, has, IsValid}
-use Rattle.signed_clause.specs.SetAlgebra.{misses, inside, less}
+use Rattle.signed_clause.specs.SetAlgebra.{is_disjoint, is_within, less}
 use Rattle.signed_clause.specs.Clauses.{Boxes, Literals, box_of}
 use Rattle.signed_clause.proofs.RangeSteps.{IsValid-less, has-less_valid}
-use Rattle.signed_clause.proofs.SetFacts.{inside_law, misses_law}
+use Rattle.signed_clause.proofs.SetFacts.{within_law, disjoint_law}
 use Rattle.ground_form.specs.declared.con.Con.{Con}
 use Rattle.ground_form.specs.declared.con.Con.TheVariants.{ElementDef}
 use Rattle.ground_form.specs.Meaning.{term_vars, clause_vars, vars_of}
@@ -14,11 +14,11 @@ use Rattle.box_rules.specs.Refuted.{none_picked}
 use Rattle.rule_law.specs.Reasons.{IsReason, has_number, no_repeat}
 use Rattle.rule_law.specs.Plans.{literals_of}
 use Rattle.box_view.proofs.EndLaws.{AreSets}
-use Rattle.box_view.proofs.Leaving.{less_inside, less_misses, missing_inside}
+use Rattle.box_view.proofs.Leaving.{less_within, less_disjoint, missing_within}
 use Rattle.rule_law.proofs.PlanLaws.{ArePlanned, Leaves, AllLeft, plan_reason, plan_acts_head}
 use Rattle.rule_law.proofs.FlagPlans.{in_domain}
 use Rattle.element_prop.specs.Elements.{without_boxes, items_plan, out_plan, some_offers}
-use Rattle.element_prop.proofs.Triples.{inside_itself}
+use Rattle.element_prop.proofs.Triples.{within_itself}
 use Rattle.element_prop.proofs.ElementLaws.{IsElement}
 
 -- ---- what is left of out
@@ -78,7 +78,7 @@ items_planned [] index domains n s a f h = tt
 items_planned (t ∷ ts) index domains n s a f h =
     let more = items_planned ts index domains n s a f (λ k d lt. h (suc k) d (omega arith)) in
     elim (has index t.0) as (λ c. ArePlanned domains n (cond c ((t.1, less (box_of domains t.1) s) ∷ items_plan ts index domains s) (items_plan ts index domains s))) [
-      | true ↦ (h 0 t (omega arith), IsValid-less (box_of domains t.1) s (a t.1) f, less_inside (box_of domains t.1) s (a t.1) f, more)
+      | true ↦ (h 0 t (omega arith), IsValid-less (box_of domains t.1) s (a t.1) f, less_within (box_of domains t.1) s (a t.1) f, more)
       | false ↦ more
     ]
 
@@ -110,13 +110,13 @@ items_differ (t ∷ ts) index domains s h =
 none_left : (ts : List (ℤ × ℕ)) (index : Ranges) (domains left : Boxes) (s : Ranges) → AreSets domains → IsValid s → Leaves left (items_plan ts index domains s) → none_picked s index ts left ≡ true
 none_left [] index domains left s a f l = refl
 none_left (t ∷ ts) index domains left s a f l =
-    let P : Bool → Type 0 = λ c. Leaves left (cond c ((t.1, less (box_of domains t.1) s) ∷ items_plan ts index domains s) (items_plan ts index domains s)) → ((not c || misses (box_of left t.1) s) && none_picked s index ts left) ≡ true in
+    let P : Bool → Type 0 = λ c. Leaves left (cond c ((t.1, less (box_of domains t.1) s) ∷ items_plan ts index domains s) (items_plan ts index domains s)) → ((not c || is_disjoint (box_of left t.1) s) && none_picked s index ts left) ≡ true in
     (elim (has index t.0) as P [
-      | true ↦ λ k. and_from (misses (box_of left t.1) s) (none_picked s index ts left) (ap (λ (z : Ranges). misses z s) k.0 ∙ less_misses (box_of domains t.1) s (a t.1) f) (none_left ts index domains left s a f k.1)
+      | true ↦ λ k. and_from (is_disjoint (box_of left t.1) s) (none_picked s index ts left) (ap (λ (z : Ranges). is_disjoint z s) k.0 ∙ less_disjoint (box_of domains t.1) s (a t.1) f) (none_left ts index domains left s a f k.1)
       | false ↦ λ k. none_left ts index domains left s a f k
     ]) l
 
-items_left : (ts : List (ℤ × ℕ)) (index : Ranges) (domains boxes : Boxes) (s : Ranges) → AreSets domains → AreSets boxes → IsValid s → All (λ t. inside (box_of boxes t.1) (box_of domains t.1) ≡ true) ts →
+items_left : (ts : List (ℤ × ℕ)) (index : Ranges) (domains boxes : Boxes) (s : Ranges) → AreSets domains → AreSets boxes → IsValid s → All (λ t. is_within (box_of boxes t.1) (box_of domains t.1) ≡ true) ts →
     All (λ t. has index t.0 ≡ true → (w : ℤ) → has s w ≡ true → has (box_of boxes t.1) w ≡ false) ts → AllLeft boxes (items_plan ts index domains s)
 items_left [] index domains boxes s a b f i g = tt
 items_left (t ∷ ts) index domains boxes s a b f i g =
@@ -124,8 +124,8 @@ items_left (t ∷ ts) index domains boxes s a b f i g =
     let P : Bool → Type 0 = λ c. has index t.0 ≡ c → AllLeft boxes (cond c ((t.1, less (box_of domains t.1) s) ∷ items_plan ts index domains s) (items_plan ts index domains s)) in
     (elim (has index t.0) as P [
       | true ↦ λ e. (
-        missing_inside (box_of boxes t.1) (box_of domains t.1) s (b t.1) (a t.1) f (i 0 t (omega arith))
-            ((misses_law (box_of boxes t.1) s (b t.1) f).1 (λ w h. false_from_ne_true (has s w) (λ q. let no = g 0 t (omega arith) e w q in absurd cc))),
+        missing_within (box_of boxes t.1) (box_of domains t.1) s (b t.1) (a t.1) f (i 0 t (omega arith))
+            ((disjoint_law (box_of boxes t.1) s (b t.1) f).1 (λ w h. false_from_ne_true (has s w) (λ q. let no = g 0 t (omega arith) e w q in absurd cc))),
         more,
       )
       | false ↦ λ e. more
@@ -154,7 +154,7 @@ out_reason con domains boxes o x items v t named differ member none =
     let planned : ArePlanned domains (length boxes) (out_plan items domains boxes o x s) = (
       t.out,
       valid,
-      (inside_law s d valid (g.wide o)).1 (λ w h. boxes_less items index boxes d w g.narrow (g.wide o) h),
+      (within_law s d valid (g.wide o)).1 (λ w h. boxes_less items index boxes d w g.narrow (g.wide o) h),
       (t.index, g.narrow x, g.within x t.index, items_planned items index domains (length boxes) s g.wide valid named),
     ) in
     let all : no_repeat (o ∷ x ∷ term_vars items) ≡ true = sym (ap (λ (k : Con). no_repeat (vars_of k)) t.is) ∙ differ in
@@ -173,7 +173,7 @@ out_reason con domains boxes o x items v t named differ member none =
           (λ left l. subst (λ (z : Ranges). none_picked z (box_of left x) items left ≡ true) (sym l.0)
           (subst (λ (z : Ranges). none_picked s z items left ≡ true) (sym l.1.0) (none_left items index domains left s g.wide valid l.1.1)))
           (plan_acts_head domains boxes (length boxes) (o, s) ((x, index) ∷ rest) v g.wide g.narrow planned member (boxes_kept items index boxes d v g.narrow (g.wide o) (in_domain domains boxes o v g t.out member) none)
-          (inside_itself index (g.narrow x), items_left items index domains boxes s g.wide g.narrow valid (λ k e lt. g.within _ (named k e lt)) (boxes_gone items index boxes d g.narrow (g.wide o)))));
+          (within_itself index (g.narrow x), items_left items index domains boxes s g.wide g.narrow valid (λ k e lt. g.within _ (named k e lt)) (boxes_gone items index boxes d g.narrow (g.wide o)))));
     }
 
 -- what the code computes

@@ -4,17 +4,17 @@ use Rattle.std.specs.Prelude.{◌==◌}
 use Rattle.std.proofs.lemmas.Bool.{cases_eq, false_from_ne_true}
 use Rattle.std.proofs.lemmas.Bool.Decides.{nat_tests}
 use Rattle.signed_clause.specs.Ranges.{Ranges, has, IsValid}
-use Rattle.signed_clause.specs.SetAlgebra.{inside, less}
+use Rattle.signed_clause.specs.SetAlgebra.{is_within, less}
 use Rattle.signed_clause.specs.Clauses.{Boxes, box_of}
 use Rattle.signed_clause.proofs.RangeSteps.{IsValid-less}
-use Rattle.signed_clause.proofs.SetFacts.{inside_law}
+use Rattle.signed_clause.proofs.SetFacts.{within_law}
 use Rattle.ground_form.specs.declared.con.Con.{Con}
 use Rattle.box_rules.specs.Refuted.{excluded}
 use Rattle.box_view.specs.Views.{fixing}
 use Rattle.rule_law.specs.Reasons.{no_repeat, Acts, IsReason}
 use Rattle.rule_law.specs.Plans.{IsFlag, literals_of}
 use Rattle.box_view.proofs.SetLaws.{fixing_same, fixing_other}
-use Rattle.box_view.proofs.Leaving.{less_inside, missing_inside, twice_inside, one_inside, left_over}
+use Rattle.box_view.proofs.Leaving.{less_within, missing_within, twice_within, one_within, left_over}
 use Rattle.rule_law.proofs.PlanLaws.{ArePlanned, plan_reason, plan_acts_head, plan_acts_tail, plan_acts_over}
 use Rattle.rule_law.proofs.FlagPlans.{AreGood, in_domain, flag_other, flag_only, bit_valid}
 use Rattle.element_prop.specs.Within.{HasToLie, within_plan}
@@ -69,8 +69,8 @@ three_fixed P domains boxes f x y t h one two three z v lt k =
 
 -- ---- sets
 
-pub inside_itself : (s : Ranges) → IsValid s → inside s s ≡ true
-inside_itself s f = (inside_law s s f f).1 (λ v h. h)
+pub within_itself : (s : Ranges) → IsValid s → is_within s s ≡ true
+within_itself s f = (within_law s s f f).1 (λ v h. h)
 
 differ_test : (x f : ℕ) → (x ≡ f → ⊥) → (x == f) ≡ false
 differ_test x f n = false_from_ne_true (x == f) (λ q. n (grind (arith, nat_tests)))
@@ -88,20 +88,20 @@ can_hold flags box other f (inl h) = h.0
 can_hold flags box other f (inr h) = flag_other false flags f h.0
 
 pub in_other : (d s : Ranges) → IsValid d → IsValid s → (v : ℤ) → has (less d (less d s)) v ≡ true → has s v ≡ true
-in_other d s f g v h = (inside_law (less d (less d s)) s (IsValid-less d (less d s) f (IsValid-less d s f g)) g).0 (twice_inside d s f g) v h
+in_other d s f g v h = (within_law (less d (less d s)) s (IsValid-less d (less d s) f (IsValid-less d s f g)) g).0 (twice_within d s f g) v h
 
 within_acts : (domains boxes : Boxes) (f x y : ℕ) → IsTriple domains boxes f x y → ArePlanned domains (length boxes) (within_plan domains boxes f x y) → HasToLie (box_of boxes f) (box_of boxes x) (box_of boxes y) →
     Acts boxes (literals_of domains (within_plan domains boxes f x y))
 within_acts domains boxes f x y t p (inl h) =
     let g = t.good in let d = box_of domains x in let b = box_of boxes x in let o = box_of boxes y in
     plan_acts_head domains boxes (length boxes) (f, (pos 1, pos 1) ∷ []) ((x, less d o) ∷ (y, o) ∷ []) (pos 1) g.wide g.narrow p h.0 refl
-    (missing_inside b d o (g.narrow x) (g.wide x) (g.narrow y) (g.within x t.first) h.1, (inside_itself o (g.narrow y), tt))
+    (missing_within b d o (g.narrow x) (g.wide x) (g.narrow y) (g.within x t.first) h.1, (within_itself o (g.narrow y), tt))
 within_acts domains boxes f x y t p (inr h) =
     let g = t.good in let d = box_of domains x in let b = box_of boxes x in let o = box_of boxes y in
     plan_acts_tail domains boxes (length boxes) (f, (pos 1, pos 1) ∷ []) ((x, less d o) ∷ (y, o) ∷ []) g.wide g.narrow p (flag_only true (box_of boxes f) t.bits h.0)
     (plan_acts_over domains boxes (length boxes) (x, less d o) ((y, o) ∷ []) g.wide g.narrow p.3
     (left_over d (less d o) b o (g.wide x) (IsValid-less d o (g.wide x) (g.narrow y)) (g.narrow x) (g.narrow y) (in_other d o (g.wide x) (g.narrow y)) h.1)
-    (inside_itself o (g.narrow y), tt))
+    (within_itself o (g.narrow y), tt))
 
 pub within_reason : (con : Con) (domains boxes : Boxes) (f x y : ℕ) → IsTriple domains boxes f x y → HasToLie (box_of boxes f) (box_of boxes x) (box_of boxes y) →
     ((rest : Boxes) → box_of rest f ≡ (pos 1, pos 1) ∷ [] → box_of rest x ≡ less (box_of domains x) (box_of boxes y) → box_of rest y ≡ box_of boxes y → excluded con rest ≡ true) →
@@ -112,7 +112,7 @@ within_reason con domains boxes f x y t h e =
     let planned : ArePlanned domains (length boxes) (within_plan domains boxes f x y) = (
       t.flag,
       bit_valid true,
-      one_inside (box_of domains f) (pos 1) (g.wide f) (bit_valid true) (in_domain domains boxes f (pos 1) g t.flag can),
-      (t.first, IsValid-less d o (g.wide x) (g.narrow y), less_inside d o (g.wide x) (g.narrow y), (t.second, g.narrow y, g.within y t.second, tt)),
+      one_within (box_of domains f) (pos 1) (g.wide f) (bit_valid true) (in_domain domains boxes f (pos 1) g t.flag can),
+      (t.first, IsValid-less d o (g.wide x) (g.narrow y), less_within d o (g.wide x) (g.narrow y), (t.second, g.narrow y, g.within y t.second, tt)),
     ) in
     plan_reason con domains boxes (within_plan domains boxes f x y) g.wide planned (all_differ f x y t.first_differs t.second_differs t.apart) (λ rest l. e rest l.0 l.1.0 l.1.1.0) (within_acts domains boxes f x y t planned h)

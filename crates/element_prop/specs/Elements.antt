@@ -2,7 +2,7 @@
 -- where its variables are different, and when it has nothing to state.
 use Rattle.std.specs.Prelude.{◌≡◌, ℕ, suc, ◌<◌, ◌≤◌, Bool, true, false, not, ◌&&◌, ◌||◌, cond, ◌==◌, List, [], ◌∷◌, ℤ, length, slice_index_or, ◌⊎◌}
 use Rattle.signed_clause.specs.Ranges.{Ranges, has, count_of}
-use Rattle.signed_clause.specs.SetAlgebra.{misses, inside, less}
+use Rattle.signed_clause.specs.SetAlgebra.{is_disjoint, is_within, less}
 use Rattle.signed_clause.specs.Clauses.{Boxes, Literals, box_of}
 use Rattle.ground_form.specs.Meaning.{term_vars}
 use Rattle.box_rules.specs.Refuted.{fixed_at}
@@ -10,13 +10,13 @@ use Rattle.rule_law.specs.Reasons.{has_number}
 use Rattle.box_rules.specs.Quiet.{probed}
 use Rattle.element_prop.specs.declared.element.Finding.{Finding}
 use Rattle.element_prop.specs.declared.element.Further.{Further}
-use Rattle.element_prop.specs.declared.element.Further.TheVariants.{Idle, Unoffered, Outside}
+use Rattle.element_prop.specs.declared.element.Further.TheVariants.{Idle, Unoffered, OutOfSet}
 use Rattle.element_prop.specs.declared.element.Finding.TheVariants.{Open, Item, Out}
 
 -- the index can be the value though the boxes have no common value, or is it though the one box isn't inside the other
 abbrev pub HasToPick : Ranges → ℤ → Ranges → Ranges → Type 0
 HasToPick index v box other =
-    ((has index v ≡ true) × (misses box other ≡ true)) ⊎ ((fixed_at index v ≡ true) × (inside box other ≡ false))
+    ((has index v ≡ true) × (is_disjoint box other ≡ true)) ⊎ ((fixed_at index v ≡ true) × (is_within box other ≡ false))
 
 -- what the clause leaves that says that the index has no value of the set, or a has a value that b's box has, or b is outside its box
 abbrev pub pick_plan : Boxes → Boxes → ℕ → Ranges → ℕ → ℕ → Literals
@@ -74,24 +74,24 @@ count_possible (t ∷ ts) index = cond (has index t.0) (suc (count_possible ts i
 -- each item whose value the index can be can be out
 abbrev pub all_meet : List (ℤ × ℕ) → Ranges → Ranges → Boxes → Bool
 all_meet [] out index boxes = true
-all_meet (t ∷ ts) out index boxes = (not (has index t.0) || not (misses (box_of boxes t.1) out)) && all_meet ts out index boxes
+all_meet (t ∷ ts) out index boxes = (not (has index t.0) || not (is_disjoint (box_of boxes t.1) out)) && all_meet ts out index boxes
 
 -- the box of one of them has all of out's
 abbrev pub some_covers : List (ℤ × ℕ) → Ranges → Ranges → Boxes → Bool
 some_covers [] out index boxes = false
-some_covers (t ∷ ts) out index boxes = (has index t.0 && inside out (box_of boxes t.1)) || some_covers ts out index boxes
+some_covers (t ∷ ts) out index boxes = (has index t.0 && is_within out (box_of boxes t.1)) || some_covers ts out index boxes
 
 -- an item with the variable can be picked
 abbrev pub some_with : List (ℤ × ℕ) → ℕ → Ranges → Ranges → Boxes → Bool
 some_with [] x out index boxes = false
 some_with (t ∷ ts) x out index boxes =
-    (t.1 == x && (has index t.0 && not (misses (box_of boxes t.1) out))) || some_with ts x out index boxes
+    (t.1 == x && (has index t.0 && not (is_disjoint (box_of boxes t.1) out))) || some_with ts x out index boxes
 
 -- an item with another variable can
 abbrev pub some_other : List (ℤ × ℕ) → ℕ → Ranges → Ranges → Boxes → Bool
 some_other [] x out index boxes = false
 some_other (t ∷ ts) x out index boxes =
-    (not (t.1 == x) && (has index t.0 && not (misses (box_of boxes t.1) out))) || some_other ts x out index boxes
+    (not (t.1 == x) && (has index t.0 && not (is_disjoint (box_of boxes t.1) out))) || some_other ts x out index boxes
 
 -- out, the index and the items' variables are different, these last not from each other
 pub record AreHeadsApart (o x : ℕ) (items : List (ℤ × ℕ)) : Type 0 where
@@ -109,16 +109,16 @@ pub record IsIdle (items : List (ℤ × ℕ)) (o x : ℕ) (boxes : Boxes) : Type
   pub offered : all_offered (probed (box_of boxes o)) items (box_of boxes x) boxes ≡ true
   pub var : ℕ
   pub one : some_with items var (box_of boxes o) (box_of boxes x) boxes ≡ true
-  pub free : (some_other items var (box_of boxes o) (box_of boxes x) boxes ≡ true) ⊎ (inside (box_of boxes var) (box_of boxes o) ≡ true)
+  pub free : (some_other items var (box_of boxes o) (box_of boxes x) boxes ≡ true) ⊎ (is_within (box_of boxes var) (box_of boxes o) ≡ true)
 
 -- what is found of an element of which no single item tells anything
 abbrev pub IsFurther : List (ℤ × ℕ) → ℕ → ℕ → Boxes → Further → Type 0
 IsFurther items o x boxes Idle = IsIdle items o x boxes
 IsFurther items o x boxes (Unoffered v) =
     (has (box_of boxes o) v.value ≡ true) × (some_offers items v.value (box_of boxes x) boxes ≡ false)
-IsFurther items o x boxes (Outside y) =
+IsFurther items o x boxes (OutOfSet y) =
     (some_with items y (box_of boxes o) (box_of boxes x) boxes ≡ true)
-    × (some_other items y (box_of boxes o) (box_of boxes x) boxes ≡ false) × (inside (box_of boxes y) (box_of boxes o) ≡ false)
+    × (some_other items y (box_of boxes o) (box_of boxes x) boxes ≡ false) × (is_within (box_of boxes y) (box_of boxes o) ≡ false)
 
 -- what a finding says
 abbrev pub Says : List (ℤ × ℕ) → Ranges → Ranges → Boxes → Finding → Type 0

@@ -2,7 +2,7 @@
 -- in the boxes, where its variables are different.
 use Rattle.std.specs.Prelude.{◌≡◌, ℕ, true, false, [], ◌∷◌, ℤ, pos, ◌⊎◌}
 use Rattle.signed_clause.specs.Ranges.{Ranges, has}
-use Rattle.signed_clause.specs.SetAlgebra.{misses, inside}
+use Rattle.signed_clause.specs.SetAlgebra.{is_disjoint, is_within}
 use Rattle.signed_clause.specs.Clauses.{Literals}
 use Rattle.box_rules.specs.Refuted.{fixed_at, same_single}
 use Rattle.element_prop.specs.Within.{HasToLie}
@@ -12,9 +12,9 @@ use Rattle.element_prop.specs.declared.equality.Finding.TheVariants.{Quiet, Left
 -- where the flag can be 1, a value is common; where it has to, the boxes are the same; where it can be 0, they aren't the same
 -- single value; and where it has to, neither is a single value that the other has
 pub record IsCalm (flags left right : Ranges) : Type 0 where
-  pub common : has flags (pos 1) ≡ true → misses left right ≡ false
-  pub left_within : has flags (pos 0) ≡ false → inside left right ≡ true
-  pub right_within : has flags (pos 0) ≡ false → inside right left ≡ true
+  pub common : has flags (pos 1) ≡ true → is_disjoint left right ≡ false
+  pub left_within : has flags (pos 0) ≡ false → is_within left right ≡ true
+  pub right_within : has flags (pos 0) ≡ false → is_within right left ≡ true
   pub differ : has flags (pos 0) ≡ true → same_single left right ≡ false
   pub left_value : has flags (pos 1) ≡ false → (v : ℤ) → fixed_at left v ≡ true → has right v ≡ false
   pub right_value : has flags (pos 1) ≡ false → (v : ℤ) → fixed_at right v ≡ true → has left v ≡ false

@@ -17,7 +17,7 @@ ghost use Rattle.element_prop.specs.Conditionals.{Says, either_plan};
 
 use crate::within::explain_within;
 use ground_form::Con;
-use rule_law::{is_rest_inside, keep_out, planned_pruning, probe, pruning, truth};
+use rule_law::{is_rest_within, keep_out, planned_pruning, probe, pruning, truth};
 use signed_clause::{Clause, IntSet};
 use std::alloc::{AllocError, Global};
 
@@ -83,7 +83,7 @@ fn find_open(out: &IntSet, flags: &IntSet, item: &IntSet, zero: &IntSet) -> Find
     if !out.contains(0) {
         return Finding::Zero;
     }
-    if is_rest_inside(out, zero, item) {
+    if is_rest_within(out, zero, item) {
         Finding::Quiet
     } else {
         Finding::Either

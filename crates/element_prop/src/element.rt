@@ -9,7 +9,7 @@
 ghost use Rattle.std.specs.Prelude.{◌≡◌, ◌<◌, ◌≤◌, ◌&&◌, ◌||◌, ◌++◌, ◌∷◌, [], not, cond, true, false, IfOk, OnOk, IfSome, IfNone, length, slice_index_or};
 ghost use Rattle.std.specs.List.{All};
 ghost use Rattle.signed_clause.specs.Ranges.{has, is_nil, count_of, IsValid};
-ghost use Rattle.signed_clause.specs.SetAlgebra.{misses, less};
+ghost use Rattle.signed_clause.specs.SetAlgebra.{is_disjoint, less};
 ghost use Rattle.signed_clause.specs.Clauses.{Literals, box_of};
 ghost use Rattle.ground_form.specs.declared.con.Con.TheVariants.{ElementDef};
 ghost use Rattle.ground_form.specs.Meaning.{vars_of};
@@ -24,7 +24,7 @@ ghost use Rattle.element_prop.specs.Elements.{HasToPick, pick_plan, Says, all_me
 use crate::equality::{alone, is_value};
 use crate::offers::unoffered;
 use ground_form::{Con, Number};
-use rule_law::{Differing, keep_out, planned_pruning, probe, pruning};
+use rule_law::{Repeats, keep_out, planned_pruning, probe, pruning};
 use signed_clause::{Clause, IntSet};
 use std::alloc::{AllocError, Global};
 
@@ -47,7 +47,7 @@ pub enum Further {
     /// Out can be a value that no item offers.
     Unoffered(Number),
     /// Only items of this variable can be picked, and it can be what out can't.
-    Outside(u32),
+    OutOfSet(u32),
 }
 
 /// Whether the index can be the item's value though its box and that of out have no common value, or is it though the item's
@@ -55,7 +55,7 @@ pub enum Further {
 fn is_item_out(t: (i64, u32), out: &IntSet, index: &IntSet, boxes: &[IntSet]) -> bool
     requires { t.1 < length boxes.now }
     ensures said { result ≡ true → HasToPick index.now t.0 (box_of boxes.now t.1) out.now }
-    ensures met { result ≡ false → (not (has index.now t.0) || not (misses (box_of boxes.now t.1) out.now)) ≡ true }
+    ensures met { result ≡ false → (not (has index.now t.0) || not (is_disjoint (box_of boxes.now t.1) out.now)) ≡ true }
 {
     let at = &boxes[t.1 as usize];
     index.contains(t.0)
@@ -98,7 +98,7 @@ fn is_possible(t: (i64, u32), index: &IntSet) -> bool
 /// Whether the index can be the item's value, and the item can be out.
 fn can_pick(t: (i64, u32), out: &IntSet, index: &IntSet, boxes: &[IntSet]) -> bool
     requires { t.1 < length boxes.now }
-    ensures { result ≡ (has index.now t.0 && not (misses (box_of boxes.now t.1) out.now)) }
+    ensures { result ≡ (has index.now t.0 && not (is_disjoint (box_of boxes.now t.1) out.now)) }
 {
     index.contains(t.0) && !boxes[t.1 as usize].disjoint(out)
 }
@@ -124,7 +124,7 @@ fn first_pick(items: &[(i64, u32)], out: &IntSet, index: &IntSet, boxes: &[IntSe
     ensures within { IfSome result (λ i. i < length items.now) }
     ensures none { IfNone result (none_picked out.now index.now items.now boxes.now ≡ true) }
     ensures can { IfSome result (λ i. (d : _) → (has index.now (slice_index_or items.now i d).0
-        && not (misses (box_of boxes.now (slice_index_or items.now i d).1) out.now)) ≡ true) }
+        && not (is_disjoint (box_of boxes.now (slice_index_or items.now i d).1) out.now)) ≡ true) }
 {
     let mut i = 0;
     while i < items.len() {
@@ -173,7 +173,7 @@ fn find_outside(items: &[(i64, u32)], vars: (u32, u32), boxes: &[IntSet]) -> Fur
             if boxes[x as usize].within(out) {
                 Further::Idle
             } else {
-                Further::Outside(x)
+                Further::OutOfSet(x)
             }
         }
         None => unreachable!(),
@@ -361,7 +361,7 @@ fn prune_out(
 /// What an element of which no single item tells anything has to say.
 fn prune_open(
     alloc: Global,
-    differing: &mut Differing,
+    repeats: &mut Repeats,
     k: u32,
     con: &Con,
     vars: (u32, u32),
@@ -387,18 +387,18 @@ fn prune_open(
         let clause = prune_index(con, vars, items, domains, boxes, alloc)?;
         return Ok(Some(clause));
     }
-    let once = differing.do_stand_once(k, con, vars.0, vars.1)?;
+    let once = repeats.occur_once(k, con, vars.0, vars.1)?;
     if !once {
         return probe(con, domains, boxes, alloc);
     }
     match find_further(items, vars, boxes) {
         Further::Idle => Ok(None),
-        Further::Outside(x) => {
+        Further::OutOfSet(x) => {
             let clause = explain_pick(con, vars.1, index, x, vars.0, domains, boxes, alloc)?;
             Ok(Some(clause))
         }
         Further::Unoffered(v) => {
-            let differ = differing.do_differ(k, con)?;
+            let differ = repeats.has_no_repeat(k, con)?;
             if !differ {
                 return probe(con, domains, boxes, alloc);
             }
@@ -468,7 +468,7 @@ fn are_different(x: u32, y: u32, z: u32) -> bool
 /// Want of memory.
 pub fn prune_element(
     alloc: Global,
-    differing: &mut Differing,
+    repeats: &mut Repeats,
     k: u32,
     con: &Con,
     vars: (u32, u32),
@@ -487,7 +487,7 @@ pub fn prune_element(
 {
     let (out, index) = vars;
     match find(items, &boxes[out as usize], &boxes[index as usize], boxes) {
-        Finding::Open => prune_open(alloc, differing, k, con, vars, items, domains, boxes),
+        Finding::Open => prune_open(alloc, repeats, k, con, vars, items, domains, boxes),
         Finding::Item(i) => {
             let t = items[i];
             if !are_different(index, t.1, out) {

@@ -7,7 +7,7 @@
 ghost use Rattle.std.specs.Prelude.{◌≡◌, ◌<◌, ◌<ℤ◌, ◌≤ℤ◌, ◌+ℤ◌, ◌&&◌, ℤ, pos, true, false, IfSome, IfNone, length};
 ghost use Rattle.std.specs.List.{All};
 ghost use Rattle.signed_clause.specs.Ranges.{has, in_range, is_nil, IsValid};
-ghost use Rattle.signed_clause.specs.SetAlgebra.{inside};
+ghost use Rattle.signed_clause.specs.SetAlgebra.{is_within};
 ghost use Rattle.signed_clause.specs.Clauses.{box_of};
 ghost use Rattle.ground_form.specs.Bounds.{low_of, high_of};
 ghost use Rattle.box_rules.specs.Quiet.{probed};
@@ -19,7 +19,7 @@ use signed_clause::IntSet;
 /// Whether the index can be the item's value, and the item can be whatever out can.
 fn does_cover(t: (i64, u32), out: &IntSet, index: &IntSet, boxes: &[IntSet]) -> bool
     requires { t.1 < length boxes.now }
-    ensures { result ≡ (has index.now t.0 && inside out.now (box_of boxes.now t.1)) }
+    ensures { result ≡ (has index.now t.0 && is_within out.now (box_of boxes.now t.1)) }
 {
     index.contains(t.0) && out.within(&boxes[t.1 as usize])
 }

@@ -11,7 +11,7 @@ use crate::conditional::prune_conditional;
 use crate::element::prune_element;
 use crate::equality::prune_equality;
 use ground_form::{Con, Ground, Kind};
-use rule_law::{Differing, Propagator, probe};
+use rule_law::{Propagator, Repeats, probe};
 use signed_clause::{Clause, IntSet};
 use std::alloc::{AllocError, Global};
 
@@ -20,7 +20,7 @@ use std::alloc::{AllocError, Global};
 #[derive(Drop)]
 pub struct ElementProp {
     alloc: Global,
-    differing: Differing,
+    repeats: Repeats,
 }
 
 impl ElementProp {
@@ -30,7 +30,7 @@ impl ElementProp {
     {
         ElementProp {
             alloc,
-            differing: Differing::new(alloc),
+            repeats: Repeats::new(alloc),
         }
     }
 }
@@ -45,7 +45,7 @@ fn is_choice(kind: Kind) -> bool
 /// What a constraint has to say in the boxes.
 pub(crate) fn prune_one(
     alloc: Global,
-    differing: &mut Differing,
+    repeats: &mut Repeats,
     k: u32,
     con: &Con,
     domains: &[IntSet],
@@ -63,7 +63,7 @@ pub(crate) fn prune_one(
         Con::ElementDef { out, index, items } => {
             prune_element(
                 alloc,
-                differing,
+                repeats,
                 k,
                 con,
                 (*out, *index),
@@ -87,7 +87,7 @@ impl Propagator for ElementProp {
     }
 
     fn begin(&mut self) {
-        self.differing.forget();
+        self.repeats.forget();
     }
 
     fn prune(
@@ -99,7 +99,7 @@ impl Propagator for ElementProp {
         let con = &g.cons.items()[k as usize];
         prune_one(
             self.alloc,
-            &mut self.differing,
+            &mut self.repeats,
             k,
             con,
             g.domains.items(),

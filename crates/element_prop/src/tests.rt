@@ -9,13 +9,13 @@ ghost use Rattle.rule_law.specs.Answers.{AreBoxesWithin, IsAnswer};
 use crate::ElementProp;
 use crate::propagator::prune_one;
 use ground_form::{Con, Kind, Terms, copy_sets};
-use rule_law::{Differing, Propagator, are_boxes_within, justified, probe};
+use rule_law::{Propagator, Repeats, are_boxes_within, justified, probe};
 use signed_clause::{Clause, IntSet};
 use std::alloc::{AllocError, Global};
 
 /// What the propagator says, or plain probing.
 fn answer(
-    differing: &mut Differing,
+    repeats: &mut Repeats,
     con: &Con,
     domains: &[IntSet],
     boxes: &[IntSet],
@@ -30,7 +30,7 @@ fn answer(
     if plain {
         probe(con, domains, boxes, alloc)
     } else {
-        prune_one(alloc, differing, 3, con, domains, boxes)
+        prune_one(alloc, repeats, 3, con, domains, boxes)
     }
 }
 
@@ -49,7 +49,7 @@ enum Turn {
 
 /// Asks once.
 fn ask(
-    differing: &mut Differing,
+    repeats: &mut Repeats,
     con: &Con,
     domains: &[IntSet],
     boxes: &[IntSet],
@@ -60,7 +60,7 @@ fn ask(
     requires boxes { AreBoxesWithin domains.now boxes.now }
     requires sets { All (λ d. IsValid d) domains.now }
 {
-    let Some(clause) = answer(differing, con, domains, boxes, plain, alloc)? else {
+    let Some(clause) = answer(repeats, con, domains, boxes, plain, alloc)? else {
         return Ok(Turn::Still);
     };
     if !justified(con, domains, &clause) {
@@ -75,7 +75,7 @@ fn ask(
 /// The boxes where there is nothing more to say, or None where nothing is left or something went wrong; and how many calls
 /// it took.
 fn settle(
-    differing: &mut Differing,
+    repeats: &mut Repeats,
     con: &Con,
     domains: &[IntSet],
     mut boxes: Vec<IntSet>,
@@ -89,7 +89,7 @@ fn settle(
         if !are_boxes_within(domains, boxes.as_slice()) {
             return Ok(None);
         }
-        match ask(differing, con, domains, boxes.as_slice(), plain, alloc)? {
+        match ask(repeats, con, domains, boxes.as_slice(), plain, alloc)? {
             Turn::Still => return Ok(Some(boxes)),
             Turn::Narrowed(x, set) => {
                 if (x as usize) < boxes.len() {
@@ -127,7 +127,7 @@ fn are_same(a: &[IntSet], b: &[IntSet]) -> bool {
 /// Whether the propagator and plain probing come to the same from the boxes.
 fn settles_alike(
     alloc: Global,
-    differing: &mut Differing,
+    repeats: &mut Repeats,
     con: &Con,
     domains: &[IntSet],
     boxes: &[IntSet],
@@ -136,21 +136,14 @@ fn settles_alike(
     requires sets { All (λ d. IsValid d) domains.now }
 {
     let quick = settle(
-        differing,
+        repeats,
         con,
         domains,
         copy_sets(alloc, boxes)?,
         false,
         alloc,
     )?;
-    let plain = settle(
-        differing,
-        con,
-        domains,
-        copy_sets(alloc, boxes)?,
-        true,
-        alloc,
-    )?;
+    let plain = settle(repeats, con, domains, copy_sets(alloc, boxes)?, true, alloc)?;
     let same = match (&quick, &plain) {
         (Some(a), Some(b)) => are_same(a.as_slice(), b.as_slice()),
         (None, None) => true,
@@ -162,7 +155,7 @@ fn settles_alike(
 /// Whether the propagator and plain probing come to the same from all boxes within the domains, and how many cases there are.
 fn agrees(
     alloc: Global,
-    differing: &mut Differing,
+    repeats: &mut Repeats,
     con: &Con,
     domains: &[IntSet],
     count: u32,
@@ -174,7 +167,7 @@ fn agrees(
     for n in 0..count {
         let boxes = nth_boxes(alloc, domains, n)?;
         if are_boxes_within(domains, boxes.as_slice()) {
-            if !settles_alike(alloc, differing, con, domains, boxes.as_slice())? {
+            if !settles_alike(alloc, repeats, con, domains, boxes.as_slice())? {
                 return Ok(0);
             }
             cases = cases.saturating_add(1);
@@ -186,7 +179,7 @@ fn agrees(
 #[test]
 fn equalities(rt: HostRuntime) -> Result<(), AllocError> {
     let alloc = rt.alloc();
-    let mut differing = Differing::new(alloc);
+    let mut repeats = Repeats::new(alloc);
     let domains = vec![in alloc;
         IntSet::range(alloc, 0, 1),
         IntSet::range(alloc, 0, 2),
@@ -198,7 +191,7 @@ fn equalities(rt: HostRuntime) -> Result<(), AllocError> {
             left,
             right,
         };
-        assert!(rt; agrees(alloc, &mut differing, &con, domains.as_slice(), 512)? > 140);
+        assert!(rt; agrees(alloc, &mut repeats, &con, domains.as_slice(), 512)? > 140);
     }
     Ok(())
 }
@@ -206,7 +199,7 @@ fn equalities(rt: HostRuntime) -> Result<(), AllocError> {
 #[test]
 fn conditionals(rt: HostRuntime) -> Result<(), AllocError> {
     let alloc = rt.alloc();
-    let mut differing = Differing::new(alloc);
+    let mut repeats = Repeats::new(alloc);
     let domains = vec![in alloc;
         IntSet::range(alloc, 0, 1),
         IntSet::range(alloc, 0, 2),
@@ -214,7 +207,7 @@ fn conditionals(rt: HostRuntime) -> Result<(), AllocError> {
     ]?;
     for (out, item) in [(1u32, 2u32), (2, 1), (1, 1), (0, 1), (2, 0)] {
         let con = Con::CondDef { out, flag: 0, item };
-        assert!(rt; agrees(alloc, &mut differing, &con, domains.as_slice(), 512)? > 140);
+        assert!(rt; agrees(alloc, &mut repeats, &con, domains.as_slice(), 512)? > 140);
     }
     Ok(())
 }
@@ -222,7 +215,7 @@ fn conditionals(rt: HostRuntime) -> Result<(), AllocError> {
 #[test]
 fn elements(rt: HostRuntime) -> Result<(), AllocError> {
     let alloc = rt.alloc();
-    let mut differing = Differing::new(alloc);
+    let mut repeats = Repeats::new(alloc);
     let domains = vec![in alloc;
         IntSet::range(alloc, 0, 2),
         IntSet::range(alloc, 0, 2),
@@ -235,7 +228,7 @@ fn elements(rt: HostRuntime) -> Result<(), AllocError> {
             index: 1,
             items: Terms::of(vec![in alloc; (0i64, first), (1i64, second)]?),
         };
-        assert!(rt; agrees(alloc, &mut differing, &con, domains.as_slice(), 4096)? == 2401);
+        assert!(rt; agrees(alloc, &mut repeats, &con, domains.as_slice(), 4096)? == 2401);
     }
     Ok(())
 }
@@ -255,7 +248,7 @@ fn numbers(alloc: Global, ends: (i64, i64)) -> IntSet
 #[test]
 fn elements_of_large_boxes(rt: HostRuntime) -> Result<(), AllocError> {
     let alloc = rt.alloc();
-    let mut differing = Differing::new(alloc);
+    let mut repeats = Repeats::new(alloc);
     for (out, first, second) in [
         ((0i64, 100i64), (0i64, 50i64), (51i64, 100i64)),
         ((0, 120), (0, 50), (51, 100)),
@@ -277,7 +270,7 @@ fn elements_of_large_boxes(rt: HostRuntime) -> Result<(), AllocError> {
         assert!(rt;
             settles_alike(
                 alloc,
-                &mut differing,
+                &mut repeats,
                 &con,
                 domains.as_slice(),
                 boxes.as_slice()
@@ -290,7 +283,7 @@ fn elements_of_large_boxes(rt: HostRuntime) -> Result<(), AllocError> {
 #[test]
 fn what_is_picked_narrows_the_index(rt: HostRuntime) -> Result<(), AllocError> {
     let alloc = rt.alloc();
-    let mut differing = Differing::new(alloc);
+    let mut repeats = Repeats::new(alloc);
     let con = Con::ElementDef {
         out: 3,
         index: 0,
@@ -303,15 +296,7 @@ fn what_is_picked_narrows_the_index(rt: HostRuntime) -> Result<(), AllocError> {
         IntSet::range(alloc, 4, 9),
     ]?;
     let boxes = copy_sets(alloc, domains.as_slice())?;
-    let Some(left) = settle(
-        &mut differing,
-        &con,
-        domains.as_slice(),
-        boxes,
-        false,
-        alloc,
-    )?
-    else {
+    let Some(left) = settle(&mut repeats, &con, domains.as_slice(), boxes, false, alloc)? else {
         assert!(rt; false, "there is a solution");
         return Ok(());
     };

@@ -1,7 +1,7 @@
 -- What the rows of a constraint answer is its answer.
 use Rattle.std.proofs.Common.{◌≡◌, ℕ, true, false, Option, Some, None, List, [], ◌∷◌, ℤ, pos, negsuc, ◌-ℤ◌, ◌≤ℤ◌, ◌<ℤ◌, All, sym, subst, arith}
 use Rattle.std.proofs.lemmas.Int.{ints}
-use Rattle.signed_clause.specs.SetAlgebra.{inside}
+use Rattle.signed_clause.specs.SetAlgebra.{is_within}
 use Rattle.signed_clause.specs.Ranges.{has, IsValid}
 use Rattle.signed_clause.specs.Clauses.{Boxes, Literals, box_of}
 use Rattle.ground_form.specs.declared.con.Con.{Con}
@@ -90,8 +90,8 @@ flag_answer_done con x ts bound one_bound zero_bound domains boxes one nil e f g
     sum_answer_from con (negated ts) zero_bound domains boxes nil a
     (λ t. subst (λ (k : Con). quiet k boxes ≡ true) (sym e) (quiet_open x ts bound zero_bound domains boxes m d b n g p q (subst (λ (z : ℤ). least_sum ts boxes ≤ℤ z) f least) t))
 
-pub open_one : (x : ℕ) (boxes : Boxes) → IsValid (box_of boxes x) → has (box_of boxes x) (pos 1) ≡ true → inside (box_of boxes x) ((pos 0, pos 0) ∷ []) ≡ false
+pub open_one : (x : ℕ) (boxes : Boxes) → IsValid (box_of boxes x) → has (box_of boxes x) (pos 1) ≡ true → is_within (box_of boxes x) ((pos 0, pos 0) ∷ []) ≡ false
 open_one x boxes f h = not_alone (box_of boxes x) (pos 0) (pos 1) f (omega (arith, ints), omega (arith, ints), omega (arith, ints)) (λ e. absurd (omega (arith, ints))) h
 
-pub open_zero : (x : ℕ) (boxes : Boxes) → IsValid (box_of boxes x) → has (box_of boxes x) (pos 0) ≡ true → inside (box_of boxes x) ((pos 1, pos 1) ∷ []) ≡ false
+pub open_zero : (x : ℕ) (boxes : Boxes) → IsValid (box_of boxes x) → has (box_of boxes x) (pos 0) ≡ true → is_within (box_of boxes x) ((pos 1, pos 1) ∷ []) ≡ false
 open_zero x boxes f h = not_alone (box_of boxes x) (pos 1) (pos 0) f (omega (arith, ints), omega (arith, ints), omega (arith, ints)) (λ e. absurd (omega (arith, ints))) h

@@ -8,9 +8,9 @@ use Rattle.std.proofs.lemmas.Bool.Decides.{nat_tests}
 use Rattle.std.proofs.lemmas.Int.{ints, clamps}
 use Rattle.std.proofs.lemmas.List.{take_all, drop_all}
 use Rattle.signed_clause.specs.Ranges.{Ranges, has, IsValid}
-use Rattle.signed_clause.specs.SetAlgebra.{misses}
+use Rattle.signed_clause.specs.SetAlgebra.{is_disjoint}
 use Rattle.signed_clause.specs.Clauses.{Boxes, Literals, box_of}
-use Rattle.signed_clause.proofs.SetFacts.{misses_law}
+use Rattle.signed_clause.proofs.SetFacts.{disjoint_law}
 use Rattle.signed_clause.proofs.RangeSteps.{has-less_valid}
 use Rattle.ground_form.specs.declared.con.Con.{Con}
 use Rattle.ground_form.specs.declared.con.Con.TheVariants.{LinLe, LinDef, ReifLe}
@@ -150,12 +150,12 @@ alone_is u v h = grind (arith, ints)
 alone_has : (v : ℤ) → has ((v, v) ∷ []) v ≡ true
 alone_has v = grind (arith, ints)
 
-alone_misses : (v : ℤ) (box : Ranges) → IsValid ((v, v) ∷ []) → IsValid box → has box v ≡ false → misses ((v, v) ∷ []) box ≡ true
-alone_misses v box f g h = (misses_law ((v, v) ∷ []) box f g).1 (λ u m. ap (λ (z : ℤ). has box z) (alone_is u v m) ∙ h)
+alone_disjoint : (v : ℤ) (box : Ranges) → IsValid ((v, v) ∷ []) → IsValid box → has box v ≡ false → is_disjoint ((v, v) ∷ []) box ≡ true
+alone_disjoint v box f g h = (disjoint_law ((v, v) ∷ []) box f g).1 (λ u m. ap (λ (z : ℤ). has box z) (alone_is u v m) ∙ h)
 
 flag_acts : (ts : List (ℤ × ℕ)) (domains boxes : Boxes) (bound : ℤ) (place : ℕ) (to : ℤ) (slack x : ℕ) (v : ℤ) (out : Literals) → IsSoFar ts domains boxes bound place to (length ts) out slack →
     IsValid ((v, v) ∷ []) → IsValid (box_of boxes x) → IsOpposed boxes x v place ts → Acts boxes (out ++ (x, (v, v) ∷ []) ∷ [])
-flag_acts ts domains boxes bound place to slack x v out so f g (inl h) = acts_push boxes out (x, (v, v) ∷ []) so.acts (alone_misses v (box_of boxes x) f g h)
+flag_acts ts domains boxes bound place to slack x v out so f g (inl h) = acts_push boxes out (x, (v, v) ∷ []) so.acts (alone_disjoint v (box_of boxes x) f g h)
 flag_acts ts domains boxes bound place to slack x v out so f g (inr h) = acts_one boxes out (x, (v, v) ∷ []) [] (so.missed (let e = h.0 in omega arith)) refl h.1
 
 and_not : (a b : Bool) → b ≡ true → (a && not b) ≡ false

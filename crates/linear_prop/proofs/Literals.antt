@@ -2,7 +2,7 @@
 use Rattle.std.proofs.Common.{◌≡◌, ℕ, suc, zero, ◌<◌, ◌==◌, Bool, true, false, not, ◌&&◌, ◌||◌, cond, is_some, Some, None, List, [], ◌∷◌, ◌++◌, ℤ, length, get_or, refl, ap, sym, ◌∙◌, arith}
 use Rattle.std.proofs.lemmas.Bool.{and_parts}
 use Rattle.signed_clause.specs.Ranges.{Ranges, IsValid}
-use Rattle.signed_clause.specs.SetAlgebra.{misses, inside, less, meet}
+use Rattle.signed_clause.specs.SetAlgebra.{is_disjoint, is_within, less, meet}
 use Rattle.signed_clause.specs.Clauses.{Boxes, Literal, Literals, box_of, set_of, has_var, false_in, unit_of, alone_of}
 use Rattle.ground_form.specs.Meaning.{clause_vars, term_vars}
 use Rattle.ground_form.specs.Bounds.{least_sum}
@@ -101,21 +101,21 @@ some_cond : (b : Bool) (u : Literal) → is_some (cond b (Some u) None) ≡ b
 some_cond true u = refl
 some_cond false u = refl
 
-pub false_push : (boxes : Boxes) (out : Literals) (l : Literal) → false_in boxes out ≡ true → misses l.1 (box_of boxes l.0) ≡ true → false_in boxes (out ++ l ∷ []) ≡ true
+pub false_push : (boxes : Boxes) (out : Literals) (l : Literal) → false_in boxes out ≡ true → is_disjoint l.1 (box_of boxes l.0) ≡ true → false_in boxes (out ++ l ∷ []) ≡ true
 false_push boxes out l h m = false_append boxes out (l ∷ []) h (grind arith)
 
-push_at : (boxes : Boxes) (m : Literal) (ls : Literals) (l : Literal) (b : Bool) → misses m.1 (box_of boxes m.0) ≡ b → act_test boxes m ls b ≡ true → misses l.1 (box_of boxes l.0) ≡ true →
+push_at : (boxes : Boxes) (m : Literal) (ls : Literals) (l : Literal) (b : Bool) → is_disjoint m.1 (box_of boxes m.0) ≡ b → act_test boxes m ls b ≡ true → is_disjoint l.1 (box_of boxes l.0) ≡ true →
     (Acts boxes ls → Acts boxes (ls ++ l ∷ [])) → Acts boxes (m ∷ ls ++ l ∷ [])
 unfolding act_test
 push_at boxes m ls l true e h k more = acts_next boxes m (ls ++ l ∷ []) e (more h)
 push_at boxes m ls l false e h k more =
-    let both : (false_in boxes ls && not (inside (box_of boxes m.0) m.1)) ≡ true =
-    sym (some_cond (false_in boxes ls && not (inside (box_of boxes m.0) m.1)) (m.0, meet m.1 (box_of boxes m.0))) ∙ h in
-    let p = and_parts (false_in boxes ls) (not (inside (box_of boxes m.0) m.1)) both in
-    let out : inside (box_of boxes m.0) m.1 ≡ false = let q = p.1 in grind arith in
+    let both : (false_in boxes ls && not (is_within (box_of boxes m.0) m.1)) ≡ true =
+    sym (some_cond (false_in boxes ls && not (is_within (box_of boxes m.0) m.1)) (m.0, meet m.1 (box_of boxes m.0))) ∙ h in
+    let p = and_parts (false_in boxes ls) (not (is_within (box_of boxes m.0) m.1)) both in
+    let out : is_within (box_of boxes m.0) m.1 ≡ false = let q = p.1 in grind arith in
     acts_first boxes m (ls ++ l ∷ []) (false_push boxes ls l p.0 k) out
 
-pub acts_push : (boxes : Boxes) (ls : Literals) (l : Literal) → Acts boxes ls → misses l.1 (box_of boxes l.0) ≡ true → Acts boxes (ls ++ l ∷ [])
+pub acts_push : (boxes : Boxes) (ls : Literals) (l : Literal) → Acts boxes ls → is_disjoint l.1 (box_of boxes l.0) ≡ true → Acts boxes (ls ++ l ∷ [])
 unfolding act_test
 acts_push boxes [] l h k = acts_next boxes l [] k h
-acts_push boxes (m ∷ ls) l h k = push_at boxes m ls l (misses m.1 (box_of boxes m.0)) refl h k (λ a. acts_push boxes ls l a k)
+acts_push boxes (m ∷ ls) l h k = push_at boxes m ls l (is_disjoint m.1 (box_of boxes m.0)) refl h k (λ a. acts_push boxes ls l a k)

@@ -4,9 +4,9 @@ use Rattle.std.specs.Prelude.{int_lt, int_le}
 use Rattle.std.proofs.lemmas.Bool.{false_from_ne_true, cases_eq}
 use Rattle.std.proofs.lemmas.Int.{ints, clamps}
 use Rattle.signed_clause.specs.Ranges.{Ranges, has, IsValid}
-use Rattle.signed_clause.specs.SetAlgebra.{inside}
+use Rattle.signed_clause.specs.SetAlgebra.{is_within}
 use Rattle.signed_clause.specs.Clauses.{Boxes, box_of}
-use Rattle.signed_clause.proofs.SetFacts.{inside_law}
+use Rattle.signed_clause.proofs.SetFacts.{within_law}
 use Rattle.ground_form.specs.declared.con.Con.{Con}
 use Rattle.ground_form.specs.declared.con.Con.TheVariants.{LinLe, LinDef, ReifLe}
 use Rattle.ground_form.specs.Meaning.{vars_of, term_vars}
@@ -160,7 +160,7 @@ flag_range : (x : ℕ) (ts : List (ℤ × ℕ)) (bound : ℤ) (domains boxes : B
     (v ≡ pos 0) ⊎ (v ≡ pos 1)
 flag_range x ts bound domains boxes v m d b h k =
     let f = are_sets boxes b.sets x in let g = are_sets domains d x in
-    let within = (inside_law (box_of boxes x) (box_of domains x) f g).0 (b.within x h) v k in
+    let within = (within_law (box_of boxes x) (box_of domains x) f g).0 (b.within x h) v k in
     let lies = m.flags 0 0 (omega arith) in
     flag_value (box_of domains x) v g refl lies.0 lies.1 within
 
@@ -236,9 +236,9 @@ quiet_open x ts bound turned_bound domains boxes m d b n e zero_in one l k =
     })
 
 -- a box with both values isn't within either
-pub not_alone : (s : Ranges) (v w : ℤ) → IsValid s → IsValid ((v, v) ∷ []) → (w ≡ v → ⊥) → has s w ≡ true → inside s ((v, v) ∷ []) ≡ false
+pub not_alone : (s : Ranges) (v w : ℤ) → IsValid s → IsValid ((v, v) ∷ []) → (w ≡ v → ⊥) → has s w ≡ true → is_within s ((v, v) ∷ []) ≡ false
 not_alone s v w f g n h =
-    false_from_ne_true (inside s ((v, v) ∷ [])) (λ q. let m = (inside_law s ((v, v) ∷ []) f g).0 q w h in n (alone_is v w m))
+    false_from_ne_true (is_within s ((v, v) ∷ [])) (λ q. let m = (within_law s ((v, v) ∷ []) f g).0 q w h in n (alone_is v w m))
   where
     alone_is : (v w : ℤ) → has ((v, v) ∷ []) w ≡ true → w ≡ v
     alone_is v w h = grind (arith, ints)

@@ -3,7 +3,7 @@ use Rattle.std.proofs.Common.{◌≡◌, ℕ, suc, zero, ◌<◌, ◌≤◌, ◌
 use Rattle.std.proofs.lemmas.Int.{ints}
 use Rattle.std.proofs.Math.Nat.{mul-le-mul_left}
 use Rattle.signed_clause.specs.Ranges.{Ranges, is_nil, IsValid}
-use Rattle.signed_clause.specs.SetAlgebra.{inside}
+use Rattle.signed_clause.specs.SetAlgebra.{is_within}
 use Rattle.signed_clause.specs.Clauses.{Boxes, box_of}
 use Rattle.ground_form.specs.Bounds.{low_of, high_of, reach_of, term_weight, weight_of}
 use Rattle.box_rules.specs.Named.{AreTermsNamed}
@@ -46,7 +46,7 @@ domain_named ts domains boxes i t o h e = let x = term_named ts boxes i t o.name
 reach_between : (low high a b : ℤ) → low ≤ℤ a → a ≤ℤ b → b ≤ℤ high → max (unsigned_abs a) (unsigned_abs b) ≤ max (unsigned_abs low) (unsigned_abs high)
 reach_between low high a b h k l = omega (arith, ints)
 
-reach_within : (box d : Ranges) → IsValid box → IsValid d → is_nil box ≡ false → inside box d ≡ true → reach_of box ≤ reach_of d
+reach_within : (box d : Ranges) → IsValid box → IsValid d → is_nil box ≡ false → is_within box d ≡ true → reach_of box ≤ reach_of d
 reach_within box d f g n h = reach_between (low_of d) (high_of d) (low_of box) (high_of box) (low_end_within box d f g n h) (ends_in_order box f) (high_end_within box d f g n h)
 
 weight_within : (t : ℤ × ℕ) (domains boxes : Boxes) → reach_of (box_of boxes t.1) ≤ reach_of (box_of domains t.1) → term_weight t boxes ≤ term_weight t domains

@@ -8,9 +8,9 @@ use Rattle.std.proofs.lemmas.Int.{ints, clamps}
 use Rattle.std.proofs.lemmas.List.{take_more, take-append-drop}
 use Rattle.std.proofs.lemmas.List.Elements.{All-push}
 use Rattle.signed_clause.specs.Ranges.{Ranges, has, is_nil, IsValid}
-use Rattle.signed_clause.specs.SetAlgebra.{misses, inside, less}
+use Rattle.signed_clause.specs.SetAlgebra.{is_disjoint, is_within, less}
 use Rattle.signed_clause.specs.Clauses.{Boxes, Literal, Literals, box_of, false_in}
-use Rattle.signed_clause.proofs.SetFacts.{misses_law, inside_law}
+use Rattle.signed_clause.proofs.SetFacts.{disjoint_law, within_law}
 use Rattle.signed_clause.proofs.RangeSteps.{left_at, has-less_valid, IsValid-less}
 use Rattle.ground_form.specs.Meaning.{clause_vars, term_vars}
 use Rattle.ground_form.specs.Bounds.{low_of, high_of, reach_of, term_weight, least_term, greatest_term, least_sum}
@@ -62,15 +62,15 @@ left_floor c floor v d s f b h k =
     set_floor c floor (less d s) (IsValid-less d s f b.valid) (some_value (less d s) v here) (λ w m. left_is_high c floor w d s f b m)
 
 -- the literal misses a box in which the term is high enough
-pub literal_misses : (c floor : ℤ) (d s box : Ranges) → IsValid box → IsBelow c floor d s → floor ≤ℤ least_at c box → misses s box ≡ true
-literal_misses c floor d s box f b h =
-    (misses_law s box b.valid f).1 (λ v m. false_from_ne_true (has box v) (λ q.
+pub literal_disjoint : (c floor : ℤ) (d s box : Ranges) → IsValid box → IsBelow c floor d s → floor ≤ℤ least_at c box → is_disjoint s box ≡ true
+literal_disjoint c floor d s box f b h =
+    (disjoint_law s box b.valid f).1 (λ v m. false_from_ne_true (has box v) (λ q.
     let a = above_least c v box f q in let n = not_below c floor v d s b (omega (arith, ints)) in grind arith))
 
 -- and takes a value of a box away at which it is high enough
-pub literal_takes : (c floor v : ℤ) (d s box : Ranges) → IsValid box → IsBelow c floor d s → has box v ≡ true → floor ≤ℤ (c *ℤ v) → inside box s ≡ false
+pub literal_takes : (c floor v : ℤ) (d s box : Ranges) → IsValid box → IsBelow c floor d s → has box v ≡ true → floor ≤ℤ (c *ℤ v) → is_within box s ≡ false
 literal_takes c floor v d s box f b h k =
-    false_from_ne_true (inside box s) (λ q. let m = (inside_law box s f b.valid).0 q v h in let n = not_below c floor v d s b k in grind arith)
+    false_from_ne_true (is_within box s) (λ q. let m = (within_law box s f b.valid).0 q v h in let n = not_below c floor v d s b k in grind arith)
 
 greatest_one : (c : ℤ) (s : Ranges) (x : ℤ) → IsValid s → is_nil s ≡ false → x ≤ℤ greatest_at c s → (v : ℤ) × (has s v ≡ true) × (x ≤ℤ (c *ℤ v))
 greatest_one c s x f n h =
@@ -191,7 +191,7 @@ turn_some : (ts : List (ℤ × ℕ)) (domains boxes : Boxes) (bound : ℤ) (plac
 turn_some ts domains boxes bound place to i out slack left t from floor v set turn step so below at high acts missed =
     let fresh = fresh_here ts i t out turn.here turn.term so.fresh in
     let split = split_vars ts i t turn.differ turn.here turn.term in
-    let member = (inside_law (box_of boxes t.1) (box_of domains t.1) turn.box turn.domain).0 turn.within v at in
+    let member = (within_law (box_of boxes t.1) (box_of domains t.1) turn.box turn.domain).0 turn.within v at in
     let box : box_of (cut domains (out ++ (t.1, set) ∷ [])) t.1 ≡ less (box_of domains t.1) set = cut_same domains out (t.1, set) fresh.0 in
     let is : least_at t.0 (less (box_of domains t.1) set) ≡ least_term t (cut domains (out ++ (t.1, set) ∷ [])) =
     ap (λ (s : Ranges). least_at t.0 s) (sym box) ∙ least_is t (cut domains (out ++ (t.1, set) ∷ [])) in
@@ -226,10 +226,10 @@ turn_elsewhere ts domains boxes bound place to i out slack left t from (Some set
     let high : floor ≤ℤ least_at t.0 (box_of boxes t.1) = omega (arith, ints) in
     let low = has_low (box_of boxes t.1) turn.box turn.some in
     let at = above_least t.0 (low_of (box_of boxes t.1)) (box_of boxes t.1) turn.box low in
-    let misses_box = literal_misses t.0 floor (box_of domains t.1) set (box_of boxes t.1) turn.box fall.1 high in
+    let is_disjoint_from_box = literal_disjoint t.0 floor (box_of domains t.1) set (box_of boxes t.1) turn.box fall.1 high in
     turn_some ts domains boxes bound place to i out slack left t from floor (low_of (box_of boxes t.1)) set turn
     (record { small = omega arith; rises = omega (arith, ints); falls = refl }) so fall.1 low (omega (arith, ints))
-    (acts_push boxes out (t.1, set) so.acts misses_box) (λ h. false_push boxes out (t.1, set) (so.missed (omega arith)) misses_box)
+    (acts_push boxes out (t.1, set) so.acts is_disjoint_from_box) (λ h. false_push boxes out (t.1, set) (so.missed (omega arith)) is_disjoint_from_box)
 
 -- at the place it falls no further, and its literal takes something away
 pub turn_at_place : (ts : List (ℤ × ℕ)) (domains boxes : Boxes) (bound : ℤ) (place : ℕ) (to : ℤ) (i : ℕ) (out : Literals) (slack left : ℕ) (t : ℤ × ℕ) (literal : Option Ranges) →
@@ -252,14 +252,14 @@ turn_at_place ts domains boxes bound place to i out slack left t (Some set) turn
 
 -- ---- as the code has it: the domain and the box at hand, and the coefficient
 
-pub low_end_within : (box d : Ranges) → IsValid box → IsValid d → is_nil box ≡ false → inside box d ≡ true → low_of d ≤ℤ low_of box
-low_end_within box d f g n h = above_low d (low_of box) g ((inside_law box d f g).0 h (low_of box) (has_low box f n))
+pub low_end_within : (box d : Ranges) → IsValid box → IsValid d → is_nil box ≡ false → is_within box d ≡ true → low_of d ≤ℤ low_of box
+low_end_within box d f g n h = above_low d (low_of box) g ((within_law box d f g).0 h (low_of box) (has_low box f n))
 
-pub high_end_within : (box d : Ranges) → IsValid box → IsValid d → is_nil box ≡ false → inside box d ≡ true → high_of box ≤ℤ high_of d
-high_end_within box d f g n h = below_high d (high_of box) g ((inside_law box d f g).0 h (high_of box) (has_high box f n))
+pub high_end_within : (box d : Ranges) → IsValid box → IsValid d → is_nil box ≡ false → is_within box d ≡ true → high_of box ≤ℤ high_of d
+high_end_within box d f g n h = below_high d (high_of box) g ((within_law box d f g).0 h (high_of box) (has_high box f n))
 
-pub some_domain : (box d : Ranges) → IsValid box → IsValid d → is_nil box ≡ false → inside box d ≡ true → is_nil d ≡ false
-some_domain box d f g n h = some_value d (low_of box) ((inside_law box d f g).0 h (low_of box) (has_low box f n))
+pub some_domain : (box d : Ranges) → IsValid box → IsValid d → is_nil box ≡ false → is_within box d ≡ true → is_nil d ≡ false
+some_domain box d f g n h = some_value d (low_of box) ((within_law box d f g).0 h (low_of box) (has_low box f n))
 
 pub domain_some : (ts : List (ℤ × ℕ)) (domains boxes : Boxes) (i : ℕ) (t : ℤ × ℕ) (d : Ranges) → IsTurn ts domains boxes i t → d ≡ box_of domains t.1 → is_nil d ≡ false
 domain_some ts domains boxes i t d turn e =

@@ -4,7 +4,7 @@
 use Rattle.std.specs.Prelude.{◌≡◌, ℕ, ◌<◌, ◌≤◌, ◌^◌, true, false, ◌&&◌, cond, List, ℤ, pos, ◌+ℤ◌, ◌-ℤ◌, ◌*ℤ◌, ◌≤ℤ◌, ◌<ℤ◌, slice_index_or, length, unsigned_abs, take, drop, nat_le, nat_lt}
 use Rattle.std.specs.List.{All}
 use Rattle.signed_clause.specs.Ranges.{is_nil, IsValid}
-use Rattle.signed_clause.specs.SetAlgebra.{inside}
+use Rattle.signed_clause.specs.SetAlgebra.{is_within}
 use Rattle.signed_clause.specs.Clauses.{Boxes, Literals, box_of, false_in}
 use Rattle.ground_form.specs.Meaning.{clause_vars, term_vars}
 use Rattle.ground_form.specs.Bounds.{low_of, high_of, least_term, greatest_term, least_sum, weight_of}
@@ -60,7 +60,7 @@ pub record IsTurn (ts : List (ℤ × ℕ)) (domains boxes : Boxes) (i : ℕ) (t 
   pub domain : IsValid (box_of domains t.1)
   pub box : IsValid (box_of boxes t.1)
   pub some : is_nil (box_of boxes t.1) ≡ false
-  pub within : inside (box_of boxes t.1) (box_of domains t.1) ≡ true
+  pub within : is_within (box_of boxes t.1) (box_of domains t.1) ≡ true
 
 -- a row over domains and boxes: no variable has two terms, each has a box within its domain, and no sum is too large
 pub record IsRowOver (ts : List (ℤ × ℕ)) (domains boxes : Boxes) : Type 0 where

@@ -1,7 +1,7 @@
 -- The literal of a flag in an explanation.
 use Rattle.std.specs.Prelude.{◌≡◌, ℕ, Bool, true, false, List, [], ◌∷◌, ◌++◌, ℤ, length, ◌⊎◌}
 use Rattle.signed_clause.specs.Ranges.{has}
-use Rattle.signed_clause.specs.SetAlgebra.{inside}
+use Rattle.signed_clause.specs.SetAlgebra.{is_within}
 use Rattle.signed_clause.specs.Clauses.{Boxes, Literals, box_of}
 
 -- the literals with that of the flag, where its domain has the value
@@ -11,4 +11,4 @@ with_flag out x v false = out
 
 -- the flag's box lacks the value; or no term is pruned, and the flag's box has another value too
 abbrev pub IsOpposed : Boxes → ℕ → ℤ → ℕ → List (ℤ × ℕ) → Type 0
-IsOpposed boxes x v place ts = (has (box_of boxes x) v ≡ false) ⊎ ((place ≡ length ts) × (inside (box_of boxes x) ((v, v) ∷ []) ≡ false))
+IsOpposed boxes x v place ts = (has (box_of boxes x) v ≡ false) ⊎ ((place ≡ length ts) × (is_within (box_of boxes x) ((v, v) ∷ []) ≡ false))

@@ -9,7 +9,7 @@ ghost use Rattle.linear_prop.specs.Handled.{is_linear};
 
 use crate::kinds::linear_answer;
 use ground_form::{Con, Ground, Kind};
-use rule_law::{Differing, Propagator, probe};
+use rule_law::{Propagator, Repeats, probe};
 use signed_clause::{Clause, IntSet};
 use std::alloc::{AllocError, Global};
 
@@ -20,7 +20,7 @@ use std::alloc::{AllocError, Global};
 #[derive(Drop)]
 pub struct LinearProp {
     alloc: Global,
-    differing: Differing,
+    repeats: Repeats,
 }
 
 impl LinearProp {
@@ -30,7 +30,7 @@ impl LinearProp {
     {
         LinearProp {
             alloc,
-            differing: Differing::new(alloc),
+            repeats: Repeats::new(alloc),
         }
     }
 }
@@ -38,7 +38,7 @@ impl LinearProp {
 /// The answer of the constraint with the number.
 pub(crate) fn answer_of(
     alloc: Global,
-    differing: &mut Differing,
+    repeats: &mut Repeats,
     k: u32,
     con: &Con,
     domains: &[IntSet],
@@ -49,7 +49,7 @@ pub(crate) fn answer_of(
     requires boxes { AreBoxesWithin domains.now boxes.now }
     ensures { IfOk result (λ answer. IsAnswer con.now domains.now boxes.now answer) }
 {
-    let differ = differing.do_differ(k, con)?;
+    let differ = repeats.has_no_repeat(k, con)?;
     if differ {
         let answer = linear_answer(alloc, con, domains, boxes)?;
         Ok(answer)
@@ -67,7 +67,7 @@ impl Propagator for LinearProp {
     }
 
     fn begin(&mut self) {
-        self.differing.forget();
+        self.repeats.forget();
     }
 
     fn prune(
@@ -79,7 +79,7 @@ impl Propagator for LinearProp {
         let con = &g.cons.items()[k as usize];
         let answer = answer_of(
             self.alloc,
-            &mut self.differing,
+            &mut self.repeats,
             k,
             con,
             g.domains.items(),

@@ -1,7 +1,7 @@
 //! The answer of one row, and the clause that it gives.
 ghost use Rattle.std.specs.Prelude.{◌≡◌, ◌<◌, ◌≤◌, ◌^◌, ◌≤ℤ◌, ◌<ℤ◌, false, true, ℤ, ℕ, List, [], ◌∷◌, length, unsigned_abs, IfOk, OnOk};
 ghost use Rattle.signed_clause.specs.Ranges.{has, IsValid};
-ghost use Rattle.signed_clause.specs.SetAlgebra.{inside};
+ghost use Rattle.signed_clause.specs.SetAlgebra.{is_within};
 ghost use Rattle.signed_clause.specs.Clauses.{Literals, box_of};
 ghost use Rattle.ground_form.specs.Meaning.{term_vars};
 ghost use Rattle.ground_form.specs.Bounds.{least_sum};
@@ -146,7 +146,7 @@ pub fn open_answer(
     requires over { IsRowOver (terms_of row.now) domains.now boxes.now }
     requires flag { flag < length boxes.now }
     requires apart { has_number flag (term_vars (terms_of row.now)) ≡ false }
-    requires open { inside (box_of boxes.now flag) ((v.value, v.value) ∷ []) ≡ false }
+    requires open { is_within (box_of boxes.now flag) ((v.value, v.value) ∷ []) ≡ false }
     requires follows { (out : Literals) → row.now.bound.value <ℤ least_sum (terms_of row.now) (cut domains.now out) → has (box_of (cut domains.now out) flag) v.value ≡ false → justified con.now domains.now out ≡ true }
     ensures { IfOk result (λ answer. IsSumAnswer con.now (terms_of row.now) row.now.bound.value domains.now boxes.now answer) }
 {

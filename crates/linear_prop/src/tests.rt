@@ -14,7 +14,7 @@ use crate::LinearProp;
 use crate::explain::set_at;
 use crate::propagator::answer_of;
 use ground_form::{Con, Kind, Terms, copy_sets, ends_of};
-use rule_law::{Differing, Propagator, are_boxes_within, justified, probe};
+use rule_law::{Propagator, Repeats, are_boxes_within, justified, probe};
 use signed_clause::{Clause, IntSet};
 use std::alloc::{AllocError, Global};
 
@@ -65,7 +65,7 @@ fn are_fit(terms: &[(i64, u32)], domains: &[IntSet]) -> bool
 
 /// What the propagator says, or plain probing.
 fn answer(
-    differing: &mut Differing,
+    repeats: &mut Repeats,
     con: &Con,
     domains: &[IntSet],
     boxes: &[IntSet],
@@ -80,7 +80,7 @@ fn answer(
     if plain {
         probe(con, domains, boxes, alloc)
     } else {
-        answer_of(alloc, differing, 3, con, domains, boxes)
+        answer_of(alloc, repeats, 3, con, domains, boxes)
     }
 }
 
@@ -99,7 +99,7 @@ enum Turn {
 
 /// Asks once.
 fn ask(
-    differing: &mut Differing,
+    repeats: &mut Repeats,
     con: &Con,
     domains: &[IntSet],
     boxes: &[IntSet],
@@ -110,7 +110,7 @@ fn ask(
     requires boxes { AreBoxesWithin domains.now boxes.now }
     requires sets { All (λ d. IsValid d) domains.now }
 {
-    let Some(clause) = answer(differing, con, domains, boxes, plain, alloc)? else {
+    let Some(clause) = answer(repeats, con, domains, boxes, plain, alloc)? else {
         return Ok(Turn::Still);
     };
     if !justified(con, domains, &clause) {
@@ -124,7 +124,7 @@ fn ask(
 
 /// The boxes where there is nothing more to say, or None where nothing is left or something went wrong.
 fn settle(
-    differing: &mut Differing,
+    repeats: &mut Repeats,
     con: &Con,
     domains: &[IntSet],
     mut boxes: Vec<IntSet>,
@@ -138,7 +138,7 @@ fn settle(
         if !are_boxes_within(domains, boxes.as_slice()) {
             return Ok(None);
         }
-        match ask(differing, con, domains, boxes.as_slice(), plain, alloc)? {
+        match ask(repeats, con, domains, boxes.as_slice(), plain, alloc)? {
             Turn::Still => return Ok(Some(boxes)),
             Turn::Narrowed(x, set) => {
                 if (x as usize) < boxes.len() {
@@ -176,7 +176,7 @@ fn are_same(a: &[IntSet], b: &[IntSet]) -> bool {
 /// How many cases there are, if the propagator and plain probing come to the same from all boxes within the domains; else 0.
 fn agrees(
     alloc: Global,
-    differing: &mut Differing,
+    repeats: &mut Repeats,
     con: &Con,
     domains: &[IntSet],
 ) -> Result<u32, AllocError>
@@ -187,9 +187,9 @@ fn agrees(
     for n in 0..512u32 {
         let boxes = nth_boxes(alloc, domains, n)?;
         if are_boxes_within(domains, boxes.as_slice()) {
-            let quick = settle(differing, con, domains, boxes, false, alloc)?;
+            let quick = settle(repeats, con, domains, boxes, false, alloc)?;
             let plain = settle(
-                differing,
+                repeats,
                 con,
                 domains,
                 nth_boxes(alloc, domains, n)?,
@@ -214,7 +214,7 @@ fn agrees(
 #[tactic(auto, using(crate::proofs::TestRows::made_at_most))]
 fn at_most_agrees(
     alloc: Global,
-    differing: &mut Differing,
+    repeats: &mut Repeats,
     terms: &[(i64, u32)],
     bound: i64,
     domains: &[IntSet],
@@ -226,14 +226,14 @@ fn at_most_agrees(
     }
     let terms = Terms::of(terms.to_vec(alloc)?);
     let con = Con::LinLe { terms, bound };
-    agrees(alloc, differing, &con, domains)
+    agrees(alloc, repeats, &con, domains)
 }
 
 /// The same for a sum that defines a variable.
 #[tactic(auto, using(crate::proofs::TestRows::made_sum))]
 fn sum_agrees(
     alloc: Global,
-    differing: &mut Differing,
+    repeats: &mut Repeats,
     out: u32,
     terms: &[(i64, u32)],
     offset: i64,
@@ -247,7 +247,7 @@ fn sum_agrees(
     }
     let terms = Terms::of(terms.to_vec(alloc)?);
     let con = Con::LinDef { out, terms, offset };
-    agrees(alloc, differing, &con, domains)
+    agrees(alloc, repeats, &con, domains)
 }
 
 /// Whether the variable has a domain within 0..1.
@@ -267,7 +267,7 @@ fn is_flag(domains: &[IntSet], x: u32) -> bool
 #[tactic(auto, using(crate::proofs::TestRows::made_flag))]
 fn flag_agrees(
     alloc: Global,
-    differing: &mut Differing,
+    repeats: &mut Repeats,
     flag: u32,
     terms: &[(i64, u32)],
     bound: i64,
@@ -280,7 +280,7 @@ fn flag_agrees(
     }
     let terms = Terms::of(terms.to_vec(alloc)?);
     let con = Con::ReifLe { flag, terms, bound };
-    agrees(alloc, differing, &con, domains)
+    agrees(alloc, repeats, &con, domains)
 }
 
 /// The three terms of a row of the tables, in which a variable may stand twice and a coefficient be 0.
@@ -297,10 +297,10 @@ const ROWS: [[(i64, u32); 3]; 6] = [
 fn do_bounds_agree(alloc: Global, domains: &[IntSet]) -> Result<bool, AllocError>
     requires sets { All (λ d. IsValid d) domains.now }
 {
-    let mut differing = Differing::new(alloc);
+    let mut repeats = Repeats::new(alloc);
     for terms in ROWS {
         for bound in [-3i64, -1, 0, 2, i64::MIN, i64::MAX] {
-            if at_most_agrees(alloc, &mut differing, &terms, bound, domains)? != 343 {
+            if at_most_agrees(alloc, &mut repeats, &terms, bound, domains)? != 343 {
                 return Ok(false);
             }
         }
@@ -312,7 +312,7 @@ fn do_bounds_agree(alloc: Global, domains: &[IntSet]) -> Result<bool, AllocError
 fn do_sums_agree(alloc: Global, domains: &[IntSet]) -> Result<bool, AllocError>
     requires sets { All (λ d. IsValid d) domains.now }
 {
-    let mut differing = Differing::new(alloc);
+    let mut repeats = Repeats::new(alloc);
     for (out, terms, offset) in [
         (2u32, [(2i64, 0u32), (-1, 1)], 0i64),
         (0, [(-1, 2), (-1, 1)], -1),
@@ -322,7 +322,7 @@ fn do_sums_agree(alloc: Global, domains: &[IntSet]) -> Result<bool, AllocError>
     ] {
         if sum_agrees(
             alloc,
-            &mut differing,
+            &mut repeats,
             out,
             &terms,
             offset.clamp(-9, 9),
@@ -339,7 +339,7 @@ fn do_sums_agree(alloc: Global, domains: &[IntSet]) -> Result<bool, AllocError>
 fn do_flags_agree(alloc: Global, domains: &[IntSet]) -> Result<bool, AllocError>
     requires sets { All (λ d. IsValid d) domains.now }
 {
-    let mut differing = Differing::new(alloc);
+    let mut repeats = Repeats::new(alloc);
     for terms in [
         [(2i64, 1u32), (3, 2)],
         [(-4, 2), (1, 1)],
@@ -348,7 +348,7 @@ fn do_flags_agree(alloc: Global, domains: &[IntSet]) -> Result<bool, AllocError>
         [(0, 2), (-1, 1)],
     ] {
         for bound in [-2i64, -1, 0, 1, 5, i64::MIN, i64::MAX] {
-            if flag_agrees(alloc, &mut differing, 0, &terms, bound, domains)? == 0 {
+            if flag_agrees(alloc, &mut repeats, 0, &terms, bound, domains)? == 0 {
                 return Ok(false);
             }
         }
@@ -396,9 +396,9 @@ fn left_by_bound(
     }
     let terms = Terms::of(terms.to_vec(alloc)?);
     let con = Con::LinLe { terms, bound };
-    let mut differing = Differing::new(alloc);
+    let mut repeats = Repeats::new(alloc);
     settle(
-        &mut differing,
+        &mut repeats,
         &con,
         domains,
         copy_sets(alloc, domains)?,
@@ -426,9 +426,9 @@ fn left_by_sum(
         terms,
         offset: 2,
     };
-    let mut differing = Differing::new(alloc);
+    let mut repeats = Repeats::new(alloc);
     settle(
-        &mut differing,
+        &mut repeats,
         &con,
         domains,
         copy_sets(alloc, domains)?,

@@ -5,10 +5,10 @@ use Rattle.std.proofs.lemmas.Bool.{and_parts, false_from_ne_true}
 use Rattle.std.proofs.lemmas.Bool.Decides.{nat_tests}
 use Rattle.std.proofs.lemmas.List.Elements.{All-cons}
 use Rattle.signed_clause.specs.Ranges.{Ranges, has, is_nil, IsValid}
-use Rattle.signed_clause.specs.SetAlgebra.{misses, join}
+use Rattle.signed_clause.specs.SetAlgebra.{is_disjoint, join}
 use Rattle.signed_clause.specs.Clauses.{Boxes, Literal, Literals, box_of, set_of}
 use Rattle.signed_clause.proofs.RangeSteps.{IsValid-join, has-join_valid}
-use Rattle.signed_clause.proofs.SetFacts.{misses_law}
+use Rattle.signed_clause.proofs.SetFacts.{disjoint_law}
 use Rattle.ground_form.specs.Meaning.{clause_vars}
 use Rattle.rule_law.specs.Reasons.{has_number, no_repeat}
 use Rattle.box_view.proofs.CutLaws.{low_within, top_within}
@@ -28,11 +28,11 @@ join_some : (a b : Ranges) → IsValid a → IsValid b → is_nil b ≡ false �
 join_some a b f g n =
     let low = has_low b g n in let e = has-join_valid a b f g (low_of b) in has_some (join a b) (low_of b) (grind arith)
 
-join_missed : (a b box : Ranges) → IsValid a → IsValid b → IsValid box → misses a box ≡ true → misses b box ≡ true → misses (join a b) box ≡ true
+join_missed : (a b box : Ranges) → IsValid a → IsValid b → IsValid box → is_disjoint a box ≡ true → is_disjoint b box ≡ true → is_disjoint (join a b) box ≡ true
 join_missed a b box f g k h j =
-    (misses_law (join a b) box (IsValid-join a b f g) k).1 (λ v q.
+    (disjoint_law (join a b) box (IsValid-join a b f g) k).1 (λ v q.
     let e = has-join_valid a b f g v in
-    let one = (misses_law a box f k).0 h v in let two = (misses_law b box g k).0 j v in grind arith)
+    let one = (disjoint_law a box f k).0 h v in let two = (disjoint_law b box g k).0 j v in grind arith)
 
 join_false : (boxes : Boxes) (l : Literal) (s : Ranges) → AreSets boxes → IsFalse boxes l → IsFalse boxes (l.0, s) → IsFalse boxes (l.0, join l.1 s)
 join_false boxes l s b h k = record {
@@ -107,7 +107,7 @@ with_says boxes y z s v (l ∷ ls) f a =
 pub record MaySay (boxes : Boxes) (y : ℕ) (s : Ranges) : Type 0 where
   pub named : y < length boxes
   pub valid : IsValid s
-  pub missed : misses s (box_of boxes y) ≡ true
+  pub missed : is_disjoint s (box_of boxes y) ≡ true
 
 pub said_collected : (boxes : Boxes) (y : ℕ) (s : Ranges) (ls : Literals) → AreSets boxes → MaySay boxes y s → AreCollected boxes ls → AreCollected boxes (said y s ls)
 said_collected boxes y s ls b m h =

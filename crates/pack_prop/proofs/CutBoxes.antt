@@ -4,9 +4,9 @@ use Rattle.std.proofs.lemmas.Bool.{false_from_ne_true}
 use Rattle.std.specs.Prelude.{◌==◌}
 use Rattle.std.proofs.lemmas.Bool.Decides.{nat_tests}
 use Rattle.signed_clause.specs.Ranges.{Ranges, has, is_nil, IsValid}
-use Rattle.signed_clause.specs.SetAlgebra.{inside}
+use Rattle.signed_clause.specs.SetAlgebra.{is_within}
 use Rattle.signed_clause.specs.Clauses.{Boxes, Literals, box_of, set_of}
-use Rattle.signed_clause.proofs.SetFacts.{misses_law, inside_law}
+use Rattle.signed_clause.proofs.SetFacts.{disjoint_law, within_law}
 use Rattle.signed_clause.proofs.RangeSteps.{has-less_valid, IsValid-less}
 use Rattle.ground_form.specs.declared.con.Con.{Con}
 use Rattle.ground_form.specs.Bounds.{low_of, high_of}
@@ -39,7 +39,7 @@ set_missed boxes (l ∷ ls) y v b a h =
     let head = a 0 l (omega arith) in
     (elim (l.0 == y) as (λ t. (l.0 == y) ≡ t → has (cond t l.1 (set_of ls y)) v ≡ true → has (box_of boxes y) v ≡ false) [
       | true ↦ λ e k. let same : l.0 ≡ y = grind (arith, nat_tests) in
-          subst (λ (z : ℕ). has (box_of boxes z) v ≡ false) same ((misses_law l.1 (box_of boxes l.0) head.valid (b l.0)).0 head.missed v k)
+          subst (λ (z : ℕ). has (box_of boxes z) v ≡ false) same ((disjoint_law l.1 (box_of boxes l.0) head.valid (b l.0)).0 head.missed v k)
       | false ↦ λ e k. set_missed boxes ls y v b (λ j d lt. a (suc j) d (omega arith)) k
     ]) refl h
 
@@ -53,11 +53,11 @@ cut_valid domains boxes ls s h y = subst (λ (z : Ranges). IsValid z) (sym (cut_
 pub record AreOver (domains boxes : Boxes) : Type 0 where
   pub domain_sets : AreSets domains
   pub box_sets : AreSets boxes
-  pub within : (y : ℕ) → y < length boxes → inside (box_of boxes y) (box_of domains y) ≡ true
+  pub within : (y : ℕ) → y < length boxes → is_within (box_of boxes y) (box_of domains y) ≡ true
   pub some : (y : ℕ) → y < length boxes → is_nil (box_of boxes y) ≡ false
 
 pub box_in : (domains boxes : Boxes) (y : ℕ) (v : ℤ) → AreOver domains boxes → y < length boxes → has (box_of boxes y) v ≡ true → has (box_of domains y) v ≡ true
-box_in domains boxes y v o n h = (inside_law (box_of boxes y) (box_of domains y) (o.box_sets y) (o.domain_sets y)).0 (o.within y n) v h
+box_in domains boxes y v o n h = (within_law (box_of boxes y) (box_of domains y) (o.box_sets y) (o.domain_sets y)).0 (o.within y n) v h
 
 pub cut_keeps : (domains boxes : Boxes) (ls : Literals) (y : ℕ) (v : ℤ) → AreOver domains boxes → AreCollected boxes ls → y < length boxes → has (box_of boxes y) v ≡ true → has (box_of (cut domains ls) y) v ≡ true
 cut_keeps domains boxes ls y v o h n k =

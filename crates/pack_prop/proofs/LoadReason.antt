@@ -7,7 +7,7 @@ use Rattle.std.proofs.lemmas.Bool.{and_parts, and_from, false_from_ne_true}
 use Rattle.std.proofs.lemmas.Bool.Decides.{Decides-int_eq}
 use Rattle.signed_clause.specs.Ranges.{Ranges, has, is_nil, IsValid}
 use Rattle.signed_clause.specs.Clauses.{Boxes, Literals, box_of}
-use Rattle.signed_clause.proofs.SetFacts.{misses_law}
+use Rattle.signed_clause.proofs.SetFacts.{disjoint_law}
 use Rattle.ground_form.specs.declared.con.Con.{Con}
 use Rattle.ground_form.specs.declared.con.Con.TheVariants.{Pack}
 use Rattle.ground_form.specs.Meaning.{item_vars}
@@ -136,7 +136,7 @@ pub bin_said : (domains boxes : Boxes) (y : ℕ) (s : Ranges) → AreOver domain
 bin_said domains boxes y s o n f w = record {
   named = n;
   valid = f;
-  missed = (misses_law s (box_of boxes y) f (o.box_sets y)).1 (λ v q. false_from_ne_true (has (box_of boxes y) v) (λ t. let is = w v in grind arith));
+  missed = (disjoint_law s (box_of boxes y) f (o.box_sets y)).1 (λ v q. false_from_ne_true (has (box_of boxes y) v) (λ t. let is = w v in grind arith));
 }
 
 pub bin_fixed : (domains boxes : Boxes) (y : ℕ) (v : ℤ) (s : Ranges) (ls : Literals) → AreOver domains boxes → y < length boxes → AreCollected boxes ls → MaySay boxes y s →

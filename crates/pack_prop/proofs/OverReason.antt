@@ -5,9 +5,9 @@ use Rattle.std.specs.Ordering.{int_eq}
 use Rattle.std.proofs.lemmas.Bool.{and_parts, cases_eq, false_from_ne_true}
 use Rattle.std.proofs.lemmas.Bool.Decides.{nat_tests, Decides-int_eq}
 use Rattle.signed_clause.specs.Ranges.{Ranges, has, is_nil, IsValid}
-use Rattle.signed_clause.specs.SetAlgebra.{meet, inside}
+use Rattle.signed_clause.specs.SetAlgebra.{meet, is_within}
 use Rattle.signed_clause.specs.Clauses.{Boxes, box_of}
-use Rattle.signed_clause.proofs.SetFacts.{inside_law}
+use Rattle.signed_clause.proofs.SetFacts.{within_law}
 use Rattle.signed_clause.proofs.RangeSteps.{has-meet_valid, IsValid-meet}
 use Rattle.ground_form.specs.Bounds.{low_of, high_of}
 use Rattle.box_rules.specs.Refuted.{fixed_at, overfull, some_overfull}
@@ -42,17 +42,17 @@ part_valid domains boxes items x s p y =
     subst (λ (b : Ranges). IsValid b) (sym (part_box boxes x y s p.var))
     (elim (y == x) as (λ t. IsValid (cond t s (box_of boxes y))) [ true ↦ p.valid | false ↦ are_sets boxes p.boxes_within.sets y ])
 
-inside_on : (a b c : Ranges) → IsValid a → IsValid b → IsValid c → inside a b ≡ true → inside b c ≡ true → inside a c ≡ true
-inside_on a b c f g h i j = (inside_law a c f h).1 (λ v m. (inside_law b c g h).0 j v ((inside_law a b f g).0 i v m))
+within_on : (a b c : Ranges) → IsValid a → IsValid b → IsValid c → is_within a b ≡ true → is_within b c ≡ true → is_within a c ≡ true
+within_on a b c f g h i j = (within_law a c f h).1 (λ v m. (within_law b c g h).0 j v ((within_law a b f g).0 i v m))
 
-pub part_within : (domains boxes : Boxes) (items : List (ℕ × ℕ × ℕ)) (x : ℕ) (s : Ranges) → IsPart domains boxes items x s → (y : ℕ) → y < length boxes → inside (box_of (with_part boxes x s) y) (box_of domains y) ≡ true
+pub part_within : (domains boxes : Boxes) (items : List (ℕ × ℕ × ℕ)) (x : ℕ) (s : Ranges) → IsPart domains boxes items x s → (y : ℕ) → y < length boxes → is_within (box_of (with_part boxes x s) y) (box_of domains y) ≡ true
 part_within domains boxes items x s p y n =
     let w = p.boxes_within in
-    subst (λ (b : Ranges). inside b (box_of domains y) ≡ true) (sym (part_box boxes x y s p.var))
-    ((elim (y == x) as (λ t. (y == x) ≡ t → inside (cond t s (box_of boxes y)) (box_of domains y) ≡ true) [
+    subst (λ (b : Ranges). is_within b (box_of domains y) ≡ true) (sym (part_box boxes x y s p.var))
+    ((elim (y == x) as (λ t. (y == x) ≡ t → is_within (cond t s (box_of boxes y)) (box_of domains y) ≡ true) [
       | true ↦ λ e. let same : x ≡ y = grind (arith, nat_tests) in
-          subst (λ (z : ℕ). inside s (box_of domains z) ≡ true) same
-          (inside_on s (box_of boxes x) (box_of domains x) p.valid (are_sets boxes w.sets x) (are_sets domains p.domain_sets x) p.within (w.within x p.var))
+          subst (λ (z : ℕ). is_within s (box_of domains z) ≡ true) same
+          (within_on s (box_of boxes x) (box_of domains x) p.valid (are_sets boxes w.sets x) (are_sets domains p.domain_sets x) p.within (w.within x p.var))
       | false ↦ λ e. w.within y n
     ]) refl)
 
@@ -77,7 +77,7 @@ or_right false y h = h
 pub or_left : (x y : Bool) → x ≡ true → (x || y) ≡ true
 or_left x y h = rw h refl
 
-pub meet_inside : (a b s : Ranges) → IsValid a → IsValid b → s ≡ meet a b → inside s a ≡ true
-meet_inside a b s f g e =
-    subst (λ (z : Ranges). inside z a ≡ true) (sym e)
-    ((inside_law (meet a b) a (IsValid-meet a b f g) f).1 (λ v m. (and_parts (has a v) (has b v) (sym (has-meet_valid a b f g v) ∙ m)).0))
+pub meet_within : (a b s : Ranges) → IsValid a → IsValid b → s ≡ meet a b → is_within s a ≡ true
+meet_within a b s f g e =
+    subst (λ (z : Ranges). is_within z a ≡ true) (sym e)
+    ((within_law (meet a b) a (IsValid-meet a b f g) f).1 (λ v m. (and_parts (has a v) (has b v) (sym (has-meet_valid a b f g v) ∙ m)).0))

@@ -5,9 +5,9 @@ use Rattle.std.proofs.lemmas.Int.{ints}
 use Rattle.std.proofs.lemmas.Bool.{and_parts, cases_lt, false_from_ne_true}
 use Rattle.std.proofs.lemmas.Bool.Decides.{nat_tests}
 use Rattle.signed_clause.specs.Ranges.{Ranges, has, is_nil, IsValid}
-use Rattle.signed_clause.specs.SetAlgebra.{misses, inside}
+use Rattle.signed_clause.specs.SetAlgebra.{is_disjoint, is_within}
 use Rattle.signed_clause.specs.Clauses.{Boxes, Literal, Literals, box_of, false_in}
-use Rattle.signed_clause.proofs.SetFacts.{misses_law, inside_law}
+use Rattle.signed_clause.proofs.SetFacts.{disjoint_law, within_law}
 use Rattle.ground_form.specs.declared.con.Con.{Con}
 use Rattle.ground_form.specs.declared.con.Con.TheVariants.{Pack}
 use Rattle.ground_form.specs.Meaning.{clause_vars, item_vars}
@@ -69,10 +69,10 @@ part_named boxes x s items h k d lt =
 
 -- ---- what acts
 
-missed_other : (boxes : Boxes) (x : ℕ) (s : Ranges) (l : Literal) → (l.0 == x) ≡ false → IsFalse (with_part boxes x s) l → misses l.1 (box_of boxes l.0) ≡ true
+missed_other : (boxes : Boxes) (x : ℕ) (s : Ranges) (l : Literal) → (l.0 == x) ≡ false → IsFalse (with_part boxes x s) l → is_disjoint l.1 (box_of boxes l.0) ≡ true
 missed_other boxes x s l e h =
     let other : box_of (with_part boxes x s) l.0 ≡ box_of boxes l.0 = part_other boxes x l.0 s (λ q. let t : (l.0 == x) ≡ true = grind (arith, nat_tests) in absurd cc) in
-    subst (λ (b : Ranges). misses l.1 b ≡ true) other h.missed
+    subst (λ (b : Ranges). is_disjoint l.1 b ≡ true) other h.missed
 
 others_false : (boxes : Boxes) (x : ℕ) (s : Ranges) (ls : Literals) → has_number x (clause_vars ls) ≡ false → All (λ l. IsFalse (with_part boxes x s) l) ls → false_in boxes ls ≡ true
 others_false boxes x s [] n a = refl
@@ -92,13 +92,13 @@ acts_from domains boxes items x s (l ∷ ls) p d a =
           let gone : has_number x (clause_vars ls) ≡ false = subst (λ (z : ℕ). has_number z (clause_vars ls) ≡ false) same (let n = parts.0 in grind arith) in
           let sets = are_sets boxes p.boxes_within.sets in
           let value = has_low s p.valid p.some in
-          let of_box : has (box_of boxes x) (low_of s) ≡ true = (inside_law s (box_of boxes x) p.valid (sets x)).0 p.within (low_of s) value in
+          let of_box : has (box_of boxes x) (low_of s) ≡ true = (within_law s (box_of boxes x) p.valid (sets x)).0 p.within (low_of s) value in
           let at : box_of (with_part boxes x s) l.0 ≡ s = subst (λ (z : ℕ). box_of (with_part boxes x s) z ≡ s) (sym same) (part_same boxes x s p.var) in
-          let missed : misses l.1 s ≡ true = subst (λ (b : Ranges). misses l.1 b ≡ true) at head.missed in
-          let open_box : inside (box_of boxes x) l.1 ≡ false = false_from_ne_true (inside (box_of boxes x) l.1) (λ q.
-          let there = (inside_law (box_of boxes x) l.1 (sets x) head.valid).0 q (low_of s) of_box in
-          let none = (misses_law l.1 s head.valid p.valid).0 missed (low_of s) there in absurd cc) in
-          acts_first boxes l ls (others_false boxes x s ls gone tail) (subst (λ (z : ℕ). inside (box_of boxes z) l.1 ≡ false) (sym same) open_box)
+          let missed : is_disjoint l.1 s ≡ true = subst (λ (b : Ranges). is_disjoint l.1 b ≡ true) at head.missed in
+          let open_box : is_within (box_of boxes x) l.1 ≡ false = false_from_ne_true (is_within (box_of boxes x) l.1) (λ q.
+          let there = (within_law (box_of boxes x) l.1 (sets x) head.valid).0 q (low_of s) of_box in
+          let none = (disjoint_law l.1 s head.valid p.valid).0 missed (low_of s) there in absurd cc) in
+          acts_first boxes l ls (others_false boxes x s ls gone tail) (subst (λ (z : ℕ). is_within (box_of boxes z) l.1 ≡ false) (sym same) open_box)
       | false ↦ λ e. acts_next boxes l ls (missed_other boxes x s l e head) (acts_from domains boxes items x s ls p parts.1 tail)
     ]) refl
 
@@ -176,7 +176,7 @@ pub room_said : (domains boxes : Boxes) (y : ℕ) (h : ℤ) (s : Ranges) (ls : L
 room_said domains boxes y h s ls o n c f e w = record {
   named = n;
   valid = f;
-  missed = (misses_law s (box_of boxes y) f (o.box_sets y)).1 (λ v q. false_from_ne_true (has (box_of boxes y) v) (λ t.
+  missed = (disjoint_law s (box_of boxes y) f (o.box_sets y)).1 (λ v q. false_from_ne_true (has (box_of boxes y) v) (λ t.
       let high = below_high (box_of boxes y) v (o.box_sets y) t in let is = w v in let above : int_lt h v ≡ true = grind arith in grind (arith, ints)));
 }
 
@@ -229,7 +229,7 @@ short_said items domains boxes k h row s o n u e f w b =
     let i = slice_index_or items k (0, 0, 0) in record {
       named = (n k (0, 0, 0) u).place;
       valid = f;
-      missed = (misses_law s (box_of boxes i.0) f (o.box_sets i.0)).1 (λ v q. false_from_ne_true (has (box_of boxes i.0) v) (λ t.
+      missed = (disjoint_law s (box_of boxes i.0) f (o.box_sets i.0)).1 (λ v q. false_from_ne_true (has (box_of boxes i.0) v) (λ t.
           let is = w v in let short : is_short v h row ≡ true = grind arith in
           let less = short_less v h row items boxes b short in
           let room = best_in v k items boxes u t in omega (arith, ints)));
@@ -307,7 +307,7 @@ pub size_said : (domains boxes : Boxes) (y : ℕ) (to low : ℤ) (s : Ranges) �
 size_said domains boxes y to low s o n f e l w = record {
   named = n;
   valid = f;
-  missed = (misses_law s (box_of boxes y) f (o.box_sets y)).1 (λ v q. false_from_ne_true (has (box_of boxes y) v) (λ t.
+  missed = (disjoint_law s (box_of boxes y) f (o.box_sets y)).1 (λ v q. false_from_ne_true (has (box_of boxes y) v) (λ t.
       let above = above_low (box_of boxes y) v (o.box_sets y) t in let is = w v in let below : int_lt v to ≡ true = grind arith in grind (arith, ints)));
 }
 

@@ -3,7 +3,7 @@
 use Rattle.std.specs.Prelude.{◌≡◌, ℕ, ◌<◌, ◌==◌, true, false, cond, [], ◌∷◌, ℤ, length}
 use Rattle.std.specs.List.{All}
 use Rattle.signed_clause.specs.Ranges.{Ranges, has, is_nil, IsValid}
-use Rattle.signed_clause.specs.SetAlgebra.{misses, join}
+use Rattle.signed_clause.specs.SetAlgebra.{is_disjoint, join}
 use Rattle.signed_clause.specs.Clauses.{Boxes, Literal, Literals, box_of, set_of}
 use Rattle.ground_form.specs.Meaning.{clause_vars}
 use Rattle.rule_law.specs.Reasons.{no_repeat}
@@ -22,7 +22,7 @@ pub record IsFalse (boxes : Boxes) (l : Literal) : Type 0 where
   pub named : l.0 < length boxes
   pub some : is_nil l.1 ≡ false
   pub valid : IsValid l.1
-  pub missed : misses l.1 (box_of boxes l.0) ≡ true
+  pub missed : is_disjoint l.1 (box_of boxes l.0) ≡ true
 
 -- each literal is so, and no two are of one variable
 pub record AreCollected (boxes : Boxes) (ls : Literals) : Type 0 where

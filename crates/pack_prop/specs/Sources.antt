@@ -2,7 +2,7 @@
 use Rattle.std.specs.Prelude.{ℕ, ◌≡◌, ◌<◌, true, false, pos, ◌≤ℤ◌, List, ℤ, slice_set, slice_index_or, int_lt, length, Bool, ◌&&◌, ◌||◌, [], ◌∷◌}
 use Rattle.std.specs.List.{All}
 use Rattle.signed_clause.specs.Ranges.{Ranges, is_nil, IsValid}
-use Rattle.signed_clause.specs.SetAlgebra.{inside}
+use Rattle.signed_clause.specs.SetAlgebra.{is_within}
 use Rattle.signed_clause.specs.Clauses.{Boxes, box_of}
 use Rattle.ground_form.specs.Bounds.{low_of, high_of}
 use Rattle.box_rules.specs.Refuted.{fixed_at, fixed_load}
@@ -33,4 +33,4 @@ pub record IsPart (domains boxes : Boxes) (items : List (ℕ × ℕ × ℕ)) (x 
   pub var : x < length boxes
   pub valid : IsValid s
   pub some : is_nil s ≡ false
-  pub within : inside s (box_of boxes x) ≡ true
+  pub within : is_within s (box_of boxes x) ≡ true

@@ -24,7 +24,7 @@ use crate::tight::prune_tight;
 use crate::unplaceable::prune_unplaceable;
 use ground_form::{Con, Number};
 use pack_fit::{Look, look_at_items};
-use rule_law::{Differing, probe};
+use rule_law::{Repeats, probe};
 use signed_clause::{Clause, IntSet};
 use std::alloc::{AllocError, Global};
 
@@ -32,7 +32,7 @@ use std::alloc::{AllocError, Global};
 #[tactic(auto, using(crate::proofs::Slack::slack_from, crate::proofs::Slack::pack_quiet))]
 fn prune_with_slack(
     alloc: Global,
-    differing: &mut Differing,
+    repeats: &mut Repeats,
     k: u32,
     con: &Con,
     items: &[(u32, u32, u32)],
@@ -48,7 +48,7 @@ fn prune_with_slack(
     requires enough { HasEnough items.now boxes.now }
     ensures { IfOk result (λ a. IsAnswer con.now domains.now boxes.now a) }
 {
-    let once = differing.do_open_differ(k, con, boxes)?;
+    let once = repeats.open_have_no_repeat(k, con, boxes)?;
     if once {
         return Ok(None);
     }
@@ -99,7 +99,7 @@ fn prune_undecided(
     requires fit { AllFit items.now boxes.now }
     ensures { IfOk result (λ a. IsAnswer con.now domains.now boxes.now a) }
 {
-    let differ = kept.differing.do_open_differ(k, con, boxes)?;
+    let differ = kept.repeats.open_have_no_repeat(k, con, boxes)?;
     if differ {
         prune_tight(alloc, &mut kept.best_rooms, con, items, domains, boxes)
     } else {
@@ -130,7 +130,7 @@ pub fn prune_packing(
     match look_at_items(&mut kept.survey, items, boxes)? {
         Look::WithSlack => prune_with_slack(
             alloc,
-            &mut kept.differing,
+            &mut kept.repeats,
             k,
             con,
             items,

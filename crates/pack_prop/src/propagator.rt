@@ -12,7 +12,7 @@ use crate::packing::prune_packing;
 use all_different::AllDifferent;
 use ground_form::{Con, Ground, Kind};
 use pack_fit::Survey;
-use rule_law::{Differing, Propagator, probe};
+use rule_law::{Propagator, Repeats, probe};
 use signed_clause::{Clause, IntSet};
 use std::alloc::{AllocError, Global};
 
@@ -24,7 +24,7 @@ pub struct Kept {
     /// The greatest rooms of values.
     pub best_rooms: BestRooms,
     /// Which variables of a constraint stand twice.
-    pub differing: Differing,
+    pub repeats: Repeats,
     /// What is counted of items to be packed.
     pub survey: Survey,
 }
@@ -42,7 +42,7 @@ impl Kept {
         Kept {
             all_different: AllDifferent::new(alloc),
             best_rooms: BestRooms::new(alloc),
-            differing: Differing::new(alloc),
+            repeats: Repeats::new(alloc),
             survey: Survey::new(alloc),
         }
     }
@@ -109,7 +109,7 @@ impl Propagator for PackProp {
 
     fn begin(&mut self) {
         self.kept.all_different.begin();
-        self.kept.differing.forget();
+        self.kept.repeats.forget();
         self.kept.survey.clear();
     }
 

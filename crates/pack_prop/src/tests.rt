@@ -198,7 +198,7 @@ fn is_true(con: &Con, point: &[i64]) -> bool {
 }
 
 /// Whether the point lies in the boxes.
-fn is_inside(boxes: &[IntSet], point: &[i64]) -> bool {
+fn is_within(boxes: &[IntSet], point: &[i64]) -> bool {
     boxes.iter().zip(point).all(|(s, v)| s.contains(*v))
 }
 
@@ -212,9 +212,9 @@ fn keeps_points(
 ) -> Result<bool, AllocError> {
     for n in 0..256u32 {
         let point = nth_point(alloc, n, domains)?;
-        if is_inside(boxes, &point) && is_true(con, &point) {
+        if is_within(boxes, &point) && is_true(con, &point) {
             let is_kept = match left {
-                Some(left) => is_inside(left, &point),
+                Some(left) => is_within(left, &point),
                 None => false,
             };
             if !is_kept {

@@ -6,7 +6,7 @@
 ghost use Rattle.std.specs.Prelude.{◌≡◌, ◌<◌, ◌≤ℤ◌, ◌<ℤ◌, true, pos, negsuc, IfOk, IfSome, length};
 ghost use Rattle.std.specs.List.{All};
 ghost use Rattle.signed_clause.specs.Ranges.{IsValid};
-ghost use Rattle.signed_clause.specs.SetAlgebra.{inside};
+ghost use Rattle.signed_clause.specs.SetAlgebra.{is_within};
 ghost use Rattle.signed_clause.specs.Clauses.{box_of};
 ghost use Rattle.ground_form.specs.declared.con.Con.TheVariants.{Pack};
 ghost use Rattle.ground_form.specs.Bounds.{low_of};
@@ -70,7 +70,7 @@ fn trial_of(items: &[(u32, u32, u32)], boxes: &[IntSet], i: (u32, u32, u32), at:
 }
 
 /// The values of the box of `x` in the range, which isn't empty.
-#[tactic(auto, using(crate::proofs::OverReason::meet_inside))]
+#[tactic(auto, using(crate::proofs::OverReason::meet_within))]
 pub fn part_of(
     alloc: Global,
     boxes: &[IntSet],
@@ -80,7 +80,7 @@ pub fn part_of(
     requires var { x < length boxes.now }
     requires order { span.0 ≤ℤ span.1 }
     ensures valid { IfOk result (λ s. IsValid s) }
-    ensures within { IfOk result (λ s. inside s (box_of boxes.now x) ≡ true) }
+    ensures within { IfOk result (λ s. is_within s (box_of boxes.now x) ≡ true) }
 {
     let set = &boxes[x as usize];
     set.ranges();

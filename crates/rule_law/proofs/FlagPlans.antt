@@ -5,9 +5,9 @@ use Rattle.std.proofs.lemmas.Int.{ints}
 use Rattle.std.proofs.lemmas.Bool.{cases_eq, false_from_ne_true}
 use Rattle.std.proofs.lemmas.Bool.Decides.{nat_tests}
 use Rattle.signed_clause.specs.Ranges.{Ranges, has, IsValid}
-use Rattle.signed_clause.specs.SetAlgebra.{inside, less}
+use Rattle.signed_clause.specs.SetAlgebra.{is_within, less}
 use Rattle.signed_clause.specs.Clauses.{Boxes, box_of}
-use Rattle.signed_clause.proofs.SetFacts.{inside_law}
+use Rattle.signed_clause.proofs.SetFacts.{within_law}
 use Rattle.ground_form.specs.declared.con.Con.{Con}
 use Rattle.ground_form.specs.Meaning.{bit}
 use Rattle.ground_form.specs.Bounds.{low_of, LiesWithin}
@@ -19,7 +19,7 @@ use Rattle.box_view.proofs.EndLaws.{AreSets, are_sets, above_low, below_high, ha
 use Rattle.box_view.proofs.SetLaws.{fixing_same, fixing_other}
 use Rattle.rule_law.specs.Plans.{literals_of, IsFlag}
 use Rattle.box_rules.proofs.QuietFrom.{AreSome}
-use Rattle.box_view.proofs.Leaving.{one_valid, has_one, one_inside}
+use Rattle.box_view.proofs.Leaving.{one_valid, has_one, one_within}
 use Rattle.rule_law.proofs.PlanLaws.{ArePlanned, plan_reason, plan_acts_head, plan_acts_tail, plan_acts_over}
 
 -- ---- boxes within domains
@@ -27,7 +27,7 @@ use Rattle.rule_law.proofs.PlanLaws.{ArePlanned, plan_reason, plan_acts_head, pl
 pub record AreGood (domains boxes : Boxes) : Type 0 where
   pub wide : AreSets domains
   pub narrow : AreSets boxes
-  pub within : (x : ℕ) → x < length boxes → inside (box_of boxes x) (box_of domains x) ≡ true
+  pub within : (x : ℕ) → x < length boxes → is_within (box_of boxes x) (box_of domains x) ≡ true
   pub some : AreSome (length boxes) boxes
   pub size : length boxes ≡ length domains
 
@@ -42,7 +42,7 @@ are_good domains boxes s b = record {
 
 -- a value of a box is one of the domain
 pub in_domain : (domains boxes : Boxes) (x : ℕ) (v : ℤ) → AreGood domains boxes → x < length boxes → has (box_of boxes x) v ≡ true → has (box_of domains x) v ≡ true
-in_domain domains boxes x v g lt h = (inside_law (box_of boxes x) (box_of domains x) (g.narrow x) (g.wide x)).0 (g.within x lt) v h
+in_domain domains boxes x v g lt h = (within_law (box_of boxes x) (box_of domains x) (g.narrow x) (g.wide x)).0 (g.within x lt) v h
 
 -- ---- flags
 
@@ -82,14 +82,14 @@ pub bit_valid : (b : Bool) → IsValid ((bit b, bit b) ∷ [])
 bit_valid true = one_valid [] (pos 1) (omega (arith, ints)) (omega (arith, ints)) (omega (arith, ints))
 bit_valid false = one_valid [] (pos 0) (omega (arith, ints)) (omega (arith, ints)) (omega (arith, ints))
 
-pub flag_only : (b : Bool) (box : Ranges) → IsFlag box → has box (bit (not b)) ≡ false → inside box ((bit b, bit b) ∷ []) ≡ true
+pub flag_only : (b : Bool) (box : Ranges) → IsFlag box → has box (bit (not b)) ≡ false → is_within box ((bit b, bit b) ∷ []) ≡ true
 flag_only true box f h =
-    (inside_law box ((pos 1, pos 1) ∷ []) f.valid (bit_valid true)).1 (λ v k. elim (f.bits v k) [
+    (within_law box ((pos 1, pos 1) ∷ []) f.valid (bit_valid true)).1 (λ v k. elim (f.bits v k) [
       | inl e ↦ let no : has box (pos 0) ≡ true = subst (λ (z : ℤ). has box z ≡ true) e k in absurd (grind arith)
       | inr e ↦ subst (λ (z : ℤ). has ((pos 1, pos 1) ∷ []) z ≡ true) (sym e) refl
     ])
 flag_only false box f h =
-    (inside_law box ((pos 0, pos 0) ∷ []) f.valid (bit_valid false)).1 (λ v k. elim (f.bits v k) [
+    (within_law box ((pos 0, pos 0) ∷ []) f.valid (bit_valid false)).1 (λ v k. elim (f.bits v k) [
       | inl e ↦ subst (λ (z : ℤ). has ((pos 0, pos 0) ∷ []) z ≡ true) (sym e) refl
       | inr e ↦ let no : has box (pos 1) ≡ true = subst (λ (z : ℤ). has box z ≡ true) e k in absurd (grind arith)
     ])
@@ -123,7 +123,7 @@ pub record IsPair (domains boxes : Boxes) (f x : ℕ) : Type 0 where
 -- the flag can have the truth though all of the box is left, or must have it and not all of the box is gone
 abbrev pub PairActs : Bool → Ranges → Ranges → Ranges → Ranges → Type 0
 PairActs b flags box domain left =
-    ((has flags (bit b) ≡ true) × (inside box left ≡ true)) ⊎ ((has flags (bit (not b)) ≡ false) × (inside box (less domain left) ≡ false))
+    ((has flags (bit b) ≡ true) × (is_within box left ≡ true)) ⊎ ((has flags (bit (not b)) ≡ false) × (is_within box (less domain left) ≡ false))
 
 not_not : (b : Bool) → not (not b) ≡ b
 not_not true = refl
@@ -133,10 +133,10 @@ pair_can : (b : Bool) (flags box domain left : Ranges) → IsFlag flags → Pair
 pair_can b flags box domain left f (inl h) = h.0
 pair_can b flags box domain left f (inr h) = subst (λ (c : Bool). has flags (bit c) ≡ true) (not_not b) (flag_other (not b) flags f h.0)
 
-pair_planned : (domains boxes : Boxes) (f x : ℕ) (b : Bool) (left : Ranges) → IsPair domains boxes f x → has (box_of boxes f) (bit b) ≡ true → IsValid left → inside left (box_of domains x) ≡ true →
+pair_planned : (domains boxes : Boxes) (f x : ℕ) (b : Bool) (left : Ranges) → IsPair domains boxes f x → has (box_of boxes f) (bit b) ≡ true → IsValid left → is_within left (box_of domains x) ≡ true →
     ArePlanned domains (length boxes) ((f, (bit b, bit b) ∷ []) ∷ (x, left) ∷ [])
 pair_planned domains boxes f x b left p can v within =
-    (p.flag, bit_valid b, one_inside (box_of domains f) (bit b) (p.good.wide f) (bit_valid b) (in_domain domains boxes f (bit b) p.good p.flag can), (p.var, v, within, tt))
+    (p.flag, bit_valid b, one_within (box_of domains f) (bit b) (p.good.wide f) (bit_valid b) (in_domain domains boxes f (bit b) p.good p.flag can), (p.var, v, within, tt))
 
 pair_acts : (domains boxes : Boxes) (f x : ℕ) (b : Bool) (left : Ranges) → IsPair domains boxes f x → ArePlanned domains (length boxes) ((f, (bit b, bit b) ∷ []) ∷ (x, left) ∷ []) →
     PairActs b (box_of boxes f) (box_of boxes x) (box_of domains x) left → Acts boxes (literals_of domains ((f, (bit b, bit b) ∷ []) ∷ (x, left) ∷ []))
@@ -149,7 +149,7 @@ pair_acts domains boxes f x b left p a (inr h) =
 differ_test : (x f : ℕ) → (x ≡ f → ⊥) → (x == f) ≡ false
 differ_test x f n = false_from_ne_true (x == f) (λ q. n (grind (arith, nat_tests)))
 
-pub pair_reason : (con : Con) (domains boxes : Boxes) (f x : ℕ) (b : Bool) (left : Ranges) → IsPair domains boxes f x → IsValid left → inside left (box_of domains x) ≡ true →
+pub pair_reason : (con : Con) (domains boxes : Boxes) (f x : ℕ) (b : Bool) (left : Ranges) → IsPair domains boxes f x → IsValid left → is_within left (box_of domains x) ≡ true →
     PairActs b (box_of boxes f) (box_of boxes x) (box_of domains x) left →
     ((rest : Boxes) → box_of rest f ≡ (bit b, bit b) ∷ [] → box_of rest x ≡ left → excluded con rest ≡ true) →
     IsReason con domains boxes (literals_of domains ((f, (bit b, bit b) ∷ []) ∷ (x, left) ∷ []))

@@ -5,7 +5,7 @@ use Rattle.std.proofs.lemmas.Bool.{and_parts, and_from, false_from_ne_true}
 use Rattle.std.proofs.lemmas.Bool.Decides.{nat_tests}
 use Rattle.std.proofs.lemmas.List.Elements.{All-cons, All-nil}
 use Rattle.signed_clause.specs.Ranges.{Ranges, has, is_nil, IsValid}
-use Rattle.signed_clause.specs.SetAlgebra.{misses, inside, less}
+use Rattle.signed_clause.specs.SetAlgebra.{is_disjoint, is_within, less}
 use Rattle.signed_clause.specs.Clauses.{Boxes, Literal, Literals, box_of, set_of, false_in, unit_of, alone_of}
 use Rattle.signed_clause.proofs.RangeSteps.{IsValid-less}
 use Rattle.ground_form.specs.declared.con.Con.{Con}
@@ -16,12 +16,12 @@ use Rattle.rule_law.specs.Reasons.{has_number, no_repeat, Acts, IsReason, kept_o
 use Rattle.box_view.proofs.EndLaws.{AreSets}
 use Rattle.box_view.proofs.CutLaws.{cut_box}
 use Rattle.rule_law.specs.Plans.{literals_of}
-use Rattle.box_view.proofs.Leaving.{left_is, left_misses, left_open}
+use Rattle.box_view.proofs.Leaving.{left_is, left_disjoint, left_open}
 
 -- each variable exists, and what is left of it lies within its domain
 abbrev pub ArePlanned : Boxes → ℕ → Literals → Type 0
 ArePlanned domains n [] = Unit {0}
-ArePlanned domains n (e ∷ es) = (e.0 < n) × IsValid e.1 × (inside e.1 (box_of domains e.0) ≡ true) × ArePlanned domains n es
+ArePlanned domains n (e ∷ es) = (e.0 < n) × IsValid e.1 × (is_within e.1 (box_of domains e.0) ≡ true) × ArePlanned domains n es
 
 -- the boxes are what is left
 abbrev pub Leaves : Boxes → Literals → Type 0
@@ -31,7 +31,7 @@ Leaves boxes (e ∷ es) = (box_of boxes e.0 ≡ e.1) × Leaves boxes es
 -- the boxes lie within what is left
 abbrev pub AllLeft : Boxes → Literals → Type 0
 AllLeft boxes [] = Unit {0}
-AllLeft boxes (e ∷ es) = (inside (box_of boxes e.0) e.1 ≡ true) × AllLeft boxes es
+AllLeft boxes (e ∷ es) = (is_within (box_of boxes e.0) e.1 ≡ true) × AllLeft boxes es
 
 -- ---- a list with or without a literal
 
@@ -65,9 +65,9 @@ kept_set_other : (y x : ℕ) (s : Ranges) (rest : Literals) → (y == x) ≡ fal
 kept_set_other y x [] rest h = refl
 kept_set_other y x (r ∷ s) rest h = rw h refl
 
-kept_false : (boxes : Boxes) (x : ℕ) (s : Ranges) (rest : Literals) → misses s (box_of boxes x) ≡ true → false_in boxes rest ≡ true → false_in boxes (kept_one x s rest) ≡ true
+kept_false : (boxes : Boxes) (x : ℕ) (s : Ranges) (rest : Literals) → is_disjoint s (box_of boxes x) ≡ true → false_in boxes rest ≡ true → false_in boxes (kept_one x s rest) ≡ true
 kept_false boxes x [] rest h k = k
-kept_false boxes x (r ∷ s) rest h k = and_from (misses (r ∷ s) (box_of boxes x)) (false_in boxes rest) h k
+kept_false boxes x (r ∷ s) rest h k = and_from (is_disjoint (r ∷ s) (box_of boxes x)) (false_in boxes rest) h k
 
 tail_acts : (m f : Bool) (u v : Option (ℕ × List (ℤ × ℤ))) → m ≡ true → (f || is_some u) ≡ true → ((m && f) || is_some (cond m u v)) ≡ true
 tail_acts true f u v h k = k
@@ -79,15 +79,15 @@ head_acts false true false u v h k = refl
 head_acts m true true u v h k = absurd cc
 head_acts m false i u v h k = absurd cc
 
-kept_acts_tail : (boxes : Boxes) (x : ℕ) (s : Ranges) (rest : Literals) → misses s (box_of boxes x) ≡ true → Acts boxes rest → Acts boxes (kept_one x s rest)
+kept_acts_tail : (boxes : Boxes) (x : ℕ) (s : Ranges) (rest : Literals) → is_disjoint s (box_of boxes x) ≡ true → Acts boxes rest → Acts boxes (kept_one x s rest)
 kept_acts_tail boxes x [] rest h k = k
 kept_acts_tail boxes x (r ∷ s) rest h k =
-    tail_acts (misses (r ∷ s) (box_of boxes x)) (false_in boxes rest) (unit_of boxes rest) (alone_of boxes (x, r ∷ s) rest) h k
+    tail_acts (is_disjoint (r ∷ s) (box_of boxes x)) (false_in boxes rest) (unit_of boxes rest) (alone_of boxes (x, r ∷ s) rest) h k
 
-kept_acts_head : (boxes : Boxes) (x : ℕ) (s : Ranges) (rest : Literals) → inside (box_of boxes x) s ≡ false → false_in boxes rest ≡ true → Acts boxes (kept_one x s rest)
+kept_acts_head : (boxes : Boxes) (x : ℕ) (s : Ranges) (rest : Literals) → is_within (box_of boxes x) s ≡ false → false_in boxes rest ≡ true → Acts boxes (kept_one x s rest)
 kept_acts_head boxes x [] rest h k = rw k refl
 kept_acts_head boxes x (r ∷ s) rest h k =
-    head_acts (misses (r ∷ s) (box_of boxes x)) (false_in boxes rest) (inside (box_of boxes x) (r ∷ s)) (unit_of boxes rest) _ k h
+    head_acts (is_disjoint (r ∷ s) (box_of boxes x)) (false_in boxes rest) (is_within (box_of boxes x) (r ∷ s)) (unit_of boxes rest) _ k h
 
 pub kept_first : (x : ℕ) (s : Ranges) (rest : Literals) → (kept_one x s [] ++ rest) ≡ kept_one x s rest
 kept_first x [] rest = refl
@@ -165,16 +165,16 @@ plan_leaves domains n plan s p d = leaves_from domains n (literals_of domains pl
 pub plan_false : (domains boxes : Boxes) (n : ℕ) (plan : Literals) → AreSets domains → AreSets boxes → ArePlanned domains n plan → AllLeft boxes plan → false_in boxes (literals_of domains plan) ≡ true
 plan_false domains boxes n [] s t p l = refl
 plan_false domains boxes n (e ∷ es) s t p l =
-    kept_false boxes e.0 (less (box_of domains e.0) e.1) (literals_of domains es) (left_misses (box_of domains e.0) e.1 (box_of boxes e.0) (s e.0) p.1 (t e.0) l.0)
+    kept_false boxes e.0 (less (box_of domains e.0) e.1) (literals_of domains es) (left_disjoint (box_of domains e.0) e.1 (box_of boxes e.0) (s e.0) p.1 (t e.0) l.0)
     (plan_false domains boxes n es s t p.3 l.1)
 
 pub plan_acts_tail : (domains boxes : Boxes) (n : ℕ) (e : Literal) (es : Literals) → AreSets domains → AreSets boxes → ArePlanned domains n (e ∷ es) →
-    inside (box_of boxes e.0) e.1 ≡ true → Acts boxes (literals_of domains es) → Acts boxes (literals_of domains (e ∷ es))
+    is_within (box_of boxes e.0) e.1 ≡ true → Acts boxes (literals_of domains es) → Acts boxes (literals_of domains (e ∷ es))
 plan_acts_tail domains boxes n e es s t p l h =
-    kept_acts_tail boxes e.0 (less (box_of domains e.0) e.1) (literals_of domains es) (left_misses (box_of domains e.0) e.1 (box_of boxes e.0) (s e.0) p.1 (t e.0) l) h
+    kept_acts_tail boxes e.0 (less (box_of domains e.0) e.1) (literals_of domains es) (left_disjoint (box_of domains e.0) e.1 (box_of boxes e.0) (s e.0) p.1 (t e.0) l) h
 
 pub plan_acts_over : (domains boxes : Boxes) (n : ℕ) (e : Literal) (es : Literals) → AreSets domains → AreSets boxes → ArePlanned domains n (e ∷ es) →
-    inside (box_of boxes e.0) (less (box_of domains e.0) e.1) ≡ false → AllLeft boxes es → Acts boxes (literals_of domains (e ∷ es))
+    is_within (box_of boxes e.0) (less (box_of domains e.0) e.1) ≡ false → AllLeft boxes es → Acts boxes (literals_of domains (e ∷ es))
 plan_acts_over domains boxes n e es s t p o l =
     kept_acts_head boxes e.0 (less (box_of domains e.0) e.1) (literals_of domains es) o (plan_false domains boxes n es s t p.3 l)
 

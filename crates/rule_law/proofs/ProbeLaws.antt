@@ -3,10 +3,10 @@ use Rattle.std.proofs.Common.{◌≡◌, ℕ, suc, zero, ◌<◌, ◌≤◌, ◌
 use Rattle.std.proofs.lemmas.Int.{ints}
 use Rattle.std.proofs.lemmas.Bool.{cases_eq, cases_lt}
 use Rattle.signed_clause.specs.Ranges.{Ranges, has, is_nil, IsValid}
-use Rattle.signed_clause.specs.SetAlgebra.{misses, inside, less}
+use Rattle.signed_clause.specs.SetAlgebra.{is_disjoint, is_within, less}
 use Rattle.signed_clause.specs.Clauses.{Boxes, Literals, box_of}
 use Rattle.signed_clause.proofs.RangeSteps.{left_at}
-use Rattle.signed_clause.proofs.SetFacts.{inside_law}
+use Rattle.signed_clause.proofs.SetFacts.{within_law}
 use Rattle.ground_form.specs.declared.con.Con.{Con}
 use Rattle.ground_form.specs.Meaning.{vars_of}
 use Rattle.ground_form.specs.Bounds.{low_of, high_of, reach_of, IsBounded}
@@ -18,7 +18,7 @@ use Rattle.box_rules.specs.Quiet.{quiet, quiet_at, IsCulprit}
 use Rattle.rule_law.specs.Answers.{AreBoxesWithin}
 use Rattle.rule_law.specs.Reasons.{has_number, no_repeat, IsReason, kept_one, kept}
 use Rattle.box_view.proofs.EndLaws.{are_sets, above_low, below_high, has_low, has_high}
-use Rattle.box_view.proofs.SetLaws.{inside-single, fixing_same, fixing_other}
+use Rattle.box_view.proofs.SetLaws.{is_within-single, fixing_same, fixing_other}
 use Rattle.box_rules.proofs.QuietLaws.{AreNarrower, bounded_narrower}
 use Rattle.box_view.proofs.CutLaws.{low_within, top_within}
 use Rattle.box_rules.proofs.NamedVars.{named}
@@ -27,16 +27,16 @@ use Rattle.rule_law.proofs.Keeping.{AreLeft, kept_follows, kept_reason, kept_fal
 
 -- ---- boxes within domains
 
-inside_self : (s : Ranges) → IsValid s → inside s s ≡ true
-inside_self s f = (inside_law s s f f).1 (λ v h. h)
+within_self : (s : Ranges) → IsValid s → is_within s s ≡ true
+within_self s f = (within_law s s f f).1 (λ v h. h)
 
 box_beyond : (boxes : Boxes) (x : ℕ) → length boxes ≤ x → box_of boxes x ≡ []
 box_beyond [] x h = refl
 box_beyond (b ∷ boxes) zero h = absurd (omega arith)
 box_beyond (b ∷ boxes) (suc x) h = box_beyond boxes x (omega arith)
 
-inside_nil : (d : Ranges) → inside [] d ≡ true
-inside_nil d = refl
+within_nil : (d : Ranges) → is_within [] d ≡ true
+within_nil d = refl
 
 record IsPart (s d : Ranges) : Type 0 where
   low : low_of d ≤ℤ low_of s
@@ -46,9 +46,9 @@ record IsPart (s d : Ranges) : Type 0 where
 reach_between : (low high a b : ℤ) → low ≤ℤ a → a ≤ℤ high → low ≤ℤ b → b ≤ℤ high → max (unsigned_abs a) (unsigned_abs b) ≤ max (unsigned_abs low) (unsigned_abs high)
 reach_between low high a b h k l m = omega (arith, ints)
 
-part_of : (s d : Ranges) → IsValid s → IsValid d → is_nil s ≡ false → inside s d ≡ true → IsPart s d
+part_of : (s d : Ranges) → IsValid s → IsValid d → is_nil s ≡ false → is_within s d ≡ true → IsPart s d
 part_of s d f g n h =
-    let sub = (inside_law s d f g).0 h in
+    let sub = (within_law s d f g).0 h in
     let low = sub (low_of s) (has_low s f n) in
     let high = sub (high_of s) (has_high s f n) in
     record {
@@ -122,7 +122,7 @@ boxes_reason con domains boxes xs w f h o r =
     (kept_follows con domains boxes (λ x. box_of boxes x) xs left (λ y q. o.same y ∙ q) (λ y q. refl) r)
     (acts_false boxes (kept domains (λ x. box_of boxes x) xs)
     (kept_false domains boxes (λ x. box_of boxes x) xs
-    (λ x q. rest_apart (box_of domains x) (box_of boxes x) (box_of boxes x) (are_sets domains f x) (are_sets boxes w.sets x) (are_sets boxes w.sets x) (inside_self (box_of boxes x) (are_sets boxes w.sets x)))))
+    (λ x q. rest_apart (box_of domains x) (box_of boxes x) (box_of boxes x) (are_sets domains f x) (are_sets boxes w.sets x) (are_sets boxes w.sets x) (within_self (box_of boxes x) (are_sets boxes w.sets x)))))
 
 -- ---- a value that refutes
 
@@ -136,15 +136,15 @@ fixing_valid boxes x v n f h y =
       | inr e ↦ subst IsValid (sym (fixing_other boxes x y v e)) (f y)
     ]
 
-fixing_inside : (boxes : Boxes) (x : ℕ) (v : ℤ) → x < length boxes → ((y : ℕ) → IsValid (box_of boxes y)) → has (box_of boxes x) v ≡ true → (y : ℕ) → (d : Ranges) → IsValid d → inside (box_of boxes y) d ≡ true → inside (box_of (fixing boxes x v) y) d ≡ true
-fixing_inside boxes x v n f h y d g i =
+fixing_within : (boxes : Boxes) (x : ℕ) (v : ℤ) → x < length boxes → ((y : ℕ) → IsValid (box_of boxes y)) → has (box_of boxes x) v ≡ true → (y : ℕ) → (d : Ranges) → IsValid d → is_within (box_of boxes y) d ≡ true → is_within (box_of (fixing boxes x v) y) d ≡ true
+fixing_within boxes x v n f h y d g i =
     elim (cases_eq y x) [
       | inl e ↦
-          let there : inside (box_of boxes x) d ≡ true = subst (λ (z : ℕ). inside (box_of boxes z) d ≡ true) e i in
-          let part = (inside_law (box_of boxes x) d (f x) g).0 there v h in
-          subst (λ (z : ℕ). inside (box_of (fixing boxes x v) z) d ≡ true) (sym e)
-          (subst (λ (s : Ranges). inside s d ≡ true) (sym (fixing_same boxes x v n)) (inside-single v d (value_valid (box_of boxes x) v (f x) h) g ∙ part))
-      | inr e ↦ subst (λ (s : Ranges). inside s d ≡ true) (sym (fixing_other boxes x y v e)) i
+          let there : is_within (box_of boxes x) d ≡ true = subst (λ (z : ℕ). is_within (box_of boxes z) d ≡ true) e i in
+          let part = (within_law (box_of boxes x) d (f x) g).0 there v h in
+          subst (λ (z : ℕ). is_within (box_of (fixing boxes x v) z) d ≡ true) (sym e)
+          (subst (λ (s : Ranges). is_within s d ≡ true) (sym (fixing_same boxes x v n)) (is_within-single v d (value_valid (box_of boxes x) v (f x) h) g ∙ part))
+      | inr e ↦ subst (λ (s : Ranges). is_within s d ≡ true) (sym (fixing_other boxes x y v e)) i
     ]
 
 fixing_left : (domains boxes : Boxes) (x : ℕ) (v : ℤ) (xs : List ℕ) → AreBoxesWithin domains boxes → All (λ d. IsValid d) domains → no_repeat xs ≡ true → ((y : ℕ) → has_number y xs ≡ true → y < length boxes) →
@@ -153,23 +153,23 @@ fixing_left domains boxes x v xs w f d n lt h = record {
   differ = d;
   domains_valid = are_sets domains f;
   valid = λ y q. fixing_valid boxes x v lt (are_sets boxes w.sets) h y;
-  within = λ y q. fixing_inside boxes x v lt (are_sets boxes w.sets) h y (box_of domains y) (are_sets domains f y) (w.within y (n y q));
+  within = λ y q. fixing_within boxes x v lt (are_sets boxes w.sets) h y (box_of domains y) (are_sets domains f y) (w.within y (n y q));
 }
 
 differs : (y x : ℕ) → (y == x) ≡ false → y ≡ x → ⊥
 differs y x h e = grind arith
 
-fixing_misses : (domains boxes : Boxes) (x y : ℕ) (v : ℤ) → IsValid (box_of domains y) → IsValid (box_of boxes y) → (y == x) ≡ false → misses (less (box_of domains y) (box_of (fixing boxes x v) y)) (box_of boxes y) ≡ true
-fixing_misses domains boxes x y v f g e =
-    subst (λ (s : Ranges). misses (less (box_of domains y) s) (box_of boxes y) ≡ true) (sym (fixing_other boxes x y v (differs y x e)))
-    (rest_apart (box_of domains y) (box_of boxes y) (box_of boxes y) f g g (inside_self (box_of boxes y) g))
+fixing_disjoint : (domains boxes : Boxes) (x y : ℕ) (v : ℤ) → IsValid (box_of domains y) → IsValid (box_of boxes y) → (y == x) ≡ false → is_disjoint (less (box_of domains y) (box_of (fixing boxes x v) y)) (box_of boxes y) ≡ true
+fixing_disjoint domains boxes x y v f g e =
+    subst (λ (s : Ranges). is_disjoint (less (box_of domains y) s) (box_of boxes y) ≡ true) (sym (fixing_other boxes x y v (differs y x e)))
+    (rest_apart (box_of domains y) (box_of boxes y) (box_of boxes y) f g g (within_self (box_of boxes y) g))
 
 has_self : (v : ℤ) → has ((v, v) ∷ []) v ≡ true
 has_self v = grind (arith, ints)
 
-fixing_takes : (domains boxes : Boxes) (x : ℕ) (v : ℤ) → x < length boxes → IsValid (box_of domains x) → IsValid (box_of boxes x) → has (box_of boxes x) v ≡ true → inside (box_of boxes x) (less (box_of domains x) (box_of (fixing boxes x v) x)) ≡ false
+fixing_takes : (domains boxes : Boxes) (x : ℕ) (v : ℤ) → x < length boxes → IsValid (box_of domains x) → IsValid (box_of boxes x) → has (box_of boxes x) v ≡ true → is_within (box_of boxes x) (less (box_of domains x) (box_of (fixing boxes x v) x)) ≡ false
 fixing_takes domains boxes x v lt f g h =
-    subst (λ (s : Ranges). inside (box_of boxes x) (less (box_of domains x) s) ≡ false) (sym (fixing_same boxes x v lt))
+    subst (λ (s : Ranges). is_within (box_of boxes x) (less (box_of domains x) s) ≡ false) (sym (fixing_same boxes x v lt))
     (rest_takes (box_of domains x) ((v, v) ∷ []) (box_of boxes x) v f (value_valid (box_of boxes x) v g h) g h (has_self v))
 
 pub fixing_reason : (con : Con) (domains boxes : Boxes) (x : ℕ) (v : ℤ) (xs : List ℕ) → AreBoxesWithin domains boxes → All (λ d. IsValid d) domains → All (λ y. y < length boxes) (vars_of con) → AreVarsOnce con xs →
@@ -181,7 +181,7 @@ fixing_reason con domains boxes x v xs w f h o q c =
     kept_reason con domains boxes (λ y. box_of (fixing boxes x v) y) xs left n
     (kept_follows con domains (fixing boxes x v) (λ y. box_of (fixing boxes x v) y) xs left (λ y p. o.same y ∙ p) (λ y p. refl) c.refutes)
     (kept_acts x domains boxes (λ y. box_of (fixing boxes x v) y) xs o.differ q
-    (λ y p e. fixing_misses domains boxes x y v (are_sets domains f y) (are_sets boxes w.sets y) e)
+    (λ y p e. fixing_disjoint domains boxes x y v (are_sets domains f y) (are_sets boxes w.sets y) e)
     (fixing_takes domains boxes x v lt (are_sets domains f x) (are_sets boxes w.sets x) c.member))
 
 -- ---- the walk that keeps

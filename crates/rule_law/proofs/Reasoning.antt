@@ -8,7 +8,7 @@ use Rattle.std.proofs.lemmas.List.Sums.{sum_by-cons}
 use Rattle.std.proofs.lemmas.List.Elements.{All-cons}
 use Rattle.std.proofs.lemmas.Int.{ints}
 use Rattle.signed_clause.specs.Ranges.{Ranges, has, is_nil, IsValid}
-use Rattle.signed_clause.specs.SetAlgebra.{misses, inside, meet}
+use Rattle.signed_clause.specs.SetAlgebra.{is_disjoint, is_within, meet}
 use Rattle.signed_clause.specs.Clauses.{Boxes, Literal, Literals, box_of, set_of, IsClause, IsClauseFrom, clause_from, false_in, unit_of, alone_of}
 use Rattle.signed_clause.proofs.SetFacts.{same_law}
 use Rattle.ground_form.specs.declared.con.Con.{Con}
@@ -132,7 +132,7 @@ tested_form n (l ∷ ls) h = let more = tested_form (suc l.0) ls h.3 in let from
 -- ---- what acts
 
 abbrev meets_one : Boxes → Literal → ℕ
-meets_one boxes l = cond (misses l.1 (box_of boxes l.0)) 0 1
+meets_one boxes l = cond (is_disjoint l.1 (box_of boxes l.0)) 0 1
 
 abbrev meeting : Boxes → Literals → ℕ
 meeting boxes [] = 0
@@ -150,7 +150,7 @@ meeting_cons boxes l ls = refl
 
 -- it misses its box or takes something away
 abbrev takes : Boxes → Literal → Bool
-takes boxes l = misses l.1 (box_of boxes l.0) || not (inside (box_of boxes l.0) l.1)
+takes boxes l = is_disjoint l.1 (box_of boxes l.0) || not (is_within (box_of boxes l.0) l.1)
 
 false_none : (boxes : Boxes) (ls : Literals) → false_in boxes ls ≡ true → meeting boxes ls ≡ 0
 false_none boxes [] h = refl
@@ -162,9 +162,9 @@ none_false boxes (l ∷ ls) h = let here = meeting_cons boxes l ls in let more =
 
 takes_false : (boxes : Boxes) (ls : Literals) → false_in boxes ls ≡ true → All (λ l. takes boxes l ≡ true) ls
 takes_false boxes [] h k d lt = absurd (omega arith)
-takes_false boxes (l ∷ ls) h zero d lt = let p = and_parts (misses l.1 (box_of boxes l.0)) (false_in boxes ls) h in grind arith
+takes_false boxes (l ∷ ls) h zero d lt = let p = and_parts (is_disjoint l.1 (box_of boxes l.0)) (false_in boxes ls) h in grind arith
 takes_false boxes (l ∷ ls) h (suc k) d lt =
-    let p = and_parts (misses l.1 (box_of boxes l.0)) (false_in boxes ls) h in takes_false boxes ls p.1 k d (omega arith)
+    let p = and_parts (is_disjoint l.1 (box_of boxes l.0)) (false_in boxes ls) h in takes_false boxes ls p.1 k d (omega arith)
 
 record Acting (boxes : Boxes) (ls : Literals) : Type 0 where
   few : meeting boxes ls ≤ 1
@@ -178,24 +178,24 @@ some_cond : (b : Bool) (u : Literal) → is_some (cond b (Some u) None) ≡ b
 some_cond true u = refl
 some_cond false u = refl
 
-acting_at : (boxes : Boxes) (l : Literal) (ls : Literals) (m : Bool) → misses l.1 (box_of boxes l.0) ≡ m → act_test boxes l ls m ≡ true → (Acts boxes ls → Acting boxes ls) → Acting boxes (l ∷ ls)
+acting_at : (boxes : Boxes) (l : Literal) (ls : Literals) (m : Bool) → is_disjoint l.1 (box_of boxes l.0) ≡ m → act_test boxes l ls m ≡ true → (Acts boxes ls → Acting boxes ls) → Acting boxes (l ∷ ls)
 acting_at boxes l ls true e h more =
     let r = more h in
     let few = r.few in
     let here = meeting_cons boxes l ls in
-    record { few = grind arith; each = All-cons (λ m. takes boxes m ≡ true) l ls (ap (λ (b : Bool). b || not (inside (box_of boxes l.0) l.1)) e) r.each }
+    record { few = grind arith; each = All-cons (λ m. takes boxes m ≡ true) l ls (ap (λ (b : Bool). b || not (is_within (box_of boxes l.0) l.1)) e) r.each }
 acting_at boxes l ls false e h more =
-    let both : (false_in boxes ls && not (inside (box_of boxes l.0) l.1)) ≡ true = sym (some_cond (false_in boxes ls && not (inside (box_of boxes l.0) l.1)) (l.0, meet l.1 (box_of boxes l.0))) ∙ h in
-    let p = and_parts (false_in boxes ls) (not (inside (box_of boxes l.0) l.1)) both in
+    let both : (false_in boxes ls && not (is_within (box_of boxes l.0) l.1)) ≡ true = sym (some_cond (false_in boxes ls && not (is_within (box_of boxes l.0) l.1)) (l.0, meet l.1 (box_of boxes l.0))) ∙ h in
+    let p = and_parts (false_in boxes ls) (not (is_within (box_of boxes l.0) l.1)) both in
     let here = meeting_cons boxes l ls in
     let none = false_none boxes ls p.0 in
-    record { few = grind arith; each = All-cons (λ m. takes boxes m ≡ true) l ls (ap (λ (b : Bool). b || not (inside (box_of boxes l.0) l.1)) e ∙ p.1) (takes_false boxes ls p.0) }
+    record { few = grind arith; each = All-cons (λ m. takes boxes m ≡ true) l ls (ap (λ (b : Bool). b || not (is_within (box_of boxes l.0) l.1)) e ∙ p.1) (takes_false boxes ls p.0) }
 
 acting_from : (boxes : Boxes) (ls : Literals) → Acts boxes ls → Acting boxes ls
 acting_from boxes [] h = record { few = omega arith; each = λ k d lt. absurd (omega arith) }
-acting_from boxes (l ∷ ls) h = acting_at boxes l ls (misses l.1 (box_of boxes l.0)) refl h (acting_from boxes ls)
+acting_from boxes (l ∷ ls) h = acting_at boxes l ls (is_disjoint l.1 (box_of boxes l.0)) refl h (acting_from boxes ls)
 
-acts_at : (boxes : Boxes) (l : Literal) (ls : Literals) (m : Bool) → misses l.1 (box_of boxes l.0) ≡ m → Acting boxes (l ∷ ls) → (Acting boxes ls → Acts boxes ls) → act_test boxes l ls m ≡ true
+acts_at : (boxes : Boxes) (l : Literal) (ls : Literals) (m : Bool) → is_disjoint l.1 (box_of boxes l.0) ≡ m → Acting boxes (l ∷ ls) → (Acting boxes ls → Acts boxes ls) → act_test boxes l ls m ≡ true
 acts_at boxes l ls true e r more =
     let few = r.few in
     let here = meeting_cons boxes l ls in
@@ -206,12 +206,12 @@ acts_at boxes l ls false e r more =
     let zero_left : meeting boxes ls ≡ 0 = grind arith in
     let rest = none_false boxes ls zero_left in
     let one = r.each 0 l (omega arith) in
-    let out : not (inside (box_of boxes l.0) l.1) ≡ true = sym (ap (λ (b : Bool). b || not (inside (box_of boxes l.0) l.1)) e) ∙ one in
-    some_cond (false_in boxes ls && not (inside (box_of boxes l.0) l.1)) (l.0, meet l.1 (box_of boxes l.0)) ∙ rw (rest, out) refl
+    let out : not (is_within (box_of boxes l.0) l.1) ≡ true = sym (ap (λ (b : Bool). b || not (is_within (box_of boxes l.0) l.1)) e) ∙ one in
+    some_cond (false_in boxes ls && not (is_within (box_of boxes l.0) l.1)) (l.0, meet l.1 (box_of boxes l.0)) ∙ rw (rest, out) refl
 
 acts_from : (boxes : Boxes) (ls : Literals) → Acting boxes ls → Acts boxes ls
 acts_from boxes [] r = refl
-acts_from boxes (l ∷ ls) r = acts_at boxes l ls (misses l.1 (box_of boxes l.0)) refl r (acts_from boxes ls)
+acts_from boxes (l ∷ ls) r = acts_at boxes l ls (is_disjoint l.1 (box_of boxes l.0)) refl r (acts_from boxes ls)
 
 acts_same : (boxes : Boxes) (xs ys : Literals) → IsPermutation xs ys → Acts boxes xs → Acts boxes ys
 acts_same boxes xs ys p h =

@@ -10,7 +10,7 @@ use Rattle.std.proofs.lemmas.List.Sums.{sum_by-cons}
 use Rattle.signed_clause.specs.Clauses.{Boxes, box_of}
 use Rattle.rule_law.specs.Reasons.{has_number, no_repeat}
 use Rattle.rule_law.proofs.VarsAt.{next_var}
-use Rattle.rule_law.specs.Repeats.{stands_twice, AreTwice, is_one, open_vars, ascends, is_again, doubles_after, IsKept}
+use Rattle.rule_law.specs.Repeats.{is_repeated, AreRepeated, is_one, open_vars, ascends, is_again, doubles_after, IsKept}
 
 -- ---- numbers that ascend
 
@@ -76,7 +76,7 @@ rise_on low top x i xs is le h =
 
 -- ---- where none stands twice
 
-pub none_twice : (xs : List ℕ) → AreTwice [] xs → no_repeat xs ≡ true
+pub none_twice : (xs : List ℕ) → AreRepeated [] xs → no_repeat xs ≡ true
 none_twice [] h = refl
 none_twice (x ∷ xs) h =
     let more = none_twice xs (λ y k. h y (grind arith)) in
@@ -102,14 +102,14 @@ open_number x (y ∷ xs) boxes h =
           ]) refl k
     ]) refl h
 
-open_twice : (x : ℕ) (xs : List ℕ) (boxes : Boxes) → stands_twice x (open_vars xs boxes) ≡ true → (stands_twice x xs ≡ true) × (is_one (box_of boxes x) ≡ false)
+open_twice : (x : ℕ) (xs : List ℕ) (boxes : Boxes) → is_repeated x (open_vars xs boxes) ≡ true → (is_repeated x xs ≡ true) × (is_one (box_of boxes x) ≡ false)
 open_twice x [] boxes h = absurd cc
 open_twice x (y ∷ xs) boxes h =
-    let P : Bool → Type 0 = λ b. is_one (box_of boxes y) ≡ b → stands_twice x (cond b (open_vars xs boxes) (y ∷ open_vars xs boxes)) ≡ true → (stands_twice x (y ∷ xs) ≡ true) × (is_one (box_of boxes x) ≡ false) in
+    let P : Bool → Type 0 = λ b. is_one (box_of boxes y) ≡ b → is_repeated x (cond b (open_vars xs boxes) (y ∷ open_vars xs boxes)) ≡ true → (is_repeated x (y ∷ xs) ≡ true) × (is_one (box_of boxes x) ≡ false) in
     (elim (is_one (box_of boxes y)) as P [
       | true ↦ λ e k. let more = open_twice x xs boxes k in let there = more.0 in (grind arith, more.1)
       | false ↦ λ e k.
-          let Q : Bool → Type 0 = λ b. (y == x && has_number x (open_vars xs boxes)) ≡ b → (b || stands_twice x (open_vars xs boxes)) ≡ true → (stands_twice x (y ∷ xs) ≡ true) × (is_one (box_of boxes x) ≡ false) in
+          let Q : Bool → Type 0 = λ b. (y == x && has_number x (open_vars xs boxes)) ≡ b → (b || is_repeated x (open_vars xs boxes)) ≡ true → (is_repeated x (y ∷ xs) ≡ true) × (is_one (box_of boxes x) ≡ false) in
           (elim (y == x && has_number x (open_vars xs boxes)) as Q [
             | true ↦ λ f m.
                 let parts = and_parts (y == x) (has_number x (open_vars xs boxes)) f in
@@ -119,17 +119,17 @@ open_twice x (y ∷ xs) boxes h =
     ]) refl h
 
 -- where those that stand twice are one value, the open ones differ
-pub open_differ : (twice xs : List ℕ) (boxes : Boxes) → AreTwice twice xs → ((x : ℕ) → has_number x twice ≡ true → is_one (box_of boxes x) ≡ true) → no_repeat (open_vars xs boxes) ≡ true
+pub open_differ : (twice xs : List ℕ) (boxes : Boxes) → AreRepeated twice xs → ((x : ℕ) → has_number x twice ≡ true → is_one (box_of boxes x) ≡ true) → no_repeat (open_vars xs boxes) ≡ true
 open_differ twice xs boxes are ones =
     none_twice (open_vars xs boxes) (λ x h. let t = open_twice x xs boxes h in let one = ones x (are x t.0) in let none = t.1 in absurd cc)
 
-pub never_twice : (x : ℕ) (xs : List ℕ) → no_repeat xs ≡ true → stands_twice x xs ≡ false
+pub never_twice : (x : ℕ) (xs : List ℕ) → no_repeat xs ≡ true → is_repeated x xs ≡ false
 never_twice x [] h = refl
 never_twice x (y ∷ xs) h =
     let p = and_parts (not (has_number y xs)) (no_repeat xs) h in
     let none = p.0 in
     let more = never_twice x xs p.1 in
-    let P : Bool → Type 0 = λ b. (y == x) ≡ b → ((b && has_number x xs) || stands_twice x xs) ≡ false in
+    let P : Bool → Type 0 = λ b. (y == x) ≡ b → ((b && has_number x xs) || is_repeated x xs) ≡ false in
     (elim (y == x) as P [
       | true ↦ λ e. let same : y ≡ x = grind (arith, nat_tests) in let gone : has_number y xs ≡ false = grind arith in let here : has_number x xs ≡ false = ap (λ (z : ℕ). has_number z xs) (sym same) ∙ gone in rw (here, more) refl
       | false ↦ λ e. more
@@ -140,15 +140,15 @@ pub all_differ : (xs : List ℕ) (boxes : Boxes) → no_repeat xs ≡ true → n
 all_differ xs boxes h = open_differ [] xs boxes (λ x k. let no = never_twice x xs h in absurd cc) (λ x k. absurd cc)
 
 -- said of a list that is kept
-pub kept_twice : (known : List (List ℕ × List ℕ)) (i : ℕ) (d : List ℕ × List ℕ) (xs twice : List ℕ) → IsKept known i xs → AreTwice twice (get_or known i d).0 → AreTwice twice xs
-kept_twice known i d xs twice is are x h = are x (ap (stands_twice x) (is.1 d) ∙ h)
+pub kept_twice : (known : List (List ℕ × List ℕ)) (i : ℕ) (d : List ℕ × List ℕ) (xs twice : List ℕ) → IsKept known i xs → AreRepeated twice (get_or known i d).0 → AreRepeated twice xs
+kept_twice known i d xs twice is are x h = are x (ap (is_repeated x) (is.1 d) ∙ h)
 
-pub kept_none : (known : List (List ℕ × List ℕ)) (i : ℕ) (d : List ℕ × List ℕ) (xs twice : List ℕ) → IsKept known i xs → AreTwice twice (get_or known i d).0 → twice ≡ [] → no_repeat xs ≡ true
+pub kept_none : (known : List (List ℕ × List ℕ)) (i : ℕ) (d : List ℕ × List ℕ) (xs twice : List ℕ) → IsKept known i xs → AreRepeated twice (get_or known i d).0 → twice ≡ [] → no_repeat xs ≡ true
 kept_none known i d xs twice is are none = none_twice xs (kept_twice known i d xs [] is (λ x h. ap (has_number x) (sym none) ∙ are x h))
 
-pub kept_once : (known : List (List ℕ × List ℕ)) (i : ℕ) (d : List ℕ × List ℕ) (xs twice : List ℕ) (x : ℕ) → IsKept known i xs → AreTwice twice (get_or known i d).0 → has_number x twice ≡ false → stands_twice x xs ≡ false
+pub kept_once : (known : List (List ℕ × List ℕ)) (i : ℕ) (d : List ℕ × List ℕ) (xs twice : List ℕ) (x : ℕ) → IsKept known i xs → AreRepeated twice (get_or known i d).0 → has_number x twice ≡ false → is_repeated x xs ≡ false
 kept_once known i d xs twice x is are none =
-    elim (stands_twice x xs) as (λ b. stands_twice x xs ≡ b → stands_twice x xs ≡ false) [
+    elim (is_repeated x xs) as (λ b. is_repeated x xs ≡ b → is_repeated x xs ≡ false) [
       | true ↦ λ e. absurd (let there = kept_twice known i d xs twice is are x e in cc)
       | false ↦ λ e. e
     ] refl
@@ -172,7 +172,7 @@ some_times : (x : ℕ) (xs : List ℕ) → has_number x xs ≡ true → 1 ≤ ti
 some_times x [] h = absurd (grind arith)
 some_times x (y ∷ xs) h = let here = times_cons x y xs in let more = some_times x xs in grind arith
 
-two_times : (x : ℕ) (xs : List ℕ) → stands_twice x xs ≡ true → 2 ≤ times x xs
+two_times : (x : ℕ) (xs : List ℕ) → is_repeated x xs ≡ true → 2 ≤ times x xs
 two_times x [] h = absurd (grind arith)
 two_times x (y ∷ xs) h = let here = times_cons x y xs in let more = two_times x xs in let one = some_times x xs in grind arith
 
@@ -225,6 +225,6 @@ found_twice last x (y ∷ ys) up h =
     ]
 
 -- those side by side in a copy in order are all that stand twice
-pub twice_in_order : (xs ys : List ℕ) → IsPermutation xs ys → IsNonDecreasing ys → AreTwice (doubles_after None ys) xs
+pub twice_in_order : (xs ys : List ℕ) → IsPermutation xs ys → IsNonDecreasing ys → AreRepeated (doubles_after None ys) xs
 twice_in_order xs ys p up x h =
     let e = sum_by-IsPermutation (λ y. one_of x y) xs ys p in let two = two_times x xs h in found_twice None x ys up (omega (arith, e, two))

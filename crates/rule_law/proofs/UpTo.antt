@@ -2,13 +2,13 @@
 use Rattle.std.proofs.Common.{◌≡◌, ℕ, zero, suc, ◌+◌, ◌<◌, ◌≤◌, ◌&&◌, not, true, false, [], ◌∷◌, length, get_or, arith, refl, subst, inl, inr}
 use Rattle.std.proofs.lemmas.Bool.{cases_lt}
 use Rattle.signed_clause.specs.Ranges.{Ranges, is_nil, IsValid}
-use Rattle.signed_clause.specs.SetAlgebra.{inside}
+use Rattle.signed_clause.specs.SetAlgebra.{is_within}
 use Rattle.signed_clause.specs.Clauses.{Boxes, box_of}
 use Rattle.rule_law.specs.Answers.{AreBoxesWithin}
 
 -- the box isn't empty, and lies within its domain
 abbrev pub IsPart : Boxes → Boxes → ℕ → Type 0
-IsPart domains boxes x = ((inside (box_of boxes x) (box_of domains x) && not (is_nil (box_of boxes x))) ≡ true) × IsValid (box_of boxes x)
+IsPart domains boxes x = ((is_within (box_of boxes x) (box_of domains x) && not (is_nil (box_of boxes x))) ≡ true) × IsValid (box_of boxes x)
 
 -- so do the first n
 abbrev pub AreParts : Boxes → Boxes → ℕ → Type 0
@@ -35,7 +35,7 @@ all_parts domains boxes n e le h = record {
 }
 
 -- a box that is no part, or too few or too many boxes, refute it
-pub no_part : (domains boxes : Boxes) (n : ℕ) → n < length boxes → (inside (box_of boxes n) (box_of domains n) && not (is_nil (box_of boxes n))) ≡ false → AreBoxesWithin domains boxes → ⊥
+pub no_part : (domains boxes : Boxes) (n : ℕ) → n < length boxes → (is_within (box_of boxes n) (box_of domains n) && not (is_nil (box_of boxes n))) ≡ false → AreBoxesWithin domains boxes → ⊥
 no_part domains boxes n lt h w = let a = w.within n lt in let b = w.some n lt in absurd (grind arith)
 
 pub other_size : (domains boxes : Boxes) → (length boxes ≡ length domains → ⊥) → AreBoxesWithin domains boxes → ⊥

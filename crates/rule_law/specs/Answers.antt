@@ -3,7 +3,7 @@
 use Rattle.std.specs.Prelude.{◌≡◌, ℕ, ◌<◌, true, false, ◌||◌, Option, Some, None, is_some, length}
 use Rattle.std.specs.List.{All}
 use Rattle.signed_clause.specs.Ranges.{is_nil, IsValid}
-use Rattle.signed_clause.specs.SetAlgebra.{inside}
+use Rattle.signed_clause.specs.SetAlgebra.{is_within}
 use Rattle.signed_clause.specs.Clauses.{Boxes, Literals, box_of, IsClause, IsWithinBoxes, false_in, unit_of}
 use Rattle.ground_form.specs.declared.con.Con.{Con}
 use Rattle.box_rules.specs.Justified.{justified}
@@ -12,7 +12,7 @@ use Rattle.box_rules.specs.Quiet.{quiet}
 -- each variable has a box within its domain, and none is empty
 pub record AreBoxesWithin (domains boxes : Boxes) : Type 0 where
   pub size : length boxes ≡ length domains
-  pub within : (x : ℕ) → x < length boxes → inside (box_of boxes x) (box_of domains x) ≡ true
+  pub within : (x : ℕ) → x < length boxes → is_within (box_of boxes x) (box_of domains x) ≡ true
   pub some : (x : ℕ) → x < length boxes → is_nil (box_of boxes x) ≡ false
   pub sets : All (λ s. IsValid s) boxes
 

@@ -8,13 +8,13 @@ use Rattle.box_rules.specs.Refuted.{fixed_at}
 use Rattle.rule_law.specs.Reasons.{has_number}
 
 -- the number stands twice in the list
-abbrev pub stands_twice : ℕ → List ℕ → Bool
-stands_twice x [] = false
-stands_twice x (y ∷ ys) = (y == x && has_number x ys) || stands_twice x ys
+abbrev pub is_repeated : ℕ → List ℕ → Bool
+is_repeated x [] = false
+is_repeated x (y ∷ ys) = (y == x && has_number x ys) || is_repeated x ys
 
 -- whatever stands twice in the list is one of `twice`
-abbrev pub AreTwice : List ℕ → List ℕ → Type 0
-AreTwice twice xs = (x : ℕ) → stands_twice x xs ≡ true → has_number x twice ≡ true
+abbrev pub AreRepeated : List ℕ → List ℕ → Type 0
+AreRepeated twice xs = (x : ℕ) → is_repeated x xs ≡ true → has_number x twice ≡ true
 
 -- the set is one value
 abbrev pub is_one : Ranges → Bool

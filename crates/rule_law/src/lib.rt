@@ -20,12 +20,12 @@ mod variables;
 mod within;
 
 pub use box_rules::{justified, quiet, refuted_is_false, refutes, some_interval_is_crowded};
-pub use box_view::is_rest_inside;
+pub use box_view::is_rest_within;
 pub use explain::{keep_out, pruning};
 pub use kit::{Kit, MissingKind};
 pub use plan::{planned_pruning, truth};
 pub use probing::probe;
 pub use propagator::Propagator;
-pub use repeats::{Differing, has_var};
+pub use repeats::{Repeats, has_var};
 pub use variables::all_vars;
 pub use within::are_boxes_within;

@@ -7,7 +7,7 @@ ghost use Rattle.std.specs.Prelude.{◌≡◌, ◌<◌, ◌≤◌, true, false, 
 ghost use Rattle.signed_clause.specs.Clauses.{box_of};
 ghost use Rattle.ground_form.specs.Meaning.{vars_of, term_vars, part_vars, item_vars, clause_vars};
 ghost use Rattle.rule_law.specs.Reasons.{has_number, no_repeat};
-ghost use Rattle.rule_law.specs.Repeats.{AreTwice, stands_twice, ascends, doubles_after, is_again, is_one, open_vars, IsKept};
+ghost use Rattle.rule_law.specs.Repeats.{AreRepeated, is_repeated, ascends, doubles_after, is_again, is_one, open_vars, IsKept};
 
 use crate::variables::{all_vars, distinct};
 use ground_form::{Con, ends_of};
@@ -24,13 +24,13 @@ struct Known {
 
 impl Model for Known {
     ghost use Rattle.std.specs.Prelude.{ℕ, List};
-    ghost use Rattle.rule_law.specs.Repeats.{AreTwice};
+    ghost use Rattle.rule_law.specs.Repeats.{AreRepeated};
 
     ghost Value = { List ℕ × List ℕ };
 
     ghost view = { λ k. (k.vars.items, k.twice.items) };
 
-    ghost invariant = { λ k. AreTwice k.twice.items k.vars.items };
+    ghost invariant = { λ k. AreRepeated k.twice.items k.vars.items };
 }
 
 impl Known {
@@ -43,7 +43,7 @@ impl Known {
 
     /// Those that stand twice in it.
     fn twice(&self) -> &[u32]
-        ensures { AreTwice result.now self.now.0 }
+        ensures { AreRepeated result.now self.now.0 }
     {
         self.twice.as_slice()
     }
@@ -238,7 +238,7 @@ fn doubles(sorted: &[u32], alloc: Global) -> Result<Vec<u32>, AllocError>
 
 /// The variables that stand twice in the constraint, found by a copy of its variables that is sorted.
 fn find_twice(con: &Con, alloc: Global) -> Result<Vec<u32>, AllocError>
-    ensures { IfOk result (λ twice. AreTwice twice.items (vars_of con.now)) }
+    ensures { IfOk result (λ twice. AreRepeated twice.items (vars_of con.now)) }
 {
     let mut sorted = all_vars(con, alloc)?;
     sorted.sort_unstable();
@@ -346,19 +346,19 @@ pub fn has_var(vars: &[u32], x: u32) -> bool
 
 /// What was found of constraints, each under its number: their variables, and those that stand twice.
 #[derive(Drop)]
-pub struct Differing {
+pub struct Repeats {
     alloc: Global,
     places: Vec<usize>,
     known: Vec<Known>,
 }
 
-impl Differing {
+impl Repeats {
     /// Nothing. It takes no memory.
-    pub fn new(alloc: Global) -> Differing
+    pub fn new(alloc: Global) -> Repeats
         ensures alloc { result.alloc ≡ alloc }
         ensures nothing { result.known.items ≡ [] }
     {
-        Differing {
+        Repeats {
             alloc,
             places: Vec::new(alloc),
             known: Vec::new(alloc),
@@ -390,7 +390,7 @@ impl Differing {
     ///
     /// # Errors
     /// Want of memory.
-    pub fn do_differ(&mut self, k: u32, con: &Con) -> Result<bool, AllocError>
+    pub fn has_no_repeat(&mut self, k: u32, con: &Con) -> Result<bool, AllocError>
         ensures { IfOk result (λ differ. differ ≡ true → no_repeat (vars_of con.now) ≡ true) }
     {
         if do_ascend(con) {
@@ -405,9 +405,9 @@ impl Differing {
     ///
     /// # Errors
     /// Want of memory.
-    pub fn do_stand_once(&mut self, k: u32, con: &Con, x: u32, y: u32) -> Result<bool, AllocError>
-        ensures first { IfOk result (λ once. once ≡ true → stands_twice x (vars_of con.now) ≡ false) }
-        ensures second { IfOk result (λ once. once ≡ true → stands_twice y (vars_of con.now) ≡ false) }
+    pub fn occur_once(&mut self, k: u32, con: &Con, x: u32, y: u32) -> Result<bool, AllocError>
+        ensures first { IfOk result (λ once. once ≡ true → is_repeated x (vars_of con.now) ≡ false) }
+        ensures second { IfOk result (λ once. once ≡ true → is_repeated y (vars_of con.now) ≡ false) }
     {
         if do_ascend(con) {
             return Ok(true);
@@ -422,7 +422,7 @@ impl Differing {
     ///
     /// # Errors
     /// Want of memory.
-    pub fn do_open_differ(
+    pub fn open_have_no_repeat(
         &mut self,
         k: u32,
         con: &Con,

@@ -1,7 +1,7 @@
 //! Whether boxes are such as `prune` asks for.
 ghost use Rattle.std.specs.Prelude.{◌≡◌, ◌<◌, ◌&&◌, ◌↔◌, not, IsTrue, length};
 ghost use Rattle.signed_clause.specs.Ranges.{is_nil, IsValid};
-ghost use Rattle.signed_clause.specs.SetAlgebra.{inside};
+ghost use Rattle.signed_clause.specs.SetAlgebra.{is_within};
 ghost use Rattle.signed_clause.specs.Clauses.{box_of};
 ghost use Rattle.rule_law.specs.Answers.{AreBoxesWithin};
 
@@ -11,7 +11,7 @@ use signed_clause::IntSet;
 fn is_part(domains: &[IntSet], boxes: &[IntSet], x: usize) -> bool
     requires boxes { x < length boxes.now }
     requires domains { x < length domains.now }
-    ensures part { result ≡ (inside (box_of boxes.now x) (box_of domains.now x) && not (is_nil (box_of boxes.now x))) }
+    ensures part { result ≡ (is_within (box_of boxes.now x) (box_of domains.now x) && not (is_nil (box_of boxes.now x))) }
     ensures valid { IsValid (box_of boxes.now x) }
 {
     boxes[x].ranges();

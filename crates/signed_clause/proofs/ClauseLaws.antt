@@ -4,21 +4,21 @@ use Rattle.std.specs.Int.{int_max, int_min}
 use Rattle.std.proofs.lemmas.Bool.Decides.{nat_tests}
 use Rattle.std.proofs.lemmas.Bool.{cases_order, lt-ltb, le-ltb, ne_eqb, eq-eqb, cases_eq}
 use Rattle.signed_clause.specs.Ranges.{Ranges, has, IsValid, is_nil}
-use Rattle.signed_clause.specs.SetAlgebra.{meet, less, with_range, join, misses, inside}
+use Rattle.signed_clause.specs.SetAlgebra.{meet, less, with_range, join, is_disjoint, is_within}
 use Rattle.signed_clause.specs.Clauses.{Literal, Literals, IsClauseFrom, clause_true, set_of, both_literals, resolve_from, resolvent}
 use Rattle.signed_clause.proofs.RangeLaws.{has-join, Ascends-join}
 use Rattle.signed_clause.proofs.RangeSteps.{has-meet_valid, has-less_valid, IsValid-meet}
 
 -- a set that misses another has no value of it
-pub has_from_misses : (a b : Ranges) (v : ℤ) → IsValid a → IsValid b → misses a b ≡ true → has b v ≡ true → has a v ≡ false
-has_from_misses a b v s t h k =
+pub has_from_disjoint : (a b : Ranges) (v : ℤ) → IsValid a → IsValid b → is_disjoint a b ≡ true → has b v ≡ true → has a v ≡ false
+has_from_disjoint a b v s t h k =
     let e = has-meet_valid a b s t v in
     let P : Ranges → Type 0 = λ m. is_nil m ≡ true → has m v ≡ (has a v && has b v) → has a v ≡ false in
     let by_list : (m : Ranges) → P m = λ m. elim m as P [ [] ↦ λ n d. grind arith | x ∷ xs ↦ λ n d. cc ] in
     by_list (meet a b) h e
 
-pub has_from_inside : (a b : Ranges) (v : ℤ) → IsValid a → IsValid b → inside a b ≡ true → has a v ≡ true → has b v ≡ true
-has_from_inside a b v s t h k =
+pub has_from_within : (a b : Ranges) (v : ℤ) → IsValid a → IsValid b → is_within a b ≡ true → has a v ≡ true → has b v ≡ true
+has_from_within a b v s t h k =
     let e = has-less_valid a b s t v in
     let P : Ranges → Type 0 = λ m. is_nil m ≡ true → has m v ≡ (has a v && not (has b v)) → has b v ≡ true in
     let by_list : (m : Ranges) → P m = λ m. elim m as P [ [] ↦ λ n d. grind arith | x ∷ xs ↦ λ n d. cc ] in

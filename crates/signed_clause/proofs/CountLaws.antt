@@ -3,10 +3,10 @@ use Rattle.std.proofs.Common.{◌≡◌, ℕ, suc, ◌+◌, ◌≤◌, true, fal
 use Rattle.std.specs.Int.{int_max, int_min}
 use Rattle.std.proofs.lemmas.Int.{ints, clamps}
 use Rattle.signed_clause.specs.Ranges.{Ranges, has, Ascends, IsValid, count_of, is_nil}
-use Rattle.signed_clause.specs.SetAlgebra.{piece, meet_from, meet, less_from, less, misses, inside}
+use Rattle.signed_clause.specs.SetAlgebra.{piece, meet_from, meet, less_from, less, is_disjoint, is_within}
 use Rattle.signed_clause.proofs.RangeLaws.{same_ranges}
 use Rattle.signed_clause.proofs.RangeSteps.{IsValid-less, IsValid-meet, has-less_valid, has-meet_valid}
-use Rattle.signed_clause.proofs.ClauseLaws.{has_from_inside, has_from_misses}
+use Rattle.signed_clause.proofs.ClauseLaws.{has_from_within, has_from_disjoint}
 
 -- how many values a range has
 abbrev pub width : ℤ → ℤ → ℕ
@@ -70,31 +70,31 @@ count-split (r ∷ a) b low top low' top' sa sb =
 
 -- ---- subsets
 
-pub inside_from_has : (a b : Ranges) → IsValid a → IsValid b → ((v : ℤ) → has a v ≡ true → has b v ≡ true) → inside a b ≡ true
-inside_from_has a b s t h =
+pub within_from_has : (a b : Ranges) → IsValid a → IsValid b → ((v : ℤ) → has a v ≡ true → has b v ≡ true) → is_within a b ≡ true
+within_from_has a b s t h =
     let e : less a b ≡ [] = same_ranges (less a b) [] _ _ (pos 0) (pos 0) (IsValid-less a b s t) (omega (arith, ints)) (λ v. let law = has-less_valid a b s t v in let k = h v in grind arith) in
     rw e refl
 
 -- a part of a set, and the rest
-pub count-part : (a b : Ranges) → IsValid a → IsValid b → inside a b ≡ true → count_of a + count_of (less b a) ≡ count_of b
+pub count-part : (a b : Ranges) → IsValid a → IsValid b → is_within a b ≡ true → count_of a + count_of (less b a) ≡ count_of b
 count-part a b s t h =
-    let same : meet b a ≡ a = same_ranges (meet b a) a _ _ _ _ (IsValid-meet b a t s) s (λ v. let law = has-meet_valid b a t s v in let k = has_from_inside a b v s t h in grind arith) in
+    let same : meet b a ≡ a = same_ranges (meet b a) a _ _ _ _ (IsValid-meet b a t s) s (λ v. let law = has-meet_valid b a t s v in let k = has_from_within a b v s t h in grind arith) in
     let split = count-split b a _ _ _ _ t s in
     subst (λ (z : Ranges). count_of z + count_of (less b a) ≡ count_of b) same split
 
 -- what a set that misses one half has of the box fits beside that half
-pub count-beside : (s half box : Ranges) → IsValid s → IsValid half → IsValid box → inside half box ≡ true → misses s half ≡ true → count_of (meet s box) + count_of half ≤ count_of box
+pub count-beside : (s half box : Ranges) → IsValid s → IsValid half → IsValid box → is_within half box ≡ true → is_disjoint s half ≡ true → count_of (meet s box) + count_of half ≤ count_of box
 count-beside s half box p q r h k =
-    let within = inside_from_has (meet s box) (less box half) (IsValid-meet s box p r) (IsValid-less box half r q) (λ v e.
+    let within = within_from_has (meet s box) (less box half) (IsValid-meet s box p r) (IsValid-less box half r q) (λ v e.
     let law = has-meet_valid s box p r v in let law' = has-less_valid box half r q v in
-    let no : has half v ≡ true → has s v ≡ false = has_from_misses s half v p q k in grind arith) in
+    let no : has half v ≡ true → has s v ≡ false = has_from_disjoint s half v p q k in grind arith) in
     let part = count-part (meet s box) (less box half) (IsValid-meet s box p r) (IsValid-less box half r q) within in
     let whole = count-part half box q r h in
     omega arith
 
 pub count-meet-le : (s box : Ranges) → IsValid s → IsValid box → count_of (meet s box) ≤ count_of box
 count-meet-le s box p r =
-    let within = inside_from_has (meet s box) box (IsValid-meet s box p r) r (λ v e. let law = has-meet_valid s box p r v in grind arith) in
+    let within = within_from_has (meet s box) box (IsValid-meet s box p r) r (λ v e. let law = has-meet_valid s box p r v in grind arith) in
     let part = count-part (meet s box) box (IsValid-meet s box p r) r within in
     omega arith
 

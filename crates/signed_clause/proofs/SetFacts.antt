@@ -6,7 +6,7 @@ use Rattle.std.proofs.lemmas.Bool.{and_parts}
 use Rattle.std.proofs.lemmas.Bool.Decides.{Decides-int_eq}
 use Rattle.std.proofs.lemmas.Int.{ints}
 use Rattle.signed_clause.specs.Ranges.{Ranges, has, high_from, IsValid, HasNoValue, IsSubset, HaveNoCommonValue, HaveSameValues, IsLeast, IsGreatest, is_nil, Ascends}
-use Rattle.signed_clause.specs.SetAlgebra.{meet, less, misses, inside}
+use Rattle.signed_clause.specs.SetAlgebra.{meet, less, is_disjoint, is_within}
 use Rattle.signed_clause.proofs.RangeLaws.{has-below, same_ranges}
 use Rattle.signed_clause.proofs.RangeSteps.{high_at, has-meet_valid, has-less_valid, IsValid-meet, IsValid-less}
 
@@ -15,15 +15,15 @@ pub nil_law : (a : Ranges) → IsValid a → IsTrue (is_nil a) ↔ HasNoValue a
 nil_law [] s = ((λ h v. refl), (λ h. refl))
 nil_law (r ∷ a) s = ((λ h. absurd cc), (λ h. let at = h r.0 in absurd (grind (arith, ints))))
 
-pub misses_law : (a b : Ranges) → IsValid a → IsValid b → IsTrue (misses a b) ↔ HaveNoCommonValue a b
-misses_law a b s t =
+pub disjoint_law : (a b : Ranges) → IsValid a → IsValid b → IsTrue (is_disjoint a b) ↔ HaveNoCommonValue a b
+disjoint_law a b s t =
     let law = nil_law (meet a b) (IsValid-meet a b s t) in (
       (λ h v k. let e = has-meet_valid a b s t v in let none = law.0 h v in grind arith),
       (λ h. law.1 (λ v. let e = has-meet_valid a b s t v in let apart = h v in grind arith)),
     )
 
-pub inside_law : (a b : Ranges) → IsValid a → IsValid b → IsTrue (inside a b) ↔ IsSubset a b
-inside_law a b s t =
+pub within_law : (a b : Ranges) → IsValid a → IsValid b → IsTrue (is_within a b) ↔ IsSubset a b
+within_law a b s t =
     let law = nil_law (less a b) (IsValid-less a b s t) in (
       (λ h v k. let e = has-less_valid a b s t v in let none = law.0 h v in grind arith),
       (λ h. law.1 (λ v. let e = has-less_valid a b s t v in let sub = h v in grind arith)),
@@ -44,11 +44,11 @@ pair_decides (a, a') (b, b') = (
 pub is_nil_values : (a x : Ranges) (b : Bool) → IsValid a → x ≡ a → b ≡ is_nil x → IsTrue b ↔ HasNoValue a
 is_nil_values a x b s ex e = subst (λ (z : Bool). IsTrue z ↔ HasNoValue a) (sym (e ∙ ap (λ (z : Ranges). is_nil z) ex)) (nil_law a s)
 
-pub misses_values : (a b x y : Ranges) (r : Bool) → IsValid a → IsValid b → x ≡ a → y ≡ b → r ≡ misses x y → IsTrue r ↔ HaveNoCommonValue a b
-misses_values a b x y r s t ex ey e = let is : r ≡ misses a b = cc in subst (λ (z : Bool). IsTrue z ↔ HaveNoCommonValue a b) (sym is) (misses_law a b s t)
+pub disjoint_values : (a b x y : Ranges) (r : Bool) → IsValid a → IsValid b → x ≡ a → y ≡ b → r ≡ is_disjoint x y → IsTrue r ↔ HaveNoCommonValue a b
+disjoint_values a b x y r s t ex ey e = let is : r ≡ is_disjoint a b = cc in subst (λ (z : Bool). IsTrue z ↔ HaveNoCommonValue a b) (sym is) (disjoint_law a b s t)
 
-pub inside_values : (a b x y : Ranges) (r : Bool) → IsValid a → IsValid b → x ≡ a → y ≡ b → r ≡ inside x y → IsTrue r ↔ IsSubset a b
-inside_values a b x y r s t ex ey e = let is : r ≡ inside a b = cc in subst (λ (z : Bool). IsTrue z ↔ IsSubset a b) (sym is) (inside_law a b s t)
+pub within_values : (a b x y : Ranges) (r : Bool) → IsValid a → IsValid b → x ≡ a → y ≡ b → r ≡ is_within x y → IsTrue r ↔ IsSubset a b
+within_values a b x y r s t ex ey e = let is : r ≡ is_within a b = cc in subst (λ (z : Bool). IsTrue z ↔ IsSubset a b) (sym is) (within_law a b s t)
 
 pub least_of_span : (low top : ℤ) (r : ℤ × ℤ) (rs : Ranges) → Ascends low top (r ∷ rs) → IsLeast (r ∷ rs) r.0
 least_of_span low top r rs s = record {

@@ -4,7 +4,7 @@
 use Rattle.std.specs.Prelude.{◌≡◌, ◌≢◌, ℕ, suc, ◌<◌, ◌≤◌, Bool, true, false, not, ◌&&◌, ◌||◌, cond, List, [], ◌∷◌, ℤ, pos, Option, Some, None, length, slice_index_or, nat_le, nat_lt, ◌==◌}
 use Rattle.std.specs.List.{All}
 use Rattle.signed_clause.specs.Ranges.{Ranges, has, IsValid, is_nil}
-use Rattle.signed_clause.specs.SetAlgebra.{misses, inside, meet, join}
+use Rattle.signed_clause.specs.SetAlgebra.{is_disjoint, is_within, meet, join}
 
 -- a variable and a set
 abbrev pub Literal : Type 0
@@ -67,18 +67,18 @@ IsWithinBoxes ls boxes = All (λ l. l.0 < length boxes) ls
 -- every set misses its box
 abbrev pub false_in : Boxes → Literals → Bool
 false_in boxes [] = true
-false_in boxes (l ∷ ls) = misses l.1 (box_of boxes l.0) && false_in boxes ls
+false_in boxes (l ∷ ls) = is_disjoint l.1 (box_of boxes l.0) && false_in boxes ls
 
 -- what a literal that meets its box leaves of it, where those behind it all miss and something is taken away
 abbrev pub alone_of : Boxes → ℕ × List (ℤ × ℤ) → Literals → Option (ℕ × List (ℤ × ℤ))
 alone_of boxes l ls =
-    cond (false_in boxes ls && not (inside (box_of boxes l.0) l.1)) (Some (l.0, meet l.1 (box_of boxes l.0))) None
+    cond (false_in boxes ls && not (is_within (box_of boxes l.0) l.1)) (Some (l.0, meet l.1 (box_of boxes l.0))) None
 
 -- the one literal that meets its box, where the box isn't within its set: its variable, and what is left of
 -- the box
 abbrev pub unit_of : Boxes → Literals → Option (ℕ × List (ℤ × ℤ))
 unit_of boxes [] = None
-unit_of boxes (l ∷ ls) = cond (misses l.1 (box_of boxes l.0)) (unit_of boxes ls) (alone_of boxes l ls)
+unit_of boxes (l ∷ ls) = cond (is_disjoint l.1 (box_of boxes l.0)) (unit_of boxes ls) (alone_of boxes l ls)
 
 -- ---- resolution
 

@@ -21,8 +21,8 @@ meet [] b = []
 meet (r ∷ a) b = meet_from (meet a) r b
 
 -- no value is in both
-abbrev pub misses : Ranges → Ranges → Bool
-misses a b = is_nil (meet a b)
+abbrev pub is_disjoint : Ranges → Ranges → Bool
+is_disjoint a b = is_nil (meet a b)
 
 -- the values of low..high, and then those of a, that the other set lacks; `rest` gives those of a
 abbrev pub less_from : (Ranges → Ranges) → ℤ → ℤ → Ranges → Ranges
@@ -37,8 +37,8 @@ less [] b = []
 less (r ∷ a) b = less_from (less a) r.0 r.1 b
 
 -- every value of the first is one of the second
-abbrev pub inside : Ranges → Ranges → Bool
-inside a b = is_nil (less a b)
+abbrev pub is_within : Ranges → Ranges → Bool
+is_within a b = is_nil (less a b)
 
 -- the set with low..high added
 abbrev pub with_range : ℤ → ℤ → Ranges → Ranges

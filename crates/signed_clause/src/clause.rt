@@ -9,7 +9,7 @@
 ghost use Rattle.std.specs.Prelude.{◌≡◌, ◌<◌, ◌↔◌, ◌&&◌, ◌||◌, is_some, not, true, nat_le, nat_lt, ◌==◌, IsTrue, IsSome, IsOk, IfOk, IfErr, IfSome, length};
 ghost use Rattle.std.specs.List.{All};
 ghost use Rattle.signed_clause.specs.Ranges.{is_nil, IsValid};
-ghost use Rattle.signed_clause.specs.SetAlgebra.{misses, inside};
+ghost use Rattle.signed_clause.specs.SetAlgebra.{is_disjoint, is_within};
 ghost use Rattle.signed_clause.specs.Clauses.{is_clause, IsClause, IsWithinBoxes, set_of, has_var, false_in, unit_of, alone_of, box_of};
 
 use crate::int_set::IntSet;
@@ -128,7 +128,7 @@ impl Clause {
         requires { IsWithinBoxes self.now boxes.now }
         ensures { result ≡ false_in boxes.now self.now }
     {
-        all_miss(self.literals(), boxes)
+        all_disjoint(self.literals(), boxes)
     }
 
     /// The variable of the one literal that meets its box, and what that leaves of the box, where
@@ -141,7 +141,7 @@ impl Clause {
     {
         let lits = self.literals();
         for (k, l) in lits.iter().enumerate() {
-            if !misses_box(l, boxes) {
+            if !is_disjoint_from_box(l, boxes) {
                 return alone(l, &lits[k + 1..], boxes);
             }
         }
@@ -155,7 +155,7 @@ impl Clause {
     {
         let lits = self.literals();
         for (k, l) in lits.iter().enumerate() {
-            if !misses_box(l, boxes) {
+            if !is_disjoint_from_box(l, boxes) {
                 return cuts(l, &lits[k + 1..], boxes);
             }
         }
@@ -175,7 +175,7 @@ fn alone(
     ensures valid { IfOk result (λ u. IfSome u (λ l. IsValid l.1)) }
 {
     let at = &boxes[l.0 as usize];
-    if all_miss(rest, boxes) && !at.within(&l.1) {
+    if all_disjoint(rest, boxes) && !at.within(&l.1) {
         Ok(Some((l.0, l.1.meet(at)?)))
     } else {
         Ok(None)
@@ -186,27 +186,27 @@ fn alone(
 fn cuts(l: &(u32, IntSet), rest: &[(u32, IntSet)], boxes: &[IntSet]) -> bool
     requires var { l.now.0 < length boxes.now }
     requires vars { IsWithinBoxes rest.now boxes.now }
-    ensures { result ≡ (false_in boxes.now rest.now && not (inside (box_of boxes.now l.now.0) l.now.1)) }
+    ensures { result ≡ (false_in boxes.now rest.now && not (is_within (box_of boxes.now l.now.0) l.now.1)) }
 {
     let at = &boxes[l.0 as usize];
-    all_miss(rest, boxes) && !at.within(&l.1)
+    all_disjoint(rest, boxes) && !at.within(&l.1)
 }
 
 /// Whether a literal's set misses its box.
-fn misses_box(l: &(u32, IntSet), boxes: &[IntSet]) -> bool
+fn is_disjoint_from_box(l: &(u32, IntSet), boxes: &[IntSet]) -> bool
     requires { l.now.0 < length boxes.now }
-    ensures { result ≡ misses l.now.1 (box_of boxes.now l.now.0) }
+    ensures { result ≡ is_disjoint l.now.1 (box_of boxes.now l.now.0) }
 {
     l.1.disjoint(&boxes[l.0 as usize])
 }
 
 /// Whether every set misses its box.
-fn all_miss(lits: &[(u32, IntSet)], boxes: &[IntSet]) -> bool
+fn all_disjoint(lits: &[(u32, IntSet)], boxes: &[IntSet]) -> bool
     requires { IsWithinBoxes lits.now boxes.now }
     ensures { result ≡ false_in boxes.now lits.now }
 {
     for l in lits {
-        if !misses_box(l, boxes) {
+        if !is_disjoint_from_box(l, boxes) {
             return false;
         }
     }

@@ -8,12 +8,12 @@
 ghost use Rattle.std.specs.Prelude.{◌≡◌, ◌↔◌, ◌≤ℤ◌, ◌<◌, ◌≤◌, ◌+◌, ◌-ℤ◌, ◌+ℤ◌, pos, ◌⊎◌, ◌&&◌, ◌||◌, not, ℤ, List, drop, [], ◌∷◌, ◌++◌, IsTrue, IfOk, OnOk, IfSome, IsSome, IfNone, false, int_lt, int_le, length};
 ghost use Rattle.std.specs.Int.{int_min};
 ghost use Rattle.signed_clause.specs.Ranges.{has, in_range, IsValid, HasNoValue, IsSubset, HaveNoCommonValue, HaveSameValues, least_of, greatest_of, IsLeast, IsGreatest, count_of, is_nil};
-ghost use Rattle.signed_clause.specs.SetAlgebra.{meet, less, join, misses, piece, less_from, inside};
+ghost use Rattle.signed_clause.specs.SetAlgebra.{meet, less, join, is_disjoint, piece, less_from, is_within};
 ghost use Rattle.signed_clause.specs.Union.{fuse, fuse_pending, merge};
 
 use crate::range::{
     after, before, begins_by, begins_first, begins_no_later, common, covering, ends_before,
-    ends_first, is_apart, is_range, overlap, steps,
+    ends_first, has_gap_before, is_range, overlap, steps,
 };
 use smallvec::SmallVec;
 use std::alloc::{AllocError, Global};
@@ -66,7 +66,7 @@ impl IntSet {
         ensures list { IfOk result (λ o. IfSome o (λ s. s ≡ ranges.now)) }
         ensures valid { IfOk result (λ o. IfSome o (λ s. IsValid s)) }
     {
-        if !are_apart(ranges) {
+        if !are_canonical(ranges) {
             return Ok(None);
         }
         let ranges = SmallVec::from_slice(alloc, ranges)?;
@@ -179,15 +179,15 @@ impl IntSet {
 
     /// Whether no value is in both sets.
     pub fn disjoint(&self, o: &IntSet) -> bool
-        ensures list { result ≡ misses self.now o.now }
+        ensures list { result ≡ is_disjoint self.now o.now }
         ensures values { IsTrue result ↔ HaveNoCommonValue self.now o.now }
     {
-        all_apart(self.ranges(), o.ranges())
+        all_ranges_disjoint(self.ranges(), o.ranges())
     }
 
     /// Whether `o` has every value of this set.
     pub fn within(&self, o: &IntSet) -> bool
-        ensures list { result ≡ inside self.now o.now }
+        ensures list { result ≡ is_within self.now o.now }
         ensures values { IsTrue result ↔ IsSubset self.now o.now }
     {
         all_covered(self.ranges(), o.ranges())
@@ -261,7 +261,7 @@ struct Least {
 }
 
 /// Whether the ranges are those of a set in order.
-fn are_apart(ranges: &[(i64, i64)]) -> bool
+fn are_canonical(ranges: &[(i64, i64)]) -> bool
     ensures { IsTrue result ↔ IsValid ranges.now }
 {
     let mut least = Least {
@@ -294,8 +294,8 @@ fn least_behind(r: (i64, i64)) -> Least
 }
 
 /// Whether no value is in both lists of ranges.
-fn all_apart(a: &[(i64, i64)], b: &[(i64, i64)]) -> bool
-    ensures { result ≡ misses a.now b.now }
+fn all_ranges_disjoint(a: &[(i64, i64)], b: &[(i64, i64)]) -> bool
+    ensures { result ≡ is_disjoint a.now b.now }
 {
     let mut i = 0;
     let mut j = 0;
@@ -314,7 +314,7 @@ fn all_apart(a: &[(i64, i64)], b: &[(i64, i64)]) -> bool
 
 /// Whether the ranges of `b` have all values of those of `a`.
 fn all_covered(a: &[(i64, i64)], b: &[(i64, i64)]) -> bool
-    ensures { result ≡ inside a.now b.now }
+    ensures { result ≡ is_within a.now b.now }
 {
     let mut j = 0;
     for r in a {
@@ -370,7 +370,7 @@ fn absorb(
     match pending {
         None => Ok(r),
         Some(p) => {
-            if is_apart(p, r) {
+            if has_gap_before(p, r) {
                 out.push(p)?;
                 Ok(r)
             } else {

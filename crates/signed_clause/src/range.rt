@@ -49,7 +49,7 @@ pub fn begins_first(r: (i64, i64), s: (i64, i64)) -> bool
 }
 
 /// Whether a value lies between the end of `p` and the start of `r`.
-pub fn is_apart(p: (i64, i64), r: (i64, i64)) -> bool
+pub fn has_gap_before(p: (i64, i64), r: (i64, i64)) -> bool
     ensures { result ≡ int_lt (p.1 +ℤ pos 1) r.0 }
 {
     p.1 < r.0 && p.1 + 1 < r.0

@@ -21,8 +21,8 @@ explain_pick-requires-clause-reason c =
     let con = c.args.con.now in let domains = c.args.domains.now in let boxes = c.args.boxes.now in let vars = c.args.vars in let items = c.args.items.now in
     let index : c.index-boxes-vars.result ≡ box_of boxes vars.1 = grind (arith, common_steps) in
     let apart : AreHeadsApart vars.0 vars.1 items = search rules in
-    subst (λ (s : Ranges). IsReason con domains boxes (literals_of domains (pick_plan domains boxes vars.1 s c.in-Outside.x vars.0))) (sym index)
-    (outside_reason con domains boxes vars.0 vars.1 items c.in-Outside.x (element con domains boxes vars.0 vars.1 items c.requires.is c.requires.well_made c.requires.boxes c.requires.sets) apart c.requires.items c.requires.met c.in-Outside.ensures)
+    subst (λ (s : Ranges). IsReason con domains boxes (literals_of domains (pick_plan domains boxes vars.1 s c.in-OutOfSet.x vars.0))) (sym index)
+    (outside_reason con domains boxes vars.0 vars.1 items c.in-OutOfSet.x (element con domains boxes vars.0 vars.1 items c.requires.is c.requires.well_made c.requires.boxes c.requires.sets) apart c.requires.items c.requires.met c.in-OutOfSet.ensures)
 
 pub returns-in-Idle : goal.returns-in-Idle
 returns-in-Idle c =

@@ -2,7 +2,7 @@ use Rattle.std.proofs.Common.{◌≡◌, [], sym, ap, inr}
 use Rattle.signed_clause.specs.Ranges.{is_nil}
 use Rattle.signed_clause.specs.SetAlgebra.{meet}
 use Rattle.signed_clause.proofs.RangeSteps.{meet-done}
-use Rattle.signed_clause.proofs.int_set.all_apart.Goals as goal
+use Rattle.signed_clause.proofs.int_set.all_ranges_disjoint.Goals as goal
 
 pub returns-else-j-b : goal.returns-else-j-b
 returns-else-j-b c =

@@ -1,6 +1,6 @@
 use Rattle.std.proofs.Common.{◌≡◌, ◌+◌, ◌-◌, drop, length}
 use Rattle.signed_clause.specs.SetAlgebra.{meet}
-use Rattle.signed_clause.proofs.int_set.all_apart.Given as goal
+use Rattle.signed_clause.proofs.int_set.all_ranges_disjoint.Given as goal
 
 abbrev pub invariant-loop-i : goal.invariant-loop-i
 invariant-loop-i l = meet (drop l.i l.a) (drop l.j l.b) ≡ meet l.a l.b

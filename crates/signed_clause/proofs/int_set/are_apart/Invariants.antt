@@ -1,6 +1,6 @@
 use Rattle.std.proofs.Common.{◌↔◌, ◌+ℤ◌, ◌≤ℤ◌, pos, drop}
 use Rattle.signed_clause.specs.Ranges.{Ascends, IsValid}
-use Rattle.signed_clause.proofs.int_set.are_apart.Given as goal
+use Rattle.signed_clause.proofs.int_set.are_canonical.Given as goal
 
 abbrev pub invariant-loop-r : goal.invariant-loop-r
 invariant-loop-r l = record {

@@ -5,7 +5,7 @@ abbrev pub invariant-loop-one : goal.invariant-loop-one
 invariant-loop-one g l = record {
   begun : l.fn.from.value ≤ℤ l.at.value;
   within : l.at.value ≤ℤ pos 9223372036854775807;
-  passed : (u : ℤ) → l.fn.from.value ≤ℤ u → u <ℤ l.at.value → (g.A.Values.holds l.self.a u && g.B.Values.holds l.self.b u) ≡ false;
+  passed : (u : ℤ) → l.fn.from.value ≤ℤ u → u <ℤ l.at.value → (g.A.NumberSet.holds l.self.a u && g.B.NumberSet.holds l.self.b u) ≡ false;
 }
 
 abbrev pub decreases-loop-one : goal.decreases-loop-one

@@ -6,7 +6,7 @@ use Rattle.box_view.proofs.values.BothValues.previous.Goals as goal
 
 pub loop-one-preserved : goal.loop-one-preserved
 loop-one-preserved g c =
-    let A = g.A.Values.holds c.args.self.now.a in let B = g.B.Values.holds c.args.self.now.b in
+    let A = g.A.NumberSet.holds c.args.self.now.a in let B = g.B.NumberSet.holds c.args.self.now.b in
     let f : IsLast A c.loop-one.at.value c.in-Some.one.value = c.in-Some.ensures.one in
     let h : IsLast B c.in-Some.one.value c.in-Some.other.value = c.in-Some.ensures.other in
     let fits : SFits w64 c.in-Some.other.value = search rules in

@@ -1,6 +1,6 @@
 use Rattle.ground_form.specs.Meaning.{vars_of}
 use Rattle.rule_law.proofs.Twice.{never_twice}
-use Rattle.rule_law.proofs.repeats.Differing.do_stand_once.Goals as goal
+use Rattle.rule_law.proofs.repeats.Repeats.occur_once.Goals as goal
 
 pub returns-then-do_ascend-clause-first : goal.returns-then-do_ascend-clause-first
 returns-then-do_ascend-clause-first c h = never_twice c.args.x (vars_of c.args.con.now) (c.do_ascend.ensures c.if-do_ascend.true)

@@ -1,5 +1,5 @@
-use Rattle.signed_clause.proofs.SetFacts.{inside_values}
+use Rattle.signed_clause.proofs.SetFacts.{within_values}
 use Rattle.signed_clause.proofs.int_set.IntSet.within.Goals as goal
 
 pub returns-clause-values : goal.returns-clause-values
-returns-clause-values c = inside_values _ _ _ _ _ c.ranges-2.ensures.valid c.ranges-3.ensures.valid c.ranges-2.ensures.items c.ranges-3.ensures.items c.all_covered.ensures
+returns-clause-values c = within_values _ _ _ _ _ c.ranges-2.ensures.valid c.ranges-3.ensures.valid c.ranges-2.ensures.items c.ranges-3.ensures.items c.all_covered.ensures
