@@ -2,7 +2,7 @@ use Rattle.std.proofs.Common.{arith, rules, SFits, w64}
 use Rattle.std.proofs.lemmas.Int.{ints}
 use Rattle.box_view.specs.Firsts.{IsFirst}
 use Rattle.box_view.proofs.Leaps.{skipped}
-use Rattle.box_view.proofs.values.BothValues.next.Goals as goal
+use Rattle.box_view.proofs.values.InBothNumberSet.next.Goals as goal
 
 pub loop-one-preserved : goal.loop-one-preserved
 loop-one-preserved g c =

@@ -1,5 +1,5 @@
 use Rattle.std.proofs.Common.{◌≡◌, ◌≤ℤ◌, ◌<ℤ◌, ◌-ℤ◌, ◌&&◌, false, ℤ, pos, unsigned_abs}
-use Rattle.box_view.proofs.values.BothValues.next.Given as goal
+use Rattle.box_view.proofs.values.InBothNumberSet.next.Given as goal
 
 abbrev pub invariant-loop-one : goal.invariant-loop-one
 invariant-loop-one g l = record {
