@@ -1,4 +1,7 @@
 //! The sweep for crowded and full intervals, known as Hall intervals: from where each narrow box begins, interval by interval.
+//!
+//! Two rows of counters tell for all intervals from one beginning how many boxes begin and end in
+//! them.
 ghost use Rattle.std.specs.Prelude.{◌≡◌, ◌<◌, ◌≤◌, ◌≤ℤ◌, ◌+ℤ◌, ℕ, suc, pos, true, false, ◌⊎◌, ◌==◌, ◌&&◌, nat_lt, IfOk, IfSome, IfNone, length};
 ghost use Rattle.std.specs.List.{All};
 ghost use Rattle.signed_clause.specs.Ranges.{IsValid};

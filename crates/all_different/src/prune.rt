@@ -5,6 +5,12 @@
 //! box begins, and one sweep shows all intervals from there: the cost is the number of narrow boxes times that of places.
 //!
 //! Cost: one walk where no box is narrow. Explained by the boxes within the interval.
+//!
+//! No order of the variables is kept. A box with as many numbers as there are variables, or more,
+//! can't lie in an interval that matters, so only narrow boxes begin a sweep.
+//!
+//! What is kept is the memory of the counters, which each call fills anew, and which variables
+//! stand twice.
 ghost use Rattle.std.specs.Prelude.{◌≡◌, ◌<◌, true, [], IfOk, IfSome, IfNone, length};
 ghost use Rattle.std.specs.List.{All};
 ghost use Rattle.signed_clause.specs.Ranges.{IsValid};

@@ -4,15 +4,15 @@ use Rattle.ground_form.specs.declared.kind.Kind.{Kind}
 use Rattle.ground_form.specs.declared.kind.Kind.TheVariants as kind
 
 -- conjunctions, memberships and clauses
-abbrev pub is_boolean : Kind → Bool
-is_boolean kind.LinLe = false
-is_boolean kind.LinDef = false
-is_boolean kind.ReifLe = false
-is_boolean kind.AndDef = true
-is_boolean kind.MemberDef = true
-is_boolean kind.EqDef = false
-is_boolean kind.ElementDef = false
-is_boolean kind.CondDef = false
-is_boolean kind.ClauseCon = true
-is_boolean kind.AllDiff = false
-is_boolean kind.Pack = false
+abbrev pub is_handled : Kind → Bool
+is_handled kind.LinLe = false
+is_handled kind.LinDef = false
+is_handled kind.ReifLe = false
+is_handled kind.AndDef = true
+is_handled kind.MemberDef = true
+is_handled kind.EqDef = false
+is_handled kind.ElementDef = false
+is_handled kind.CondDef = false
+is_handled kind.ClauseCon = true
+is_handled kind.AllDiff = false
+is_handled kind.Pack = false

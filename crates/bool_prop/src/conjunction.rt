@@ -3,6 +3,9 @@
 //! A conjunction says of each part that the flag is 0 or the part as it wants, and at last that the flag is 1 or some part
 //! isn't. Where the flag is 1 the walk stops at the first part that isn't fixed; where it is 0, at the second such part or at
 //! one that is barred; and where it is open, at one that is barred.
+//!
+//! Whether a variable stands twice is asked only where the whole clause is stated, which has a
+//! literal for each part.
 ghost use Rattle.std.specs.Prelude.{◌≡◌, ◌<◌, ◌∷◌, ◌++◌, [], pos, true, false, not, drop, IfOk, OnOk, IfSome, IfNone, length, slice_index_or};
 ghost use Rattle.std.specs.List.{All};
 ghost use Rattle.signed_clause.specs.Ranges.{IsValid};

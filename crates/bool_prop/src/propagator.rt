@@ -5,7 +5,7 @@ ghost use Rattle.signed_clause.specs.Ranges.{IsValid};
 ghost use Rattle.ground_form.specs.Kinds as kinds;
 ghost use Rattle.ground_form.specs.WellMade.{IsWellMade, IsWellMadeCon};
 ghost use Rattle.rule_law.specs.Answers.{AreBoxesWithin, IsAnswer};
-ghost use Rattle.bool_prop.specs.Handled.{is_boolean};
+ghost use Rattle.bool_prop.specs.Handled.{is_handled};
 
 use crate::clause::prune_clause;
 use crate::conjunction::prune_conjunction;
@@ -36,8 +36,8 @@ impl BoolProp {
 }
 
 /// Whether a kind is one of conjunctions, memberships or clauses.
-fn is_boolean(kind: Kind) -> bool
-    ensures { result ≡ is_boolean kind }
+fn is_handled(kind: Kind) -> bool
+    ensures { result ≡ is_handled kind }
 {
     matches!(kind, Kind::AndDef | Kind::MemberDef | Kind::ClauseCon)
 }
@@ -69,10 +69,10 @@ pub(crate) fn prune_one(
 }
 
 impl Propagator for BoolProp {
-    ghost handled = { λ p kind. is_boolean kind };
+    ghost handled = { λ p kind. is_handled kind };
 
     fn handles(&self, kind: Kind) -> bool {
-        is_boolean(kind)
+        is_handled(kind)
     }
 
     fn begin(&mut self) {

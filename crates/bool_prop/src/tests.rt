@@ -6,7 +6,7 @@ ghost use Rattle.signed_clause.specs.Ranges.{IsValid};
 ghost use Rattle.ground_form.specs.Kinds as kinds;
 ghost use Rattle.ground_form.specs.WellMade.{IsWellMade, IsWellMadeCon};
 ghost use Rattle.rule_law.specs.Answers.{AreBoxesWithin, IsAnswer};
-ghost use Rattle.bool_prop.specs.Handled.{is_boolean};
+ghost use Rattle.bool_prop.specs.Handled.{is_handled};
 
 use crate::BoolProp;
 use crate::propagator::prune_one;
@@ -246,7 +246,7 @@ fn clauses(rt: HostRuntime) -> Result<(), AllocError> {
 fn one_membership(alloc: Global) -> Result<Ground, AllocError>
     ensures well_made { IfOk result (λ g. IsWellMade g) }
     ensures con { IfOk result (λ g. 0 < length g.cons) }
-    ensures kind { IfOk result (λ g. IfSome (slice_get g.cons 0) (λ con. is_boolean (kinds.kind_of con) ≡ true)) }
+    ensures kind { IfOk result (λ g. IfSome (slice_get g.cons 0) (λ con. is_handled (kinds.kind_of con) ≡ true)) }
 {
     let domains = Domains::of(vec![in alloc;
         IntSet::range(alloc, 0, 1),

@@ -2,6 +2,9 @@
 //!
 //! Places that differ can't be crowded: no interval has fewer numbers than places whose boxes lie within it. It is enough to
 //! look at intervals from where some box begins to where some box ends.
+//!
+//! An interval with as many numbers as there are variables can't be crowded and isn't counted, so a
+//! test of wide domains looks at pairs of ends alone.
 ghost use Rattle.std.specs.Prelude.{◌≡◌, ◌<◌, ◌≤◌, ◌&&◌, ◌+ℤ◌, ◌-ℤ◌, pos, int_le, int_lt, length};
 ghost use Rattle.std.specs.List.{All};
 ghost use Rattle.signed_clause.specs.Clauses.{box_of};

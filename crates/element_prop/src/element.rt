@@ -6,6 +6,10 @@
 //! to be an item's value, out of which a value is offered by no item is told to have another one, and the only variable that can be
 //! picked is told to have a value that out can have. Where none of these is so, there is nothing to say, and nothing is probed.
 //! Plain probing tells only of elements in which a variable stands twice.
+//!
+//! Where an index has more values than items can be picked, the count proves that some value is
+//! none's. A value of out that no item offers is taken away together with all such values. Whether
+//! a variable stands twice is asked of out and the index alone.
 ghost use Rattle.std.specs.Prelude.{◌≡◌, ◌<◌, ◌≤◌, ◌&&◌, ◌||◌, ◌++◌, ◌∷◌, [], not, cond, true, false, IfOk, OnOk, IfSome, IfNone, length, slice_index_or};
 ghost use Rattle.std.specs.List.{All};
 ghost use Rattle.signed_clause.specs.Ranges.{has, is_nil, count_of, IsValid};

@@ -5,7 +5,7 @@ ghost use Rattle.signed_clause.specs.Ranges.{IsValid};
 ghost use Rattle.ground_form.specs.Kinds as kinds;
 ghost use Rattle.ground_form.specs.WellMade.{IsWellMade, IsWellMadeCon};
 ghost use Rattle.rule_law.specs.Answers.{AreBoxesWithin, IsAnswer};
-ghost use Rattle.element_prop.specs.Handled.{is_choice};
+ghost use Rattle.element_prop.specs.Handled.{is_handled};
 
 use crate::conditional::prune_conditional;
 use crate::element::prune_element;
@@ -36,8 +36,8 @@ impl ElementProp {
 }
 
 /// Whether a kind is one of elements, equalities or conditionals.
-fn is_choice(kind: Kind) -> bool
-    ensures { result ≡ is_choice kind }
+fn is_handled(kind: Kind) -> bool
+    ensures { result ≡ is_handled kind }
 {
     matches!(kind, Kind::EqDef | Kind::ElementDef | Kind::CondDef)
 }
@@ -80,10 +80,10 @@ pub(crate) fn prune_one(
 }
 
 impl Propagator for ElementProp {
-    ghost handled = { λ p kind. is_choice kind };
+    ghost handled = { λ p kind. is_handled kind };
 
     fn handles(&self, kind: Kind) -> bool {
-        is_choice(kind)
+        is_handled(kind)
     }
 
     fn begin(&mut self) {

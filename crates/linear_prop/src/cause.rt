@@ -3,6 +3,10 @@
 //! The least sum and the term that can rise the most decide. Where the least sum is above the bound the row is refuted. Where
 //! it would be with the variable of that term at the far end of its box, the values of that variable at which this is so are
 //! taken away. Else no variable can be set so that the row is refuted.
+//!
+//! A constraint is pruned at the term that can rise the most: that is one walk, and where this term
+//! has nothing to lose no other has. Other terms come with the next calls. The pruned variable's
+//! part of the slack is spent first, so every value that the row excludes is taken away at once.
 ghost use Rattle.std.specs.Prelude.{◌≡◌, ◌<◌, ◌≤◌, ◌^◌, ◌+ℤ◌, ◌≤ℤ◌, ◌<ℤ◌, pos, length, unsigned_abs, IfNone, IfSome};
 ghost use Rattle.ground_form.specs.Bounds.{least_sum};
 ghost use Rattle.linear_prop.specs.Rows.{terms_of, greatest_spread, spread_of};

@@ -3,6 +3,9 @@
 //! A walk over the terms lets each fall as far as the slack permits, the first ones first (`fall`). The literals that this asks
 //! for are those of different variables, since no variable of the row has two terms. With what they leave of the domains the
 //! row's least sum is still above its bound.
+//!
+//! After the pruned variable's part the terms spend the slack in their order. A term that its
+//! domain keeps high enough has no literal, and what a step leaves over is spent by the next.
 ghost use Rattle.std.specs.Prelude.{◌≡◌, ◌<◌, ◌≤◌, ◌^◌, ◌+◌, ◌*ℤ◌, ◌≤ℤ◌, ◌≢◌, ℕ, pos, length, IfOk, OnOk};
 ghost use Rattle.signed_clause.specs.Clauses.{box_of};
 ghost use Rattle.ground_form.specs.Bounds.{greatest_term, term_weight, low_of, high_of};

@@ -1,11 +1,14 @@
 //! `LinearProp`, the propagator of the linear kinds.
+//!
+//! It is made with an allocator, for explanations and for what it keeps: which variables of a
+//! constraint stand twice.
 ghost use Rattle.std.specs.Prelude.{◌≡◌, ◌<◌, true, IfOk, IfSome, length, slice_get};
 ghost use Rattle.std.specs.List.{All};
 ghost use Rattle.signed_clause.specs.Ranges.{IsValid};
 ghost use Rattle.ground_form.specs.Kinds as kinds;
 ghost use Rattle.ground_form.specs.WellMade.{IsWellMade, IsWellMadeCon};
 ghost use Rattle.rule_law.specs.Answers.{AreBoxesWithin, IsAnswer};
-ghost use Rattle.linear_prop.specs.Handled.{is_linear};
+ghost use Rattle.linear_prop.specs.Handled.{is_handled};
 
 use crate::kinds::linear_answer;
 use ground_form::{Con, Ground, Kind};
@@ -60,7 +63,7 @@ pub(crate) fn answer_of(
 }
 
 impl Propagator for LinearProp {
-    ghost handled = { λ p kind. is_linear kind };
+    ghost handled = { λ p kind. is_handled kind };
 
     fn handles(&self, kind: Kind) -> bool {
         matches!(kind, Kind::LinLe | Kind::LinDef | Kind::ReifLe)

@@ -1,4 +1,6 @@
 //! Numbers in which sums and products of numbers of 64 bits don't wrap.
+//!
+//! They are of 128 bits, since a bound may be any number of 64 bits.
 ghost use Rattle.std.specs.Prelude.{◌≡◌, ◌+◌, ◌*◌, ◌^◌, ◌≤◌, ◌<◌, ℤ, pos, negsuc, ◌+ℤ◌, ◌-ℤ◌, ◌*ℤ◌, ◌≤ℤ◌, int_lt, unsigned_abs};
 ghost use Rattle.std.specs.Int.{int_max, int_min};
 

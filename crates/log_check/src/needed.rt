@@ -3,6 +3,9 @@
 //! There is a mark for each clause that was made so far, which tells whether a needed line behind
 //! names it. Going back over a line takes away the marks of its clauses, and where it is needed,
 //! marks those that it names.
+//!
+//! Found lines stay, since each has to be better than the one before it; Use and Decide lines go,
+//! where the empty clause was made.
 ghost use Rattle.std.specs.Prelude.{◌≡◌, ◌-◌, ◌≤◌, ◌++◌, true, false, IfOk, OnOk, length, take, slice_index_or, slice_set};
 ghost use Rattle.log_check.specs.Trimmed.{clauses_of, bounds_count, is_needed};
 ghost use Rattle.log_check.specs.Marks.{clauses_in, needs, unmarked, with_steps, with_names, marked};

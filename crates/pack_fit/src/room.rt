@@ -5,6 +5,10 @@
 //! whichever box is narrowed: its second greatest, of which the bin's numbers show a lower bound (`least_second`).
 //!
 //! Cost: the number of items, of the ranges of their bins' boxes and of bins, where the items have slack.
+//!
+//! Where the lower bound of the second greatest rooms (an item whose bin and room are single values
+//! counts twice) holds all sizes, no box that is narrowed to one value refutes the packing, and it
+//! is quiet.
 ghost use Rattle.std.specs.Prelude.{◌≡◌, ◌<◌, ◌≤◌, ◌≤ℤ◌, ◌+◌, ◌-◌, ◌+ℤ◌, ◌||◌, ◌&&◌, ℤ, true, false, cond, pos, IfSome, IfNone, IfOk, length};
 ghost use Rattle.std.specs.Int.{int_max, int_min};
 ghost use Rattle.std.specs.List.{All};

@@ -2,6 +2,10 @@
 //!
 //! `Survey::fill` counts, for each value from the first bin to the last, what stands fixed there (`Spot`) and how many ranges of
 //! the bins' boxes begin and end there. Added up from value to value, the latter tell how many items may be at each.
+//!
+//! Of each bin are counted, over the items that are fixed there: the load, the tightest room, the
+//! least room, the growth of a size, and how many they are. Where the ranges of the bins' boxes
+//! begin and end, added up from bin to bin, tells how many items may be there.
 ghost use Rattle.std.specs.Prelude.{◌≡◌, ◌<◌, ◌≤◌, ◌≤ℤ◌, ◌+◌, ◌-◌, ◌^◌, ◌+ℤ◌, ◌-ℤ◌, ◌||◌, ℕ, ℤ, [], suc, pos, cond, IfOk, IfSome, length, drop, true, slice_index_or};
 ghost use Rattle.std.specs.Int.{int_max, int_min};
 ghost use Rattle.std.specs.List.{All};

@@ -2,6 +2,10 @@
 //!
 //! The second counts where the box of the item that has the greatest is narrowed. An item whose bin and room are single values
 //! stays, and counts twice. `BestRooms::find` goes over the items once, and each adds its room to the entries of its bin's box.
+//!
+//! What is left of the best room of a bin when an item's box is narrowed is the second greatest
+//! where the item has the greatest, else the greatest. That is exact, since an equal one counts as
+//! the second.
 ghost use Rattle.std.specs.Prelude.{◌≡◌, ◌≤◌, ◌<◌, ◌≤ℤ◌, ◌<ℤ◌, ◌+ℤ◌, ◌&&◌, ℕ, suc, true, pos, [], IfOk, length, drop, slice_index_or};
 ghost use Rattle.signed_clause.specs.Ranges.{has, in_range, IsValid};
 ghost use Rattle.signed_clause.specs.Clauses.{Boxes, box_of};

@@ -2,6 +2,8 @@
 //!
 //! A set that is said of a variable which has a literal already joins that one, so that the literals are of different variables
 //! whatever stands twice.
+//!
+//! So a variable may stand twice in any roles.
 ghost use Rattle.std.specs.Prelude.{◌≡◌, ◌≤◌, ◌<◌, ◌≤ℤ◌, ◌&&◌, ◌++◌, ℤ, pos, negsuc, [], ◌∷◌, IfOk, IfSome, OnOk, int_lt, length, slice_index_or, slice_set};
 ghost use Rattle.signed_clause.specs.Ranges.{has, IsValid};
 ghost use Rattle.signed_clause.specs.SetAlgebra.{join};

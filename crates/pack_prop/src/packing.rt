@@ -7,6 +7,8 @@
 //!
 //! Cost: the number of items, of the ranges of their bins' boxes and of bins, where they have slack; where they are tight, the
 //! number of bins times that of items.
+//!
+//! Probing is left where an open variable stands twice.
 ghost use Rattle.std.specs.Prelude.{◌≡◌, ◌<◌, true, false, IfOk, length};
 ghost use Rattle.std.specs.List.{All};
 ghost use Rattle.signed_clause.specs.Ranges.{is_nil, IsValid};

@@ -5,6 +5,10 @@
 //! is least. What would take too much is tried, and explained by `total`.
 //!
 //! Cost: the number of bins times that of items.
+//!
+//! So each size, bin and room is decided by sums over one row, and nothing is probed. What the
+//! search finds to take too much isn't trusted: `explain_total` computes the rule with that part in
+//! place of the box, so only 'nothing was found' has to be proved.
 ghost use Rattle.std.specs.Prelude.{◌≡◌, ◌<◌, ◌≤ℤ◌, ◌<ℤ◌, ◌+ℤ◌, pos, true, false, IfOk, IfSome, IfNone, length};
 ghost use Rattle.std.specs.List.{All};
 ghost use Rattle.signed_clause.specs.Ranges.{IsValid};

@@ -4,6 +4,8 @@
 //! none of the values of its domain whose best room is less than the item's. What the sizes have more than is needed is spent:
 //! a bin needs no literal where its domain's values may have the item's room as well, and then they are counted with it; and
 //! a size may be less.
+//!
+//! The first bins and then the first sizes are let go.
 ghost use Rattle.std.specs.Prelude.{◌≡◌, ◌<◌, ◌≤◌, ◌+◌, ◌≤ℤ◌, ◌<ℤ◌, ◌+ℤ◌, ◌-ℤ◌, ℤ, pos, IfOk, IfSome, length};
 ghost use Rattle.std.specs.List.{All};
 ghost use Rattle.ground_form.specs.declared.con.Con.TheVariants.{Pack};

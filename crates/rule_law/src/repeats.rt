@@ -3,6 +3,9 @@
 //! Variables that ascend differ, which one walk tells. Of other lists it is found once, by sorting a copy, which variables stand
 //! twice, and kept under the constraint's number together with the list. A kept list counts only where it is the constraint's, so
 //! what is kept is right for whatever ground problem is handed in.
+//!
+//! Variables that ascend, or ascend behind a first one that is before or behind them all, are seen
+//! to differ by one walk, and nothing is kept for them.
 ghost use Rattle.std.specs.Prelude.{◌≡◌, ◌<◌, ◌≤◌, true, false, [], ◌∷◌, ℕ, None, Some, IfOk, IfSome, length, drop, slice_get, slice_index_or};
 ghost use Rattle.signed_clause.specs.Clauses.{box_of};
 ghost use Rattle.ground_form.specs.Meaning.{vars_of, term_vars, part_vars, item_vars, clause_vars};
