@@ -14,8 +14,6 @@ mod bests;
 mod collected;
 mod differing;
 mod explain;
-#[cfg(test)]
-mod explained_tests;
 mod interval;
 mod loads;
 mod misfits;

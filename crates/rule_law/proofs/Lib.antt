@@ -20,7 +20,6 @@ pub mod Reasoning
 pub mod Keeping
 pub mod NumberLists
 pub mod ProbeLaws
-pub mod KitProblem
 pub mod QuietFrom
 pub mod Leaving
 pub mod PlanLaws

@@ -17,8 +17,6 @@ mod emptiness;
 mod explain;
 mod flags;
 mod kit;
-#[cfg(test)]
-mod kit_tests;
 mod law;
 mod linear;
 mod numbers;
@@ -30,8 +28,6 @@ mod probing;
 mod propagator;
 mod rules;
 mod sums;
-#[cfg(test)]
-mod tests;
 mod values;
 mod variables;
 mod view;
