@@ -12,7 +12,5 @@ mod clause;
 mod conjunction;
 mod member;
 mod propagator;
-#[cfg(test)]
-mod tests;
 
 pub use propagator::BoolProp;

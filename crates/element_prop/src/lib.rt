@@ -15,8 +15,6 @@ mod element;
 mod equality;
 mod offers;
 mod propagator;
-#[cfg(test)]
-mod tests;
 mod within;
 
 pub use propagator::ElementProp;

@@ -8,7 +8,5 @@
 mod builder;
 mod constraints;
 mod domains;
-#[cfg(test)]
-mod tests;
 
 pub use builder::Builder;

@@ -17,8 +17,6 @@ mod ground;
 mod kind;
 mod lists;
 mod sums;
-#[cfg(test)]
-mod tests;
 mod truth;
 
 pub use con::Con;

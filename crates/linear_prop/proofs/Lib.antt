@@ -11,4 +11,3 @@ pub mod Quieting
 pub mod KindLaws
 pub mod QuietKinds
 pub mod KindAnswers
-pub mod TestRows

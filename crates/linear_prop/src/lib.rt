@@ -23,8 +23,6 @@ mod propagator;
 mod row;
 mod row_clauses;
 mod survey;
-#[cfg(test)]
-mod tests;
 mod wide;
 
 pub use propagator::LinearProp;

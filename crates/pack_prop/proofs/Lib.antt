@@ -10,7 +10,6 @@ pub mod TotalReason
 pub mod TotalWalk
 pub mod LoadReason
 pub mod LoadWalk
-pub mod FitItems
 pub mod SpanLaws
 pub mod BestRows
 pub mod RoomEntries

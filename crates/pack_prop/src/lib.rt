@@ -11,8 +11,6 @@
 
 mod best_rooms;
 mod collected;
-#[cfg(test)]
-mod explained_tests;
 mod literals;
 mod overfull;
 mod packing;

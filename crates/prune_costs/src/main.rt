@@ -6,11 +6,11 @@
 
 mod cases;
 mod timing;
-mod well_made;
 
 use bool_prop::BoolProp;
 use cases::{Case, ROWS, nth_case};
 use element_prop::ElementProp;
+use ground_check::is_search_well_made;
 use ground_form::{Cons, Domains, Goals, Ground};
 use linear_prop::LinearProp;
 use pack_prop::PackProp;
@@ -19,7 +19,6 @@ use signed_clause::IntSet;
 use std::alloc::{AllocError, Global};
 use std::{env, io};
 use timing::{does_say, nanoseconds};
-use well_made::is_problem;
 
 /// Of each variable what it may be in either row of boxes.
 fn domains_of(alloc: Global, idle: &[IntSet], acting: &[IntSet]) -> Result<Domains, AllocError> {
@@ -45,7 +44,8 @@ fn problem_of(alloc: Global, case: &Case) -> Result<Ground, AllocError> {
 /// Prints a line of the table.
 fn show(rt: &HostRuntime, kit: &mut Kit, case: &Case, n: u32, timed: bool) -> io::Result<()> {
     let g = problem_of(rt.alloc(), case)?;
-    if !is_problem(&g, rt.alloc())?
+    if !is_search_well_made(&g, rt.alloc())?
+        || g.cons.items().is_empty()
         || !are_boxes_within(g.domains.items(), &case.idle)
         || !are_boxes_within(g.domains.items(), &case.acting)
     {

@@ -10,8 +10,6 @@ mod clause;
 mod int_set;
 mod range;
 mod resolution;
-#[cfg(test)]
-mod tests;
 
 pub use clause::{Clause, NotAClause};
 pub use int_set::IntSet;
