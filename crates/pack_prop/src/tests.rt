@@ -70,7 +70,7 @@ fn is_too_much(items: &[(u32, u32, u32)], boxes: &[IntSet], x: u32, part: &IntSe
 }
 
 /// Whether what is found to take too much room does so, where something is found.
-#[tactic(auto, using(crate::proofs::Roomy::pack_named))]
+#[tactic(auto, using(crate::proofs::Slack::pack_named))]
 fn is_found_right(
     alloc: Global,
     con: &Con,
