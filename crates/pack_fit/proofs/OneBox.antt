@@ -22,20 +22,20 @@ pub other_box : (boxes : Boxes) (x y : ℕ) (v : ℤ) → (y == x) ≡ false →
 other_box boxes x y v h = fixing_other boxes x y v (λ e. (let t : (y == x) ≡ true = grind (arith, nat_tests) in absurd cc))
 
 pub record Away (x : ℕ) (i : ℕ × ℕ × ℕ) (is : List (ℕ × ℕ × ℕ)) : Type 0 where
-  pub place : (i.0 == x) ≡ false
+  pub bin : (i.0 == x) ≡ false
   pub size : (i.1 == x) ≡ false
   pub room : (i.2 == x) ≡ false
   pub rest : has_number x (item_vars is) ≡ false
 
 pub away : (x : ℕ) (i : ℕ × ℕ × ℕ) (is : List (ℕ × ℕ × ℕ)) → has_number x (item_vars (i ∷ is)) ≡ false → Away x i is
-away x i is h = record { place = grind arith; size = grind arith; room = grind arith; rest = grind arith }
+away x i is h = record { bin = grind arith; size = grind arith; room = grind arith; rest = grind arith }
 
 pub load_away : (w : ℤ) (is : List (ℕ × ℕ × ℕ)) (boxes : Boxes) (x : ℕ) (v : ℤ) → has_number x (item_vars is) ≡ false → fixed_load w is (fixing boxes x v) ≡ fixed_load w is boxes
 load_away w [] boxes x v h = refl
 load_away w (i ∷ is) boxes x v h =
     let a = away x i is h in
-    let place = other_box boxes x i.0 v a.place in let size = other_box boxes x i.1 v a.size in let more = load_away w is boxes x v a.rest in
-    rw (place, size, more) refl
+    let bin = other_box boxes x i.0 v a.bin in let size = other_box boxes x i.1 v a.size in let more = load_away w is boxes x v a.rest in
+    rw (bin, size, more) refl
 
 pub sizes_away : (is : List (ℕ × ℕ × ℕ)) (boxes : Boxes) (x : ℕ) (v : ℤ) → has_number x (item_vars is) ≡ false → least_sizes is (fixing boxes x v) ≡ least_sizes is boxes
 sizes_away [] boxes x v h = refl
@@ -48,8 +48,8 @@ pub best_away : (w : ℤ) (is : List (ℕ × ℕ × ℕ)) (boxes : Boxes) (x : �
 best_away w [] boxes x v h = refl
 best_away w (i ∷ is) boxes x v h =
     let a = away x i is h in
-    let place = other_box boxes x i.0 v a.place in let room = other_box boxes x i.2 v a.room in let more = best_away w is boxes x v a.rest in
-    rw (place, room, more) refl
+    let bin = other_box boxes x i.0 v a.bin in let room = other_box boxes x i.2 v a.room in let more = best_away w is boxes x v a.rest in
+    rw (bin, room, more) refl
 
 -- ---- one item among others
 
@@ -152,12 +152,12 @@ pub away_fine : (js items : List (ℕ × ℕ × ℕ)) (boxes : Boxes) (x : ℕ) 
 away_fine [] items boxes x v s h f a k = refl
 away_fine (j ∷ js) items boxes x v s h f a k =
     let w = away x j js h in
-    let place = other_box boxes x j.0 v w.place in let room = other_box boxes x j.2 v w.room in
+    let bin = other_box boxes x j.0 v w.bin in let room = other_box boxes x j.2 v w.room in
     let p = low_of (box_of boxes j.0) in
     let fit = and_parts (fits p (fixed_load p items boxes) (tight_room p items boxes) j boxes) (all_fit p js items boxes) (f p) in
     let order = ends_in_order (box_of boxes j.1) (s j.1) in
     let here : overfull j items (fixing boxes x v) ≡ false =
-    rw (place, room) (not_over (high_of (box_of boxes j.2)) (fixed_load p items (fixing boxes x v)) (fixed_at (box_of boxes j.0) p) (λ e.
+    rw (bin, room) (not_over (high_of (box_of boxes j.2)) (fixed_load p items (fixing boxes x v)) (fixed_at (box_of boxes j.0) p) (λ e.
     let fixed = fits_fixed p (fixed_load p items boxes) (tight_room p items boxes) j boxes fit.0 e in
     let size = fixed.size in let now = k p (omega (arith, ints)) in let tight = (a p).0 e in omega (arith, ints))) in
     let more = away_fine js items boxes x v s w.rest (λ q. (and_parts (fits q (fixed_load q items boxes) (tight_room q items boxes) j boxes) (all_fit q js items boxes) (f q)).1) (λ q. (a q).1) k in

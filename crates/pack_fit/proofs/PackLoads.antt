@@ -110,8 +110,8 @@ at_most_here front i back boxes p e =
 
 bin_part : (i : ℕ × ℕ × ℕ) (boxes : Boxes) (x : ℕ) (v p : ℤ) → x < length boxes → i.0 ≡ x → (i.1 == x) ≡ false → part p i (fixing boxes x v) ≡ cond (fixed_at ((v, v) ∷ []) p) (low_of (box_of boxes i.1)) (pos 0)
 bin_part i boxes x v p n e f =
-    let place : box_of (fixing boxes x v) i.0 ≡ (v, v) ∷ [] = subst (λ (z : ℕ). box_of (fixing boxes x v) z ≡ (v, v) ∷ []) (sym e) (fixing_same boxes x v n) in
-    let size = other_box boxes x i.1 v f in rw (place, size) refl
+    let bin : box_of (fixing boxes x v) i.0 ≡ (v, v) ∷ [] = subst (λ (z : ℕ). box_of (fixing boxes x v) z ≡ (v, v) ∷ []) (sym e) (fixing_same boxes x v n) in
+    let size = other_box boxes x i.1 v f in rw (bin, size) refl
 
 bin_now : (front : List (ℕ × ℕ × ℕ)) (i : ℕ × ℕ × ℕ) (back : List (ℕ × ℕ × ℕ)) (boxes : Boxes) (x : ℕ) (v : ℤ) → HasSlack front i back boxes x v → i.0 ≡ x → (i.1 == x) ≡ false → (p : ℤ) →
     fixed_load p (front ++ i ∷ back) (fixing boxes x v) ≡ fixed_load p (front ++ i ∷ back) boxes +ℤ cond (fixed_at ((v, v) ∷ []) p) (low_of (box_of boxes i.1)) (pos 0)
@@ -134,30 +134,30 @@ bin_fine front i back boxes x v r e f g =
     let open_fit = bin_open front i back boxes x v r e in
     let tight_left = open_fit.tight_left in
     let room_left = open_fit.room_left in
-    let place : box_of (fixing boxes x v) i.0 ≡ (v, v) ∷ [] = subst (λ (z : ℕ). box_of (fixing boxes x v) z ≡ (v, v) ∷ []) (sym e) (fixing_same boxes x v r.named) in
+    let bin : box_of (fixing boxes x v) i.0 ≡ (v, v) ∷ [] = subst (λ (z : ℕ). box_of (fixing boxes x v) z ≡ (v, v) ∷ []) (sym e) (fixing_same boxes x v r.named) in
     let room = other_box boxes x i.2 v g in
     let kept : Kept items boxes (fixing boxes x v) = λ p h.
     bin_kept v p (fixed_at ((v, v) ∷ []) p) (low_of (box_of boxes i.1)) items boxes (fixing boxes x v) (value_fixed v p) (bin_now front i back boxes x v r e f p) tight_left h in
     others_fine front i back boxes x v r kept
-    (rw (place, room) (not_over (high_of (box_of boxes i.2)) (fixed_load v items (fixing boxes x v)) (fixed_at ((v, v) ∷ []) v) (λ q. let now = bin_now front i back boxes x v r e f v in let at = rw q at now in omega (arith, ints))))
+    (rw (bin, room) (not_over (high_of (box_of boxes i.2)) (fixed_load v items (fixing boxes x v)) (fixed_at ((v, v) ∷ []) v) (λ q. let now = bin_now front i back boxes x v r e f v in let at = rw q at now in omega (arith, ints))))
 
 size_fine : (front : List (ℕ × ℕ × ℕ)) (i : ℕ × ℕ × ℕ) (back : List (ℕ × ℕ × ℕ)) (boxes : Boxes) (x : ℕ) (v : ℤ) → HasSlack front i back boxes x v → (i.0 == x) ≡ false → i.1 ≡ x → (i.2 == x) ≡ false →
     some_overfull (front ++ i ∷ back) (front ++ i ∷ back) (fixing boxes x v) ≡ false
 size_fine front i back boxes x v r e f g =
     let items = front ++ i ∷ back in
     let later = fixing boxes x v in
-    let place = other_box boxes x i.0 v e in
+    let bin = other_box boxes x i.0 v e in
     let room = other_box boxes x i.2 v g in
     let size : box_of later i.1 ≡ (v, v) ∷ [] = subst (λ (z : ℕ). box_of later z ≡ (v, v) ∷ []) (sym f) (fixing_same boxes x v r.named) in
     let there : has (box_of boxes i.1) v ≡ true = subst (λ (z : ℕ). has (box_of boxes z) v ≡ true) (sym f) r.member in
     let high = below_high (box_of boxes i.1) v (r.sets i.1) there in
     let kept : Kept items boxes later = λ p h.
-    let now : part p i later ≡ cond (fixed_at (box_of boxes i.0) p) v (pos 0) = rw (place, size) refl in
+    let now : part p i later ≡ cond (fixed_at (box_of boxes i.0) p) v (pos 0) = rw (bin, size) refl in
     size_kept p (fixed_at (box_of boxes i.0) p) v i items boxes later high (λ q. fits_fixed p _ _ i boxes (fit_here front i back boxes x v r p) q) (change front i back boxes x v r p) now h in
     let p = low_of (box_of boxes i.0) in
     let order = ends_in_order (box_of boxes i.1) (r.sets i.1) in
     others_fine front i back boxes x v r kept
-    (rw (place, room) (not_over (high_of (box_of boxes i.2)) (fixed_load p items later) (fixed_at (box_of boxes i.0) p) (λ q.
+    (rw (bin, room) (not_over (high_of (box_of boxes i.2)) (fixed_load p items later) (fixed_at (box_of boxes i.0) p) (λ q.
     let fixed = fits_fixed p _ _ i boxes (fit_here front i back boxes x v r p) q in let s = fixed.size in
     let now = kept p (omega (arith, ints)) in let tight = at_most_here front i back boxes p q in omega (arith, ints))))
 
@@ -166,16 +166,16 @@ room_fine : (front : List (ℕ × ℕ × ℕ)) (i : ℕ × ℕ × ℕ) (back : L
 room_fine front i back boxes x v r e f g =
     let items = front ++ i ∷ back in
     let later = fixing boxes x v in
-    let place = other_box boxes x i.0 v e in
+    let bin = other_box boxes x i.0 v e in
     let size = other_box boxes x i.1 v f in
     let room : box_of later i.2 ≡ (v, v) ∷ [] = subst (λ (z : ℕ). box_of later z ≡ (v, v) ∷ []) (sym g) (fixing_same boxes x v r.named) in
     let there : has (box_of boxes i.2) v ≡ true = subst (λ (z : ℕ). has (box_of boxes z) v ≡ true) (sym g) r.member in
     let low = above_low (box_of boxes i.2) v (r.sets i.2) there in
     let same : (p : ℤ) → fixed_load p items later ≡ fixed_load p items boxes = λ p.
-    let now : part p i later ≡ part p i boxes = rw (place, size) refl in let c = change front i back boxes x v r p in omega (arith, ints) in
+    let now : part p i later ≡ part p i boxes = rw (bin, size) refl in let c = change front i back boxes x v r p in omega (arith, ints) in
     let p = low_of (box_of boxes i.0) in
     others_fine front i back boxes x v r (λ p h. let s = same p in omega (arith, ints))
-    (rw (place, room) (not_over v (fixed_load p items later) (fixed_at (box_of boxes i.0) p) (λ q.
+    (rw (bin, room) (not_over v (fixed_load p items later) (fixed_at (box_of boxes i.0) p) (λ q.
     let fixed = fits_fixed p _ _ i boxes (fit_here front i back boxes x v r p) q in let s = fixed.room in let l = same p in omega (arith, ints))))
 
 pub loads_fine : (front : List (ℕ × ℕ × ℕ)) (i : ℕ × ℕ × ℕ) (back : List (ℕ × ℕ × ℕ)) (boxes : Boxes) (x : ℕ) (v : ℤ) → HasSlack front i back boxes x v → Role x i →

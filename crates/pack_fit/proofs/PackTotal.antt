@@ -53,7 +53,7 @@ pub vars_joined : (x : ℕ) (front back : List (ℕ × ℕ × ℕ)) → has_numb
 vars_joined x [] back f b = b
 vars_joined x (i ∷ front) back f b =
     let a = away x i front f in let more = vars_joined x front back a.rest b in
-    let p = a.place in let s = a.size in let r = a.room in grind arith
+    let p = a.bin in let s = a.size in let r = a.room in grind arith
 
 best_more : (w : ℤ) (front : List (ℕ × ℕ × ℕ)) (i : ℕ × ℕ × ℕ) (back : List (ℕ × ℕ × ℕ)) (boxes : Boxes) → best_room w (front ++ back) boxes ≤ℤ best_room w (front ++ i ∷ back) boxes
 best_more w [] i back boxes =
@@ -74,10 +74,10 @@ seconds_stay front i back boxes x v r f w =
 pub best_same : (w : ℤ) (front : List (ℕ × ℕ × ℕ)) (i : ℕ × ℕ × ℕ) (back : List (ℕ × ℕ × ℕ)) (boxes : Boxes) (x : ℕ) (v : ℤ) → has_number x (item_vars front) ≡ false → has_number x (item_vars back) ≡ false → (i.0 == x) ≡ false → (i.2 == x) ≡ false →
     best_room w (front ++ i ∷ back) (fixing boxes x v) ≡ best_room w (front ++ i ∷ back) boxes
 best_same w [] i back boxes x v f b p q =
-    let place = other_box boxes x i.0 v p in let room = other_box boxes x i.2 v q in let rest = best_away w back boxes x v b in rw (place, room, rest) refl
+    let bin = other_box boxes x i.0 v p in let room = other_box boxes x i.2 v q in let rest = best_away w back boxes x v b in rw (bin, room, rest) refl
 best_same w (j ∷ front) i back boxes x v f b p q =
     let a = away x j front f in
-    let place = other_box boxes x j.0 v a.place in let room = other_box boxes x j.2 v a.room in let rest = best_same w front i back boxes x v a.rest b p q in rw (place, room, rest) refl
+    let bin = other_box boxes x j.0 v a.bin in let room = other_box boxes x j.2 v a.room in let rest = best_same w front i back boxes x v a.rest b p q in rw (bin, room, rest) refl
 
 growth_here : (front : List (ℕ × ℕ × ℕ)) (i : ℕ × ℕ × ℕ) (back : List (ℕ × ℕ × ℕ)) (boxes : Boxes) → (high_of (box_of boxes i.1) -ℤ low_of (box_of boxes i.1)) ≤ℤ growth (front ++ i ∷ back) boxes
 growth_here [] i back boxes = grind (arith, ints)

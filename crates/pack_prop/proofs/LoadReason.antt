@@ -190,15 +190,15 @@ loaded_said v i items domains boxes m room spare low p s ls o n named z u f e a 
     let j = slice_index_or items m (0, 0, 0) in
     let jn = n m (0, 0, 0) u in
     let one = said j.0 p ls in let two = said j.1 s one in
-    let place = bin_said domains boxes j.0 p o jn.place a g in
-    let c1 = said_collected boxes j.0 p ls o.box_sets place t.literals in
+    let bin = bin_said domains boxes j.0 p o jn.place a g in
+    let c1 = said_collected boxes j.0 p ls o.box_sets bin t.literals in
     let size = size_said domains boxes j.1 low low s o jn.size b e (omega (arith, ints)) h in
     let c2 = said_collected boxes j.1 s one o.box_sets size c1 in
     let m1 = said_more boxes j.0 p ls a t.literals in
     let m2 = said_more boxes j.1 s one b c1 in
     let t1 = loaded_more v i items domains boxes m room spare ls one o n named z t c1 m1 in
     let t2 = loaded_more v i items domains boxes m room spare one two o n named z t1 c2 m2 in
-    let fixed = cut_fixed domains boxes one two j.0 v o c1 c2 m2 jn.place (bin_fixed domains boxes j.0 v p ls o jn.place t.literals place g f) in
+    let fixed = cut_fixed domains boxes one two j.0 v o c1 c2 m2 jn.place (bin_fixed domains boxes j.0 v p ls o jn.place t.literals bin g f) in
     let from = size_from domains boxes j.1 low s one o jn.size c1 size h in
     let loads = load_is (fixed_at (box_of boxes j.0) v) (fixed_at (box_of (cut domains two) j.0) v) (low_of (box_of boxes j.1)) (low_of (box_of (cut domains two) j.1)) f fixed (omega (arith, ints)) in
     loaded_next v i items domains boxes m room spare spare two u t.some (omega (arith, ints)) t2

@@ -32,15 +32,15 @@ over_begins domains boxes items x k part v room load spare old new p o c u e l s
     let s = less (box_of domains i.0) (box_of b i.0) in
     let valid = IsValid-less (box_of domains i.0) (box_of b i.0) (over.domain_sets i.0) (over.box_sets i.0) in
     let values = has-less_valid (box_of domains i.0) (box_of b i.0) (over.domain_sets i.0) (over.box_sets i.0) in
-    let place = bin_said domains b i.0 s over n.place valid values in
-    let next = said_collected b i.0 s old over.box_sets place c in
+    let bin = bin_said domains b i.0 s over n.place valid values in
+    let next = said_collected b i.0 s old over.box_sets bin c in
     let more = said_more b i.0 s old valid c in
     subst (λ (z : Literals). AreOverfull v items domains b 0 spare z) (sym e)
     (record {
       place = k;
       there = o.there;
       room = room;
-      loaded = loaded_none v i items domains b room spare load (said i.0 s old) next (bin_fixed domains b i.0 v s old over n.place c place values o.fixed)
+      loaded = loaded_none v i items domains b room spare load (said i.0 s old) next (bin_fixed domains b i.0 v s old over n.place c bin values o.fixed)
           (let high = cut_high domains b old (said i.0 s old) i.2 over c next more n.room in omega (arith, ints)) l some fits;
     })
 

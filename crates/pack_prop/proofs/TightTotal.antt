@@ -180,7 +180,7 @@ record Rows (items : List (ℕ × ℕ × ℕ)) (i : ℕ × ℕ × ℕ) (boxes : 
   start : ℤ
   rows : List Best
   rooms : AreBestRooms start rows items boxes
-  place : IsBetween start (start +ℤ pos (length rows)) i boxes
+  bin : IsBetween start (start +ℤ pos (length rows)) i boxes
   grow : may_grow (least_sizes items boxes) (firsts rows) i boxes ≡ true
   loose : IsLoose (least_sizes items boxes) rows i boxes
 
@@ -195,12 +195,12 @@ room_total front i back boxes x v r t e f g =
     let open_room : is_one (box_of boxes i.2) ≡ false = subst (λ (z : ℕ). is_one (box_of boxes z) ≡ false) (sym g) r.is_open in
     let there : has (box_of boxes i.2) v ≡ true = subst (λ (z : ℕ). has (box_of boxes z) v ≡ true) (sym g) r.member in
     let above = above_low (box_of boxes i.2) v (r.sets i.2) there in
-    let place = other_box boxes x i.0 v e in
+    let bin = other_box boxes x i.0 v e in
     let room : box_of later i.2 ≡ (v, v) ∷ [] = subst (λ (z : ℕ). box_of later z ≡ (v, v) ∷ []) (sym g) (fixing_same boxes x v r.named) in
     let left : Lefts items boxes low i later = λ w b is.
     let one = left_upto w b front i back boxes low (and_second (is_one (box_of boxes i.0)) (is_one (box_of boxes i.2)) open_room) is in
     let split : best_room w items later ≡ cond (has (box_of boxes i.0) w) (int_max v (best_room w (front ++ back) boxes)) (best_room w (front ++ back) boxes) =
-    best_split w front i back later ∙ rw (place, room, rest_same w front i back boxes x v r) refl in
+    best_split w front i back later ∙ rw (bin, room, rest_same w front i back boxes x v r) refl in
     let most = greater_room (has (box_of boxes i.0) w) low v (best_room w (front ++ back) boxes) above in omega (arith, ints, one, split, most) in
     let need = le_from (least_sizes items boxes) (lefts t.rows low i boxes) (open_test (is_one (box_of boxes i.2)) (int_le (least_sizes items boxes) (lefts t.rows low i boxes)) t.loose.shrink open_room) in
     let rooms = lefts_le t.start t.rows items boxes low i later left t.rooms in
@@ -235,8 +235,8 @@ bin_left front i back boxes x v r e w b is =
 bin_gain : (front : List (ℕ × ℕ × ℕ)) (i : ℕ × ℕ × ℕ) (back : List (ℕ × ℕ × ℕ)) (boxes : Boxes) (x : ℕ) (v : ℤ) → HasSlack front i back boxes x v → i.0 ≡ x → (i.2 == x) ≡ false → best_room v (front ++ i ∷ back) boxes ≤ℤ best_room v (front ++ i ∷ back) (fixing boxes x v)
 bin_gain front i back boxes x v r e g =
     let later = fixing boxes x v in
-    let place : box_of later i.0 ≡ (v, v) ∷ [] = subst (λ (z : ℕ). box_of later z ≡ (v, v) ∷ []) (sym e) (fixing_same boxes x v r.named) in
-    let here : has (box_of later i.0) v ≡ true = ap (λ (z : List (ℤ × ℤ)). has z v) place ∙ single_has v v ∙ (Decides-int_eq v v).1 refl in
+    let bin : box_of later i.0 ≡ (v, v) ∷ [] = subst (λ (z : ℕ). box_of later z ≡ (v, v) ∷ []) (sym e) (fixing_same boxes x v r.named) in
+    let here : has (box_of later i.0) v ≡ true = ap (λ (z : List (ℤ × ℤ)). has z v) bin ∙ single_has v v ∙ (Decides-int_eq v v).1 refl in
     let there : has (box_of boxes i.0) v ≡ true = subst (λ (z : ℕ). has (box_of boxes z) v ≡ true) (sym e) r.member in
     let room = other_box boxes x i.2 v g in let same = rest_same v front i back boxes x v r in
     let now : best_room v (front ++ i ∷ back) boxes ≡ int_max (high_of (box_of boxes i.2)) (best_room v (front ++ back) boxes) = best_split v front i back boxes ∙ rw there refl in
@@ -254,7 +254,7 @@ bin_total front i back boxes x v r t e f g =
     let all = in_all (length t.rows) t.start items later (fixed_sets boxes x v r.sets r.named r.member) in
     let sizes = size_later front i back boxes x v r f in
     let test = open_test (is_one (box_of boxes i.0)) (int_le need sum || may_be_in need sum t.rows i boxes) t.loose.move open_bin in
-    let a = t.place.low in let b = t.place.high in
+    let a = t.bin.low in let b = t.bin.high in
     elim (or_cases (int_le need sum) (may_be_in need sum t.rows i boxes) test) [
       | inl q ↦ let enough = le_from need sum q in omega (arith, ints, enough, rooms, all, sizes)
       | inr q ↦
@@ -275,7 +275,7 @@ rows_at front i back boxes h = record {
   start = h.start;
   rows = h.rows;
   rooms = h.rooms;
-  place = between_at h.start (h.start +ℤ pos (length h.rows)) front i back boxes h.places;
+  bin = between_at h.start (h.start +ℤ pos (length h.rows)) front i back boxes h.places;
   grow = grow_at (least_sizes (front ++ i ∷ back) boxes) (firsts h.rows) front i back boxes h.grow;
   loose = loose_at (least_sizes (front ++ i ∷ back) boxes) h.rows front i back boxes h.loose;
 }

@@ -1,12 +1,13 @@
 //! Prunes by places that differ and by items to be packed.
 //!
-//! - `propagator`: `PackProp`, and what a constraint answers. Places that differ are pruned by `all_different`.
-//! - `packing`: items to be packed. `pack_fit` shows that they have slack, or finds an item that doesn't fit; `unplaceable` and
-//!   `overfull` say what such an item takes away, and why.
-//! - `tight` finds, where all fit, with the rooms of `best_rooms` what takes too much of all room, and `total` says why, with
-//!   rows of rooms (`room_row`).
-//! - `literals` and `collected` make the literals, `with_part` reads boxes with a part of one in its place, `spans` tells which
-//!   entries of a row a range covers.
+//! - `propagator`: `PackProp`, and what a constraint answers. Places that differ are pruned by
+//!   `all_different`.
+//! - `packing`: items to be packed. `pack_fit` shows that they have slack, or finds an item that
+//!   doesn't fit; `unplaceable` and `overfull` say what such an item takes away, and why.
+//! - `tight` finds, where all fit, with the rooms of `best_rooms` what takes too much of all room,
+//!   and `total` says why, with rows of rooms (`room_row`).
+//! - `literals` and `collected` make the literals, `with_part` reads boxes with a part of one in its
+//!   place, `spans` tells which entries of a row a range covers.
 #![tactic(auto)]
 
 mod best_rooms;
