@@ -102,7 +102,8 @@ fn problem(alloc: Global) -> Result<Ground, AllocError>
     })
 }
 
-/// The variable and the ends of the set of the one literal that the kit gives, where the third box begins with `low`.
+/// The variable and the ends of the set of the one literal that the kit gives, where the third box
+/// begins with `low`.
 #[tactic(auto, using(crate::proofs::KitProblem::boxes_fit))]
 fn pruned_from(
     kit: &mut Kit,

@@ -1,5 +1,6 @@
-//! What no clause says: that the rules are those of their tables. Each row is the boxes of four variables, each a range or,
-//! where the range would be empty, the empty set; then whether they refute the constraint, and whether it is quiet there.
+//! What no clause says: that the rules are those of their tables. Each row is the boxes of four
+//! variables, each a range or, where the range would be empty, the empty set; then whether they
+//! refute the constraint, and whether it is quiet there.
 ghost use Rattle.std.specs.Prelude.{◌≡◌, ◌<◌, ℤ, List, length, IfOk};
 ghost use Rattle.std.specs.List.{All};
 ghost use Rattle.signed_clause.specs.Clauses.{Boxes};

@@ -1,4 +1,5 @@
-//! Kits of the propagators that come with the product: complete ones, and the least kind that is missing.
+//! Kits of the propagators that come with the product: complete ones, and the least kind that is
+//! missing.
 use bool_prop::BoolProp;
 use element_prop::ElementProp;
 use ground_form::Kind;

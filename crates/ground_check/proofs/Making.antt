@@ -1,5 +1,5 @@
 -- Terms, items and parts that are looked at one by one.
-use Rattle.std.proofs.Common.{◌≡◌, ℕ, suc, ◌+◌, ◌-◌, ◌*◌, ◌<◌, ◌≤◌, ◌^◌, max, Bool, true, false, unsigned_abs, List, [], ◌∷◌, ℤ, pos, ◌≤ℤ◌, ◌<ℤ◌, All, length, get_or, drop, sym, subst, refl, ap, ◌∙◌, arith}
+use Rattle.std.proofs.Common.{◌≡◌, ℕ, suc, ◌+◌, ◌-◌, ◌*◌, ◌<◌, ◌≤◌, ◌^◌, Bool, true, false, unsigned_abs, List, [], ◌∷◌, ℤ, pos, ◌≤ℤ◌, ◌<ℤ◌, All, length, get_or, drop, sym, subst, refl, ap, ◌∙◌, arith}
 use Rattle.std.specs.Ordering.{int_eq}
 use Rattle.std.proofs.lemmas.Int.{ints}
 use Rattle.std.proofs.lemmas.Bool.{and_parts, false_from_ne_true}
@@ -9,7 +9,7 @@ use Rattle.std.proofs.lemmas.List.Elements.{All-cons}
 use Rattle.signed_clause.specs.Clauses.{Boxes, box_of}
 use Rattle.signed_clause.proofs.RangeSteps.{left_at}
 use Rattle.ground_form.specs.Meaning.{part_vars}
-use Rattle.ground_form.specs.Bounds.{low_of, high_of, reach_of, term_weight, weight_of, size_sum, LiesWithin, IsPackBounded}
+use Rattle.ground_form.specs.Bounds.{low_of, high_of, reach_of, term_weight, size_sum, LiesWithin, IsPackBounded}
 use Rattle.ground_form.specs.WellMade.{lacks_value, distinct_values}
 use Rattle.ground_check.specs.Numbered.{numbered}
 

@@ -1,7 +1,7 @@
 //! Whether one constraint is well made over domains.
 //!
-//! Of numbers only small ones are taken: places up to 9,999, sizes up to 1,048,576, terms that weigh at most 2^59 together; and of
-//! an element's items only the values 0, 1 and so on.
+//! Of numbers only small ones are taken: places up to 9,999, sizes up to 1,048,576, terms that
+//! weigh at most 2^59 together; and of an element's items only the values 0, 1 and so on.
 ghost use Rattle.std.specs.Prelude.{◌≡◌, ◌<◌, ◌≤◌, ◌^◌, ◌≤ℤ◌, true, pos, IfOk, length, unsigned_abs};
 ghost use Rattle.std.specs.List.{All};
 ghost use Rattle.std.specs.Ordering.{int_eq};

@@ -1,7 +1,8 @@
-//! Whether a ground problem is well made, found out as a program runs, so that propagators may be asked about it.
+//! Whether a ground problem is well made, found out as a program runs, so that propagators may be
+//! asked about it.
 //!
-//! The tests are for problems all of whose variables are searched. They may say no of a problem that is well made, and never yes
-//! of one that isn't.
+//! The tests are for problems all of whose variables are searched. They may say no of a problem
+//! that is well made, and never yes of one that isn't.
 //!
 //! - `terms`: whether the weights of terms are small.
 //! - `constraint`: whether one constraint is well made.

@@ -25,8 +25,8 @@ fn are_constraints_well_made(
     Ok(true)
 }
 
-/// Whether a problem all of whose variables are searched, with values in each domain and no goal, is well made. It may say no of
-/// one that is, and does of any other problem.
+/// Whether a problem all of whose variables are searched, with values in each domain and no goal,
+/// is well made. It may say no of one that is, and does of any other problem.
 ///
 /// # Errors
 /// Want of memory.

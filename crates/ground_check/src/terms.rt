@@ -1,6 +1,7 @@
 //! Whether the weights of terms are small.
 //!
-//! A term weighs what its coefficient times the greatest number of its variable's domain comes to, both without their signs.
+//! A term weighs what its coefficient times the greatest number of its variable's domain comes to,
+//! both without their signs.
 ghost use Rattle.std.specs.Prelude.{◌≡◌, ◌<◌, ◌≤◌, ◌^◌, true, length, unsigned_abs, IfSome};
 ghost use Rattle.signed_clause.specs.Clauses.{box_of};
 ghost use Rattle.ground_form.specs.Bounds.{reach_of, term_weight, weight_of};

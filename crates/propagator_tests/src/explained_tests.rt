@@ -18,7 +18,8 @@ fn says(clause: &Clause, expected: &[(u32, IntSet)]) -> bool {
             .all(|(a, b)| a.0 == b.0 && a.1.same(&b.1))
 }
 
-/// Whether a packing answers the clause of these literals in the boxes, or nothing where there are none.
+/// Whether a packing answers the clause of these literals in the boxes, or nothing where there are
+/// none.
 fn answers(
     alloc: Global,
     g: &Ground,
@@ -39,9 +40,9 @@ fn answers(
     }
 }
 
-/// Five items of size 1 in places of room 2, of which all but the last have to be at two values: so the
-/// last can't be there. What it says of the places is that they are at other values, of the one size
-/// that it is less, and of the one room that it is more.
+/// Five items of size 1 in places of room 2, of which all but the last have to be at two values: so
+/// the last can't be there. What it says of the places is that they are at other values, of the one
+/// size that it is less, and of the one room that it is more.
 #[test]
 fn places_that_are_full_are_named_once(rt: HostRuntime) -> Result<(), AllocError> {
     let alloc = rt.alloc();
@@ -92,8 +93,9 @@ fn places_that_are_full_are_named_once(rt: HostRuntime) -> Result<(), AllocError
     Ok(())
 }
 
-/// Sizes of at least 2, 2, 3 and 2 in two places of room 3 each are 9, which is 3 above 6. One is enough,
-/// so the first size needn't be said: it may be 0. With rooms of 5 each there is nothing to say.
+/// Sizes of at least 2, 2, 3 and 2 in two places of room 3 each are 9, which is 3 above 6. One is
+/// enough, so the first size needn't be said: it may be 0. With rooms of 5 each there is nothing to
+/// say.
 #[test]
 fn a_size_that_all_sizes_have_to_spare_is_left_out(rt: HostRuntime) -> Result<(), AllocError> {
     let alloc = rt.alloc();
@@ -141,8 +143,8 @@ fn a_size_that_all_sizes_have_to_spare_is_left_out(rt: HostRuntime) -> Result<()
     Ok(())
 }
 
-/// Two items of size 2 are at 1, and one of size 3 can't be there as well where the room is 4: the load
-/// would be 7, which is 3 above. So the second item needn't be named. In a room of 7 it fits.
+/// Two items of size 2 are at 1, and one of size 3 can't be there as well where the room is 4: the
+/// load would be 7, which is 3 above. So the second item needn't be named. In a room of 7 it fits.
 #[test]
 fn an_item_that_the_load_has_to_spare_is_left_out(rt: HostRuntime) -> Result<(), AllocError> {
     let alloc = rt.alloc();

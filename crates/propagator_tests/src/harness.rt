@@ -1,7 +1,7 @@
 //! How a propagator is asked, and compared with plain probing.
 //!
-//! A problem has four copies of one constraint over searched variables, and the last is asked about.
-//! Whether it may be asked, since the problem is well made, is found out here.
+//! A problem has four copies of one constraint over searched variables, and the last is asked
+//! about. Whether it may be asked, since the problem is well made, is found out here.
 ghost use Rattle.std.specs.Prelude.{◌≡◌, ◌<◌, true, length, IfOk};
 ghost use Rattle.ground_form.specs.WellMade.{IsWellMade};
 
@@ -176,8 +176,8 @@ pub(crate) fn agrees_on_domains<P: Propagator>(
     }
 }
 
-/// How many of the table's first `count` boxes lie within the domains, where the propagator and plain
-/// probing leave the same of each; else 0.
+/// How many of the table's first `count` boxes lie within the domains, where the propagator and
+/// plain probing leave the same of each; else 0.
 pub(crate) fn count_agreeing<P: Propagator>(
     p: &mut P,
     g: &Ground,

@@ -1,6 +1,6 @@
-//! The propagator of sums with a bound, sums that define a variable, and flags that say whether a sum
-//! keeps a bound. What was kept for one constraint stands when the next one comes under the same
-//! number.
+//! The propagator of sums with a bound, sums that define a variable, and flags that say whether a
+//! sum keeps a bound. What was kept for one constraint stands when the next one comes under the
+//! same number.
 use crate::harness::{count_agreeing, is_left, problem_of, settle_domains};
 use crate::tables::{count_handled, span};
 use ground_form::{Con, Terms};
@@ -11,7 +11,8 @@ use std::alloc::AllocError;
 /// The values of a table.
 const VALUES: [i64; 3] = [-1, 0, 1];
 
-/// The three terms of a row of the tables, in which a variable may stand twice and a coefficient be 0.
+/// The three terms of a row of the tables, in which a variable may stand twice and a coefficient be
+/// 0.
 const ROWS: [[(i64, u32); 3]; 6] = [
     [(2, 0), (3, 1), (-1, 2)],
     [(-4, 2), (1, 0), (3, 1)],

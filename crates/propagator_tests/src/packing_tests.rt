@@ -8,8 +8,8 @@ use rule_law::Propagator;
 use signed_clause::IntSet;
 use std::alloc::{AllocError, Global};
 
-/// How many of the table's first boxes lie within the domains, where a packing of the items prunes as
-/// probing does and loses no point at which it is true; else 0.
+/// How many of the table's first boxes lie within the domains, where a packing of the items prunes
+/// as probing does and loses no point at which it is true; else 0.
 fn count_packed(
     alloc: Global,
     items: [(u32, u32, u32); 3],
@@ -52,7 +52,8 @@ fn tight_packings_prune_as_probing_does(rt: HostRuntime) -> Result<(), AllocErro
         span(alloc, (1, 3)),
         span(alloc, (1, 1)),
     ];
-    // an item of size 1 or more and one of 1, and one fixed at 1, of room 1 each; and the first of more room
+    // an item of size 1 or more and one of 1, and one fixed at 1, of room 1 each; and the first of
+    // more room
     for items in [
         [(0u32, 2u32, 3u32), (1, 3, 3), (3, 3, 3)],
         [(0, 3, 2), (1, 3, 3), (3, 3, 3)],
@@ -73,7 +74,8 @@ fn tight_packings_of_different_rooms_prune_as_probing_does(
         span(alloc, (0, 3)),
         span(alloc, (2, 2)),
     ];
-    // three sizes of 2 in three places of room 2 each, of which one may be less; and room for one more
+    // three sizes of 2 in three places of room 2 each, of which one may be less; and room for one
+    // more
     for items in [
         [(0u32, 3u32, 3u32), (1, 3, 3), (3, 3, 2)],
         [(0, 2, 3), (1, 3, 3), (3, 3, 3)],

@@ -10,7 +10,8 @@ use std::alloc::{AllocError, Global};
 /// The values of a table, and of a point.
 const VALUES: [i64; 4] = [0, 1, 2, 3];
 
-/// The values of a point: the digits of `n` to the base 4, and the value of a domain that has one alone.
+/// The values of a point: the digits of `n` to the base 4, and the value of a domain that has one
+/// alone.
 fn nth_point(alloc: Global, n: u32, domains: &[IntSet]) -> Result<Vec<i64>, AllocError> {
     let mut rest = n;
     let mut values = Vec::new(alloc);
@@ -96,8 +97,8 @@ fn keeps_points(points: &[Vec<i64>], boxes: &[IntSet], left: &Settled) -> bool {
     }
 }
 
-/// How many of `count` boxes of the table lie within the domains, where the propagator and plain probing
-/// leave the same of each, and lose no point at which the constraint is true; else 0.
+/// How many of `count` boxes of the table lie within the domains, where the propagator and plain
+/// probing leave the same of each, and lose no point at which the constraint is true; else 0.
 pub(crate) fn count_keeping<P: Propagator>(
     p: &mut P,
     g: &Ground,

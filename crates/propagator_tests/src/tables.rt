@@ -4,7 +4,8 @@ use rule_law::Propagator;
 use signed_clause::IntSet;
 use std::alloc::{AllocError, Global};
 
-/// Of each domain the values whose bits are set in its digit of `n`, and all of a domain of one value.
+/// Of each domain the values whose bits are set in its digit of `n`, and all of a domain of one
+/// value.
 pub(crate) fn nth_boxes(
     alloc: Global,
     domains: &[IntSet],
