@@ -1,4 +1,5 @@
--- Why crowded and full intervals are reasons: in what is left of the domains the interval is crowded.
+-- Why crowded and full intervals are reasons: in what is left of the domains the interval is
+-- crowded.
 use Rattle.std.proofs.Common.{◌≡◌, ℕ, zero, suc, ◌≤◌, Bool, true, false, not, ◌&&◌, cond, List, [], ◌∷◌, ℤ, ◌≤ℤ◌, refl, arith, inl, inr, subst, sym, ◌∙◌}
 use Rattle.std.specs.Prelude.{◌==◌, int_le}
 use Rattle.std.proofs.lemmas.Int.{ints}

@@ -1,5 +1,5 @@
--- Places at a fixpoint are quiet. A value that refutes them would stand in a full interval, or there would be a crowded one; and such an
--- interval begins where some box within it begins.
+-- Places at a fixpoint are quiet. A value that refutes them would stand in a full interval, or
+-- there would be a crowded one; and such an interval begins where some box within it begins.
 use Rattle.std.proofs.Common.{◌≡◌, ℕ, suc, ◌<◌, ◌≤◌, Bool, true, false, not, ◌||◌, cond, List, [], ◌∷◌, ℤ, ◌≤ℤ◌, All, length, refl, arith, inl, inr, subst, sym}
 use Rattle.std.specs.Prelude.{◌==◌}
 use Rattle.std.proofs.lemmas.Int.{ints}

@@ -46,7 +46,8 @@ pub record IsFixpoint (a b : ℤ) (xs : List ℕ) (boxes : Boxes) : Type 0 where
   pub few : count_in a b xs boxes ≤ width a b
   pub apart : width a b ≤ count_in a b xs boxes → AreApart a b xs boxes
 
--- what is at a fixpoint from the starts of narrow boxes is so in all intervals that aren't as wide as there are places
+-- what is at a fixpoint from the starts of narrow boxes is so in all intervals that aren't as wide
+-- as there are places
 pub fixpoint_in : (a b : ℤ) (xs : List ℕ) (boxes : Boxes) → AreSets boxes → AreAtFixpoint xs xs boxes → width a b < length xs → 1 ≤ count_in a b xs boxes → IsFixpoint a b xs boxes
 fixpoint_in a b xs boxes s h w c =
     let start = find_start a b xs boxes c in

@@ -1,5 +1,5 @@
--- Counting boxes by where they begin or end. What a reader believes after this file: the first slots added up tell how many
--- boxes lie in an interval.
+-- Counting boxes by where they begin or end. What a reader believes after this file: the first
+-- slots added up tell how many boxes lie in an interval.
 use Rattle.std.specs.Prelude.{ℕ, zero, suc, ◌+◌, Bool, false, ◌&&◌, cond, List, [], ◌∷◌, Option, Some, None, ℤ, int_le, nat_le}
 use Rattle.signed_clause.specs.Ranges.{Ranges}
 use Rattle.signed_clause.specs.Clauses.{Boxes, box_of}

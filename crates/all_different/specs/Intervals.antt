@@ -1,5 +1,6 @@
--- Intervals in which places that differ stand close. What a reader believes after this file: where no narrow box begins a
--- crowded interval, and each full one keeps the other boxes out, the places are at a fixpoint.
+-- Intervals in which places that differ stand close. What a reader believes after this file: where
+-- no narrow box begins a crowded interval, and each full one keeps the other boxes out, the places
+-- are at a fixpoint.
 use Rattle.std.specs.Prelude.{◌≡◌, ℕ, suc, ◌<◌, ◌≤◌, ◌≤ℤ◌, Bool, true, false, ◌||◌, List, [], ◌∷◌, ℤ, pos, ◌+ℤ◌, length, nat_lt}
 use Rattle.std.specs.List.{All}
 use Rattle.signed_clause.specs.Ranges.{Ranges}
@@ -43,7 +44,8 @@ pub record IsCrowd (a b : ℤ) (xs : List ℕ) (boxes : Boxes) : Type 0 where
   pub order : a ≤ℤ b
   pub more : width a b < count_in a b xs boxes
 
--- as many boxes lie within a..b as it has numbers, and that of x, of the list, which doesn't, has numbers of it
+-- as many boxes lie within a..b as it has numbers, and that of x, of the list, which doesn't, has
+-- numbers of it
 pub record IsIntruder (a b : ℤ) (x : ℕ) (xs : List ℕ) (boxes : Boxes) : Type 0 where
   pub order : a ≤ℤ b
   pub full : width a b ≤ count_in a b xs boxes

@@ -1,7 +1,8 @@
 //! Why an interval is crowded or full: the boxes that lie within it.
 //!
-//! The literals say of these variables that they are outside the interval, and where it is full also of the one that isn't
-//! within. As many boxes are named as the interval has numbers, and one more where it is crowded.
+//! The literals say of these variables that they are outside the interval, and where it is full
+//! also of the one that isn't within. As many boxes are named as the interval has numbers, and one
+//! more where it is crowded.
 ghost use Rattle.std.specs.Prelude.{◌≡◌, ◌<◌, ◌≤◌, ◌≤ℤ◌, ◌++◌, ℕ, suc, pos, true, [], ◌∷◌, IfOk, OnOk, List, length};
 ghost use Rattle.std.specs.List.{All};
 ghost use Rattle.signed_clause.specs.Ranges.{IsValid};
@@ -20,7 +21,8 @@ use rule_law::{keep_out, pruning};
 use signed_clause::{Clause, IntSet};
 use std::alloc::{AllocError, Global};
 
-/// Adds the literal of `y` where its box lies within `a..b` and `need` is above 0; it gives how many are needed then.
+/// Adds the literal of `y` where its box lies within `a..b` and `need` is above 0; it gives how
+/// many are needed then.
 fn collect_one(
     literals: &mut Vec<(u32, IntSet)>,
     need: usize,

@@ -1,4 +1,5 @@
-//! The sweep for crowded and full intervals, known as Hall intervals: from where each narrow box begins, interval by interval.
+//! The sweep for crowded and full intervals, known as Hall intervals: from where each narrow box
+//! begins, interval by interval.
 //!
 //! Two rows of counters tell for all intervals from one beginning how many boxes begin and end in
 //! them.
@@ -18,7 +19,8 @@ use ground_form::Number;
 use signed_clause::IntSet;
 use std::alloc::{AllocError, Global};
 
-/// How many intervals from `a` on are looked at: as many as there are places, and none past the greatest number of 64 bits.
+/// How many intervals from `a` on are looked at: as many as there are places, and none past the
+/// greatest number of 64 bits.
 fn lengths_from(a: Number, n: usize) -> usize
     ensures few { result ≤ n }
     ensures some { 0 < n → 0 < result }
@@ -51,8 +53,9 @@ fn may_intrude(d: usize, ended: usize, begun: usize) -> bool
     ended == d + 1 && ended < begun
 }
 
-/// What is found at the interval from `a` to `d` behind it, within which `ended` boxes lie and `begun` begin: nothing where it
-/// isn't crowded and, where it is full, keeps out each other box that begins at `a` or later.
+/// What is found at the interval from `a` to `d` behind it, within which `ended` boxes lie and
+/// `begun` begin: nothing where it isn't crowded and, where it is full, keeps out each other box
+/// that begins at `a` or later.
 fn judge(
     alloc: Global,
     vars: &[u32],
@@ -81,7 +84,8 @@ fn judge(
     None
 }
 
-/// The greatest full interval so far, with the one from `a` to `d` behind it, within which `ended` boxes lie.
+/// The greatest full interval so far, with the one from `a` to `d` behind it, within which `ended`
+/// boxes lie.
 fn with_full(full: Option<usize>, d: usize, ended: usize) -> Option<usize>
     requires { d < 18446744073709551615 }
     ensures { result ≡ newest full d ended }
@@ -222,7 +226,8 @@ fn look_at(
     }
 }
 
-/// What is found of the places: nothing where they are at a fixpoint. It takes no memory where no box is narrow.
+/// What is found of the places: nothing where they are at a fixpoint. It takes no memory where no
+/// box is narrow.
 pub fn find(
     alloc: Global,
     counters: &mut Counters,

@@ -17,7 +17,8 @@ use std::alloc::Global;
 pub enum Finding {
     /// More boxes lie within the interval than it has numbers.
     Crowded(Number, Number),
-    /// As many boxes lie within the interval as it has numbers, and that of the variable, which doesn't, has some of them.
+    /// As many boxes lie within the interval as it has numbers, and that of the variable, which
+    /// doesn't, has some of them.
     Full(Number, Number, u32),
 }
 

@@ -61,7 +61,8 @@ false_above boxes (l ∷ ls) n x v f h =
     let more = false_above boxes ls (suc l.0) x v f.3 (omega arith) in
     rw (same, more) refl
 
--- a literal that meets its box meets it still where another box has one of its values alone, and where its own has and lies in its set
+-- a literal that meets its box meets it still where another box has one of its values alone, and
+-- where its own has and lies in its set
 still_meets : (boxes : Boxes) (l : Literal) (x : ℕ) (v : ℤ) → x < length boxes → AreSets boxes → IsValid l.1 → has (box_of boxes x) v ≡ true → is_disjoint l.1 (box_of boxes l.0) ≡ false →
     (l.0 ≡ x → has l.1 v ≡ true) → is_disjoint l.1 (box_of (fixing boxes x v) l.0) ≡ false
 still_meets boxes l x v lt s f h m k =

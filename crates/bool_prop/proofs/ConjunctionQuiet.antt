@@ -57,7 +57,8 @@ fixing_sets boxes x v lt s h y =
       | inr e ↦ subst (λ (b : Ranges). IsValid b) (sym (fixing_other boxes x y v e)) (s y)
     ]
 
--- what holds of a box and of each of its values alone holds where some box has one of its values alone
+-- what holds of a box and of each of its values alone holds where some box has one of its values
+-- alone
 pub one_fixed : (P : Ranges → Type 0) (boxes : Boxes) (f : ℕ) → P (box_of boxes f) → ((v : ℤ) → has (box_of boxes f) v ≡ true → P ((v, v) ∷ [])) →
     (y : ℕ) (v : ℤ) → y < length boxes → has (box_of boxes y) v ≡ true → P (box_of (fixing boxes y v) f)
 one_fixed P boxes f h one y v lt k =

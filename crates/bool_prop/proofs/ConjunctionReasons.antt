@@ -1,4 +1,5 @@
--- What a conjunction has to state: that its flag is 0 or a part as it wants, or that its flag is 1 or some part isn't.
+-- What a conjunction has to state: that its flag is 0 or a part as it wants, or that its flag is 1
+-- or some part isn't.
 use Rattle.std.proofs.Common.{◌≡◌, ℕ, zero, suc, ◌<◌, Bool, true, false, not, ◌&&◌, ◌||◌, cond, List, [], ◌∷◌, ℤ, pos, length, get_or, All, refl, arith, subst, sym, ap, ◌∙◌, inl, inr}
 use Rattle.std.proofs.lemmas.Bool.{and_parts, and_from, false_from_ne_true}
 use Rattle.std.proofs.lemmas.Bool.Decides.{Decides-int_eq}

@@ -21,7 +21,8 @@ use Rattle.rule_law.proofs.FlagPlans.{are_good, is_flag, flag_other, two_fixed, 
 
 -- ---- memberships
 
--- what a membership says of four tests: the flag can be 1, it can be 0, the box misses the set, it lies inside
+-- what a membership says of four tests: the flag can be 1, it can be 0, the box misses the set, it
+-- lies inside
 abbrev by_tests : Bool → Bool → Bool → Bool → Option Bool
 by_tests on off missed in_set = cond (on && (missed || (not off && not in_set))) (Some true) (cond (off && (in_set || (not on && not missed))) (Some false) None)
 

@@ -1,5 +1,5 @@
--- What the quick tests find. What a reader believes after this file: which of its clauses a constraint has to state in the boxes,
--- where its flag is another variable than the rest.
+-- What the quick tests find. What a reader believes after this file: which of its clauses a
+-- constraint has to state in the boxes, where its flag is another variable than the rest.
 use Rattle.std.specs.Prelude.{◌≡◌, ℕ, ◌<◌, Bool, true, false, not, ◌&&◌, ◌||◌, cond, List, [], ◌∷◌, pos, Option, Some, None, length, slice_index_or, ◌==◌, ◌⊎◌}
 use Rattle.std.specs.List.{All}
 use Rattle.signed_clause.specs.Ranges.{Ranges, has, is_nil, IsValid}
@@ -13,8 +13,8 @@ use Rattle.box_rules.specs.Quiet.{quiet}
 use Rattle.bool_prop.specs.declared.conjunction.Finding.{Finding}
 use Rattle.bool_prop.specs.declared.conjunction.Finding.TheVariants.{Quiet, Part, Whole, Unclear}
 
--- of a membership: that the flag is 0 or the value in the set (true), or that it is 1 or the value outside (false); None where
--- neither says anything in the boxes
+-- of a membership: that the flag is 0 or the value in the set (true), or that it is 1 or the value
+-- outside (false); None where neither says anything in the boxes
 abbrev pub member_finding : Ranges → Ranges → Ranges → Option Bool
 member_finding flags box set =
     cond (has flags (pos 1) && (is_disjoint box set || (not (has flags (pos 0)) && not (is_within box set)))) (Some true)
@@ -50,12 +50,14 @@ abbrev pub whole_plan : List (ℕ × Bool) → Literals
 whole_plan [] = []
 whole_plan (p ∷ ps) = (p.0, (bit p.1, bit p.1) ∷ []) ∷ whole_plan ps
 
--- the flag is another variable, and can be 1 though the part is barred, or has to be 1 though the part isn't fixed
+-- the flag is another variable, and can be 1 though the part is barred, or has to be 1 though the
+-- part isn't fixed
 pub record IsPartOpen (flag : ℕ) (p : ℕ × Bool) (boxes : Boxes) : Type 0 where
   pub differ : (p.0 == flag) ≡ false
   pub acts : ((barred boxes flag true ≡ false) × (barred boxes p.0 p.1 ≡ true)) ⊎ ((barred boxes flag false ≡ true) × (part_fixed boxes p ≡ false))
 
--- the flag can be 0 though all parts are fixed, or has to be 0 though all parts but one are fixed, or all
+-- the flag can be 0 though all parts are fixed, or has to be 0 though all parts but one are fixed,
+-- or all
 abbrev pub IsWholeOpen : ℕ → List (ℕ × Bool) → Boxes → Type 0
 IsWholeOpen flag parts boxes =
     ((barred boxes flag false ≡ false) × (all_fixed parts boxes ≡ true)) ⊎ ((barred boxes flag true ≡ true) × (one_open parts boxes ≡ true))

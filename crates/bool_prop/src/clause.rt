@@ -1,7 +1,7 @@
 //! Clauses.
 //!
-//! A clause that is false in the boxes or unit explains itself. The test stops as soon as two literals meet their boxes, and
-//! nothing is copied where it finds nothing.
+//! A clause that is false in the boxes or unit explains itself. The test stops as soon as two
+//! literals meet their boxes, and nothing is copied where it finds nothing.
 ghost use Rattle.std.specs.Prelude.{◌≡◌, IfOk};
 ghost use Rattle.std.specs.List.{All};
 ghost use Rattle.signed_clause.specs.Ranges.{IsValid};

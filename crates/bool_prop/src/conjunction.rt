@@ -1,8 +1,9 @@
 //! Conjunctions.
 //!
-//! A conjunction says of each part that the flag is 0 or the part as it wants, and at last that the flag is 1 or some part
-//! isn't. Where the flag is 1 the walk stops at the first part that isn't fixed; where it is 0, at the second such part or at
-//! one that is barred; and where it is open, at one that is barred.
+//! A conjunction says of each part that the flag is 0 or the part as it wants, and at last that the
+//! flag is 1 or some part isn't. Where the flag is 1 the walk stops at the first part that isn't
+//! fixed; where it is 0, at the second such part or at one that is barred; and where it is open, at
+//! one that is barred.
 //!
 //! Whether a variable stands twice is asked only where the whole clause is stated, which has a
 //! literal for each part.
@@ -106,7 +107,8 @@ fn find_held(flag: u32, parts: &[(u32, bool)], boxes: &[IntSet]) -> Finding
     }
 }
 
-/// What there is to say where the flag is 0, and the part at the place is the first that isn't fixed, and isn't barred.
+/// What there is to say where the flag is 0, and the part at the place is the first that isn't
+/// fixed, and isn't barred.
 fn find_next(flag: u32, parts: &[(u32, bool)], i: usize, boxes: &[IntSet]) -> Finding
     requires scene { IsScene flag parts.now boxes.now }
     requires denied { barred boxes.now flag true ≡ true }

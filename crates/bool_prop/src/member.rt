@@ -1,7 +1,8 @@
 //! Memberships.
 //!
-//! A membership has two clauses: the flag is 0 or the value in the set, and the flag is 1 or the value outside. Which of them
-//! has something to say is told by the flag's box and by how the variable's box lies to the set: one walk over both.
+//! A membership has two clauses: the flag is 0 or the value in the set, and the flag is 1 or the
+//! value outside. Which of them has something to say is told by the flag's box and by how the
+//! variable's box lies to the set: one walk over both.
 ghost use Rattle.std.specs.Prelude.{◌≡◌, ◌<◌, ◌∷◌, [], pos, IfOk, length};
 ghost use Rattle.std.specs.List.{All};
 ghost use Rattle.signed_clause.specs.Ranges.{IsValid};
@@ -19,8 +20,8 @@ use rule_law::{planned_pruning, probe, truth};
 use signed_clause::{Clause, IntSet};
 use std::alloc::{AllocError, Global};
 
-/// Which clause has something to say: that the flag is 0 or the value in the set (true), that it is 1 or the value outside
-/// (false), or none.
+/// Which clause has something to say: that the flag is 0 or the value in the set (true), that it is
+/// 1 or the value outside (false), or none.
 fn find(flags: &IntSet, at: &IntSet, set: &IntSet) -> Option<bool>
     ensures { result ≡ member_finding flags.now at.now set.now }
 {

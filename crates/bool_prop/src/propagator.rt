@@ -15,8 +15,9 @@ use rule_law::{Propagator, Repeats, probe};
 use signed_clause::{Clause, IntSet};
 use std::alloc::{AllocError, Global};
 
-/// The propagator of conjunctions, memberships and clauses. The boxes of a flag and of the first parts tell at once that there
-/// is nothing to say; what is kept is which conjunctions have a variable that stands twice.
+/// The propagator of conjunctions, memberships and clauses. The boxes of a flag and of the first
+/// parts tell at once that there is nothing to say; what is kept is which conjunctions have a
+/// variable that stands twice.
 #[derive(Drop)]
 pub struct BoolProp {
     alloc: Global,

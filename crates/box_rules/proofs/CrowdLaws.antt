@@ -1,5 +1,5 @@
--- It is enough to look at intervals from where some box begins to where some box ends: any crowded interval can be narrowed
--- to such a one, since that keeps the boxes within it.
+-- It is enough to look at intervals from where some box begins to where some box ends: any crowded
+-- interval can be narrowed to such a one, since that keeps the boxes within it.
 use Rattle.std.proofs.Common.{◌≡◌, ◌↔◌, ℕ, suc, ◌≤◌, Bool, true, false, ◌&&◌, ◌||◌, cond, List, [], ◌∷◌, ℤ, pos, ◌+ℤ◌, ◌-ℤ◌, ◌≤ℤ◌, ◌<ℤ◌, All, refl, arith, inl, inr, ◌⊎◌, subst, sym}
 use Rattle.std.specs.Prelude.{int_lt, int_le}
 use Rattle.std.specs.Ordering.{int_eq}

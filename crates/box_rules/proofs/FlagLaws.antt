@@ -1,4 +1,5 @@
--- The rules of the kinds that define a flag, an element or a conditional, and of clauses, are right.
+-- The rules of the kinds that define a flag, an element or a conditional, and of clauses, are
+-- right.
 use Rattle.std.proofs.Common.{◌≡◌, ℕ, suc, Bool, true, false, not, ◌&&◌, ◌||◌, List, [], ◌∷◌, ℤ, pos, refl, arith, subst, ap, ◌∙◌, sym}
 use Rattle.std.specs.Ordering.{int_eq}
 use Rattle.std.proofs.lemmas.Int.{ints}
@@ -17,7 +18,8 @@ use Rattle.box_view.proofs.EndLaws.{AreSets, AreSingle, values_in, single_head, 
 
 -- ---- flags in general
 
--- a flag whose value is in its box isn't the bit of the truth, where 1 is barred or the truth denied, and 0 is barred or it holds
+-- a flag whose value is in its box isn't the bit of the truth, where 1 is barred or the truth
+-- denied, and 0 is barred or it holds
 pub flag-false : (flags : Ranges) (f : ℤ) (truth denied held : Bool) → has flags f ≡ true →
     (denied ≡ true → truth ≡ false) → (held ≡ true → truth ≡ true) →
     ((not (has flags (pos 1)) || denied) && (not (has flags (pos 0)) || held)) ≡ true → int_eq f (bit truth) ≡ false

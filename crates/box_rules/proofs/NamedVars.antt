@@ -1,4 +1,5 @@
--- Each variable has a box where each of the list that names all has one, and in boxes of the same length.
+-- Each variable has a box where each of the list that names all has one, and in boxes of the same
+-- length.
 use Rattle.std.proofs.Common.{◌≡◌, ℕ, zero, suc, ◌<◌, List, [], ◌∷◌, All, length, arith, sym}
 use Rattle.signed_clause.specs.Clauses.{Boxes, Literals}
 use Rattle.ground_form.specs.declared.con.Con.{Con}

@@ -1,4 +1,5 @@
--- The rule of items to be packed is right: a place holds no more than its room, and all places together no more than all room.
+-- The rule of items to be packed is right: a place holds no more than its room, and all places
+-- together no more than all room.
 use Rattle.std.proofs.Common.{◌≡◌, ℕ, zero, suc, Bool, true, false, not, ◌&&◌, ◌||◌, cond, List, [], ◌∷◌, ℤ, pos, ◌+ℤ◌, ◌-ℤ◌, ◌≤ℤ◌, unsigned_abs, refl, arith, All, inl, inr, subst, ap, ◌∙◌, sym}
 use Rattle.std.specs.Prelude.{int_lt, int_le}
 use Rattle.std.specs.Int.{int_min, int_max}

@@ -1,4 +1,5 @@
--- When a constraint is quiet: where none of its boxes is empty, and neither the boxes nor any value alone in one of them excludes it.
+-- When a constraint is quiet: where none of its boxes is empty, and neither the boxes nor any value
+-- alone in one of them excludes it.
 use Rattle.std.proofs.Common.{◌≡◌, ℕ, zero, suc, ◌<◌, Bool, true, false, not, ◌&&◌, ◌||◌, List, [], ◌∷◌, ◌++◌, ℤ, pos, ◌+ℤ◌, ◌≤ℤ◌, ◌<ℤ◌, length, All, refl, arith, inl, inr, subst, sym}
 use Rattle.std.proofs.lemmas.Int.{ints}
 use Rattle.std.proofs.lemmas.Bool.{cases_eq, cases_lt, and_from}

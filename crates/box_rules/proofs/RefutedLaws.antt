@@ -1,5 +1,5 @@
--- A constraint that is refuted in boxes is false at each of their points; and where the boxes are single values, it is
--- refuted exactly where it is false.
+-- A constraint that is refuted in boxes is false at each of their points; and where the boxes are
+-- single values, it is refuted exactly where it is false.
 use Rattle.std.proofs.Common.{◌≡◌, ℕ, zero, suc, ◌<◌, Bool, true, false, not, ◌&&◌, ◌||◌, List, [], ◌∷◌, ℤ, pos, ◌≤ℤ◌, refl, arith, All, length, subst, ap, sym, ◌∙◌}
 use Rattle.std.specs.Prelude.{int_lt, int_le}
 use Rattle.std.specs.Ordering.{int_eq}

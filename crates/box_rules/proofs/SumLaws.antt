@@ -1,5 +1,5 @@
--- A sum lies between the least and the greatest one, which are the sum itself where the boxes are single values; and so the
--- rules of the linear kinds are right.
+-- A sum lies between the least and the greatest one, which are the sum itself where the boxes are
+-- single values; and so the rules of the linear kinds are right.
 use Rattle.std.proofs.Common.{◌≡◌, ℕ, true, false, not, ◌||◌, List, [], ◌∷◌, ℤ, ◌+ℤ◌, ◌*ℤ◌, ◌≤ℤ◌, refl, arith, ap, ◌∙◌}
 use Rattle.std.specs.Prelude.{int_lt, int_le}
 use Rattle.std.specs.Int.{int_min, int_max}

@@ -1,5 +1,5 @@
--- Which clauses a constraint justifies. What a reader believes after this file: such a clause says no more than the
--- constraint, since where none of its literals is true the constraint is refuted.
+-- Which clauses a constraint justifies. What a reader believes after this file: such a clause says
+-- no more than the constraint, since where none of its literals is true the constraint is refuted.
 use Rattle.std.specs.Prelude.{Bool}
 use Rattle.signed_clause.specs.Clauses.{Boxes, Literals}
 use Rattle.ground_form.specs.declared.con.Con.{Con}

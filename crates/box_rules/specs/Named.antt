@@ -1,4 +1,5 @@
--- Which variables have boxes, said for each kind of the lists that hold them; and which have the same boxes twice.
+-- Which variables have boxes, said for each kind of the lists that hold them; and which have the
+-- same boxes twice.
 use Rattle.std.specs.Prelude.{◌≡◌, ℕ, ◌<◌, List, [], ◌∷◌, ℤ, length}
 use Rattle.std.specs.List.{All}
 use Rattle.signed_clause.specs.Clauses.{Boxes, box_of}

@@ -1,4 +1,5 @@
--- Points of boxes. What a reader believes after this file: a constraint without a point in boxes has no solution there.
+-- Points of boxes. What a reader believes after this file: a constraint without a point in boxes
+-- has no solution there.
 use Rattle.std.specs.Prelude.{◌≡◌, ℕ, List, ℤ, true, false}
 use Rattle.signed_clause.specs.Clauses.{Boxes}
 use Rattle.ground_form.specs.declared.con.Con.{Con}

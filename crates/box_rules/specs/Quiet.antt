@@ -1,5 +1,6 @@
--- When a constraint has nothing to say in boxes. What a reader believes after this file: a quiet constraint is not refuted,
--- and would not be by a value that one of its boxes might be narrowed to: every value of a small box, the ends of a large one.
+-- When a constraint has nothing to say in boxes. What a reader believes after this file: a quiet
+-- constraint is not refuted, and would not be by a value that one of its boxes might be narrowed
+-- to: every value of a small box, the ends of a large one.
 use Rattle.std.specs.Prelude.{◌≡◌, ℕ, zero, suc, Bool, true, not, ◌&&◌, cond, List, [], ◌∷◌, ◌++◌, ℤ, pos, ◌+ℤ◌, nat_le}
 use Rattle.signed_clause.specs.Ranges.{Ranges, has, count_of}
 use Rattle.signed_clause.specs.Clauses.{Boxes, box_of}

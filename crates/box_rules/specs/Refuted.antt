@@ -1,5 +1,6 @@
--- Which constraints are refuted in boxes, kind by kind. What a reader believes after this file: a refuted constraint is one
--- whose kind's rule, which looks at the ends of boxes and at their values one by one, leaves it no chance.
+-- Which constraints are refuted in boxes, kind by kind. What a reader believes after this file: a
+-- refuted constraint is one whose kind's rule, which looks at the ends of boxes and at their values
+-- one by one, leaves it no chance.
 use Rattle.std.specs.Prelude.{ℕ, zero, suc, Bool, true, false, not, ◌&&◌, ◌||◌, cond, List, [], ◌∷◌, ℤ, pos, ◌+ℤ◌, ◌-ℤ◌, int_le, int_lt, unsigned_abs}
 use Rattle.std.specs.Int.{int_max, int_min}
 use Rattle.std.specs.Ordering.{int_eq}
@@ -108,7 +109,8 @@ abbrev pub rooms_from : ℕ → ℤ → List (ℕ × ℕ × ℕ) → Boxes → �
 rooms_from zero v items boxes = pos 0
 rooms_from (suc n) v items boxes = best_room v items boxes +ℤ rooms_from n (v +ℤ pos 1) items boxes
 
--- the least of v and what the places' boxes begin with, and the greatest of v and what they end with
+-- the least of v and what the places' boxes begin with, and the greatest of v and what they end
+-- with
 abbrev pub first_place : ℤ → List (ℕ × ℕ × ℕ) → Boxes → ℤ
 first_place v [] boxes = v
 first_place v (i ∷ is) boxes = first_place (int_min v (low_of (box_of boxes i.0))) is boxes
@@ -138,7 +140,8 @@ excluded (LinLe terms bound) boxes = int_lt bound (least_sum terms boxes)
 excluded (LinDef out terms offset) boxes =
     int_lt (greatest_sum terms boxes +ℤ offset) (low_of (box_of boxes out))
     || int_lt (high_of (box_of boxes out)) (least_sum terms boxes +ℤ offset)
--- the flag can't be 1 or the least sum is above the bound, and it can't be 0 or the greatest sum isn't
+-- the flag can't be 1 or the least sum is above the bound, and it can't be 0 or the greatest sum
+-- isn't
 excluded (ReifLe flag terms bound) boxes =
     (barred boxes flag true || int_lt bound (least_sum terms boxes))
     && (barred boxes flag false || int_le (greatest_sum terms boxes) bound)

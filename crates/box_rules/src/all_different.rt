@@ -1,7 +1,7 @@
 //! Values that differ, over a view of boxes.
 //!
-//! Places that differ can't be crowded: no interval has fewer numbers than places whose boxes lie within it. It is enough to
-//! look at intervals from where some box begins to where some box ends.
+//! Places that differ can't be crowded: no interval has fewer numbers than places whose boxes lie
+//! within it. It is enough to look at intervals from where some box begins to where some box ends.
 //!
 //! An interval with as many numbers as there are variables can't be crowded and isn't counted, so a
 //! test of wide domains looks at pairs of ends alone.
@@ -44,8 +44,8 @@ fn is_more(count: usize, a: Number, b: Number) -> bool
     a.value <= b.value && 0 < count && b.value.abs_diff(a.value) < count as u64 - 1
 }
 
-/// Whether more places than `a..b` has numbers have a box within it. Only where there are more places than numbers are they
-/// counted.
+/// Whether more places than `a..b` has numbers have a box within it. Only where there are more
+/// places than numbers are they counted.
 #[tactic(auto, using(crate::proofs::FewPlaces::no_more))]
 fn is_crowded<V: View>(view: &V, vars: &[u32], a: Number, b: Number) -> bool
     requires { All (λ x. x < length (V.boxes view.now)) vars.now }

@@ -1,7 +1,8 @@
 //! Whether a constraint has nothing to say in boxes.
 //!
-//! `quiet` asks at each variable of the constraint whether one of its probed values, alone in its box, refutes the constraint.
-//! Boxes with one value in place of a box are a view (`Fixing`), so nothing is built.
+//! `quiet` asks at each variable of the constraint whether one of its probed values, alone in its
+//! box, refutes the constraint. Boxes with one value in place of a box are a view (`Fixing`), so
+//! nothing is built.
 ghost use Rattle.std.specs.Prelude.{◌≡◌, ◌<◌, ◌≤ℤ◌, ◌&&◌, ℤ, true, false, not, is_some, IfSome, [], ◌∷◌, length};
 ghost use Rattle.std.specs.List.{All};
 ghost use Rattle.signed_clause.specs.Ranges.{has, in_range, is_nil, IsValid};
@@ -19,8 +20,9 @@ use box_view::{Fixing, end_of, is_below, next, start_of};
 use ground_form::{Con, Number, ends_of};
 use signed_clause::IntSet;
 
-/// Whether the constraint is quiet in the boxes: it isn't refuted, and would not be by any probed value alone in the box of
-/// its variable. Probed are all values of a box that has at most 64, else the least and the greatest. It takes no memory.
+/// Whether the constraint is quiet in the boxes: it isn't refuted, and would not be by any probed
+/// value alone in the box of its variable. Probed are all values of a box that has at most 64, else
+/// the least and the greatest. It takes no memory.
 #[tactic(auto, using(crate::proofs::NamedVars::named), unfolding(crate::specs::Quiet::quiet))]
 pub fn quiet(con: &Con, boxes: &[IntSet]) -> bool
     requires variables { All (λ x. x < length boxes.now) (vars_of con.now) }
@@ -48,7 +50,8 @@ fn does_value_refute(con: &Con, boxes: &[IntSet], x: u32, at: Number) -> bool
     refutes_in(con, &view)
 }
 
-/// The first of the values from `first` to `last`, all of the box of `x`, that refutes the constraint.
+/// The first of the values from `first` to `last`, all of the box of `x`, that refutes the
+/// constraint.
 fn first_between(con: &Con, boxes: &[IntSet], x: u32, first: Number, last: Number) -> Option<Number>
     requires named { IsNamed con.now boxes.now }
     requires bounded { IsBounded con.now boxes.now }
@@ -114,7 +117,8 @@ fn first_of_all(con: &Con, boxes: &[IntSet], x: u32) -> Option<Number>
     first_in_ranges(con, boxes, x, boxes[x as usize].ranges())
 }
 
-/// The least or the greatest value of the box of `x`, which isn't empty, where it refutes the constraint.
+/// The least or the greatest value of the box of `x`, which isn't empty, where it refutes the
+/// constraint.
 fn first_of_ends(con: &Con, boxes: &[IntSet], x: u32) -> Option<Number>
     requires named { IsNamed con.now boxes.now }
     requires bounded { IsBounded con.now boxes.now }
@@ -269,8 +273,8 @@ fn are_items_quiet(con: &Con, boxes: &[IntSet], items: &[(u32, u32, u32)]) -> bo
     true
 }
 
-/// Whether no probed value of a variable of the constraint refutes it when it stands alone in its box. The constraint is quiet
-/// where that is so and the boxes don't refute it.
+/// Whether no probed value of a variable of the constraint refutes it when it stands alone in its
+/// box. The constraint is quiet where that is so and the boxes don't refute it.
 pub fn are_all_quiet(con: &Con, boxes: &[IntSet]) -> bool
     requires named { IsNamed con.now boxes.now }
     requires bounded { IsBounded con.now boxes.now }

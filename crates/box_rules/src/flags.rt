@@ -1,7 +1,8 @@
-//! Flags, conjunctions, memberships, equalities, elements, conditionals and clauses over a view of boxes.
+//! Flags, conjunctions, memberships, equalities, elements, conditionals and clauses over a view of
+//! boxes.
 //!
-//! One function for each rule, and small ones that ask of one variable. None takes memory; a list is walked once, up to the
-//! first item that decides.
+//! One function for each rule, and small ones that ask of one variable. None takes memory; a list
+//! is walked once, up to the first item that decides.
 ghost use Rattle.std.specs.Prelude.{◌≡◌, ◌<◌, ◌&&◌, ◌||◌, not, pos, true, false, length};
 ghost use Rattle.std.specs.List.{All};
 ghost use Rattle.signed_clause.specs.Ranges.{has};
@@ -84,7 +85,8 @@ fn are_all_fixed<V: View>(view: &V, parts: &[(u32, bool)]) -> bool
     true
 }
 
-/// Whether a flag can be neither: not 1 since it is barred or denied, and not 0 since it is barred or held.
+/// Whether a flag can be neither: not 1 since it is barred or denied, and not 0 since it is barred
+/// or held.
 pub fn is_flag_excluded<V: View>(view: &V, flag: u32, denied: bool, held: bool) -> bool
     requires { flag < length (V.boxes view.now) }
     ensures { result ≡ ((barred (V.boxes view.now) flag true || denied) && (barred (V.boxes view.now) flag false || held)) }
@@ -156,7 +158,8 @@ pub fn excludes_equality<V: View>(view: &V, flag: u32, left: u32, right: u32) ->
         && (is_barred(view, flag, false) || is_same_single(view, left, right))
 }
 
-/// Whether the item can't be picked: its value isn't in the index's box, or its variable's box misses that of `out`.
+/// Whether the item can't be picked: its value isn't in the index's box, or its variable's box
+/// misses that of `out`.
 fn is_not_picked<V: View>(view: &V, out: u32, index: u32, t: (i64, u32)) -> bool
     requires out { out < length (V.boxes view.now) }
     requires index { index < length (V.boxes view.now) }

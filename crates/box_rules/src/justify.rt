@@ -12,8 +12,8 @@ use box_view::Cut;
 use ground_form::Con;
 use signed_clause::{Clause, IntSet};
 
-/// Whether the constraint justifies the clause: it is refuted in what the clause's literals leave of the domains. It takes
-/// no memory.
+/// Whether the constraint justifies the clause: it is refuted in what the clause's literals leave
+/// of the domains. It takes no memory.
 #[tactic(auto, using(crate::proofs::NamedVars::cut_named))]
 pub fn justified(con: &Con, domains: &[IntSet], clause: &Clause) -> bool
     requires variables { All (λ x. x < length domains.now) (vars_of con.now) }

@@ -1,11 +1,14 @@
-//! The rules of the constraints: when boxes refute a constraint, which clauses it justifies, and when it is quiet.
+//! The rules of the constraints: when boxes refute a constraint, which clauses it justifies, and
+//! when it is quiet.
 //!
-//! Each kind of constraint has one rule, which looks at the boxes of its variables. A constraint is refuted where its rule
-//! leaves it no chance; a clause is justified by it where it is refuted in what the clause's literals leave of the domains;
-//! and it is quiet where no single value of a box would refute it. `specs/` holds these three tests, apart from this code.
+//! Each kind of constraint has one rule, which looks at the boxes of its variables. A constraint is
+//! refuted where its rule leaves it no chance; a clause is justified by it where it is refuted in
+//! what the clause's literals leave of the domains; and it is quiet where no single value of a box
+//! would refute it. `specs/` holds these three tests, apart from this code.
 //!
 //! - `emptiness`: whether a variable of a constraint has an empty box.
-//! - `flags`, `linear`, `all_different`, `packing`: the rule of each kind. `sums`: what the linear ones add up.
+//! - `flags`, `linear`, `all_different`, `packing`: the rule of each kind. `sums`: what the linear
+//!   ones add up.
 //! - `exclude`: the rule of a constraint, whatever its kind.
 //! - `refute`: when boxes refute a constraint. `justify`: when it justifies a clause.
 //! - `fixpoint`: when it is quiet, and the values that are probed for that.

@@ -1,8 +1,9 @@
 //! Items to be packed, over a view of boxes.
 //!
-//! Two loads are compared with room: at a place where items are fixed, and over all places. The room of all places is added up
-//! value by value, from where the first place's box begins to where the last one's ends. Sums are of 128 bits, which as many
-//! values of 64 bits as a list can have don't fill.
+//! Two loads are compared with room: at a place where items are fixed, and over all places. The
+//! room of all places is added up value by value, from where the first place's box begins to where
+//! the last one's ends. Sums are of 128 bits, which as many values of 64 bits as a list can have
+//! don't fill.
 ghost use Rattle.std.specs.Prelude.{◌≡◌, ◌<◌, ◌≤◌, ◌≤ℤ◌, ◌<ℤ◌, ◌^◌, ◌-◌, ◌&&◌, ◌||◌, ◌+ℤ◌, cond, pos, int_lt, length};
 ghost use Rattle.std.specs.Int.{int_max, int_min};
 ghost use Rattle.std.specs.List.{All};

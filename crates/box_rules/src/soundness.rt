@@ -11,8 +11,9 @@ ghost use Rattle.box_rules.specs.Refuted.{some_crowded, refuted};
 use ground_form::Con;
 use signed_clause::IntSet;
 
-/// It does nothing; its contract is the law. A constraint that is refuted in boxes is true at no point of them. Where each
-/// box is a single value, it is refuted exactly where it is false at these values.
+/// It does nothing; its contract is the law. A constraint that is refuted in boxes is true at no
+/// point of them. Where each box is a single value, it is refuted exactly where it is false at
+/// these values.
 #[tactic(auto, using(crate::proofs::RefutedLaws::refuted_has_no_point, crate::proofs::RefutedLaws::refuted_where_false))]
 pub fn refuted_is_false(con: &Con, boxes: &[IntSet])
     requires variables { All (λ x. x < length boxes.now) (vars_of con.now) }
@@ -23,8 +24,8 @@ pub fn refuted_is_false(con: &Con, boxes: &[IntSet])
     ensures exact { (a : List ℤ) → boxes.now ≡ singles a → refuted con.now boxes.now ≡ not (con_true con.now a) }
 {}
 
-/// It does nothing; its contract is the law. The rule of values that differ looks at intervals from where some box begins to
-/// where some box ends, which is as good as to look at all.
+/// It does nothing; its contract is the law. The rule of values that differ looks at intervals from
+/// where some box begins to where some box ends, which is as good as to look at all.
 #[tactic(auto, using(crate::proofs::CrowdLaws::crowded_law))]
 pub fn some_interval_is_crowded(vars: &[u32], boxes: &[IntSet])
     requires { All (λ s. IsValid s) boxes.now }

@@ -1,5 +1,5 @@
--- Boxes that views stand for. What a reader believes after this file: they are the boxes with one value in place of a box, or
--- what the sets of a clause leave of each domain.
+-- Boxes that views stand for. What a reader believes after this file: they are the boxes with one
+-- value in place of a box, or what the sets of a clause leave of each domain.
 use Rattle.std.specs.Prelude.{ℕ, suc, [], ◌∷◌, ℤ, slice_set}
 use Rattle.signed_clause.specs.SetAlgebra.{less}
 use Rattle.signed_clause.specs.Clauses.{Boxes, Literals, set_of}

@@ -1,8 +1,9 @@
 //! Domains less the sets of a clause, as a view.
 //!
-//! What is left of a domain is not built: its questions are those of numbers that the domain has and the clause's set for the
-//! variable lacks (`values`). The set is looked up by halving the clause; a variable that the clause doesn't name keeps its
-//! domain, and the questions are then the domain's own.
+//! What is left of a domain is not built: its questions are those of numbers that the domain has
+//! and the clause's set for the variable lacks (`values`). The set is looked up by halving the
+//! clause; a variable that the clause doesn't name keeps its domain, and the questions are then the
+//! domain's own.
 ghost use Rattle.std.specs.Prelude.{◌≡◌, ◌≤◌, ◌<◌, ◌≤ℤ◌, ℤ, true, false, IfSome, IfNone, pos, [], length, negsuc};
 ghost use Rattle.signed_clause.specs.Ranges.{has, is_nil};
 ghost use Rattle.signed_clause.specs.SetAlgebra.{is_disjoint, is_within, less};

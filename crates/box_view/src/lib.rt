@@ -1,7 +1,9 @@
-//! How boxes are looked at without building them: whole, with one variable fixed, or cut by a clause.
+//! How boxes are looked at without building them: whole, with one variable fixed, or cut by a
+//! clause.
 //!
-//! The rules of constraints ask little of boxes: their ends, whether they have a value, how they lie to a set. What they ask is
-//! one trait, and each way to look at boxes answers it. `specs/Views.antt` says which boxes each way stands for.
+//! The rules of constraints ask little of boxes: their ends, whether they have a value, how they
+//! lie to a set. What they ask is one trait, and each way to look at boxes answers it.
+//! `specs/Views.antt` says which boxes each way stands for.
 //!
 //! - `numbers`: small questions about numbers.
 //! - `view`: the trait; boxes as they are, and boxes of which one is a single value.

@@ -1,8 +1,9 @@
 //! Numbers that pass several tests at once, found without building the set of them.
 //!
-//! `Values` answers the next value from a number on, and the one before. A set has that by halving its list of ranges
-//! (`Inside`), and so has what it lacks (`Outside`). Of two such (`Both`) the next common value is found by leaps: each leads
-//! to the other's next value until they agree. So questions of a difference of sets, or of two, are one question each.
+//! `Values` answers the next value from a number on, and the one before. A set has that by halving
+//! its list of ranges (`Inside`), and so has what it lacks (`Outside`). Of two such (`Both`) the
+//! next common value is found by leaps: each leads to the other's next value until they agree. So
+//! questions of a difference of sets, or of two, are one question each.
 ghost use Rattle.std.specs.Prelude.{◌≡◌, ◌↔◌, IsTrue, ◌≤◌, ◌<◌, ◌≤ℤ◌, ◌&&◌, Bool, false, ℤ, pos, not, IfSome, IfNone, length, drop, take, slice_index_or};
 ghost use Rattle.std.specs.Prelude.{◌-◌, ◌+ℤ◌, ◌-ℤ◌, negsuc, int_lt, int_le};
 ghost use Rattle.signed_clause.specs.Ranges.{has, IsValid};
@@ -181,7 +182,8 @@ fn ahead(r: (i64, i64)) -> Option<Number>
     }
 }
 
-/// The first number from `from` on that isn't in the ranges, of which `r` is the first that reaches `from`.
+/// The first number from `from` on that isn't in the ranges, of which `r` is the first that reaches
+/// `from`.
 #[tactic(auto, using(crate::proofs::Halving::first_lack, crate::proofs::Halving::first_lack_at, crate::proofs::Halving::no_lack_from, crate::proofs::Halving::lack_before))]
 fn lacking_from(ranges: &[(i64, i64)], r: (i64, i64), from: Number) -> Option<Number>
     requires { IsReaching ranges.now from.value r }
@@ -195,7 +197,8 @@ fn lacking_from(ranges: &[(i64, i64)], r: (i64, i64), from: Number) -> Option<Nu
     }
 }
 
-/// The last number up to `from` that isn't in the ranges, of which `r` is the last that begins by `from`.
+/// The last number up to `from` that isn't in the ranges, of which `r` is the last that begins by
+/// `from`.
 #[tactic(auto, using(crate::proofs::Halving::last_lack, crate::proofs::Halving::last_lack_at, crate::proofs::Halving::no_lack_to, crate::proofs::Halving::lack_after))]
 fn lacking_to(ranges: &[(i64, i64)], r: (i64, i64), from: Number) -> Option<Number>
     requires { IsBegun ranges.now from.value r }

@@ -1,8 +1,9 @@
 //! Views of boxes that needn't be built.
 //!
-//! The rules of the constraints ask little of boxes: their ends, whether they have a value, and how they lie to a set or to
-//! one another. `View` is that face. Behind it stand boxes as they are (`Plain`), boxes of which one is replaced by a single
-//! value (`Fixing`), and domains less the sets of a clause (`Cut`). So a rule is written once, and takes no memory.
+//! The rules of the constraints ask little of boxes: their ends, whether they have a value, and how
+//! they lie to a set or to one another. `View` is that face. Behind it stand boxes as they are
+//! (`Plain`), boxes of which one is replaced by a single value (`Fixing`), and domains less the
+//! sets of a clause (`Cut`). So a rule is written once, and takes no memory.
 ghost use Rattle.std.specs.Prelude.{◌≡◌, ◌<◌, ◌≤◌, ◌≤ℤ◌, [], ◌∷◌, length};
 ghost use Rattle.signed_clause.specs.Ranges.{has, is_nil};
 ghost use Rattle.signed_clause.specs.SetAlgebra.{is_disjoint, is_within};

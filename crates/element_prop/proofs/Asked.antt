@@ -1,4 +1,5 @@
--- What is asked of a constraint in boxes, said of equalities and conditionals. F, X and Y are the boxes of their variables.
+-- What is asked of a constraint in boxes, said of equalities and conditionals. F, X and Y are the
+-- boxes of their variables.
 use Rattle.std.proofs.Common.{◌≡◌, ℕ, ◌<◌, true, false, [], ◌∷◌, ℤ, pos, length, All, arith, subst, sym}
 use Rattle.signed_clause.specs.Ranges.{Ranges, IsValid}
 use Rattle.signed_clause.specs.SetAlgebra.{is_within, less}

@@ -1,5 +1,6 @@
--- An element is quiet of which each index value has an item, each probed value of out is offered, and two items of different variables
--- can be picked, or of the only variable no value is outside out's box.
+-- An element is quiet of which each index value has an item, each probed value of out is offered,
+-- and two items of different variables can be picked, or of the only variable no value is outside
+-- out's box.
 use Rattle.std.proofs.Common.{◌≡◌, ℕ, zero, suc, ◌<◌, ◌≤◌, Bool, true, false, not, ◌&&◌, ◌||◌, cond, List, [], ◌∷◌, ℤ, length, get_or, refl, arith, subst, sym, ap, ◌∙◌, inl, inr}
 use Rattle.std.specs.Prelude.{◌==◌, ◌⊎◌}
 use Rattle.std.specs.Ordering.{int_eq}

@@ -1,4 +1,5 @@
--- Each value of the index is an item's, where as many items' values as it has are its values; and not else.
+-- Each value of the index is an item's, where as many items' values as it has are its values; and
+-- not else.
 use Rattle.std.proofs.Common.{◌≡◌, ℕ, suc, ◌≤◌, Bool, true, false, not, ◌&&◌, cond, List, [], ◌∷◌, ℤ, refl, arith, subst, sym, ap, ◌∙◌}
 use Rattle.std.specs.Ordering.{int_eq}
 use Rattle.std.proofs.lemmas.Int.{ints}

@@ -1,4 +1,5 @@
--- Which values of out are offered, range by range and item by item; and then all that are probed are.
+-- Which values of out are offered, range by range and item by item; and then all that are probed
+-- are.
 use Rattle.std.proofs.Common.{◌≡◌, ℕ, zero, suc, ◌<◌, ◌≤◌, ◌+◌, Bool, true, false, ◌&&◌, ◌||◌, List, [], ◌∷◌, ℤ, pos, ◌≤ℤ◌, drop, length, get_or, refl, arith, subst, sym, ap, ◌∙◌, inl, inr}
 use Rattle.std.specs.Prelude.{Option, Some, None, IfNone}
 use Rattle.std.proofs.lemmas.Int.{ints}

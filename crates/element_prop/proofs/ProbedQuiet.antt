@@ -1,4 +1,5 @@
--- When a constraint is quiet: where none of its boxes is empty, and neither the boxes nor any probed value alone in one of them excludes it.
+-- When a constraint is quiet: where none of its boxes is empty, and neither the boxes nor any
+-- probed value alone in one of them excludes it.
 use Rattle.std.proofs.Common.{◌≡◌, ℕ, suc, ◌<◌, Bool, true, false, not, ◌&&◌, ◌||◌, List, [], ◌∷◌, ℤ, length, All, refl, arith, inl, inr, subst, sym}
 use Rattle.std.proofs.lemmas.Bool.{cases_eq, and_from}
 use Rattle.signed_clause.specs.Ranges.{Ranges, is_nil}

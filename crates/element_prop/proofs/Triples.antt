@@ -1,4 +1,5 @@
--- Constraints over a flag and two more variables, and the plan that says that one of these lies within the other's box.
+-- Constraints over a flag and two more variables, and the plan that says that one of these lies
+-- within the other's box.
 use Rattle.std.proofs.Common.{◌≡◌, ℕ, ◌<◌, true, false, [], ◌∷◌, ℤ, pos, length, refl, arith, subst, sym, inl, inr}
 use Rattle.std.specs.Prelude.{◌==◌}
 use Rattle.std.proofs.lemmas.Bool.{cases_eq, false_from_ne_true}
@@ -43,7 +44,8 @@ turned domains boxes f x y t = record {
   bits = t.bits;
 }
 
--- what holds of three boxes, and of each value of one of them beside the other two, holds where any box has one of its values alone
+-- what holds of three boxes, and of each value of one of them beside the other two, holds where any
+-- box has one of its values alone
 pub three_fixed : (P : Ranges → Ranges → Ranges → Type 0) (domains boxes : Boxes) (f x y : ℕ) → IsTriple domains boxes f x y → P (box_of boxes f) (box_of boxes x) (box_of boxes y) →
     ((v : ℤ) → has (box_of boxes f) v ≡ true → P ((v, v) ∷ []) (box_of boxes x) (box_of boxes y)) →
     ((v : ℤ) → has (box_of boxes x) v ≡ true → P (box_of boxes f) ((v, v) ∷ []) (box_of boxes y)) →

@@ -1,5 +1,5 @@
--- What the quick test of a conditional finds. What a reader believes after this file: which of its clauses a conditional has to
--- state in the boxes, where its variables are different.
+-- What the quick test of a conditional finds. What a reader believes after this file: which of its
+-- clauses a conditional has to state in the boxes, where its variables are different.
 use Rattle.std.specs.Prelude.{◌≡◌, ℕ, true, false, [], ◌∷◌, pos, ◌⊎◌}
 use Rattle.signed_clause.specs.Ranges.{Ranges, has}
 use Rattle.signed_clause.specs.SetAlgebra.{is_disjoint, is_within, less}
@@ -8,8 +8,8 @@ use Rattle.element_prop.specs.Within.{HasToLie}
 use Rattle.element_prop.specs.declared.conditional.Finding.{Finding}
 use Rattle.element_prop.specs.declared.conditional.Finding.TheVariants.{Quiet, OutWithin, ItemWithin, Zero, Either}
 
--- where the flag can be 1, a value is common; where it has to, the boxes are the same; where it can be 0, out can; where it has
--- to, out is; and else out's values are 0 or of the item
+-- where the flag can be 1, a value is common; where it has to, the boxes are the same; where it can
+-- be 0, out can; where it has to, out is; and else out's values are 0 or of the item
 pub record IsCalm (out flags item : Ranges) : Type 0 where
   pub common : has flags (pos 1) ≡ true → is_disjoint out item ≡ false
   pub out_within : has flags (pos 0) ≡ false → is_within out item ≡ true
@@ -23,7 +23,8 @@ abbrev pub HasToBeZero : Ranges → Ranges → Type 0
 HasToBeZero out flags =
     ((has flags (pos 0) ≡ true) × (has out (pos 0) ≡ false)) ⊎ ((has flags (pos 1) ≡ false) × (is_within out ((pos 0, pos 0) ∷ []) ≡ false))
 
--- what the clause leaves that says that out is 0 or has a value that the item's box has, or that the item is outside its box
+-- what the clause leaves that says that out is 0 or has a value that the item's box has, or that
+-- the item is outside its box
 abbrev pub either_plan : Boxes → Boxes → ℕ → ℕ → Literals
 either_plan domains boxes o i = (o, less (less (box_of domains o) ((pos 0, pos 0) ∷ [])) (box_of boxes i)) ∷ (i, box_of boxes i) ∷ []
 

@@ -1,5 +1,6 @@
--- What is found of an element in the boxes. What a reader believes after this file: which clauses an element has to state there,
--- where its variables are different, and when it has nothing to state.
+-- What is found of an element in the boxes. What a reader believes after this file: which clauses
+-- an element has to state there, where its variables are different, and when it has nothing to
+-- state.
 use Rattle.std.specs.Prelude.{◌≡◌, ℕ, suc, ◌<◌, ◌≤◌, Bool, true, false, not, ◌&&◌, ◌||◌, cond, ◌==◌, List, [], ◌∷◌, ℤ, length, slice_index_or, ◌⊎◌}
 use Rattle.signed_clause.specs.Ranges.{Ranges, has, count_of}
 use Rattle.signed_clause.specs.SetAlgebra.{is_disjoint, is_within, less}
@@ -13,12 +14,14 @@ use Rattle.element_prop.specs.declared.element.Further.{Further}
 use Rattle.element_prop.specs.declared.element.Further.TheVariants.{Idle, Unoffered, OutOfSet}
 use Rattle.element_prop.specs.declared.element.Finding.TheVariants.{Open, Item, Out}
 
--- the index can be the value though the boxes have no common value, or is it though the one box isn't inside the other
+-- the index can be the value though the boxes have no common value, or is it though the one box
+-- isn't inside the other
 abbrev pub HasToPick : Ranges → ℤ → Ranges → Ranges → Type 0
 HasToPick index v box other =
     ((has index v ≡ true) × (is_disjoint box other ≡ true)) ⊎ ((fixed_at index v ≡ true) × (is_within box other ≡ false))
 
--- what the clause leaves that says that the index has no value of the set, or a has a value that b's box has, or b is outside its box
+-- what the clause leaves that says that the index has no value of the set, or a has a value that
+-- b's box has, or b is outside its box
 abbrev pub pick_plan : Boxes → Boxes → ℕ → Ranges → ℕ → ℕ → Literals
 pick_plan domains boxes x s a b = (x, s) ∷ (a, less (box_of domains a) (box_of boxes b)) ∷ (b, box_of boxes b) ∷ []
 
@@ -49,8 +52,8 @@ abbrev pub items_plan : List (ℤ × ℕ) → Ranges → Boxes → Ranges → Li
 items_plan [] index domains s = []
 items_plan (t ∷ ts) index domains s = cond (has index t.0) ((t.1, less (box_of domains t.1) s) ∷ items_plan ts index domains s) (items_plan ts index domains s)
 
--- what the clause leaves that says that out has no value of the set, or the index is outside its box, or such an item has a value of
--- the set
+-- what the clause leaves that says that out has no value of the set, or the index is outside its
+-- box, or such an item has a value of the set
 abbrev pub out_plan : List (ℤ × ℕ) → Boxes → Boxes → ℕ → ℕ → Ranges → Literals
 out_plan items domains boxes o x s = (o, s) ∷ (x, box_of boxes x) ∷ items_plan items (box_of boxes x) domains s
 
@@ -99,9 +102,9 @@ pub record AreHeadsApart (o x : ℕ) (items : List (ℤ × ℕ)) : Type 0 where
   pub out_apart : has_number o (term_vars items) ≡ false
   pub index_apart : has_number x (term_vars items) ≡ false
 
--- the variables are different, each value of the index is an item's and that item can be out, each value of out that is probed is
--- offered, and two items of different variables can be picked, or of the variable of one that can be picked no value is outside
--- out's box
+-- the variables are different, each value of the index is an item's and that item can be out, each
+-- value of out that is probed is offered, and two items of different variables can be picked, or of
+-- the variable of one that can be picked no value is outside out's box
 pub record IsIdle (items : List (ℤ × ℕ)) (o x : ℕ) (boxes : Boxes) : Type 0 where
   pub apart : AreHeadsApart o x items
   pub met : all_meet items (box_of boxes o) (box_of boxes x) boxes ≡ true

@@ -4,7 +4,8 @@ use Rattle.signed_clause.specs.Ranges.{Ranges, has}
 use Rattle.signed_clause.specs.SetAlgebra.{is_disjoint, is_within, less}
 use Rattle.signed_clause.specs.Clauses.{Boxes, Literals, box_of}
 
--- the flag can be 1 though the boxes have no common value, or has to be 1 though the one box isn't inside the other
+-- the flag can be 1 though the boxes have no common value, or has to be 1 though the one box isn't
+-- inside the other
 abbrev pub HasToLie : Ranges → Ranges → Ranges → Type 0
 HasToLie flags box other =
     ((has flags (pos 1) ≡ true) × (is_disjoint box other ≡ true)) ⊎ ((has flags (pos 0) ≡ false) × (is_within box other ≡ false))

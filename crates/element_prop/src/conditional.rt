@@ -1,8 +1,9 @@
 //! Conditionals.
 //!
-//! Where the flag can be 1, out and the item have to have a common value, and where it has to be 1 their boxes have to be the
-//! same; where it can be 0, out can be 0, and where it has to be, out is; and in any case out's values are 0 or values that the
-//! item's box has. Each test is a walk over the boxes' ranges.
+//! Where the flag can be 1, out and the item have to have a common value, and where it has to be 1
+//! their boxes have to be the same; where it can be 0, out can be 0, and where it has to be, out
+//! is; and in any case out's values are 0 or values that the item's box has. Each test is a walk
+//! over the boxes' ranges.
 ghost use Rattle.std.specs.Prelude.{◌≡◌, ◌<◌, ◌∷◌, [], pos, true, false, IfOk, length};
 ghost use Rattle.std.specs.List.{All};
 ghost use Rattle.signed_clause.specs.Ranges.{has, is_nil, IsValid};
@@ -129,7 +130,8 @@ fn explain_zero(
     Ok(clause)
 }
 
-/// The clause that out is 0 or has a value that the item's box has, or that the item is outside its box.
+/// The clause that out is 0 or has a value that the item's box has, or that the item is outside its
+/// box.
 fn explain_either(
     con: &Con,
     out: u32,

@@ -1,11 +1,13 @@
 //! Elements.
 //!
-//! One walk over the items finds the first whose value the index can have though its variable and out have no common value, or
-//! whose value the index has though one of both has a value that the other lacks. Then the index isn't that value, or these two
-//! have a common value: a clause of three literals. Where no item tells anything, an index that may have values of no item is told
-//! to be an item's value, out of which a value is offered by no item is told to have another one, and the only variable that can be
-//! picked is told to have a value that out can have. Where none of these is so, there is nothing to say, and nothing is probed.
-//! Plain probing tells only of elements in which a variable stands twice.
+//! One walk over the items finds the first whose value the index can have though its variable and
+//! out have no common value, or whose value the index has though one of both has a value that the
+//! other lacks. Then the index isn't that value, or these two have a common value: a clause of
+//! three literals. Where no item tells anything, an index that may have values of no item is told
+//! to be an item's value, out of which a value is offered by no item is told to have another one,
+//! and the only variable that can be picked is told to have a value that out can have. Where none
+//! of these is so, there is nothing to say, and nothing is probed. Plain probing tells only of
+//! elements in which a variable stands twice.
 //!
 //! Where an index has more values than items can be picked, the count proves that some value is
 //! none's. A value of out that no item offers is taken away together with all such values. Whether
@@ -37,7 +39,8 @@ use std::alloc::{AllocError, Global};
 pub enum Finding {
     /// No single item tells anything.
     Open,
-    /// The index isn't the value of the item at the place, or the item has a value that out's box has.
+    /// The index isn't the value of the item at the place, or the item has a value that out's box
+    /// has.
     Item(usize),
     /// The same, with out and the item exchanged.
     Out(usize),
@@ -54,8 +57,8 @@ pub enum Further {
     OutOfSet(u32),
 }
 
-/// Whether the index can be the item's value though its box and that of out have no common value, or is it though the item's
-/// box isn't inside that of out.
+/// Whether the index can be the item's value though its box and that of out have no common value,
+/// or is it though the item's box isn't inside that of out.
 fn is_item_out(t: (i64, u32), out: &IntSet, index: &IntSet, boxes: &[IntSet]) -> bool
     requires { t.1 < length boxes.now }
     ensures said { result ≡ true → HasToPick index.now t.0 (box_of boxes.now t.1) out.now }
@@ -153,8 +156,8 @@ fn has_another(items: &[(i64, u32)], x: u32, out: &IntSet, index: &IntSet, boxes
     false
 }
 
-/// What there is to find where each value of out that is probed is offered: whether two items of different variables can be picked,
-/// or the only variable's box lies within that of out.
+/// What there is to find where each value of out that is probed is offered: whether two items of
+/// different variables can be picked, or the only variable's box lies within that of out.
 fn find_outside(items: &[(i64, u32)], vars: (u32, u32), boxes: &[IntSet]) -> Further
     requires out { vars.0 < length boxes.now }
     requires index { vars.1 < length boxes.now }
@@ -231,8 +234,8 @@ fn without_items(items: &[(i64, u32)], set: &IntSet, alloc: Global) -> Result<In
     Ok(rest)
 }
 
-/// What an element says of an index that has more values than items can have: that it is one of the items' values. The domain of
-/// the index is all that explains it.
+/// What an element says of an index that has more values than items can have: that it is one of the
+/// items' values. The domain of the index is all that explains it.
 fn prune_index(
     con: &Con,
     vars: (u32, u32),
@@ -330,8 +333,8 @@ fn plan_out(
     Ok(plan)
 }
 
-/// What an element of different variables says of out that can be a value which no item offers: that it has one of a possible item's.
-/// The index and the domains of these items explain it.
+/// What an element of different variables says of out that can be a value which no item offers:
+/// that it has one of a possible item's. The index and the domains of these items explain it.
 fn prune_out(
     alloc: Global,
     con: &Con,
@@ -412,7 +415,8 @@ fn prune_open(
     }
 }
 
-/// The clause that the index has no value of the set, or `var` has a value that the box of `other` has, or that other is outside it.
+/// The clause that the index has no value of the set, or `var` has a value that the box of `other`
+/// has, or that other is outside it.
 fn explain_pick(
     con: &Con,
     index: u32,

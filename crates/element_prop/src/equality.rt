@@ -1,8 +1,8 @@
 //! Equalities.
 //!
-//! Where the flag can be 1 the boxes have to have a common value, and where it has to be 1 they have to be the same; where it
-//! can be 0 they may not be the same single value, and where it has to be 0 neither may hold the other's only value. Each test
-//! is a walk over the boxes' ranges.
+//! Where the flag can be 1 the boxes have to have a common value, and where it has to be 1 they
+//! have to be the same; where it can be 0 they may not be the same single value, and where it has
+//! to be 0 neither may hold the other's only value. Each test is a walk over the boxes' ranges.
 ghost use Rattle.std.specs.Prelude.{◌≡◌, ◌<◌, ◌∷◌, [], ℤ, pos, true, false, IfOk, IfSome, IfNone, length};
 ghost use Rattle.std.specs.List.{All};
 ghost use Rattle.signed_clause.specs.Ranges.{has, is_nil, IsValid};

@@ -1,8 +1,9 @@
 //! Which values of out are offered.
 //!
-//! A value is offered by an item whose box has it and whose own value the index can have. Where one item offers all of out's
-//! values, one walk over the items tells so. Else a walk finds, from a value on, how far the range of the first item that offers it
-//! reaches, so that the walks are as many as ranges are needed: of a box of at most 64 values all are asked about, of a larger one
+//! A value is offered by an item whose box has it and whose own value the index can have. Where one
+//! item offers all of out's values, one walk over the items tells so. Else a walk finds, from a
+//! value on, how far the range of the first item that offers it reaches, so that the walks are as
+//! many as ranges are needed: of a box of at most 64 values all are asked about, of a larger one
 //! the least and the greatest.
 ghost use Rattle.std.specs.Prelude.{◌≡◌, ◌<◌, ◌<ℤ◌, ◌≤ℤ◌, ◌+ℤ◌, ◌&&◌, ℤ, pos, true, false, IfSome, IfNone, length};
 ghost use Rattle.std.specs.List.{All};

@@ -15,8 +15,9 @@ use rule_law::{Propagator, Repeats, probe};
 use signed_clause::{Clause, IntSet};
 use std::alloc::{AllocError, Global};
 
-/// The propagator of elements, equalities and conditionals. Of equalities and conditionals the boxes of three variables tell at
-/// once whether there is something to say. What is kept is which variables of an element stand twice.
+/// The propagator of elements, equalities and conditionals. Of equalities and conditionals the
+/// boxes of three variables tell at once whether there is something to say. What is kept is which
+/// variables of an element stand twice.
 #[derive(Drop)]
 pub struct ElementProp {
     alloc: Global,

@@ -1,4 +1,5 @@
-//! The clause that the flag is 0, or one variable has a value that another's box has, or that other is outside its box.
+//! The clause that the flag is 0, or one variable has a value that another's box has, or that other
+//! is outside its box.
 ghost use Rattle.std.specs.Prelude.{◌≡◌, ◌<◌, IfOk, length};
 ghost use Rattle.rule_law.specs.Answers.{IsPruning};
 ghost use Rattle.rule_law.specs.Reasons.{IsReason};

@@ -1,4 +1,5 @@
--- The problem on which a kit is tried: three variables that differ, the first two of 1 to 2, the third of 1 to 3.
+-- The problem on which a kit is tried: three variables that differ, the first two of 1 to 2, the
+-- third of 1 to 3.
 use Rattle.std.proofs.Common.{◌≡◌, ℕ, suc, zero, ◌<◌, true, false, [], ◌∷◌, ◌⊎◌, inl, inr, List, ℤ, pos, All, arith, refl, subst, sym}
 use Rattle.std.proofs.lemmas.Int.{ints}
 use Rattle.signed_clause.specs.Ranges.{IsValid, is_nil}

@@ -1,4 +1,5 @@
--- From what a call of the builder has made to the conditions of its step: one pair of laws for each definition.
+-- From what a call of the builder has made to the conditions of its step: one pair of laws for each
+-- definition.
 use Rattle.std.proofs.Common.{◌≡◌, ℕ, ◌+◌, ◌^◌, ◌<◌, ◌≤◌, Bool, true, false, List, [], ℤ, pos, length, All, sym, ap, ◌∙◌, subst, unsigned_abs}
 use Rattle.signed_clause.specs.Ranges.{Ranges, has, IsValid}
 use Rattle.signed_clause.specs.Clauses.{Boxes, Literals, box_of, IsClause}

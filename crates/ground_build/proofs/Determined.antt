@@ -1,4 +1,5 @@
--- Each definition leaves its variable exactly one value at a point, and the variable's domain has it.
+-- Each definition leaves its variable exactly one value at a point, and the variable's domain has
+-- it.
 use Rattle.std.proofs.Common.{◌≡◌, ℕ, ◌<◌, Bool, true, false, ◌&&◌, ◌||◌, cond, List, [], ◌∷◌, ◌++◌, ℤ, pos, ◌+ℤ◌, ◌≤ℤ◌, length, All, arith, refl, sym, ap, ◌∙◌, subst}
 use Rattle.std.specs.Prelude.{int_le}
 use Rattle.std.specs.Ordering.{int_eq}

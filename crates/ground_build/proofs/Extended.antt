@@ -1,4 +1,5 @@
--- A configuration that had one extension has one still, where each point leaves the new variable exactly one value.
+-- A configuration that had one extension has one still, where each point leaves the new variable
+-- exactly one value.
 use Rattle.std.proofs.Common.{◌≡◌, ℕ, zero, suc, ◌+◌, true, List, [], ◌∷◌, ◌++◌, ℤ, pos, length, length-append, All, arith, sym, ap, ◌∙◌, subst, Some, None, inl, inr, get_or, take}
 use Rattle.std.proofs.lemmas.Bool.{cases_lt}
 use Rattle.std.proofs.lemmas.List.{take_all, take_more, take-append-le, length-take}

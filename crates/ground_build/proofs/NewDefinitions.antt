@@ -1,4 +1,5 @@
--- Which constraints may be added: each kind's definition over a problem that has what it names, and each statement.
+-- Which constraints may be added: each kind's definition over a problem that has what it names, and
+-- each statement.
 use Rattle.std.proofs.Common.{◌≡◌, ℕ, zero, suc, ◌+◌, ◌^◌, ◌<◌, ◌≤◌, Bool, true, List, [], ◌∷◌, ◌++◌, ℤ, pos, length, length-append, All, arith, refl, sym, subst, unsigned_abs, get_or}
 use Rattle.std.proofs.lemmas.Int.{ints}
 use Rattle.signed_clause.specs.Ranges.{Ranges, IsValid}

@@ -1,6 +1,6 @@
--- When a constraint may be added. What a reader believes after this file: a definition is well made over what
--- stands, and at
--- each point it leaves its variable exactly one value, which the variable's domain has.
+-- When a constraint may be added. What a reader believes after this file: a definition is well made
+-- over what stands, and at each point it leaves its variable exactly one value, which the
+-- variable's domain has.
 use Rattle.std.specs.Prelude.{◌≡◌, ◌<◌, true, List, [], ◌∷◌, ◌++◌, ℤ, Some, None, length}
 use Rattle.std.specs.List.{All}
 use Rattle.signed_clause.specs.Ranges.{Ranges, has, IsValid}
@@ -23,8 +23,8 @@ pub record IsNewStatement (g : Ground) (con : Con) : Type 0 where
   pub no_definition : defined_by con ≡ None
   pub well_made : IsWellMadeCon g.domains con
 
--- v is the one value of the new variable that the constraint leaves behind the values a, and the domain has
--- it
+-- v is the one value of the new variable that the constraint leaves behind the values a, and the
+-- domain has it
 pub record IsOnlyValue (domain : Ranges) (con : Con) (a : List ℤ) (v : ℤ) : Type 0 where
   pub member : has domain v ≡ true
   pub holds : con_true con (a ++ v ∷ []) ≡ true

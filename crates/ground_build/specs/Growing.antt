@@ -1,6 +1,5 @@
--- How a ground problem grows. What a reader believes after this file: a call of the builder adds one
--- constraint, with or
--- without one variable, and takes no choice away that there was.
+-- How a ground problem grows. What a reader believes after this file: a call of the builder adds
+-- one constraint, with or without one variable, and takes no choice away that there was.
 use Rattle.std.specs.Prelude.{◌≡◌, ℕ, ◌-◌, ◌^◌, ◌<◌, ◌≤◌, true, false, pos, List, [], ◌∷◌, ◌++◌, ℤ, length}
 use Rattle.std.specs.List.{All}
 use Rattle.signed_clause.specs.Ranges.{Ranges, has}
@@ -50,12 +49,14 @@ AreDefined g a = All (λ con. IsDefinition g.search con → con_true con a ≡ t
 abbrev pub Means : Ground → ℕ → (List ℤ → ℤ) → Type 0
 Means g x e = (a : List ℤ) → AreDefined g a → value_of a x ≡ e a
 
--- wherever all constraints are true, x has the value of the variable of the item whose value the index has
+-- wherever all constraints are true, x has the value of the variable of the item whose value the
+-- index has
 abbrev pub IsPicked : Ground → ℕ → ℕ → List (ℤ × ℕ) → Type 0
 IsPicked g x index items =
     (a : List ℤ) → AreDefined g a → All (λ t. value_of a index ≡ t.0 → value_of a x ≡ value_of a t.1) items
 
--- wherever all constraints are true, x has the item's value where the flag is 1, and is 0 where that is 0
+-- wherever all constraints are true, x has the item's value where the flag is 1, and is 0 where
+-- that is 0
 abbrev pub IsItemOrNought : Ground → ℕ → ℕ → ℕ → Type 0
 IsItemOrNought g x flag item =
     (a : List ℤ) → AreDefined g a →
@@ -78,7 +79,8 @@ pub record IsOnlyExtension (g : Ground) (t a : List ℤ) : Type 0 where
   pub extension : IsExtension g t a
   pub alone : (b : List ℤ) → IsExtension g t b → b ≡ a
 
--- each configuration that had one extension has one still: the same, with a value of the new variable
+-- each configuration that had one extension has one still: the same, with a value of the new
+-- variable
 abbrev pub KeepsExtensions : Ground → Ground → Type 0
 KeepsExtensions old new = (t a : List ℤ) → IsOnlyExtension old t a → (v : ℤ) × IsOnlyExtension new t (a ++ v ∷ [])
 
@@ -86,8 +88,8 @@ KeepsExtensions old new = (t a : List ℤ) → IsOnlyExtension old t a → (v : 
 abbrev pub KeepsSameExtensions : Ground → Ground → Type 0
 KeepsSameExtensions old new = (t a : List ℤ) → IsOnlyExtension old t a → IsOnlyExtension new t a
 
--- x is a new variable of this domain, con its definition; the rest stands as it was, and the problem is well
--- made
+-- x is a new variable of this domain, con its definition; the rest stands as it was, and the
+-- problem is well made
 pub record IsDefined (old new : Ground) (x : ℕ) (domain : Ranges) (con : Con) : Type 0 where
   pub variable : x ≡ length old.domains
   pub later : old.search ≤ x

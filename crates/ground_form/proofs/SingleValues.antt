@@ -1,4 +1,5 @@
--- Sums over the boxes of single values: what a term and a size are there, and what a loop's next step leaves.
+-- Sums over the boxes of single values: what a term and a size are there, and what a loop's next
+-- step leaves.
 use Rattle.std.proofs.Common.{true, false, ◌≡◌, ℕ, zero, suc, ◌+◌, ◌*◌, ◌≤◌, ◌<◌, ℤ, pos, ◌+ℤ◌, ◌*ℤ◌, ◌≤ℤ◌, unsigned_abs, max, cond, List, [], ◌∷◌, length, get_or, drop, All, arith, refl, ap, ◌∙◌, subst}
 use Rattle.std.specs.Ordering.{int_eq}
 use Rattle.std.proofs.lemmas.Int.{ints}

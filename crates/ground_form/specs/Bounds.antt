@@ -1,6 +1,5 @@
--- How large the numbers of a constraint can be. What a reader believes after this file: within these bounds
--- every sum that a
--- constraint speaks of lies between -2^60 and 2^60.
+-- How large the numbers of a constraint can be. What a reader believes after this file: within
+-- these bounds every sum that a constraint speaks of lies between -2^60 and 2^60.
 use Rattle.std.specs.Prelude.{ℕ, ◌+◌, ◌*◌, ◌^◌, ◌≤◌, max, List, [], ◌∷◌, ℤ, pos, ◌+ℤ◌, ◌*ℤ◌, ◌≤ℤ◌, unsigned_abs}
 use Rattle.std.specs.Int.{int_max, int_min}
 use Rattle.std.specs.List.{All}
@@ -55,8 +54,8 @@ abbrev pub size_sum : List (ℕ × ℕ × ℕ) → Boxes → ℤ
 size_sum [] boxes = pos 0
 size_sum (i ∷ rest) boxes = high_of (box_of boxes i.1) +ℤ size_sum rest boxes
 
--- places lie within 0..9999, no size is below 0, and the greatest sizes add up to at most 2^60; rooms may be
--- what they are
+-- places lie within 0..9999, no size is below 0, and the greatest sizes add up to at most 2^60;
+-- rooms may be what they are
 pub record IsPackBounded (items : List (ℕ × ℕ × ℕ)) (boxes : Boxes) : Type 0 where
   pub places : All (λ i. LiesWithin (pos 0) (pos 9999) (box_of boxes i.0)) items
   pub sizes : All (λ i. pos 0 ≤ℤ low_of (box_of boxes i.1)) items

@@ -1,6 +1,5 @@
--- Solutions and goals. What a reader believes after this file: which values solve a ground problem, which of
--- two solutions
--- is better, and how many points a search could have to look at.
+-- Solutions and goals. What a reader believes after this file: which values solve a ground problem,
+-- which of two solutions is better, and how many points a search could have to look at.
 use Rattle.std.specs.Prelude.{◌≡◌, ℕ, suc, zero, ◌<◌, ◌*◌, Bool, true, false, cond, List, [], ◌∷◌, ℤ, length, int_lt}
 use Rattle.std.specs.List.{All}
 use Rattle.std.specs.Ordering.{int_eq}
@@ -20,8 +19,8 @@ pub record IsSolution (g : Ground) (a : List ℤ) : Type 0 where
   pub point : IsPoint g.domains a
   pub truths : All (λ con. con_true con a ≡ true) g.cons
 
--- a is better than b: at the first goal where they differ, its value is greater where that is the direction,
--- else smaller
+-- a is better than b: at the first goal where they differ, its value is greater where that is the
+-- direction, else smaller
 abbrev pub better : List GroundGoal → List ℤ → List ℤ → Bool
 better [] a b = false
 better (goal ∷ goals) a b =

@@ -1,7 +1,6 @@
--- When a ground problem stands for a question about configurations. What a reader believes after this file:
--- the solutions of
--- such a problem are exactly the configurations that pass the test, and its goals are the functions to be
--- made best.
+-- When a ground problem stands for a question about configurations. What a reader believes after
+-- this file: the solutions of such a problem are exactly the configurations that pass the test, and
+-- its goals are the functions to be made best.
 use Rattle.std.specs.Prelude.{◌≡◌, ◌↔◌, ℕ, ◌≤◌, Bool, true, List, [], ◌∷◌, ℤ, Some, length, take}
 use Rattle.std.specs.List.{All}
 use Rattle.signed_clause.specs.Clauses.{Boxes}
@@ -22,8 +21,8 @@ pub record IsExtension (g : Ground) (t a : List ℤ) : Type 0 where
   pub point : IsPoint g.domains a
   pub definitions : All (λ con. IsDefinition g.search con → con_true con a ≡ true) g.cons
 
--- the goals are as many as the functions, in the same order and directions, and at a they have their values
--- at t
+-- the goals are as many as the functions, in the same order and directions, and at a they have
+-- their values at t
 abbrev pub AreGoalValues : List GroundGoal → List (Bool × (List ℤ → ℤ)) → List ℤ → List ℤ → Type 0
 AreGoalValues [] [] t a = Unit {0}
 AreGoalValues [] (f ∷ fs) t a = ⊥
@@ -31,9 +30,8 @@ AreGoalValues (goal ∷ goals) [] t a = ⊥
 AreGoalValues (goal ∷ goals) (f ∷ fs) t a =
     (goal.max ≡ f.0) × (value_of a goal.var ≡ f.1 t) × AreGoalValues goals fs t a
 
--- a configuration has exactly one extension, all constraints are true under it exactly where the test passes,
--- and the goals
--- have the functions' values
+-- a configuration has exactly one extension, all constraints are true under it exactly where the
+-- test passes, and the goals have the functions' values
 pub record IsFaithfulAt (g : Ground) (passes : List ℤ → Bool) (functions : List (Bool × (List ℤ → ℤ))) (t : List ℤ) : Type 0 where
   pub extension : (a : List ℤ) × IsExtension g t a
   pub alone : (a b : List ℤ) → IsExtension g t a → IsExtension g t b → a ≡ b

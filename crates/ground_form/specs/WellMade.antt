@@ -1,7 +1,6 @@
--- When a ground problem is well made. What a reader believes after this file: each variable that isn't
--- searched has exactly
--- one definition, which stands on variables before it; so values of the searched variables leave no choice of
--- the others.
+-- When a ground problem is well made. What a reader believes after this file: each variable that
+-- isn't searched has exactly one definition, which stands on variables before it; so values of the
+-- searched variables leave no choice of the others.
 use Rattle.std.specs.Prelude.{◌≡◌, ℕ, ◌<◌, ◌≤◌, ◌^◌, Bool, true, false, ◌&&◌, cond, List, [], ◌∷◌, ℤ, pos, Option, Some, None, length, slice_get}
 use Rattle.std.specs.List.{All}
 use Rattle.std.specs.Ordering.{int_eq}
@@ -105,7 +104,8 @@ pub record IsWellMadeCon (domains : Boxes) (con : Con) : Type 0 where
   -- its sets are valid
   pub sets : HasSets con
 
--- constraint k defines variable x, no other does, and what stands in its other fields has smaller numbers
+-- constraint k defines variable x, no other does, and what stands in its other fields has smaller
+-- numbers
 pub record IsDefinedAt (cons : List Con) (x k : ℕ) : Type 0 where
   pub there : (con : Con) × (slice_get cons k ≡ Some con) × (defined_by con ≡ Some x) × All (λ y. y < x) (inputs_of con)
   pub alone : (j : ℕ) → (con : Con) → slice_get cons j ≡ Some con → defined_by con ≡ Some x → j ≡ k

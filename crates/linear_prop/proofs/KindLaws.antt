@@ -1,5 +1,5 @@
--- Rows of the linear kinds: that they are rows over the domains, what follows from them, and that the constraint is quiet
--- where they have nothing to say.
+-- Rows of the linear kinds: that they are rows over the domains, what follows from them, and that
+-- the constraint is quiet where they have nothing to say.
 use Rattle.std.proofs.Common.{◌≡◌, ℕ, suc, zero, ◌*◌, ◌<◌, ◌≤◌, ◌^◌, unsigned_abs, Bool, true, false, not, ◌&&◌, ◌||◌, cond, List, [], ◌∷◌, ◌++◌, ℤ, pos, negsuc, ◌+ℤ◌, ◌-ℤ◌, ◌*ℤ◌, ◌≤ℤ◌, ◌<ℤ◌, All, length, refl, ap, sym, subst, ◌∙◌, inl, inr, arith}
 use Rattle.std.specs.Prelude.{int_lt, int_le, nat_le, nat_lt}
 use Rattle.std.specs.Int.{int_min}

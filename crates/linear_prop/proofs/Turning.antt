@@ -1,4 +1,5 @@
--- One turn of the walk that explains a row: what was said of the terms before holds with one term more.
+-- One turn of the walk that explains a row: what was said of the terms before holds with one term
+-- more.
 use Rattle.std.proofs.Common.{◌≡◌, ℕ, suc, ◌+◌, ◌<◌, ◌≤◌, ◌^◌, ◌*◌, unsigned_abs, ◌==◌, Bool, true, false, ◌&&◌, cond, Option, Some, None, List, [], ◌∷◌, ◌++◌, ℤ, pos, ◌+ℤ◌, ◌-ℤ◌, ◌*ℤ◌, ◌≤ℤ◌, All, length, get_or, take, drop, refl, ap, sym, subst, ◌∙◌, arith}
 use Rattle.std.specs.Prelude.{int_lt, nat_le, nat_lt}
 use Rattle.std.specs.Int.{int_min}

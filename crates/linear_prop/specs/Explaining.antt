@@ -1,6 +1,7 @@
--- What a walk that explains a row has come to. What a reader believes after this file: the literals so far are those of
--- different variables that the rest of the row doesn't have; and with what they leave of the domains for the terms before,
--- and with the boxes for the rest, the sum is still above the bound, by what is left of the slack.
+-- What a walk that explains a row has come to. What a reader believes after this file: the literals
+-- so far are those of different variables that the rest of the row doesn't have; and with what they
+-- leave of the domains for the terms before, and with the boxes for the rest, the sum is still
+-- above the bound, by what is left of the slack.
 use Rattle.std.specs.Prelude.{◌≡◌, ℕ, ◌<◌, ◌≤◌, ◌^◌, true, false, ◌&&◌, cond, List, ℤ, pos, ◌+ℤ◌, ◌-ℤ◌, ◌*ℤ◌, ◌≤ℤ◌, ◌<ℤ◌, slice_index_or, length, unsigned_abs, take, drop, nat_le, nat_lt}
 use Rattle.std.specs.List.{All}
 use Rattle.signed_clause.specs.Ranges.{is_nil, IsValid}
@@ -18,13 +19,15 @@ use Rattle.rule_law.specs.Reasons.{has_number, no_repeat, Acts}
 abbrev pub term_at : List (ℤ × ℕ) → ℕ → ℤ × ℕ
 term_at ts place = slice_index_or ts place (pos 0, 0)
 
--- how far the term at the place, where there is one from i on, rises above its least when its variable is `to`
+-- how far the term at the place, where there is one from i on, rises above its least when its
+-- variable is `to`
 abbrev pub rise : List (ℤ × ℕ) → Boxes → ℕ → ℤ → ℕ → ℤ
 rise ts boxes place to i =
     cond (nat_le i place && nat_lt place (length ts)) (((term_at ts place).0 *ℤ to) -ℤ least_term (term_at ts place) boxes) (pos 0)
 
--- why a row has something to say: its sum is above the bound by more than the slack, and where there is a term at the place,
--- its variable is `to` there, at which it isn't the least that it is in its box, and no more than the greatest
+-- why a row has something to say: its sum is above the bound by more than the slack, and where
+-- there is a term at the place, its variable is `to` there, at which it isn't the least that it is
+-- in its box, and no more than the greatest
 pub record IsCause (ts : List (ℤ × ℕ)) (boxes : Boxes) (bound : ℤ) (place : ℕ) (to : ℤ) (slack : ℕ) : Type 0 where
   pub small : slack ≤ 2 ^ 70
   pub owed : ((bound +ℤ pos 1) +ℤ pos slack) ≤ℤ (least_sum ts boxes +ℤ rise ts boxes place to 0)
@@ -51,7 +54,8 @@ pub record IsSoFar (ts : List (ℤ × ℕ)) (domains boxes : Boxes) (bound : ℤ
   pub small : slack ≤ 2 ^ 70
   pub owed : ((bound +ℤ pos 1) +ℤ pos slack) ≤ℤ (least_sum (take i ts) (cut domains out) +ℤ (least_sum (drop i ts) boxes +ℤ rise ts boxes place to i))
 
--- what a turn at term i stands on: no variable has two terms, and the term's variable has a box that isn't empty, within its domain
+-- what a turn at term i stands on: no variable has two terms, and the term's variable has a box
+-- that isn't empty, within its domain
 pub record IsTurn (ts : List (ℤ × ℕ)) (domains boxes : Boxes) (i : ℕ) (t : ℤ × ℕ) : Type 0 where
   pub here : i < length ts
   pub term : t ≡ term_at ts i
@@ -62,7 +66,8 @@ pub record IsTurn (ts : List (ℤ × ℕ)) (domains boxes : Boxes) (i : ℕ) (t 
   pub some : is_nil (box_of boxes t.1) ≡ false
   pub within : is_within (box_of boxes t.1) (box_of domains t.1) ≡ true
 
--- a row over domains and boxes: no variable has two terms, each has a box within its domain, and no sum is too large
+-- a row over domains and boxes: no variable has two terms, each has a box within its domain, and no
+-- sum is too large
 pub record IsRowOver (ts : List (ℤ × ℕ)) (domains boxes : Boxes) : Type 0 where
   pub differ : no_repeat (term_vars ts) ≡ true
   pub named : AreTermsNamed ts boxes
@@ -70,7 +75,8 @@ pub record IsRowOver (ts : List (ℤ × ℕ)) (domains boxes : Boxes) : Type 0 w
   pub domains_valid : All (λ d. IsValid d) domains
   pub boxes_within : AreBoxesWithin domains boxes
 
--- the row has nothing to say: its sum is within the bound, also where a variable is set to any value of its box
+-- the row has nothing to say: its sum is within the bound, also where a variable is set to any
+-- value of its box
 pub record IsTight (ts : List (ℤ × ℕ)) (boxes : Boxes) (bound : ℤ) : Type 0 where
   pub least : least_sum ts boxes ≤ℤ bound
   pub spread : (least_sum ts boxes +ℤ greatest_spread ts boxes) ≤ℤ bound

@@ -1,5 +1,6 @@
--- How far an explanation lets a term fall. What a reader believes after this file: where no literal is asked of a term, its
--- domain alone keeps it high enough; else the literal's set holds the domain's values at which it would be too low.
+-- How far an explanation lets a term fall. What a reader believes after this file: where no literal
+-- is asked of a term, its domain alone keeps it high enough; else the literal's set holds the
+-- domain's values at which it would be too low.
 use Rattle.std.specs.Prelude.{◌≡◌, ℕ, ◌≤◌, false, ◌&&◌, ℤ, pos, ◌+ℤ◌, ◌-ℤ◌, ◌*ℤ◌, ◌≤ℤ◌, int_lt, Option, Some, None}
 use Rattle.std.specs.Int.{int_min, int_max}
 use Rattle.signed_clause.specs.Ranges.{Ranges, has, is_nil, IsValid}

@@ -1,5 +1,6 @@
--- The terms of a row, and how far they can rise. What a reader believes after this file: a row's terms are those of its list,
--- or these with their signs turned, behind the one that stands before them.
+-- The terms of a row, and how far they can rise. What a reader believes after this file: a row's
+-- terms are those of its list, or these with their signs turned, behind the one that stands before
+-- them.
 use Rattle.std.specs.Prelude.{ℕ, Bool, true, false, List, [], ◌∷◌, ℤ, pos, ◌-ℤ◌, Option, Some, None}
 use Rattle.std.specs.Int.{int_max}
 use Rattle.signed_clause.specs.Clauses.{Boxes}

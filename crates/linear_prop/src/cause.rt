@@ -1,8 +1,9 @@
 //! Whether a row has something to say, and what.
 //!
-//! The least sum and the term that can rise the most decide. Where the least sum is above the bound the row is refuted. Where
-//! it would be with the variable of that term at the far end of its box, the values of that variable at which this is so are
-//! taken away. Else no variable can be set so that the row is refuted.
+//! The least sum and the term that can rise the most decide. Where the least sum is above the bound
+//! the row is refuted. Where it would be with the variable of that term at the far end of its box,
+//! the values of that variable at which this is so are taken away. Else no variable can be set so
+//! that the row is refuted.
 //!
 //! A constraint is pruned at the term that can rise the most: that is one walk, and where this term
 //! has nothing to lose no other has. Other terms come with the next calls. The pruned variable's
@@ -36,7 +37,8 @@ fn refuted(row: &Row, boxes: &[IntSet], least: Wide) -> Cause
     }
 }
 
-/// The cause of a row that isn't refuted, but would be with the variable of the widest term at the far end of its box.
+/// The cause of a row that isn't refuted, but would be with the variable of the widest term at the
+/// far end of its box.
 fn pruned(row: &Row, boxes: &[IntSet], domains: &[IntSet], found: Survey) -> Cause
     requires bound { unsigned_abs row.now.bound.value ≤ 2 ^ 64 }
     requires over { IsRowOver (terms_of row.now) domains.now boxes.now }

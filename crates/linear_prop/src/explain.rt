@@ -1,8 +1,8 @@
 //! Explanations: the literals of a row that has something to say.
 //!
-//! A walk over the terms lets each fall as far as the slack permits, the first ones first (`fall`). The literals that this asks
-//! for are those of different variables, since no variable of the row has two terms. With what they leave of the domains the
-//! row's least sum is still above its bound.
+//! A walk over the terms lets each fall as far as the slack permits, the first ones first (`fall`).
+//! The literals that this asks for are those of different variables, since no variable of the row
+//! has two terms. With what they leave of the domains the row's least sum is still above its bound.
 //!
 //! After the pruned variable's part the terms spend the slack in their order. A term that its
 //! domain keeps high enough has no literal, and what a step leaves over is spent by the next.
@@ -48,7 +48,8 @@ fn put(out: &mut Vec<(u32, IntSet)>, x: u32, literal: Option<IntSet>) -> Result<
     Ok(())
 }
 
-/// The turn at a term that isn't the one at the place: it may fall from the least that it is in its box.
+/// The turn at a term that isn't the one at the place: it may fall from the least that it is in its
+/// box.
 fn turn_elsewhere(
     alloc: Global,
     row: &Row,
@@ -76,7 +77,8 @@ fn turn_elsewhere(
     Ok(left)
 }
 
-/// The turn at the term at the place: it falls no further than to where its variable is the first value that is taken away.
+/// The turn at the term at the place: it falls no further than to where its variable is the first
+/// value that is taken away.
 fn turn_at_place(
     alloc: Global,
     row: &Row,

@@ -1,8 +1,8 @@
 //! How far an explanation lets a term fall.
 //!
-//! An explanation has slack: it may let its terms fall below what they are in the boxes, as long as their sum stays above the
-//! bound. A term that its domain keeps high enough needs no literal; another gets one whose set is as small as the slack
-//! permits.
+//! An explanation has slack: it may let its terms fall below what they are in the boxes, as long as
+//! their sum stays above the bound. A term that its domain keeps high enough needs no literal;
+//! another gets one whose set is as small as the slack permits.
 ghost use Rattle.std.specs.Prelude.{◌≡◌, ◌<◌, ◌≤◌, ◌^◌, ◌*◌, ◌*ℤ◌, ◌+ℤ◌, ◌-ℤ◌, ◌≤ℤ◌, ◌<ℤ◌, ℤ, pos, negsuc, ◌&&◌, false, int_lt, IfOk, unsigned_abs};
 ghost use Rattle.signed_clause.specs.Ranges.{has, in_range, is_nil, IsValid};
 ghost use Rattle.ground_form.specs.Bounds.{low_of, high_of, reach_of};
@@ -78,8 +78,8 @@ fn step_back(c: Wide, at: Wide, steps: u128) -> Wide
     }
 }
 
-/// How far the variable may go from `at`, in the direction in which the term falls, where the term may fall by the slack; and
-/// the slack that is left.
+/// How far the variable may go from `at`, in the direction in which the term falls, where the term
+/// may fall by the slack; and the slack that is left.
 pub fn back_off(c: Wide, at: Wide, slack: u128) -> (Wide, u128)
     requires factor { 0 < unsigned_abs c.value }
     requires at { unsigned_abs at.value ≤ 2 ^ 64 }
@@ -170,8 +170,8 @@ fn values_under(alloc: Global, c: Wide, set: &IntSet, to: Wide) -> Result<IntSet
     }
 }
 
-/// How far the term may fall from where its variable is `at`, a value between the ends of its domain, and what that asks of the
-/// explanation.
+/// How far the term may fall from where its variable is `at`, a value between the ends of its
+/// domain, and what that asks of the explanation.
 pub fn fall_of(
     alloc: Global,
     c: Wide,

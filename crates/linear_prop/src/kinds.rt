@@ -1,8 +1,9 @@
 //! The three kinds, each as its rows.
 //!
-//! A sum with a bound is one row. A sum that defines a variable is two: the sum less the variable, and the variable less the
-//! sum. Of a flag that says whether a sum keeps a bound, the one row holds where the flag is 1, and the other, with turned
-//! signs, where it is 0; where the flag is open each only tells the flag.
+//! A sum with a bound is one row. A sum that defines a variable is two: the sum less the variable,
+//! and the variable less the sum. Of a flag that says whether a sum keeps a bound, the one row
+//! holds where the flag is 1, and the other, with turned signs, where it is 0; where the flag is
+//! open each only tells the flag.
 ghost use Rattle.std.specs.Prelude.{◌≡◌, ◌<◌, true, false, length, ℤ, pos, negsuc, ◌-ℤ◌, ◌∷◌, ◌≤◌, ◌^◌, unsigned_abs, IfOk};
 ghost use Rattle.std.specs.List.{All};
 ghost use Rattle.ground_form.specs.declared.con.Con.TheVariants as con_kind;
@@ -146,7 +147,8 @@ fn sum_answer(
     }
 }
 
-/// The answer of a flag that says whether a sum keeps a bound, in which no variable stands twice, where the flag is 1.
+/// The answer of a flag that says whether a sum keeps a bound, in which no variable stands twice,
+/// where the flag is 1.
 fn one_answer(
     alloc: Global,
     con: &Con,
@@ -324,7 +326,8 @@ fn has_value(boxes: &[IntSet], x: u32, v: i64) -> bool
     boxes[x as usize].contains(v)
 }
 
-/// The answer of a constraint of one of the three kinds in which no variable stands twice; of another kind by probing.
+/// The answer of a constraint of one of the three kinds in which no variable stands twice; of
+/// another kind by probing.
 pub fn linear_answer(
     alloc: Global,
     con: &Con,

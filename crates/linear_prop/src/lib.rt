@@ -1,8 +1,9 @@
-//! The propagator of the linear kinds: sums with a bound, sums that define a variable, and flags that say whether a sum keeps
-//! a bound.
+//! The propagator of the linear kinds: sums with a bound, sums that define a variable, and flags
+//! that say whether a sum keeps a bound.
 //!
-//! All three come down to rows: an inequality over terms. A walk over the terms adds up the least sum and finds the term
-//! that can rise the most above its least; these two numbers tell whether the row has something to say.
+//! All three come down to rows: an inequality over terms. A walk over the terms adds up the least
+//! sum and finds the term that can rise the most above its least; these two numbers tell whether
+//! the row has something to say.
 //!
 //! - `wide`: numbers in which no sum or product of such a walk wraps.
 //! - `row`: an inequality, read from a constraint's terms without a copy.

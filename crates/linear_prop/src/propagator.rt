@@ -16,10 +16,12 @@ use rule_law::{Propagator, Repeats, probe};
 use signed_clause::{Clause, IntSet};
 use std::alloc::{AllocError, Global};
 
-/// The propagator of sums with a bound, of sums that define a variable, and of flags that say whether a sum keeps a bound.
+/// The propagator of sums with a bound, of sums that define a variable, and of flags that say
+/// whether a sum keeps a bound.
 ///
-/// A constraint in which no variable stands twice is answered by its rows: a walk over the terms, and two for a sum that
-/// defines a variable or an open flag; another by plain probing. That no variable stands twice is kept.
+/// A constraint in which no variable stands twice is answered by its rows: a walk over the terms,
+/// and two for a sum that defines a variable or an open flag; another by plain probing. That no
+/// variable stands twice is kept.
 #[derive(Drop)]
 pub struct LinearProp {
     alloc: Global,

@@ -1,7 +1,7 @@
 //! `Row`, an inequality that is read from a constraint's terms without a copy.
 //!
-//! A row says that a sum is at most a bound. Its terms are those of a list, or these with their signs turned, and before them
-//! there may be one term more.
+//! A row says that a sum is at most a bound. Its terms are those of a list, or these with their
+//! signs turned, and before them there may be one term more.
 ghost use Rattle.std.specs.Prelude.{◌≡◌, ◌<◌, pos, length, slice_index_or};
 ghost use Rattle.linear_prop.specs.Rows.{turned, terms_of};
 

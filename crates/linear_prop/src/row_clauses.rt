@@ -131,8 +131,8 @@ pub fn fixed_answer(
     }
 }
 
-/// The answer of a row that holds unless the flag is `v`, where the flag may also be otherwise: the flag is `v` where the row
-/// is refuted.
+/// The answer of a row that holds unless the flag is `v`, where the flag may also be otherwise: the
+/// flag is `v` where the row is refuted.
 pub fn open_answer(
     alloc: Global,
     con: &Con,

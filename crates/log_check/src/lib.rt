@@ -10,8 +10,8 @@
 //! - `progress`, `derived`: what the lines so far leave, and one more line.
 //! - `chains`, `solution`, `bound_line`: what Chain, Found and Bound lines have to meet, and what
 //!   they make.
-//! - `trimming`, `needed`, `closing`: the lines that are needed of accepted ones, which they are, and
-//!   whether there is anything to leave out.
+//! - `trimming`, `needed`, `closing`: the lines that are needed of accepted ones, which they are,
+//!   and whether there is anything to leave out.
 //! - `laws`: problems with one goal or none.
 #![tactic(auto)]
 

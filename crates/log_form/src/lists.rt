@@ -1,4 +1,5 @@
-//! The small lists of a log: of lines, and of what lines and rounds hold; contracts see each as a plain list.
+//! The small lists of a log: of lines, and of what lines and rounds hold; contracts see each as a
+//! plain list.
 ghost use Rattle.std.specs.Prelude.{◌≡◌, IfOk};
 
 use crate::line::Line;

@@ -1,4 +1,5 @@
--- Where each item fits wherever it may be, no bin is overfull, also where one open box is narrowed to a value.
+-- Where each item fits wherever it may be, no bin is overfull, also where one open box is narrowed
+-- to a value.
 use Rattle.std.proofs.Common.{◌≡◌, ℕ, ◌<◌, Bool, true, false, not, ◌&&◌, cond, List, [], ◌∷◌, ◌++◌, ℤ, pos, ◌+ℤ◌, ◌-ℤ◌, ◌≤ℤ◌, length, refl, arith, subst, sym, ap, ◌∙◌}
 use Rattle.std.specs.Prelude.{◌==◌}
 use Rattle.std.specs.Ordering.{int_eq}

@@ -1,5 +1,6 @@
--- There is room for all least sizes, also where one open box is narrowed to a value: what that is to mean, and that it is so where there
--- is room for all sizes and the greatest growth among the second greatest rooms.
+-- There is room for all least sizes, also where one open box is narrowed to a value: what that is
+-- to mean, and that it is so where there is room for all sizes and the greatest growth among the
+-- second greatest rooms.
 use Rattle.std.proofs.Common.{◌≡◌, ℕ, ◌<◌, Bool, true, false, ◌&&◌, cond, List, [], ◌∷◌, ◌++◌, ℤ, pos, ◌+ℤ◌, ◌-ℤ◌, ◌≤ℤ◌, length, refl, arith, inl, inr, subst, sym}
 use Rattle.std.specs.Prelude.{◌==◌, int_lt}
 use Rattle.std.specs.Int.{int_max}

@@ -1,4 +1,5 @@
--- Where ranges begin and end: how many do at one number, and what that says of how many items may be there.
+-- Where ranges begin and end: how many do at one number, and what that says of how many items may
+-- be there.
 use Rattle.std.proofs.Common.{◌≡◌, ℕ, suc, ◌+◌, ◌-◌, ◌<◌, ◌≤◌, Bool, true, false, cond, List, [], ◌∷◌, ℤ, pos, ◌+ℤ◌, ◌≤ℤ◌, ◌<ℤ◌, length, drop, get_or, refl, arith, subst, ap, ◌∙◌, All, drop-cons, length-drop}
 use Rattle.std.specs.Prelude.{int_le}
 use Rattle.std.specs.Ordering.{int_eq}

@@ -1,4 +1,5 @@
--- What the numbers of a spot tell: that all items fit there, and what its second greatest room is at least.
+-- What the numbers of a spot tell: that all items fit there, and what its second greatest room is
+-- at least.
 use Rattle.std.proofs.Common.{◌≡◌, ℕ, suc, ◌<◌, ◌≤◌, Bool, true, false, not, ◌&&◌, ◌||◌, cond, List, [], ◌∷◌, ℤ, pos, ◌+ℤ◌, ◌≤ℤ◌, ◌+◌, ◌-◌, refl, arith, inl, inr, subst, sym, ◌∙◌, All}
 use Rattle.std.specs.Prelude.{nat_lt, nat_le, int_le}
 use Rattle.std.specs.Int.{int_max, int_min}
@@ -165,7 +166,8 @@ second_wide b v (i ∷ is) boxes h =
       | false ↦ λ q. rw q (second_wide b v is boxes (rw q at h))
     ]) refl
 
--- what is at most the least of the rooms is so without the first of them, and at most the first, which is that of an item of either kind
+-- what is at most the least of the rooms is so without the first of them, and at most the first,
+-- which is that of an item of either kind
 tight_kept : (f : Bool) (b room rest : ℤ) → b ≤ℤ cond f (int_min room rest) rest → b ≤ℤ rest
 tight_kept true b room rest h = grind (arith, ints)
 tight_kept false b room rest h = h

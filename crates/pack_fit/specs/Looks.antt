@@ -19,7 +19,8 @@ IsSeen WithSlack items boxes = AllFit items boxes × HasEnough items boxes
 IsSeen (Unplaceable at item) items boxes = IsUnplaceable at.value item items boxes
 IsSeen Undecided items boxes = AllFit items boxes
 
--- all items fit at each of the n values from first on, and the second greatest rooms of these add up to the sum at least
+-- all items fit at each of the n values from first on, and the second greatest rooms of these add
+-- up to the sum at least
 pub record AreRooms (sum : ℤ) (n : ℕ) (first : ℤ) (items : List (ℕ × ℕ × ℕ)) (boxes : Boxes) : Type 0 where
   pub fit : (v : ℤ) → first ≤ℤ v → v <ℤ (first +ℤ pos n) → all_fit v items items boxes ≡ true
   pub room : sum ≤ℤ seconds_from n first items boxes

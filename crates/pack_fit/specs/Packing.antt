@@ -1,5 +1,6 @@
--- When items to be packed have nothing to say. What a reader believes after this file: where each item fits wherever it may be
--- put, and there is room enough whichever box is narrowed, the items have slack.
+-- When items to be packed have nothing to say. What a reader believes after this file: where each
+-- item fits wherever it may be put, and there is room enough whichever box is narrowed, the items
+-- have slack.
 use Rattle.std.specs.Prelude.{ℕ, zero, suc, ◌≡◌, ◌≤ℤ◌, Bool, true, not, ◌&&◌, ◌||◌, cond, List, [], ◌∷◌, ℤ, pos, ◌+ℤ◌, ◌-ℤ◌, int_le}
 use Rattle.std.specs.Int.{int_max, int_min}
 use Rattle.signed_clause.specs.Ranges.{has}
@@ -24,8 +25,8 @@ tight_room v [] boxes = pos 9223372036854775807
 tight_room v (i ∷ is) boxes =
     cond (fixed_at (box_of boxes i.0) v) (int_min (high_of (box_of boxes i.2)) (tight_room v is boxes)) (tight_room v is boxes)
 
--- the load of v leaves room for the greatest size of the item, where it is fixed there, and is at most its least room; or leaves
--- room for its least size, where it may be put there
+-- the load of v leaves room for the greatest size of the item, where it is fixed there, and is at
+-- most its least room; or leaves room for its least size, where it may be put there
 abbrev pub fits : ℤ → ℤ → ℤ → ℕ × ℕ × ℕ → Boxes → Bool
 fits v load tight i boxes =
     cond (fixed_at (box_of boxes i.0) v)
@@ -39,7 +40,8 @@ all_fit v (i ∷ is) items boxes = fits v (fixed_load v items boxes) (tight_room
 
 -- ---- all bins
 
--- the greatest room and the second greatest, of which an item whose bin and room are open to no change counts twice
+-- the greatest room and the second greatest, of which an item whose bin and room are open to no
+-- change counts twice
 abbrev pub put : ℤ → Bool → ℤ × ℤ → ℤ × ℤ
 put room frozen two = (int_max two.0 room, int_max two.1 (cond frozen room (int_min two.0 room)))
 

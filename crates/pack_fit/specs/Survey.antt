@@ -1,5 +1,6 @@
--- What is counted of items to be packed, bin by bin. What a reader believes after this file: a few numbers of each bin tell
--- whether all items fit there, and what its second greatest room is at least.
+-- What is counted of items to be packed, bin by bin. What a reader believes after this file: a few
+-- numbers of each bin tell whether all items fit there, and what its second greatest room is at
+-- least.
 use Rattle.std.specs.Prelude.{ℕ, suc, ◌≡◌, ◌<◌, ◌+◌, ◌==◌, ◌≤ℤ◌, Bool, true, false, ◌&&◌, ◌||◌, cond, List, [], ◌∷◌, Option, Some, None, ℤ, pos, ◌+ℤ◌, ◌-ℤ◌, int_le, int_lt, nat_le, length, slice_index_or}
 use Rattle.std.specs.Int.{int_max, int_min}
 use Rattle.std.specs.Ordering.{int_eq}
@@ -107,8 +108,8 @@ open_floor (i ∷ is) boxes = cond (is_one (box_of boxes i.0)) (open_floor is bo
 
 -- ---- what the numbers of a bin show
 
--- the load leaves room for whatever the items that are fixed at the bin grow by, and, where others may be there, for the greatest
--- size that one of them has at least
+-- the load leaves room for whatever the items that are fixed at the bin grow by, and, where others
+-- may be there, for the greatest size that one of them has at least
 pub record IsSettled (s : Spot) (is_open : Bool) (size floor : ℤ) : Type 0 where
   pub grown : (s.load.value +ℤ s.growth.value) ≤ℤ s.tight.value
   pub least : s.load.value ≤ℤ s.room.value
@@ -119,8 +120,9 @@ pub record IsSettled (s : Spot) (is_open : Bool) (size floor : ℤ) : Type 0 whe
 abbrev pub room_where : Bool → ℤ → ℤ
 room_where counts room = cond counts (int_max (pos 0) room) (pos 0)
 
--- what the second greatest room is at least, where so many others may be there beside the items that are fixed, each with a room of
--- floor at least: two others may be there; two are fixed, or one that counts twice; one may be there beside one that is fixed
+-- what the second greatest room is at least, where so many others may be there beside the items
+-- that are fixed, each with a room of floor at least: two others may be there; two are fixed, or
+-- one that counts twice; one may be there beside one that is fixed
 abbrev pub least_second : Spot → ℕ → ℤ → ℤ
 least_second s others floor =
     int_max (room_where (nat_le 2 others) floor)

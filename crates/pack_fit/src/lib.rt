@@ -2,8 +2,8 @@
 //!
 //! - `loads`: the least sizes at a bin and the rooms that are there, over the boxes of items.
 //! - `survey`: what a look at all items needs to know of each bin, counted in one pass.
-//! - `room`: shows with the numbers of a survey that all items fit and that there is room enough, or
-//!   finds an item that doesn't fit.
+//! - `room`: shows with the numbers of a survey that all items fit and that there is room enough,
+//!   or finds an item that doesn't fit.
 #![tactic(auto)]
 
 mod loads;

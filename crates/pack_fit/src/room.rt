@@ -1,10 +1,13 @@
-//! Whether items to be packed have slack: whether each fits wherever it may be put, and there is room enough in all.
+//! Whether items to be packed have slack: whether each fits wherever it may be put, and there is
+//! room enough in all.
 //!
-//! A `Survey` counts them bin by bin. From the first bin to the last (`look_over`) its numbers decide nearly always that all
-//! items fit there; only where they don't is there a walk over the items. On the way it adds up what room of each bin stays
-//! whichever box is narrowed: its second greatest, of which the bin's numbers show a lower bound (`least_second`).
+//! A `Survey` counts them bin by bin. From the first bin to the last (`look_over`) its numbers
+//! decide nearly always that all items fit there; only where they don't is there a walk over the
+//! items. On the way it adds up what room of each bin stays whichever box is narrowed: its second
+//! greatest, of which the bin's numbers show a lower bound (`least_second`).
 //!
-//! Cost: the number of items, of the ranges of their bins' boxes and of bins, where the items have slack.
+//! Cost: the number of items, of the ranges of their bins' boxes and of bins, where the items have
+//! slack.
 //!
 //! Where the lower bound of the second greatest rooms (an item whose bin and room are single values
 //! counts twice) holds all sizes, no box that is narrowed to one value refutes the packing, and it
@@ -45,7 +48,8 @@ fn does_fit(boxes: &[IntSet], i: (u32, u32, u32), at: Number, load: Total, tight
     }
 }
 
-/// The first item that doesn't fit at the value, of which the load and the tightest room are given, where there is one.
+/// The first item that doesn't fit at the value, of which the load and the tightest room are given,
+/// where there is one.
 fn unplaceable_at(
     items: &[(u32, u32, u32)],
     boxes: &[IntSet],
@@ -109,7 +113,8 @@ fn limits_of(items: &[(u32, u32, u32)], boxes: &[IntSet]) -> Limits
     limits
 }
 
-/// Whether the spot's numbers show that all items fit there, those that are fixed and, where `is_open`, others that may be there.
+/// Whether the spot's numbers show that all items fit there, those that are fixed and, where
+/// `is_open`, others that may be there.
 fn is_settled(spot: Spot, is_open: bool, limits: Limits) -> bool
     ensures { result ≡ true → IsSettled spot is_open limits.size.value limits.floor.value }
 {
@@ -120,7 +125,8 @@ fn is_settled(spot: Spot, is_open: bool, limits: Limits) -> bool
             || (spot.load.are_upto(size, spot.tight) && spot.load.are_upto(size, limits.floor)))
 }
 
-/// The first item that doesn't fit at the value, where `count` items may be, and where there is one.
+/// The first item that doesn't fit at the value, where `count` items may be, and where there is
+/// one.
 #[tactic(auto, using(crate::proofs::SurveyFits::settled_fit))]
 fn unplaceable_here(
     items: &[(u32, u32, u32)],
@@ -153,8 +159,8 @@ fn room_where(counts: bool, room: Number) -> Number
     if counts { greater(none, room) } else { none }
 }
 
-/// What the second greatest room of the bin is at least, where `count` items may be, those that are fixed among them, and each of
-/// the others has a room of `floor` at least.
+/// What the second greatest room of the bin is at least, where `count` items may be, those that are
+/// fixed among them, and each of the others has a room of `floor` at least.
 fn least_second(spot: Spot, count: usize, floor: Number) -> Number
     requires { spot.count ≤ count }
     ensures { result.value ≡ least_second spot (count - spot.count) floor.value }

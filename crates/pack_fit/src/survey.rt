@@ -1,7 +1,9 @@
-//! A survey of items to be packed: what a look at all of them needs to know of each bin, counted in one pass.
+//! A survey of items to be packed: what a look at all of them needs to know of each bin, counted in
+//! one pass.
 //!
-//! `Survey::fill` counts, for each value from the first bin to the last, what stands fixed there (`Spot`) and how many ranges of
-//! the bins' boxes begin and end there. Added up from value to value, the latter tell how many items may be at each.
+//! `Survey::fill` counts, for each value from the first bin to the last, what stands fixed there
+//! (`Spot`) and how many ranges of the bins' boxes begin and end there. Added up from value to
+//! value, the latter tell how many items may be at each.
 //!
 //! Of each bin are counted, over the items that are fixed there: the load, the tightest room, the
 //! least room, the growth of a size, and how many they are. Where the ranges of the bins' boxes
@@ -216,7 +218,8 @@ fn count_ranges(begun: &mut [usize], ended: &mut [usize], ranges: &[(i64, i64)],
     }
 }
 
-/// Counts where the ranges of the bin of the item at `k` begin and end, behind which all are counted.
+/// Counts where the ranges of the bin of the item at `k` begin and end, behind which all are
+/// counted.
 fn count_item(
     begun: &mut [usize],
     ended: &mut [usize],
@@ -279,7 +282,8 @@ fn bins_between(first: Number, last: Number) -> Result<usize, AllocError>
     }
 }
 
-/// What is counted of items to be packed, bin by bin. It is memory for one call, in which nothing is kept from one to the next.
+/// What is counted of items to be packed, bin by bin. It is memory for one call, in which nothing
+/// is kept from one to the next.
 #[derive(Drop)]
 pub struct Survey {
     /// What is fixed at each bin.
@@ -315,7 +319,8 @@ impl Survey {
         self.ended.clear();
     }
 
-    /// Counts the items at the bins from `first` to `last`. It takes memory where there were never as many bins.
+    /// Counts the items at the bins from `first` to `last`. It takes memory where there were never
+    /// as many bins.
     ///
     /// # Errors
     /// Want of memory.

@@ -1,4 +1,5 @@
--- Rows of the two greatest rooms: what one more room does to their entries, and that entry by entry they are the rooms of the values.
+-- Rows of the two greatest rooms: what one more room does to their entries, and that entry by entry
+-- they are the rooms of the values.
 use Rattle.std.proofs.Common.{take, ◌++◌, append-nil, ◌≡◌, ℕ, zero, suc, ◌-◌, ◌<◌, ◌≤◌, Bool, true, false, ◌&&◌, ◌||◌, cond, List, [], ◌∷◌, ℤ, pos, ◌+ℤ◌, ◌<ℤ◌, length, drop, get_or, slice_set, slice_index_or, inl, inr, refl, arith, subst, sym, ap, ◌∙◌, nat_lt, drop-cons}
 use Rattle.std.proofs.lemmas.Int.{ints}
 use Rattle.std.proofs.lemmas.List.{get_or-set_same, get_or-set_other, take_all, drop_all}

@@ -1,4 +1,5 @@
--- What collected literals leave of the domains: it has all values of the boxes, and less with each set that is said.
+-- What collected literals leave of the domains: it has all values of the boxes, and less with each
+-- set that is said.
 use Rattle.std.proofs.Common.{◌≡◌, ℕ, suc, ◌<◌, Bool, true, false, not, ◌&&◌, cond, [], ◌∷◌, ℤ, ◌≤ℤ◌, All, length, refl, arith, subst, sym, ap, ◌∙◌}
 use Rattle.std.proofs.lemmas.Bool.{false_from_ne_true}
 use Rattle.std.specs.Prelude.{◌==◌}

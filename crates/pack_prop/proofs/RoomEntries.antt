@@ -1,4 +1,5 @@
--- Rows of rooms entry by entry: what a further item does to an entry, and which row has the entries.
+-- Rows of rooms entry by entry: what a further item does to an entry, and which row has the
+-- entries.
 use Rattle.std.proofs.Common.{take, ◌++◌, append-nil, ◌≡◌, ℕ, zero, suc, ◌-◌, ◌<◌, ◌≤◌, Bool, true, false, ◌&&◌, ◌||◌, List, [], ◌∷◌, ℤ, pos, ◌+ℤ◌, length, drop, get_or, slice_set, slice_index_or, inl, inr, refl, arith, subst, sym, ap, ◌∙◌, nat_lt, drop-cons}
 use Rattle.std.specs.Int.{int_max}
 use Rattle.std.proofs.lemmas.Int.{ints}

@@ -1,4 +1,5 @@
--- Rows of rooms: all room is at most a row's rooms, where the row has at least the best room of each value.
+-- Rows of rooms: all room is at most a row's rooms, where the row has at least the best room of
+-- each value.
 use Rattle.std.proofs.Common.{◌≡◌, ℕ, zero, suc, ◌+◌, ◌<◌, Bool, true, false, ◌&&◌, cond, List, [], ◌∷◌, ℤ, pos, ◌+ℤ◌, ◌≤ℤ◌, ◌<ℤ◌, All, length, ◌++◌, refl, arith, subst, sym, ap, ◌∙◌, inl, inr}
 use Rattle.std.specs.Prelude.{int_lt, int_le, slice_index_or}
 use Rattle.std.specs.Int.{int_max}

@@ -1,4 +1,5 @@
--- There is room for all least sizes, also where one open box is narrowed to a value, where what is left of the greatest rooms is enough.
+-- There is room for all least sizes, also where one open box is narrowed to a value, where what is
+-- left of the greatest rooms is enough.
 use Rattle.std.proofs.Common.{◌≡◌, ℕ, suc, Bool, true, false, not, ◌&&◌, ◌||◌, cond, List, [], ◌∷◌, ◌++◌, ℤ, pos, ◌+ℤ◌, ◌-ℤ◌, ◌≤ℤ◌, ◌<ℤ◌, All, length, refl, arith, inl, inr, subst, sym, ap, ◌∙◌}
 use Rattle.std.specs.Prelude.{◌==◌, int_le, int_lt}
 use Rattle.std.specs.Int.{int_max}

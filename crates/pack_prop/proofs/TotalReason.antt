@@ -1,4 +1,5 @@
--- Why all sizes are more than all room in what the literals leave: each step keeps what was counted.
+-- Why all sizes are more than all room in what the literals leave: each step keeps what was
+-- counted.
 use Rattle.std.proofs.Common.{◌≡◌, ℕ, zero, suc, ◌+◌, ◌<◌, ◌≤◌, true, false, not, ◌&&◌, ◌||◌, List, [], ◌∷◌, ℤ, pos, ◌+ℤ◌, ◌-ℤ◌, ◌≤ℤ◌, ◌<ℤ◌, All, length, get_or, slice_set, refl, arith, inl, inr, subst, sym}
 use Rattle.std.specs.Prelude.{◌==◌, int_lt, int_le, slice_index_or}
 use Rattle.std.proofs.lemmas.Int.{ints}

@@ -1,5 +1,5 @@
--- Literals that are collected one by one. What a reader believes after this file: they are of different variables, and each is false
--- in the boxes.
+-- Literals that are collected one by one. What a reader believes after this file: they are of
+-- different variables, and each is false in the boxes.
 use Rattle.std.specs.Prelude.{◌≡◌, ℕ, ◌<◌, ◌==◌, true, false, cond, [], ◌∷◌, ℤ, length}
 use Rattle.std.specs.List.{All}
 use Rattle.signed_clause.specs.Ranges.{Ranges, has, is_nil, IsValid}

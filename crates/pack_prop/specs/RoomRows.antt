@@ -1,5 +1,5 @@
--- Best rooms value by value. What a reader believes after this file: a row holds a room for each of some values that follow one
--- another.
+-- Best rooms value by value. What a reader believes after this file: a row holds a room for each of
+-- some values that follow one another.
 use Rattle.std.specs.Prelude.{◌≡◌, ◌<◌, ℕ, zero, suc, Bool, false, ◌&&◌, ◌||◌, cond, List, [], ◌∷◌, ℤ, pos, ◌+ℤ◌, int_lt, length, slice_index_or}
 use Rattle.std.specs.Int.{int_max}
 use Rattle.std.specs.Ordering.{int_eq}

@@ -1,6 +1,6 @@
--- When a tight packing has nothing to say of all its room. What a reader believes after this file: where there is room for all least
--- sizes, and still is where any one size grows, any one bin is fixed, or any one room shrinks, no value of a box takes too
--- much of it.
+-- When a tight packing has nothing to say of all its room. What a reader believes after this file:
+-- where there is room for all least sizes, and still is where any one size grows, any one bin is
+-- fixed, or any one room shrinks, no value of a box takes too much of it.
 use Rattle.std.specs.Prelude.{ℕ, ◌≡◌, ◌<◌, ◌≤ℤ◌, ◌<ℤ◌, Bool, true, not, ◌&&◌, ◌||◌, cond, List, [], ◌∷◌, ℤ, pos, ◌+ℤ◌, ◌-ℤ◌, int_le, length, slice_index_or}
 use Rattle.std.specs.Int.{int_max}
 use Rattle.std.specs.List.{All}

@@ -1,5 +1,6 @@
--- How it is explained that all sizes are more than all room. What a reader believes after this file: with what the literals leave of
--- the domains, the items come to sizes and rooms that are as good as those that were counted.
+-- How it is explained that all sizes are more than all room. What a reader believes after this
+-- file: with what the literals leave of the domains, the items come to sizes and rooms that are as
+-- good as those that were counted.
 use Rattle.std.specs.Prelude.{◌≡◌, ◌<◌, ◌≤◌, ℕ, zero, suc, true, List, [], ◌∷◌, ℤ, pos, ◌+ℤ◌, ◌≤ℤ◌, ◌<ℤ◌, slice_index_or, length}
 use Rattle.std.specs.List.{All}
 use Rattle.signed_clause.specs.Ranges.{has}
@@ -20,8 +21,8 @@ sizes_at k [] one two = pos 0
 sizes_at zero (i ∷ is) one two = low_of (box_of two i.1) +ℤ sizes_at zero is one two
 sizes_at (suc k) (i ∷ is) one two = low_of (box_of one i.1) +ℤ sizes_at k is one two
 
--- what the literals leave of the domains seats the first k items, and has sizes of the first m that with the others' in the boxes
--- are more than the row's rooms, by one and what is to spare
+-- what the literals leave of the domains seats the first k items, and has sizes of the first m that
+-- with the others' in the boxes are more than the row's rooms, by one and what is to spare
 pub record AreTotalled (items : List (ℕ × ℕ × ℕ)) (domains boxes : Boxes) (k m : ℕ) (row : List (ℤ × ℤ)) (spare : ℤ) (ls : Literals) : Type 0 where
   pub literals : AreCollected boxes ls
   pub first : ℤ

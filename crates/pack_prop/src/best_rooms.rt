@@ -1,7 +1,9 @@
-//! The greatest and the second greatest room of each value, in memory that is kept from call to call.
+//! The greatest and the second greatest room of each value, in memory that is kept from call to
+//! call.
 //!
-//! The second counts where the box of the item that has the greatest is narrowed. An item whose bin and room are single values
-//! stays, and counts twice. `BestRooms::find` goes over the items once, and each adds its room to the entries of its bin's box.
+//! The second counts where the box of the item that has the greatest is narrowed. An item whose bin
+//! and room are single values stays, and counts twice. `BestRooms::find` goes over the items once,
+//! and each adds its room to the entries of its bin's box.
 //!
 //! What is left of the best room of a bin when an item's box is narrowed is the second greatest
 //! where the item has the greatest, else the greatest. That is exact, since an equal one counts as

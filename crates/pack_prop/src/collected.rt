@@ -1,7 +1,7 @@
 //! Literals that are collected one by one, and the sets that they take of domains.
 //!
-//! A set that is said of a variable which has a literal already joins that one, so that the literals are of different variables
-//! whatever stands twice.
+//! A set that is said of a variable which has a literal already joins that one, so that the
+//! literals are of different variables whatever stands twice.
 //!
 //! So a variable may stand twice in any roles.
 ghost use Rattle.std.specs.Prelude.{◌≡◌, ◌≤◌, ◌<◌, ◌≤ℤ◌, ◌&&◌, ◌++◌, ℤ, pos, negsuc, [], ◌∷◌, IfOk, IfSome, OnOk, int_lt, length, slice_index_or, slice_set};

@@ -6,8 +6,8 @@
 //!   doesn't fit; `unplaceable` and `overfull` say what such an item takes away, and why.
 //! - `tight` finds, where all fit, with the rooms of `best_rooms` what takes too much of all room,
 //!   and `total` says why, with rows of rooms (`room_row`).
-//! - `literals` and `collected` make the literals, `with_part` reads boxes with a part of one in its
-//!   place, `spans` tells which entries of a row a range covers.
+//! - `literals` and `collected` make the literals, `with_part` reads boxes with a part of one in
+//!   its place, `spans` tells which entries of a row a range covers.
 #![tactic(auto)]
 
 mod best_rooms;

@@ -1,9 +1,11 @@
 //! Bins that would be overfull, and why.
 //!
-//! An item that doesn't fit at a value gives a part of some box: the value of its bin, the greater ones of its size, or the
-//! smaller ones of its room. With that part in the place of the box the value is overfull. The literals say of the room that is
-//! too small that it is at most what its box has, of the bins that make the load that they aren't the value, and of their
-//! sizes that they are at least what their boxes have. Items that the load has to spare are left out, the first ones first.
+//! An item that doesn't fit at a value gives a part of some box: the value of its bin, the greater
+//! ones of its size, or the smaller ones of its room. With that part in the place of the box the
+//! value is overfull. The literals say of the room that is too small that it is at most what its
+//! box has, of the bins that make the load that they aren't the value, and of their sizes that they
+//! are at least what their boxes have. Items that the load has to spare are left out, the first
+//! ones first.
 ghost use Rattle.std.specs.Prelude.{◌≡◌, ◌<◌, ◌+◌, ◌≤ℤ◌, ◌^◌, ◌-◌, ◌+ℤ◌, true, cond, pos, IfOk, IfSome, int_lt, length, ◌&&◌, false, IfNone};
 ghost use Rattle.signed_clause.specs.Clauses.{box_of};
 ghost use Rattle.ground_form.specs.declared.con.Con.TheVariants.{Pack};
@@ -101,15 +103,16 @@ pub fn overfilled(
     None
 }
 
-/// Whether item `m` is left out: its least size is to spare, and it isn't the one whose room is too small.
+/// Whether item `m` is left out: its least size is to spare, and it isn't the one whose room is too
+/// small.
 fn is_left_out(m: usize, k: usize, low: Number, spare: Number) -> bool
     ensures { result ≡ true → low.value ≤ℤ spare.value }
 {
     m != k && low.value <= spare.value
 }
 
-/// Says what has to be said of item `m`, and gives what is left to spare: nothing where its bin isn't fixed at the value, or
-/// where it is left out. The room of item `k` is too small.
+/// Says what has to be said of item `m`, and gives what is left to spare: nothing where its bin
+/// isn't fixed at the value, or where it is left out. The room of item `k` is too small.
 fn say_item(
     alloc: Global,
     literals: &mut Vec<(u32, IntSet)>,
@@ -142,7 +145,8 @@ fn say_item(
     Ok(spare)
 }
 
-/// Says what has to be said of the items, and gives what is left to spare. The room of item `k` is too small.
+/// Says what has to be said of the items, and gives what is left to spare. The room of item `k` is
+/// too small.
 fn say_load(
     alloc: Global,
     literals: &mut Vec<(u32, IntSet)>,

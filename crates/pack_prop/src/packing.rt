@@ -1,12 +1,13 @@
 //! Items to be packed.
 //!
-//! Of each item (bin, size, room), the sizes at its bin add up to at most its room; and all sizes to at most the best rooms
-//! of the bins that are open to them. `pack_fit` shows in one pass over items and bins that neither rule has anything to say,
-//! or finds an item that doesn't fit, which `unplaceable` explains; where each fits and there may be too little room in all,
-//! `tight` looks at each box in turn. What they find to take too much, and cannot explain, is probed.
+//! Of each item (bin, size, room), the sizes at its bin add up to at most its room; and all sizes
+//! to at most the best rooms of the bins that are open to them. `pack_fit` shows in one pass over
+//! items and bins that neither rule has anything to say, or finds an item that doesn't fit, which
+//! `unplaceable` explains; where each fits and there may be too little room in all, `tight` looks
+//! at each box in turn. What they find to take too much, and cannot explain, is probed.
 //!
-//! Cost: the number of items, of the ranges of their bins' boxes and of bins, where they have slack; where they are tight, the
-//! number of bins times that of items.
+//! Cost: the number of items, of the ranges of their bins' boxes and of bins, where they have
+//! slack; where they are tight, the number of bins times that of items.
 //!
 //! Probing is left where an open variable stands twice.
 ghost use Rattle.std.specs.Prelude.{◌≡◌, ◌<◌, true, false, IfOk, length};
@@ -109,7 +110,8 @@ fn prune_undecided(
     }
 }
 
-/// A clause that items to be packed justify and that takes something away; None where they are quiet.
+/// A clause that items to be packed justify and that takes something away; None where they are
+/// quiet.
 ///
 /// # Errors
 /// Want of memory.

@@ -1,5 +1,5 @@
-//! Rows of rooms: for each of some values that follow one another the best room there. `best_row` goes over the items once, and
-//! each lifts the entries of its bin's box to its room.
+//! Rows of rooms: for each of some values that follow one another the best room there. `best_row`
+//! goes over the items once, and each lifts the entries of its bin's box to its room.
 ghost use Rattle.std.specs.Prelude.{◌≡◌, ◌≤◌, ◌<◌, ◌≤ℤ◌, ◌+ℤ◌, ◌&&◌, ◌||◌, ◌^◌, ℕ, ℤ, [], suc, true, cond, pos, IfOk, OnOk, int_lt, length, drop, slice_index_or};
 ghost use Rattle.std.specs.Int.{int_max};
 ghost use Rattle.std.specs.Ordering.{int_eq};

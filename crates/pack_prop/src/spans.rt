@@ -1,4 +1,5 @@
-//! Spans of a row: which of its entries a range of values covers, where the entries are for values that follow one another.
+//! Spans of a row: which of its entries a range of values covers, where the entries are for values
+//! that follow one another.
 ghost use Rattle.std.specs.Prelude.{◌≡◌, ◌≤◌, ◌<◌, ◌+ℤ◌, ℕ, pos, int_le, int_lt, nat_lt};
 ghost use Rattle.signed_clause.specs.Ranges.{in_range};
 ghost use Rattle.pack_prop.specs.Spans.{is_in};

@@ -1,5 +1,5 @@
-//! What no clause says: that what `tight` finds to take too much room does so. Where it didn't, the packing would be probed, so
-//! no answer of `prune` tells.
+//! What no clause says: that what `tight` finds to take too much room does so. Where it didn't, the
+//! packing would be probed, so no answer of `prune` tells.
 ghost use Rattle.std.specs.Prelude.{◌≡◌};
 ghost use Rattle.ground_form.specs.declared.con.Con.TheVariants.{Pack};
 ghost use Rattle.ground_form.specs.WellMade.{IsWellMadeCon};
@@ -26,7 +26,8 @@ fn bits_of(alloc: Global, n: u32) -> Result<IntSet, AllocError> {
     Ok(set)
 }
 
-/// Of each domain the values 0 to 3 whose bits are set in a digit of `n`, and all of a domain of one value.
+/// Of each domain the values 0 to 3 whose bits are set in a digit of `n`, and all of a domain of
+/// one value.
 fn nth_boxes(alloc: Global, domains: &[IntSet], n: u32) -> Result<Vec<IntSet>, AllocError> {
     let mut rest = n;
     let mut boxes = Vec::new(alloc);
@@ -49,7 +50,8 @@ fn set_at<'a>(boxes: &'a [IntSet], x: u32, part: &'a IntSet, y: u32) -> &'a IntS
     }
 }
 
-/// Whether all least sizes are more than all room, with the part in place of the box of `x`, by what that says of places 0 to 3.
+/// Whether all least sizes are more than all room, with the part in place of the box of `x`, by
+/// what that says of places 0 to 3.
 fn is_too_much(items: &[(u32, u32, u32)], boxes: &[IntSet], x: u32, part: &IntSet) -> bool {
     let mut sizes = 0i64;
     for i in items {
@@ -127,7 +129,8 @@ fn what_is_found_takes_too_much_room(rt: HostRuntime) -> Result<(), AllocError> 
         IntSet::range(alloc, 1, 3),
         IntSet::range(alloc, 1, 1),
     ]?;
-    // an item of size 1 or more and one of 1, and one fixed at 1, of room 1 each; and the first of more room
+    // an item of size 1 or more and one of 1, and one fixed at 1, of room 1 each; and the first of
+    // more room
     for items in [
         [(0u32, 2u32, 3u32), (1, 3, 3), (3, 3, 3)],
         [(0, 3, 2), (1, 3, 3), (3, 3, 3)],
@@ -149,7 +152,8 @@ fn what_is_found_takes_too_much_of_different_rooms(rt: HostRuntime) -> Result<()
         IntSet::range(alloc, 0, 3),
         IntSet::range(alloc, 2, 2),
     ]?;
-    // three sizes of 2 in three places of room 2 each, of which one may be less; and room for one more
+    // three sizes of 2 in three places of room 2 each, of which one may be less; and room for one
+    // more
     for items in [
         [(0u32, 3u32, 3u32), (1, 3, 3), (3, 3, 2)],
         [(0, 2, 3), (1, 3, 3), (3, 3, 3)],

@@ -1,8 +1,9 @@
 //! Packings in which there may be too little room in all.
 //!
-//! With the greatest and the second greatest room of each value it is told of each box of an item whether a value of it takes too
-//! much room: whether there is room enough where the size is greatest, where the bin is each that it may be, and where the room
-//! is least. What would take too much is tried, and explained by `total`.
+//! With the greatest and the second greatest room of each value it is told of each box of an item
+//! whether a value of it takes too much room: whether there is room enough where the size is
+//! greatest, where the bin is each that it may be, and where the room is least. What would take too
+//! much is tried, and explained by `total`.
 //!
 //! Cost: the number of bins times that of items.
 //!
@@ -148,7 +149,8 @@ fn excess_of_sizes(
 
 // ---- bins and rooms
 
-/// Whether there is room enough where the bin of the item is that of `b`, and `sum` is left without the item.
+/// Whether there is room enough where the bin of the item is that of `b`, and `sum` is left without
+/// the item.
 fn is_enough_at(boxes: &[IntSet], i: (u32, u32, u32), b: Best, sum: Total, need: Total) -> bool
     requires { IsItemNamed i boxes.now }
     ensures { result ≡ true → may_be_at need.value sum.value b i boxes.now ≡ true }
@@ -204,7 +206,8 @@ fn middle(low: Number, high: Number) -> Number
     }
 }
 
-/// The greatest room of the item that is too little; `ends` are one that is too little and one that isn't.
+/// The greatest room of the item that is too little; `ends` are one that is too little and one that
+/// isn't.
 fn most_too_little(
     boxes: &[IntSet],
     i: (u32, u32, u32),
@@ -277,8 +280,8 @@ fn excess_of_bins(
 
 // ---- all boxes
 
-/// What takes too much room, where something does: all of a bin's box, where the least sizes do. Where the second greatest rooms
-/// are enough, no bin or room takes too much.
+/// What takes too much room, where something does: all of a bin's box, where the least sizes do.
+/// Where the second greatest rooms are enough, no bin or room takes too much.
 #[tactic(auto, using(crate::proofs::TightRows::sure_loose))]
 fn excess(
     items: &[(u32, u32, u32)],

@@ -1,9 +1,10 @@
 //! Why all sizes are more than all room.
 //!
-//! Of a room the literals say that it is at most what its box has; of a size that it is at least that; of a bin that it is
-//! none of the values of its domain whose best room is less than the item's. What the sizes have more than is needed is spent:
-//! a bin needs no literal where its domain's values may have the item's room as well, and then they are counted with it; and
-//! a size may be less.
+//! Of a room the literals say that it is at most what its box has; of a size that it is at least
+//! that; of a bin that it is none of the values of its domain whose best room is less than the
+//! item's. What the sizes have more than is needed is spent: a bin needs no literal where its
+//! domain's values may have the item's room as well, and then they are counted with it; and a size
+//! may be less.
 //!
 //! The first bins and then the first sizes are let go.
 ghost use Rattle.std.specs.Prelude.{◌≡◌, ◌<◌, ◌≤◌, ◌+◌, ◌≤ℤ◌, ◌<ℤ◌, ◌+ℤ◌, ◌-ℤ◌, ℤ, pos, IfOk, IfSome, length};
@@ -38,8 +39,8 @@ fn count_of(first: Number, last: Number) -> usize
     (last.value - first.value) as usize + 1
 }
 
-/// The first value that a bin has in its domain, and how many there are up to the last; None where they aren't those of a
-/// well made problem.
+/// The first value that a bin has in its domain, and how many there are up to the last; None where
+/// they aren't those of a well made problem.
 fn window(items: &[(u32, u32, u32)], domains: &[IntSet]) -> Option<(Number, usize)>
     requires { AreItemsNamed items.now domains.now }
     ensures { IfSome result (λ w. IsWindow w.0.value w.1 items.now domains.now) }
@@ -65,7 +66,8 @@ fn sizes_of(items: &[(u32, u32, u32)], boxes: &[IntSet], x: u32, part: &IntSet) 
     sum
 }
 
-/// Says what has to be said of the bin and the room of item `k`, and gives the row with which it is counted.
+/// Says what has to be said of the bin and the room of item `k`, and gives the row with which it is
+/// counted.
 fn seat(
     alloc: Global,
     literals: &mut Vec<(u32, IntSet)>,
@@ -196,7 +198,8 @@ fn weigh_all(
     Ok(left)
 }
 
-/// The clause of a part of a box with which all sizes are more than all room; None where they aren't.
+/// The clause of a part of a box with which all sizes are more than all room; None where they
+/// aren't.
 ///
 /// # Errors
 /// Want of memory.

@@ -1,8 +1,9 @@
 //! What an item that can't be placed takes away.
 //!
-//! Where it may be put at the value, it leaves that bin. Where it is fixed there, and the load isn't too much already, its
-//! room loses what is below the load, or its size what would make the load too much. That this part of a box does make the
-//! bin overfull is computed by the rule; where it doesn't, nothing is said.
+//! Where it may be put at the value, it leaves that bin. Where it is fixed there, and the load
+//! isn't too much already, its room loses what is below the load, or its size what would make the
+//! load too much. That this part of a box does make the bin overfull is computed by the rule; where
+//! it doesn't, nothing is said.
 ghost use Rattle.std.specs.Prelude.{◌≡◌, ◌<◌, ◌≤ℤ◌, ◌<ℤ◌, true, pos, negsuc, IfOk, IfSome, length};
 ghost use Rattle.std.specs.List.{All};
 ghost use Rattle.signed_clause.specs.Ranges.{IsValid};

@@ -4,8 +4,8 @@
 //! accepted stands in `log_form`.
 //!
 //! - `writing`: the lines' text.
-//! - `reading`, `words`, `pieces`, `numbers`, `parts`: lines from their bytes, from whole lines down
-//!   to single texts.
+//! - `reading`, `words`, `pieces`, `numbers`, `parts`: lines from their bytes, from whole lines
+//!   down to single texts.
 //! - `fault`: why bytes are not read as a line.
 //! - `record`: ground problems with their lines, round by round.
 #![tactic(auto)]

@@ -1,4 +1,5 @@
-//! Constraints of `n` parts, each with boxes in which it has nothing to say and boxes in which it has.
+//! Constraints of `n` parts, each with boxes in which it has nothing to say and boxes in which it
+//! has.
 ghost use Rattle.std.specs.Prelude.{◌≤ℤ◌};
 
 use ground_form::{Con, PackItems, Parts, Terms, VarList};
@@ -276,7 +277,8 @@ fn items(alloc: Global, n: u32) -> Result<PackItems, AllocError> {
     Ok(PackItems::of(items))
 }
 
-/// Adds sizes of 1, but that the last may be up to `most`, and rooms, every second of them the other of the two.
+/// Adds sizes of 1, but that the last may be up to `most`, and rooms, every second of them the
+/// other of the two.
 fn push_sizes(
     boxes: &mut Vec<IntSet>,
     alloc: Global,
@@ -295,7 +297,8 @@ fn push_sizes(
     Ok(())
 }
 
-/// Items of size 1, half as many places, rooms of 4: there is room for all, or the last, which is fixed, may be too large.
+/// Items of size 1, half as many places, rooms of 4: there is room for all, or the last, which is
+/// fixed, may be too large.
 fn roomy(alloc: Global, n: u32) -> Result<Case, AllocError> {
     let last = i64::from((n / 2).saturating_sub(1)).max(0);
     let mut idle = ranges(alloc, n, (0, last), (0, last))?;
@@ -329,8 +332,8 @@ fn unlike(alloc: Global, n: u32) -> Result<Case, AllocError> {
     })
 }
 
-/// The first quarter of the items one by one at places of room 1, the others, of rooms of 4, at any of the rest; or the last also
-/// at the small places.
+/// The first quarter of the items one by one at places of room 1, the others, of rooms of 4, at any
+/// of the rest; or the last also at the small places.
 fn small_places(alloc: Global, n: u32) -> Result<Case, AllocError> {
     let small = n / 4;
     let last = i64::from(n.saturating_sub(1).max(small));
@@ -380,7 +383,8 @@ fn push_rooms(
     Ok(())
 }
 
-/// The first half of the items two by two at the first places, the others at any place from `first` on.
+/// The first half of the items two by two at the first places, the others at any place from `first`
+/// on.
 fn half_placed(alloc: Global, n: u32, first: u32) -> Result<Vec<IntSet>, AllocError> {
     let last = i64::from(n.saturating_sub(1).max(first));
     let mut boxes = Vec::new(alloc);
@@ -394,8 +398,8 @@ fn half_placed(alloc: Global, n: u32, first: u32) -> Result<Vec<IntSet>, AllocEr
     Ok(boxes)
 }
 
-/// Rooms of 2 at as many places as there are items, of which half are placed, two by two: the others may only be at free places,
-/// or also at full ones.
+/// Rooms of 2 at as many places as there are items, of which half are placed, two by two: the
+/// others may only be at free places, or also at full ones.
 fn half_packed(alloc: Global, n: u32) -> Result<Case, AllocError> {
     let free = (n / 2).saturating_add(4) / 2;
     let mut idle = half_placed(alloc, n, free)?;

@@ -10,7 +10,8 @@ use std::alloc::AllocError;
 use std::rt::Runtime;
 use std::time::Instant;
 
-/// How many calls in a row answer, one after the other; and whether the last of them answers a clause.
+/// How many calls in a row answer, one after the other; and whether the last of them answers a
+/// clause.
 fn call(kit: &mut Kit, g: &Ground, boxes: &[IntSet], times: u32) -> Result<bool, AllocError>
     requires well_made { IsWellMade g.now }
     requires con { 0 < length g.now.cons }

@@ -96,7 +96,8 @@ flag_only false box f h =
 
 -- ---- two variables
 
--- what holds of two boxes, and of each value of one of them beside the other box, holds where any box has one of its values alone
+-- what holds of two boxes, and of each value of one of them beside the other box, holds where any
+-- box has one of its values alone
 pub two_fixed : (P : Ranges → Ranges → Type 0) (boxes : Boxes) (f x : ℕ) → (x ≡ f → ⊥) → P (box_of boxes f) (box_of boxes x) →
     ((v : ℤ) → has (box_of boxes f) v ≡ true → P ((v, v) ∷ []) (box_of boxes x)) → ((v : ℤ) → has (box_of boxes x) v ≡ true → P (box_of boxes f) ((v, v) ∷ [])) →
     (y : ℕ) (v : ℤ) → y < length boxes → has (box_of boxes y) v ≡ true → P (box_of (fixing boxes y v) f) (box_of (fixing boxes y v) x)
@@ -120,7 +121,8 @@ pub record IsPair (domains boxes : Boxes) (f x : ℕ) : Type 0 where
   pub differ : x ≡ f → ⊥
   pub bits : IsFlag (box_of boxes f)
 
--- the flag can have the truth though all of the box is left, or must have it and not all of the box is gone
+-- the flag can have the truth though all of the box is left, or must have it and not all of the box
+-- is gone
 abbrev pub PairActs : Bool → Ranges → Ranges → Ranges → Ranges → Type 0
 PairActs b flags box domain left =
     ((has flags (bit b) ≡ true) × (is_within box left ≡ true)) ⊎ ((has flags (bit (not b)) ≡ false) × (is_within box (less domain left) ≡ false))

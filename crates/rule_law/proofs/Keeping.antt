@@ -1,4 +1,5 @@
--- Literals that say of variables that they are in their domains and outside what a reason leaves of them.
+-- Literals that say of variables that they are in their domains and outside what a reason leaves of
+-- them.
 use Rattle.std.proofs.Common.{◌≡◌, ℕ, suc, zero, ◌<◌, ◌==◌, Bool, true, false, not, ◌&&◌, ◌||◌, cond, List, [], ◌∷◌, ◌++◌, ℤ, All, length, is_some, Some, None, arith, refl, ap, sym, subst, ◌∙◌}
 use Rattle.std.proofs.lemmas.Bool.{and_parts, false_from_ne_true}
 use Rattle.signed_clause.specs.Ranges.{Ranges, has, is_nil, IsValid}
@@ -139,7 +140,8 @@ agree_left domains b leaves xs (y ∷ ys) l h e =
       agree_left domains b leaves xs ys l (λ z q. h z (grind arith)) (λ z q. e z (grind arith)),
     )
 
--- the literals are justified where boxes that have of the constraint's variables what is left of them refute it
+-- the literals are justified where boxes that have of the constraint's variables what is left of
+-- them refute it
 pub kept_follows : (con : Con) (domains b : Boxes) (leaves : ℕ → Ranges) (xs : List ℕ) → AreLeft domains leaves xs → ((y : ℕ) → has_number y (vars_of con) ≡ true → has_number y xs ≡ true) →
     ((y : ℕ) → has_number y (vars_of con) ≡ true → box_of b y ≡ leaves y) → refuted con b ≡ true → justified con domains (kept domains leaves xs) ≡ true
 kept_follows con domains b leaves xs l h e r =

@@ -1,4 +1,5 @@
--- What probing finds is a reason: boxes that refute, and a value that does when it stands alone in its box.
+-- What probing finds is a reason: boxes that refute, and a value that does when it stands alone in
+-- its box.
 use Rattle.std.proofs.Common.{◌≡◌, ℕ, suc, zero, ◌<◌, ◌≤◌, ◌+◌, ◌==◌, max, Bool, true, false, inl, inr, List, [], ◌∷◌, ◌++◌, ℤ, ◌≤ℤ◌, unsigned_abs, All, length, get_or, drop, arith, refl, ap, sym, subst, ◌∙◌}
 use Rattle.std.proofs.lemmas.Int.{ints}
 use Rattle.std.proofs.lemmas.Bool.{cases_eq, cases_lt}

@@ -1,4 +1,5 @@
--- Reasons and the clauses made of them: the order of literals of different variables matters to nothing that is said of them.
+-- Reasons and the clauses made of them: the order of literals of different variables matters to
+-- nothing that is said of them.
 use Rattle.std.proofs.Common.{◌≡◌, ℕ, suc, zero, ◌<◌, ◌≤◌, ◌+◌, ◌==◌, nat_lt, Bool, true, false, not, ◌&&◌, ◌||◌, cond, [], ◌∷◌, ℤ, All, length, get_or, is_some, Some, None, arith, refl, ap, sym, ◌∙◌}
 use Rattle.std.specs.List.{sum_by}
 use Rattle.std.specs.List.Sorted.{IsPermutation, IsNonDecreasingBy}

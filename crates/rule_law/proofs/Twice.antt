@@ -1,4 +1,5 @@
--- Which numbers stand twice in a list: none where they ascend; and those that stand side by side in a copy in order.
+-- Which numbers stand twice in a list: none where they ascend; and those that stand side by side in
+-- a copy in order.
 use Rattle.std.proofs.Common.{◌≡◌, ℕ, suc, ◌+◌, ◌<◌, ◌≤◌, ◌==◌, Bool, true, false, not, ◌&&◌, ◌||◌, cond, drop, slice_get, add-one, Option, Some, None, List, [], ◌∷◌, length, get_or, refl, ap, sym, arith, ◌∙◌}
 use Rattle.std.specs.Prelude.{nat_le, IfSome}
 use Rattle.std.specs.List.{sum_by}

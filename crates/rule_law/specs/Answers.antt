@@ -1,5 +1,6 @@
--- What a propagator may answer. What a reader believes after this file: a clause that is answered follows from the constraint
--- and takes something away, or shows that nothing is left; and no answer means that the constraint has nothing to say.
+-- What a propagator may answer. What a reader believes after this file: a clause that is answered
+-- follows from the constraint and takes something away, or shows that nothing is left; and no
+-- answer means that the constraint has nothing to say.
 use Rattle.std.specs.Prelude.{◌≡◌, ℕ, ◌<◌, true, false, ◌||◌, Option, Some, None, is_some, length}
 use Rattle.std.specs.List.{All}
 use Rattle.signed_clause.specs.Ranges.{is_nil, IsValid}

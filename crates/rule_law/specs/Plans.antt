@@ -1,5 +1,6 @@
--- Plans of explanations. What a reader believes after this file: a plan says of some variables which values are left, and its
--- literals say of each of them that it has another value of its domain; and what a flag's box is.
+-- Plans of explanations. What a reader believes after this file: a plan says of some variables
+-- which values are left, and its literals say of each of them that it has another value of its
+-- domain; and what a flag's box is.
 use Rattle.std.specs.Prelude.{◌≡◌, true, false, [], ◌∷◌, ℤ, pos, ◌⊎◌}
 use Rattle.signed_clause.specs.Ranges.{Ranges, has, is_nil, IsValid}
 use Rattle.signed_clause.specs.SetAlgebra.{less}

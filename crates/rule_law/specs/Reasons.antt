@@ -1,6 +1,7 @@
--- Reasons, of which prunings are made. What a reader believes after this file: literals of different variables, in any order,
--- that a constraint justifies and that take something away are those of a pruning; and the usual literals say that a variable
--- is in its domain and outside what the reason leaves of it.
+-- Reasons, of which prunings are made. What a reader believes after this file: literals of
+-- different variables, in any order, that a constraint justifies and that take something away are
+-- those of a pruning; and the usual literals say that a variable is in its domain and outside what
+-- the reason leaves of it.
 use Rattle.std.specs.Prelude.{◌≡◌, ℕ, ◌<◌, ◌==◌, Bool, true, false, not, ◌&&◌, ◌||◌, cond, List, [], ◌∷◌, is_some, length}
 use Rattle.std.specs.List.{All}
 use Rattle.signed_clause.specs.Ranges.{Ranges, is_nil, IsValid}
@@ -24,7 +25,8 @@ no_repeat (x ∷ xs) = not (has_number x xs) && no_repeat xs
 abbrev pub Acts : Boxes → Literals → Type 0
 Acts boxes literals = (false_in boxes literals || is_some (unit_of boxes literals)) ≡ true
 
--- literals of different variables, in any order, that the constraint justifies, and that are false in the boxes or unit
+-- literals of different variables, in any order, that the constraint justifies, and that are false
+-- in the boxes or unit
 pub record IsReason (con : Con) (domains boxes : Boxes) (literals : Literals) : Type 0 where
   pub named : All (λ l. l.0 < length boxes) literals
   pub differ : no_repeat (clause_vars literals) ≡ true

@@ -1,5 +1,5 @@
--- Which variables stand twice in a list. What a reader believes after this file: where none does, or where the boxes of all that do
--- are single values, the open variables of the list differ.
+-- Which variables stand twice in a list. What a reader believes after this file: where none does,
+-- or where the boxes of all that do are single values, the open variables of the list differ.
 use Rattle.std.specs.Prelude.{◌≡◌, ℕ, suc, ◌<◌, ◌==◌, Bool, true, false, ◌&&◌, ◌||◌, cond, List, [], ◌∷◌, Option, Some, None, length, slice_index_or, nat_le}
 use Rattle.signed_clause.specs.Ranges.{Ranges}
 use Rattle.signed_clause.specs.Clauses.{Boxes, box_of}

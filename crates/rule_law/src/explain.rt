@@ -1,8 +1,9 @@
 //! Clauses made of reasons.
 //!
-//! A propagator collects literals of different variables in any order, most of them 'the variable is outside what is left of
-//! its domain' (`keep_out`). Where the constraint justifies them and they take something away (`IsReason`), `pruning` makes
-//! the clause: as they are where their variables ascend, else sorted in place. Neither sorting nor making takes memory.
+//! A propagator collects literals of different variables in any order, most of them 'the variable
+//! is outside what is left of its domain' (`keep_out`). Where the constraint justifies them and
+//! they take something away (`IsReason`), `pruning` makes the clause: as they are where their
+//! variables ascend, else sorted in place. Neither sorting nor making takes memory.
 ghost use Rattle.std.specs.Prelude.{◌≡◌, ◌++◌, [], OnOk};
 ghost use Rattle.std.specs.List.Sorted.{IsPermutation};
 ghost use Rattle.signed_clause.specs.Ranges.{is_nil};

@@ -1,7 +1,7 @@
 //! `Kit`, propagators for every kind of constraint.
 //!
-//! A kit is made of propagators that its caller boxes, and refuses a list that leaves a kind without one. It asks the first
-//! member that handles a constraint's kind.
+//! A kit is made of propagators that its caller boxes, and refuses a list that leaves a kind
+//! without one. It asks the first member that handles a constraint's kind.
 ghost use Rattle.std.specs.Prelude.{◌≡◌, ◌<◌, ◌↔◌, Bool, true, List, IfOk, IfErr, IfSome, IfNone, IsOk, false, length, map, slice_get, slice_index_or};
 ghost use Rattle.ground_form.specs.declared.kind.Kind.{Kind};
 ghost use Rattle.ground_form.specs.Kinds as kinds;
@@ -157,7 +157,8 @@ impl Kit {
     /// The kit of these members. It takes no memory.
     ///
     /// # Errors
-    /// `MissingKind`, with the list, exactly where no member handles some kind; it names the least such kind.
+    /// `MissingKind`, with the list, exactly where no member handles some kind; it names the least
+    /// such kind.
     pub fn new(list: Vec<Box<dyn Propagator>>) -> Result<Kit, MissingKind>
         ensures ok { IfOk result (λ kit. kit.list ≡ list) }
         ensures complete { IfOk result (λ kit. CoversAll (map (λ p. handled p) list.items)) }
@@ -177,8 +178,9 @@ impl Kit {
         begin_all(self.list.as_mut_slice());
     }
 
-    /// A clause that constraint `k` justifies and that is unit or false in the boxes; None where the constraint is quiet. That
-    /// each kind has a member isn't known here: a constraint of a kind without one would be probed.
+    /// A clause that constraint `k` justifies and that is unit or false in the boxes; None where
+    /// the constraint is quiet. That each kind has a member isn't known here: a constraint of a
+    /// kind without one would be probed.
     ///
     /// # Errors
     /// Want of memory.

@@ -1,13 +1,16 @@
 //! The face of propagators, and what they share: clauses made of reasons, plain probing, and kits.
 //!
-//! A propagator finds a clause that a constraint justifies and that takes something away, or says that the constraint is quiet.
-//! What refutes, justifies and is quiet is told by the rules of the constraints (`box_rules`), which are handed on from here.
+//! A propagator finds a clause that a constraint justifies and that takes something away, or says
+//! that the constraint is quiet. What refutes, justifies and is quiet is told by the rules of the
+//! constraints (`box_rules`), which are handed on from here.
 //!
-//! - `propagator`, `kit`: the face of what prunes by constraints, and kits that have a member for every kind.
+//! - `propagator`, `kit`: the face of what prunes by constraints, and kits that have a member for
+//!   every kind.
 //! - `within`: the test that boxes are such as a propagator asks for.
 //! - `explain`, `plan`: clauses made of reasons, and of plans of what an explanation leaves.
 //! - `probing`: probing that explains what it finds, for every kind.
-//! - `variables`: the variables of a constraint. `repeats`: whether one stands twice in it, and what is kept of that.
+//! - `variables`: the variables of a constraint. `repeats`: whether one stands twice in it, and
+//!   what is kept of that.
 #![tactic(auto)]
 
 mod explain;

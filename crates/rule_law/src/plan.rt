@@ -1,6 +1,7 @@
 //! Clauses made of plans.
 //!
-//! A plan says of some variables which values are left; its literals say of each that it has another value of its domain.
+//! A plan says of some variables which values are left; its literals say of each that it has
+//! another value of its domain.
 ghost use Rattle.std.specs.Prelude.{◌≡◌, ◌<◌, ◌∷◌, ◌++◌, [], IfOk, OnOk, length};
 ghost use Rattle.std.specs.List.{All};
 ghost use Rattle.signed_clause.specs.SetAlgebra.{less};

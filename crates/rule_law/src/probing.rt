@@ -1,7 +1,8 @@
 //! Plain probing with an explanation, for constraints of every kind.
 //!
-//! Where the boxes refute the constraint, its variables' boxes are the explanation. Else the first value is looked for that
-//! refutes it alone in its box: the explanation then is the boxes of the other variables, and what is pruned is that value.
+//! Where the boxes refute the constraint, its variables' boxes are the explanation. Else the first
+//! value is looked for that refutes it alone in its box: the explanation then is the boxes of the
+//! other variables, and what is pruned is that value.
 ghost use Rattle.std.specs.Prelude.{◌≡◌, ◌<◌, ◌++◌, [], ℕ, true, false, OnOk, IfOk, length};
 ghost use Rattle.std.specs.List.{All};
 ghost use Rattle.signed_clause.specs.Ranges.{IsValid};
@@ -155,9 +156,9 @@ fn value_pruning(
     Ok(clause)
 }
 
-/// A clause that the constraint justifies and that is unit or false in the boxes, found by probing each value that `quiet`
-/// speaks of and explained by all variables of the constraint; None where the constraint is quiet, and then no memory is
-/// taken.
+/// A clause that the constraint justifies and that is unit or false in the boxes, found by probing
+/// each value that `quiet` speaks of and explained by all variables of the constraint; None where
+/// the constraint is quiet, and then no memory is taken.
 ///
 /// # Errors
 /// Want of memory.

@@ -1,7 +1,8 @@
 //! The face of every propagator.
 //!
-//! A propagator handles some kinds of constraints. Asked for one of them, it finds a clause that the constraint justifies and
-//! that narrows a box or shows a conflict, or says that the constraint is quiet. What it caches changes no answer.
+//! A propagator handles some kinds of constraints. Asked for one of them, it finds a clause that
+//! the constraint justifies and that narrows a box or shows a conflict, or says that the constraint
+//! is quiet. What it caches changes no answer.
 ghost use Rattle.std.specs.Prelude.{◌≡◌, ◌<◌, Bool, true, IfOk, IfSome, length, slice_get};
 ghost use Rattle.ground_form.specs.declared.kind.Kind.{Kind};
 ghost use Rattle.ground_form.specs.Kinds as kinds;
@@ -25,7 +26,8 @@ pub trait Propagator: Drop {
     fn begin(&mut self)
         ensures { handled self.new ≡ handled self.old };
 
-    /// A clause that constraint `k` justifies and that is unit or false in the boxes; None where the constraint is quiet.
+    /// A clause that constraint `k` justifies and that is unit or false in the boxes; None where
+    /// the constraint is quiet.
     ///
     /// # Errors
     /// Want of memory.

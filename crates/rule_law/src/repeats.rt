@@ -1,8 +1,9 @@
 //! Whether a variable stands twice in a constraint.
 //!
-//! Variables that ascend differ, which one walk tells. Of other lists it is found once, by sorting a copy, which variables stand
-//! twice, and kept under the constraint's number together with the list. A kept list counts only where it is the constraint's, so
-//! what is kept is right for whatever ground problem is handed in.
+//! Variables that ascend differ, which one walk tells. Of other lists it is found once, by sorting
+//! a copy, which variables stand twice, and kept under the constraint's number together with the
+//! list. A kept list counts only where it is the constraint's, so what is kept is right for
+//! whatever ground problem is handed in.
 //!
 //! Variables that ascend, or ascend behind a first one that is before or behind them all, are seen
 //! to differ by one walk, and nothing is kept for them.
@@ -239,7 +240,8 @@ fn doubles(sorted: &[u32], alloc: Global) -> Result<Vec<u32>, AllocError>
     Ok(found)
 }
 
-/// The variables that stand twice in the constraint, found by a copy of its variables that is sorted.
+/// The variables that stand twice in the constraint, found by a copy of its variables that is
+/// sorted.
 fn find_twice(con: &Con, alloc: Global) -> Result<Vec<u32>, AllocError>
     ensures { IfOk result (λ twice. AreRepeated twice.items (vars_of con.now)) }
 {
@@ -347,7 +349,8 @@ pub fn has_var(vars: &[u32], x: u32) -> bool
     false
 }
 
-/// What was found of constraints, each under its number: their variables, and those that stand twice.
+/// What was found of constraints, each under its number: their variables, and those that stand
+/// twice.
 #[derive(Drop)]
 pub struct Repeats {
     alloc: Global,
@@ -389,7 +392,8 @@ impl Repeats {
         Ok(i)
     }
 
-    /// Whether no variable stands twice in the constraint with the number. Memory is taken only where that isn't known yet.
+    /// Whether no variable stands twice in the constraint with the number. Memory is taken only
+    /// where that isn't known yet.
     ///
     /// # Errors
     /// Want of memory.
@@ -403,8 +407,8 @@ impl Repeats {
         Ok(self.known[i].twice().is_empty())
     }
 
-    /// Whether neither of two variables stands twice in the constraint with the number. Memory is taken only where it isn't known
-    /// yet which variables do.
+    /// Whether neither of two variables stands twice in the constraint with the number. Memory is
+    /// taken only where it isn't known yet which variables do.
     ///
     /// # Errors
     /// Want of memory.
@@ -420,8 +424,8 @@ impl Repeats {
         Ok(!has_var(twice, x) && !has_var(twice, y))
     }
 
-    /// Whether no variable whose box isn't one value stands twice in the constraint with the number. Memory is taken only where
-    /// it isn't known yet which variables do.
+    /// Whether no variable whose box isn't one value stands twice in the constraint with the
+    /// number. Memory is taken only where it isn't known yet which variables do.
     ///
     /// # Errors
     /// Want of memory.

@@ -18,7 +18,8 @@ fn is_part(domains: &[IntSet], boxes: &[IntSet], x: usize) -> bool
     boxes[x].within(&domains[x]) && !boxes[x].is_empty()
 }
 
-/// Whether each variable has a box within its domain, and none is empty. A propagator's `prune` asks it of its boxes.
+/// Whether each variable has a box within its domain, and none is empty. A propagator's `prune`
+/// asks it of its boxes.
 #[tactic(auto, using(crate::proofs::UpTo::next_part, crate::proofs::UpTo::all_parts, crate::proofs::UpTo::no_part, crate::proofs::UpTo::other_size))]
 pub fn are_boxes_within(domains: &[IntSet], boxes: &[IntSet]) -> bool
     ensures { IsTrue result ↔ AreBoxesWithin domains.now boxes.now }

@@ -1,6 +1,6 @@
--- A clause is a disjunction of literals, each a variable and a set. What a reader believes after this file:
--- when a clause is
--- true at values and false or unit in boxes, and which clause is the resolvent of two.
+-- A clause is a disjunction of literals, each a variable and a set. What a reader believes after
+-- this file: when a clause is true at values and false or unit in boxes, and which clause is the
+-- resolvent of two.
 use Rattle.std.specs.Prelude.{◌≡◌, ◌≢◌, ℕ, suc, ◌<◌, ◌≤◌, Bool, true, false, not, ◌&&◌, ◌||◌, cond, List, [], ◌∷◌, ℤ, pos, Option, Some, None, length, slice_index_or, nat_le, nat_lt, ◌==◌}
 use Rattle.std.specs.List.{All}
 use Rattle.signed_clause.specs.Ranges.{Ranges, has, IsValid, is_nil}
@@ -69,21 +69,22 @@ abbrev pub false_in : Boxes → Literals → Bool
 false_in boxes [] = true
 false_in boxes (l ∷ ls) = is_disjoint l.1 (box_of boxes l.0) && false_in boxes ls
 
--- what a literal that meets its box leaves of it, where those behind it all miss and something is taken away
+-- what a literal that meets its box leaves of it, where those behind it all miss and something is
+-- taken away
 abbrev pub alone_of : Boxes → ℕ × List (ℤ × ℤ) → Literals → Option (ℕ × List (ℤ × ℤ))
 alone_of boxes l ls =
     cond (false_in boxes ls && not (is_within (box_of boxes l.0) l.1)) (Some (l.0, meet l.1 (box_of boxes l.0))) None
 
--- the one literal that meets its box, where the box isn't within its set: its variable, and what is left of
--- the box
+-- the one literal that meets its box, where the box isn't within its set: its variable, and what is
+-- left of the box
 abbrev pub unit_of : Boxes → Literals → Option (ℕ × List (ℤ × ℤ))
 unit_of boxes [] = None
 unit_of boxes (l ∷ ls) = cond (is_disjoint l.1 (box_of boxes l.0)) (unit_of boxes ls) (alone_of boxes l ls)
 
 -- ---- resolution
 
--- what two literals of one variable leave: of x the meet, and nothing where that is empty; of another
--- variable the join
+-- what two literals of one variable leave: of x the meet, and nothing where that is empty; of
+-- another variable the join
 abbrev pub both_literals : ℕ → ℕ × List (ℤ × ℤ) → Ranges → Literals → Literals
 both_literals x l s rest =
     cond (l.0 == x) (cond (is_nil (meet l.1 s)) rest ((l.0, meet l.1 s) ∷ rest)) ((l.0, join l.1 s) ∷ rest)
@@ -100,9 +101,9 @@ abbrev pub resolvent : ℕ → Literals → Literals → Literals
 resolvent x [] b = b
 resolvent x (l ∷ a) b = resolve_from x (resolvent x a) l b
 
--- c says of x what both a and b say, and of any other variable what either says; and it is true wherever both
--- are.
--- Of clauses this leaves one c: their sets are not empty, so each set tells whether the literal is there.
+-- c says of x what both a and b say, and of any other variable what either says; and it is true
+-- wherever both are. Of clauses this leaves one c: their sets are not empty, so each set tells
+-- whether the literal is there.
 pub record IsResolvent (x : ℕ) (a b c : Literals) : Type 0 where
   pub pivot : set_of c x ≡ meet (set_of a x) (set_of b x)
   pub others : (y : ℕ) → y ≢ x → set_of c y ≡ join (set_of a y) (set_of b y)

@@ -1,6 +1,6 @@
--- A finite set of integers is the list of its ranges. What a reader believes after this file: which numbers
--- such a list
--- holds, when it is the one list of its set, and what its least and greatest value and its size are.
+-- A finite set of integers is the list of its ranges. What a reader believes after this file: which
+-- numbers such a list holds, when it is the one list of its set, and what its least and greatest
+-- value and its size are.
 use Rattle.std.specs.Prelude.{◌≡◌, ℕ, suc, ◌+◌, unsigned_abs, Bool, true, false, ◌&&◌, ◌||◌, List, [], ◌∷◌, ℤ, pos, negsuc, ◌+ℤ◌, ◌-ℤ◌, ◌≤ℤ◌, int_le, Option, Some, None}
 
 -- ranges, each with its least and its greatest value
@@ -21,14 +21,14 @@ abbrev pub has : Ranges → ℤ → Bool
 has [] v = false
 has (r ∷ rs) v = in_range r v || has rs v
 
--- the ranges ascend from `low` to `top`, none is empty, and each begins at least two above the end of the one
--- before:
--- no two of them overlap or touch
+-- the ranges ascend from `low` to `top`, none is empty, and each begins at least two above the end
+-- of the one before: no two of them overlap or touch
 abbrev pub Ascends : ℤ → ℤ → Ranges → Type 0
 Ascends low top [] = low ≤ℤ (top +ℤ pos 2)
 Ascends low top (r ∷ rs) = (low ≤ℤ r.0) × (r.0 ≤ℤ r.1) × Ascends (r.1 +ℤ pos 2) top rs
 
--- the ranges are the list of a set of values of 64 bits with a sign; each such set has exactly one such list
+-- the ranges are the list of a set of values of 64 bits with a sign; each such set has exactly one
+-- such list
 abbrev pub IsValid : Ranges → Type 0
 IsValid rs = Ascends (negsuc 9223372036854775807) (pos 9223372036854775807) rs
 

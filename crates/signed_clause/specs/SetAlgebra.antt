@@ -1,6 +1,5 @@
--- The sets that two sets make: the common values, those that the second lacks, and those of either, each as
--- the list of
--- its ranges; and the two tests that go with them.
+-- The sets that two sets make: the common values, those that the second lacks, and those of either,
+-- each as the list of its ranges; and the two tests that go with them.
 use Rattle.std.specs.Prelude.{Bool, cond, [], ◌∷◌, ℤ, pos, ◌+ℤ◌, ◌-ℤ◌, int_le, int_lt}
 use Rattle.std.specs.Int.{int_max, int_min}
 use Rattle.signed_clause.specs.Ranges.{Ranges, is_nil}
@@ -9,7 +8,8 @@ use Rattle.signed_clause.specs.Ranges.{Ranges, is_nil}
 abbrev pub piece : ℤ → ℤ → Ranges → Ranges
 piece low high rest = cond (int_le low high) ((low, high) ∷ rest) rest
 
--- what `r ∷ a` has in common with the set, where `rest` gives what a has in common with what is left of it
+-- what `r ∷ a` has in common with the set, where `rest` gives what a has in common with what is
+-- left of it
 abbrev pub meet_from : (Ranges → Ranges) → ℤ × ℤ → Ranges → Ranges
 meet_from rest r [] = []
 meet_from rest r (s ∷ b) =

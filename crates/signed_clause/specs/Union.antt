@@ -1,6 +1,5 @@
--- The values of either of two sets, made in one walk: both lists are merged by their starts, and ranges that
--- overlap or
--- touch are then fused. On lists of sets this is `join`.
+-- The values of either of two sets, made in one walk: both lists are merged by their starts, and
+-- ranges that overlap or touch are then fused. On lists of sets this is `join`.
 use Rattle.std.specs.Prelude.{ℤ, pos, ◌+ℤ◌, cond, [], ◌∷◌, int_le, int_lt, Option, Some, None}
 use Rattle.std.specs.Int.{int_max}
 use Rattle.signed_clause.specs.Ranges.{Ranges}

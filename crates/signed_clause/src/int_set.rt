@@ -59,8 +59,8 @@ impl IntSet {
         }
     }
 
-    /// The set of these ranges, in one walk. None exactly where they aren't those of a set in order,
-    /// as where one is empty, or begins less than two above the end of the one before.
+    /// The set of these ranges, in one walk. None exactly where they aren't those of a set in
+    /// order, as where one is empty, or begins less than two above the end of the one before.
     pub fn of(alloc: Global, ranges: &[(i64, i64)]) -> Result<Option<IntSet>, AllocError>
         ensures variant { IfOk result (λ o. IsSome o ↔ IsValid ranges.now) }
         ensures list { IfOk result (λ o. IfSome o (λ s. s ≡ ranges.now)) }

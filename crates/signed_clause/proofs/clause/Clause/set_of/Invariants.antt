@@ -2,7 +2,8 @@ use Rattle.std.proofs.Common.{◌≡◌, false, ◌<◌, ◌≤◌, ◌-◌, [],
 use Rattle.signed_clause.specs.Clauses.{set_of, has_var}
 use Rattle.signed_clause.proofs.clause.Clause.set_of.Given as goal
 
--- the literals from low on say of x what the clause says, and the one at high, where there is one, isn't of a lesser variable
+-- the literals from low on say of x what the clause says, and the one at high, where there is one,
+-- isn't of a lesser variable
 abbrev pub invariant-loop-low : goal.invariant-loop-low
 invariant-loop-low l = record {
   set : set_of (drop l.low l.lits) l.x ≡ set_of l.self l.x;

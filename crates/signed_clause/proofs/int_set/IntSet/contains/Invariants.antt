@@ -2,7 +2,8 @@ use Rattle.std.proofs.Common.{◌≡◌, false, ◌<◌, ◌≤◌, ◌-◌, pos
 use Rattle.signed_clause.specs.Ranges.{has}
 use Rattle.signed_clause.proofs.int_set.IntSet.contains.Given as goal
 
--- the ranges from low on have the value where the set has it, and the one at high, where there is one, reaches it
+-- the ranges from low on have the value where the set has it, and the one at high, where there is
+-- one, reaches it
 abbrev pub invariant-loop-low : goal.invariant-loop-low
 invariant-loop-low l = record {
   left : has (drop l.low l.ranges) l.v ≡ has l.self l.v;
