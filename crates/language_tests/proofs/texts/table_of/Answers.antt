@@ -5,5 +5,5 @@ use Rattle.language_tests.proofs.texts.table_of.Goals as goal
 
 pub returns-in-Ok-build : goal.returns-in-Ok-build
 returns-in-Ok-build c =
-    let s = c.in_some-program.ensures.spelled in
-    record { named = subst IsNamed (sym c.in-Ok-build.ensures.table) (outline_named c.args.text.now s.tokens c.in_some-program.field-0 s.spelled s.same c.in-Ok-build.ensures.right) }
+    let s = c.in_ok-program.ensures.spelled in
+    record { named = subst IsNamed (sym c.in-Ok-build.ensures.table) (outline_named c.args.text.now s.tokens c.in_ok-program.program s.spelled s.same c.in-Ok-build.ensures.right) }
