@@ -1,7 +1,7 @@
 use Rattle.std.proofs.Common.{sym, subst}
 use Rattle.object_alloc.specs.Named.{IsNamed}
 use Rattle.object_alloc.proofs.SpelledNames.{outline_named}
-use Rattle.language_tests.proofs.texts.table_of.Goals as goal
+use Rattle.given_models.proofs.texts.table_of.Goals as goal
 
 pub returns-in-Ok-build : goal.returns-in-Ok-build
 returns-in-Ok-build c =
