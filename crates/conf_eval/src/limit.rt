@@ -100,7 +100,7 @@ pub(crate) fn of_model(objects: &Objects<'_>, constraints: &[Constraint], goals:
     }
 }
 
-/// The weight of a model; one that is too large for any use is told as the cap of all weights.
+/// The weight of a model; one above 2^51 is told as 2^51.
 pub fn model_weight(m: &TypedModel, objects: &Objects<'_>) -> u64
     requires typed { IsTypedModel objects.now (map constraint_view m.now.constraints) (map goal_view m.now.goals) }
     ensures weight { result ≡ capped (model_weight objects.now (map constraint_view m.now.constraints) (map goal_view m.now.goals)) }

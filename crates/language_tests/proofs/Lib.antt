@@ -1,4 +1,2 @@
 pub mod ShortModels
-pub mod TextLaws
 pub mod TwoNumbers
-pub mod ValueRows

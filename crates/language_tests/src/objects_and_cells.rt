@@ -1,6 +1,6 @@
 //! Objects, cells and extents of models that are given as texts, and the limits on them.
-use crate::texts::table_of;
 use class_table::Resolved;
+use given_models::table_of;
 use object_alloc::{AllocFault, Cell, Domain, Objects, allocate};
 use std::alloc::{AllocError, Global};
 use std::test::Fail;

@@ -1,6 +1,6 @@
 //! Parts of a typed model that is given as a text.
-use crate::texts::typed_of;
 use conf_types::{RNode, TypedModel};
+use given_models::typed_of;
 use std::alloc::Global;
 
 /// The model with these two constraints alone; None where they don't ascend, or one isn't there.

@@ -1,6 +1,6 @@
 //! Paths, from objects and back to them.
 use crate::objects_and_cells::has_path;
-use crate::texts::table_of;
+use given_models::table_of;
 use object_alloc::{Objects, allocate};
 use std::alloc::Global;
 

@@ -1,6 +1,6 @@
 //! Weights and limits of models that are given as texts.
-use crate::texts::typed_of;
 use conf_eval::{LimitFault, limits, model_weight};
+use given_models::typed_of;
 use object_alloc::allocate;
 use std::alloc::{AllocError, Global};
 use std::test::Fail;

@@ -1,7 +1,7 @@
 //! Configurations as texts, and the values that former texts give, of models that are given as
 //! texts.
-use crate::texts::table_of;
 use config_json::{FormerError, config_text, hints_of, missing, read_config};
+use given_models::table_of;
 use object_alloc::{Config, allocate};
 use std::alloc::{AllocError, Global};
 use std::test::Fail;

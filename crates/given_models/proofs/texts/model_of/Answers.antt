@@ -1,7 +1,7 @@
 use Rattle.std.proofs.Common.{length, subst, arith}
 use Rattle.conf_syntax.specs.Models.{IsProgramOf}
-use Rattle.language_tests.proofs.TextLaws.{few_tokens}
-use Rattle.language_tests.proofs.texts.model_of.Goals as goal
+use Rattle.given_models.proofs.TextLaws.{few_tokens}
+use Rattle.given_models.proofs.texts.model_of.Goals as goal
 
 pub returns-in-Ok-parse : goal.returns-in-Ok-parse
 returns-in-Ok-parse c =

@@ -1,6 +1,6 @@
 use Rattle.std.proofs.Common.{rules}
-use Rattle.language_tests.proofs.ValueRows.{one_more}
-use Rattle.language_tests.proofs.judged_configurations.are_values.Goals as goal
+use Rattle.meaning_tests.proofs.ValueRows.{one_more}
+use Rattle.meaning_tests.proofs.judged_configurations.are_values.Goals as goal
 
 pub loop-i-preserved : goal.loop-i-preserved
 loop-i-preserved c =

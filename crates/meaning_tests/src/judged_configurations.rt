@@ -7,9 +7,9 @@ ghost use Rattle.conf_types.specs.Typing.{IsTypedModel};
 ghost use Rattle.object_alloc.specs.Configurations.{IsConfiguration, IsInDomain};
 ghost use Rattle.conf_eval.specs.Measures.{model_narrow};
 
-use crate::texts::typed_of;
 use conf_eval::{BrokenAt, Env, Value, eval, limits, objectives, satisfied};
 use conf_types::TypedModel;
+use given_models::typed_of;
 use object_alloc::{Config, Domain, ObjectList, Objects, allocate};
 use std::alloc::{AllocError, Global};
 

@@ -3,7 +3,7 @@ ghost use Rattle.std.specs.Prelude.{◌≡◌, ◌≤◌, length, map, IfSome};
 ghost use Rattle.conf_syntax.specs.Trees.{nesting, program_tokens};
 ghost use Rattle.conf_types.specs.Programs.{constraint_view, goal_view};
 ghost use Rattle.conf_types.specs.Typing.{IsTypedModel};
-ghost use Rattle.language_tests.specs.Texts.{IsSpelledBy};
+ghost use Rattle.given_models.specs.Texts.{IsSpelledBy};
 ghost use Rattle.object_alloc.specs.Named.{IsNamed};
 
 use class_table::ClassTable;
@@ -14,13 +14,13 @@ use std::alloc::Global;
 
 /// The table of a model and its resolved expressions.
 #[derive(Drop)]
-pub(crate) struct TypedText {
+pub struct TypedText {
     pub table: ClassTable,
     pub model: TypedModel,
 }
 
 /// The tree of a text; None where the text is no model.
-pub(crate) fn model_of(alloc: Global, text: &[u8]) -> Option<Program>
+pub fn model_of(alloc: Global, text: &[u8]) -> Option<Program>
     ensures tokens { IfSome result (λ p. length (program_tokens p) ≤ 1048576) }
     ensures nesting { IfSome result (λ p. nesting p ≤ 200) }
     ensures spelled { IfSome result (IsSpelledBy text.now) }
@@ -38,7 +38,7 @@ pub(crate) fn model_of(alloc: Global, text: &[u8]) -> Option<Program>
 }
 
 /// The table of a text; None where the text is no model, or its declarations have a fault.
-pub(crate) fn table_of(alloc: Global, text: &[u8]) -> Option<ClassTable>
+pub fn table_of(alloc: Global, text: &[u8]) -> Option<ClassTable>
     ensures named { IfSome result (λ table. IsNamed table) }
 {
     let program = model_of(alloc, text)?;
@@ -49,7 +49,7 @@ pub(crate) fn table_of(alloc: Global, text: &[u8]) -> Option<ClassTable>
 }
 
 /// The typed model of a text; None where the text is no model or has a fault.
-pub(crate) fn typed_of(alloc: Global, text: &[u8]) -> Option<TypedText>
+pub fn typed_of(alloc: Global, text: &[u8]) -> Option<TypedText>
     ensures typed { IfSome result (λ t. IsTypedModel t.table (map constraint_view t.model.constraints) (map goal_view t.model.goals)) }
     ensures few { IfSome result (λ t. length t.model.constraints ≤ 1048576) }
 {

@@ -1,6 +1,6 @@
 use Rattle.std.proofs.Common.{drop}
 use Rattle.object_alloc.specs.Configurations.{AreValues}
-use Rattle.language_tests.proofs.judged_configurations.are_values.Given as goal
+use Rattle.meaning_tests.proofs.judged_configurations.are_values.Given as goal
 
 -- where what is left fits, all does
 abbrev pub invariant-loop-i : goal.invariant-loop-i

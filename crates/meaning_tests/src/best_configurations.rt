@@ -3,9 +3,9 @@ ghost use Rattle.std.specs.Prelude.{◌≤◌, length, map};
 ghost use Rattle.conf_types.specs.Programs.{constraint_view, goal_view};
 ghost use Rattle.conf_types.specs.Typing.{IsTypedModel};
 
-use crate::texts::typed_of;
 use conf_eval::limits;
 use conf_types::TypedModel;
+use given_models::typed_of;
 use object_alloc::{Objects, allocate};
 use std::alloc::{AllocError, Global};
 use try_all::{Trial, best_of};

@@ -6,8 +6,8 @@ use Rattle.conf_eval.specs.Fitting.{IsEvaluable}
 use Rattle.conf_eval.specs.Satisfying.{setting}
 use Rattle.conf_eval.proofs.CallLaws.{evaluable_there}
 use Rattle.conf_eval.proofs.LawsStated.{model_evaluable}
-use Rattle.language_tests.proofs.ValueRows.{first_of_all}
-use Rattle.language_tests.proofs.judged_configurations.first_value.Goals as goal
+use Rattle.meaning_tests.proofs.ValueRows.{first_of_all}
+use Rattle.meaning_tests.proofs.judged_configurations.first_value.Goals as goal
 
 pub eval-requires-clause-expr : goal.eval-requires-clause-expr
 eval-requires-clause-expr c =

@@ -1,9 +1,0 @@
-use Rattle.std.proofs.Common.{sym, subst}
-use Rattle.object_alloc.specs.Named.{IsNamed}
-use Rattle.object_alloc.proofs.SpelledNames.{outline_named}
-use Rattle.language_tests.proofs.texts.table_of.Goals as goal
-
-pub returns-in-Ok-build : goal.returns-in-Ok-build
-returns-in-Ok-build c =
-    let s = c.in_some-program.ensures.spelled in
-    record { named = subst IsNamed (sym c.in-Ok-build.ensures.table) (outline_named c.args.text.now s.tokens c.in_some-program.field-0 s.spelled s.same c.in-Ok-build.ensures.right) }
