@@ -14,7 +14,8 @@ ghost use Rattle.all_different.specs.Counters.{total, count_begun, reaches};
 ghost use Rattle.all_different.specs.Sweeps.{ReachesEnd, IsFixpointBehind, newest, IsKept};
 
 use crate::counters::{count_ends, count_starts, with_slot};
-use crate::interval::{Finding, ends_in_order, intruder, is_narrow};
+use crate::interval::{Finding, intruder, is_narrow};
+use box_view::ends_in_order;
 use ground_form::Number;
 use signed_clause::IntSet;
 use std::alloc::{AllocError, Global};

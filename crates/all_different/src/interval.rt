@@ -8,6 +8,7 @@ ghost use Rattle.box_rules.specs.Refuted.{lies_in, width, count_in};
 ghost use Rattle.all_different.specs.Intervals.{is_narrow, apart, AreApart, IsIntruder};
 ghost use Rattle.all_different.specs.Counters.{is_upto, begins_in};
 
+use box_view::ends_in_order;
 use ground_form::{Number, ends_of};
 use signed_clause::IntSet;
 use std::alloc::Global;
@@ -20,16 +21,6 @@ pub enum Finding {
     /// As many boxes lie within the interval as it has numbers, and that of the variable, which
     /// doesn't, has some of them.
     Full(Number, Number, u32),
-}
-
-/// The least and the greatest value of a set, 0 of the empty one.
-#[tactic(auto, using(box_view::proofs::EndLaws::ends_in_order))]
-pub fn ends_in_order(set: &IntSet) -> (i64, i64)
-    ensures ends { result ≡ (low_of set.now, high_of set.now) }
-    ensures order { low_of set.now ≤ℤ high_of set.now }
-{
-    set.ranges();
-    ends_of(set)
 }
 
 /// Whether the box has fewer than `n` numbers between its ends.

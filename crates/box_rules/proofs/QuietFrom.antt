@@ -90,6 +90,17 @@ quiet_is : (con : Con) (boxes : Boxes) → refuted con boxes ≡ false → quiet
 unfolding quiet
 quiet_is con boxes h k = not_then (refuted con boxes) (quiet_at con boxes (vars_of con)) h k
 
+pub each_then : (P Q : ℤ → Type 0) (vs : List ℤ) → ((v : ℤ) → P v → Q v) → Each P vs → Each Q vs
+each_then P Q [] f h = tt
+each_then P Q (v ∷ vs) f h = (f v h.0, each_then P Q vs f h.1)
+
+pub quiet_probed : (con : Con) (boxes : Boxes) → All (λ x. x < length boxes) (vars_of con) → AreSome (length boxes) boxes → excluded con boxes ≡ false →
+    ((x : ℕ) → x < length boxes → Each (λ v. excluded con (fixing boxes x v) ≡ false) (probed (box_of boxes x))) → quiet con boxes ≡ true
+quiet_probed con boxes n f e h =
+    quiet_is con boxes (neither (some_empty (vars_of con) boxes) (excluded con boxes) (none_empty (vars_of con) (length boxes) boxes n f) e)
+    (quiet_at_from con boxes (vars_of con) n (λ x lt. each_then (λ v. excluded con (fixing boxes x v) ≡ false) (λ v. refuted con (fixing boxes x v) ≡ false) (probed (box_of boxes x))
+    (λ v k. neither (some_empty (vars_of con) (fixing boxes x v)) (excluded con (fixing boxes x v)) (none_empty (vars_of con) (length boxes) (fixing boxes x v) n (some_fixing (length boxes) boxes x v lt f)) k) (h x lt)))
+
 pub quiet_from : (con : Con) (boxes : Boxes) → AreSets boxes → All (λ x. x < length boxes) (vars_of con) → AreSome (length boxes) boxes →
     excluded con boxes ≡ false → ((x : ℕ) (v : ℤ) → x < length boxes → has (box_of boxes x) v ≡ true → excluded con (fixing boxes x v) ≡ false) → quiet con boxes ≡ true
 quiet_from con boxes s n f e h =

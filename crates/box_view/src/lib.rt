@@ -18,4 +18,4 @@ mod view;
 
 pub use cut::{Cut, is_rest_within};
 pub use numbers::{end_of, greater, is_at_most, is_below, next, smaller, start_of};
-pub use view::{Fixing, Plain, View};
+pub use view::{Fixing, Plain, View, ends_in_order};

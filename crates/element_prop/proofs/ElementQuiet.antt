@@ -28,7 +28,7 @@ use Rattle.element_prop.specs.declared.element.Further.TheVariants.{OutOfSet}
 use Rattle.element_prop.specs.Elements.{count_possible, all_meet, some_with, some_other, some_offers, all_offered, AreHeadsApart, IsIdle, IsFurther}
 use Rattle.element_prop.proofs.OfferLaws.{each_offered}
 use Rattle.element_prop.proofs.ItemCount.{each_value}
-use Rattle.element_prop.proofs.ProbedQuiet.{each_then, quiet_probed}
+use Rattle.box_rules.proofs.QuietFrom.{each_then, quiet_probed}
 use Rattle.element_prop.proofs.ElementLaws.{IsElement}
 
 first_false : (a b : Bool) → a ≡ false → (a && b) ≡ false

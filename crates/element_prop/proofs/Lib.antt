@@ -7,6 +7,5 @@ pub mod ElementQuiet
 pub mod IndexLaws
 pub mod OutLaws
 pub mod OfferLaws
-pub mod ProbedQuiet
 pub mod OutsideLaws
 pub mod ItemCount

@@ -30,7 +30,8 @@ use crate::loads::{
     Total, greater, greatest, is_fixed, is_single, least, may_be, sizes_of, smaller,
 };
 use crate::survey::{Spot, Survey, with_growth};
-use ground_form::{Number, ends_of};
+use box_view::ends_in_order;
+use ground_form::Number;
 use signed_clause::IntSet;
 use std::alloc::AllocError;
 
@@ -265,16 +266,6 @@ pub fn last_bin(items: &[(u32, u32, u32)], boxes: &[IntSet], from: Number) -> Nu
         last = greater(last, greatest(boxes, i.0));
     }
     last
-}
-
-/// The least and the greatest value of a set, 0 of the empty one.
-#[tactic(auto, using(box_view::proofs::EndLaws::ends_in_order))]
-fn ends_in_order(set: &IntSet) -> (i64, i64)
-    ensures ends { result ≡ (low_of set.now, high_of set.now) }
-    ensures order { low_of set.now ≤ℤ high_of set.now }
-{
-    set.ranges();
-    ends_of(set)
 }
 
 /// The least and the greatest value of the box of `x`.
