@@ -1,10 +1,10 @@
 -- A table of sets and the literals that it lists: what becomes of them in each step.
-use Rattle.std.proofs.Common.{◌≡◌, ◌≢◌, ℕ, zero, suc, ◌+◌, ◌<◌, ◌≤◌, true, false, not, cond, List, [], ◌∷◌, ◌++◌, refl, sym, ap, ◌∙◌, arith, inl, inr, subst, IsTrue, length, get_or, drop, All}
+use Rattle.std.proofs.Common.{◌≡◌, ◌≢◌, ℕ, zero, suc, ◌+◌, ◌-◌, ◌<◌, ◌≤◌, true, false, not, cond, List, [], ◌∷◌, ◌++◌, refl, sym, ap, ◌∙◌, arith, inl, inr, subst, IsTrue, length, get_or, drop, All}
 use Rattle.std.specs.List.{Contains}
 use Rattle.std.specs.List.Sorted.{IsNonDecreasing, IsPermutation}
 use Rattle.std.proofs.Math.ListN.{set}
 use Rattle.std.proofs.lemmas.List.{get_or-set_same, get_or-set_other, length-set, append_assoc}
-use Rattle.std.proofs.lemmas.List.Elements.{All-push, Contains-append_left}
+use Rattle.std.proofs.lemmas.List.Elements.{All-push, All-cons, All-nil, Contains-append_left}
 use Rattle.std.proofs.lemmas.List.Sorted.{All-permutation, Contains-permutation, IsNonDecreasingBy-drop}
 use Rattle.std.proofs.lemmas.Bool.{cases_order, ne_eqb, eq-eqb, cases_eq}
 use Rattle.std.proofs.lemmas.Int.{ints}
@@ -127,6 +127,20 @@ same_clause n n' (l ∷ c) (m ∷ d) s t h =
     ]
 
 -- ---- the table of a clause
+
+-- the last variable is the greatest
+below_last : (n count : ℕ) (c : Literals) (i : ℕ) (d : Literal) → IsClauseFrom n c → length c ≡ suc i → (get_or c i d).0 < count → All (λ l. l.0 < count) c
+below_last n count [] i d s e h = absurd (omega arith)
+below_last n count (l ∷ []) zero d s e h = All-cons (λ m. m.0 < count) l [] h (All-nil (λ m. m.0 < count))
+below_last n count (l ∷ []) (suc i) d s e h = absurd (omega arith)
+below_last n count (l ∷ m ∷ c) zero d s e h = absurd (omega arith)
+below_last n count (l ∷ m ∷ c) (suc i) d s e h =
+    let rest = below_last (suc l.0) count (m ∷ c) i d s.3 (omega arith) h in
+    let next = rest 0 m (omega arith) in let above = s.3.0 in
+    All-cons (λ k. k.0 < count) l (m ∷ c) (omega arith) rest
+
+pub last_decides : (count : ℕ) (b : Literals) (l : Literal) → IsClause b → 0 < length b → l ≡ get_or b (length b - 1) l → l.0 < count → All (λ m. m.0 < count) b
+last_decides count b l s h e lt = below_last 0 count b (length b - 1) l s (omega arith) (subst (λ (m : Literal). m.0 < count) e lt)
 
 pub within_same : (b : Literals) (ss ss' : Boxes) → length ss' ≡ length ss → IsWithinBoxes b ss → IsWithinBoxes b ss'
 within_same b ss ss' e w = λ k d lt. rw e (w k d lt)

@@ -52,11 +52,15 @@ impl RunningClause {
         })
     }
 
-    /// Whether the table has all variables of the clause.
+    /// Whether the table has all variables of the clause. It looks at the last one alone, since
+    /// they ascend.
     pub fn covers(&self, b: &Clause) -> bool
         ensures { IsTrue result ↔ IsWithinBoxes b.now self.now }
     {
-        are_below(b.literals(), self.sets.len())
+        match b.literals().last() {
+            Some(l) => (l.0 as usize) < self.sets.as_slice().len(),
+            None => true,
+        }
     }
 
     /// Whether there is a literal of `x`.
@@ -147,18 +151,6 @@ fn empty_sets(alloc: Global, count: u32) -> Result<Vec<IntSet>, AllocError>
         sets.push(IntSet::empty(alloc))?;
     }
     Ok(sets)
-}
-
-/// Whether the variables are below the count.
-fn are_below(lits: &[(u32, IntSet)], count: usize) -> bool
-    ensures { IsTrue result ↔ All (λ l. l.0 < count) lits.now }
-{
-    for l in lits {
-        if l.0 as usize >= count {
-            return false;
-        }
-    }
-    true
 }
 
 /// Empties the sets of the used variables.
