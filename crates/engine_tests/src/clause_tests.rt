@@ -92,10 +92,10 @@ fn sets_agree_with_lists_of_numbers(rt: HostRuntime) -> Result<(), AllocError> {
 }
 
 /// A literal of one range: its variable, its least and its greatest value.
-type Row = (u32, i64, i64);
+pub type Row = (u32, i64, i64);
 
 /// The literals of these rows; one whose range would be empty has the empty set.
-fn literals_of(alloc: Global, rows: &[Row]) -> Result<Vec<(u32, IntSet)>, AllocError> {
+pub fn literals_of(alloc: Global, rows: &[Row]) -> Result<Vec<(u32, IntSet)>, AllocError> {
     let mut lits = Vec::new(alloc);
     for r in rows {
         let set = if r.1 <= r.2 {
@@ -109,7 +109,7 @@ fn literals_of(alloc: Global, rows: &[Row]) -> Result<Vec<(u32, IntSet)>, AllocE
 }
 
 /// Whether the literals are those of the rows.
-fn are_rows(lits: &[(u32, IntSet)], rows: &[Row]) -> bool {
+pub fn are_rows(lits: &[(u32, IntSet)], rows: &[Row]) -> bool {
     if lits.len() != rows.len() {
         return false;
     }

@@ -1,6 +1,7 @@
 //! Tests of the engine's base, of what no clause says. There is no code here.
 //!
 //! - `clause_tests`: sets of integers and clauses.
+//! - `running_tests`: running clauses, handles of clauses, and counts of sets.
 //! - `truth_tests`: what the kinds of constraints mean.
 //! - `build_tests`: problems that are built call by call.
 //! - `rule_tests`: when boxes refute a constraint, and when it is quiet.
@@ -15,6 +16,8 @@ mod clause_tests;
 mod kit_tests;
 #[cfg(test)]
 mod rule_tests;
+#[cfg(test)]
+mod running_tests;
 #[cfg(test)]
 mod shipped_kit_tests;
 #[cfg(test)]

@@ -6,3 +6,4 @@ pub mod CountLaws
 pub mod ClauseLaws
 pub mod ClauseForm
 pub mod ResolventLaws
+pub mod RunningLaws

@@ -2,3 +2,4 @@ pub mod Ranges
 pub mod SetAlgebra
 pub mod Union
 pub mod Clauses
+pub mod Running

@@ -5,7 +5,7 @@
 //! two sets walks both lists once, `contains` halves the list, and the other questions look at its
 //! ends. Contracts see a set as its list, `has` says which values that holds, and every set is
 //! valid (`IsValid`), which `ranges` promises to whoever asks.
-ghost use Rattle.std.specs.Prelude.{◌≡◌, ◌↔◌, ◌≤ℤ◌, ◌<◌, ◌≤◌, ◌+◌, ◌-ℤ◌, ◌+ℤ◌, pos, ◌⊎◌, ◌&&◌, ◌||◌, not, ℤ, List, drop, [], ◌∷◌, ◌++◌, IsTrue, IfOk, OnOk, IfSome, IsSome, IfNone, false, int_lt, int_le, length};
+ghost use Rattle.std.specs.Prelude.{◌≡◌, ◌↔◌, ◌≤ℤ◌, ◌<◌, ◌≤◌, ◌+◌, ◌^◌, ◌-ℤ◌, ◌+ℤ◌, pos, ◌⊎◌, ◌&&◌, ◌||◌, not, ℤ, List, drop, [], ◌∷◌, ◌++◌, IsTrue, IfOk, OnOk, IfSome, IsSome, IfNone, false, int_lt, int_le, length};
 ghost use Rattle.std.specs.Int.{int_min};
 ghost use Rattle.signed_clause.specs.Ranges.{has, in_range, IsValid, HasNoValue, IsSubset, HaveNoCommonValue, HaveSameValues, least_of, greatest_of, IsLeast, IsGreatest, count_of, is_nil};
 ghost use Rattle.signed_clause.specs.SetAlgebra.{meet, less, join, is_disjoint, piece, less_from, is_within};
@@ -86,7 +86,12 @@ impl IntSet {
         ensures list { IfOk result (λ s. s ≡ self.now) }
         ensures valid { IfOk result (λ s. IsValid s) }
     {
-        let ranges = SmallVec::from_slice(*self.ranges.allocator(), self.ranges.as_slice())?;
+        let alloc = *self.ranges.allocator();
+        let ranges = match self.ranges.as_slice() {
+            [r] => SmallVec::from_buf_and_len(alloc, [*r, *r], 1),
+            [r, s] => SmallVec::from_buf_and_len(alloc, [*r, *s], 2),
+            more => SmallVec::from_slice(alloc, more)?,
+        };
         Ok(IntSet { ranges })
     }
 
@@ -167,6 +172,18 @@ impl IntSet {
             left = left - more - 1;
         }
         true
+    }
+
+    /// How many values there are, where that is below 2^64. It takes no memory.
+    pub fn count(&self) -> Option<u64>
+        ensures variant { IsSome result ↔ (count_of self.now < 2 ^ 64) }
+        ensures count { IfSome result (λ n. n ≡ count_of self.now) }
+    {
+        let mut sum = 0u64;
+        for r in self.ranges() {
+            sum = sum.checked_add(steps(*r))?.checked_add(1)?;
+        }
+        Some(sum)
     }
 
     /// Whether both sets have the same values.

@@ -4,7 +4,8 @@
 //! literals do the work unless it lies in both sets. So the clause that keeps of `x` only the
 //! common values, and of every other variable what either clause says, follows from the two.
 //! `resolve` makes it in one walk over both lists.
-ghost use Rattle.std.specs.Prelude.{◌≡◌, ◌++◌, [], ◌∷◌, drop, IsTrue, IfOk, OnOk};
+ghost use Rattle.std.specs.Prelude.{◌≡◌, ◌++◌, [], ◌∷◌, drop, length, IsTrue, IfOk, OnOk};
+ghost use Rattle.std.specs.Vec.{vec_capacity};
 ghost use Rattle.signed_clause.specs.Clauses.{resolvent, both_literals, has_var, IsClause, IsResolvent};
 
 use crate::clause::Clause;
@@ -33,7 +34,7 @@ fn resolve_literals(
 ) -> Result<Vec<(u32, IntSet)>, AllocError>
     ensures { IfOk result (λ c. c.items ≡ resolvent x a.now b.now) }
 {
-    let mut out = Vec::new(alloc);
+    let mut out = Vec::with_capacity(alloc, a.len().saturating_add(b.len()))?;
     let mut i = 0;
     let mut j = 0;
     while i < a.len() && j < b.len() {
@@ -72,16 +73,18 @@ pub fn push_rest(
     Ok(())
 }
 
-/// The same literals again.
+/// The same literals again, in a block that has room for them and no more.
 pub fn copy_literals(
     alloc: Global,
     lits: &[(u32, IntSet)],
 ) -> Result<Vec<(u32, IntSet)>, AllocError>
-    ensures { IfOk result (λ c. c.items ≡ lits.now) }
+    ensures list { IfOk result (λ c. c.items ≡ lits.now) }
+    ensures room { IfOk result (λ c. vec_capacity c ≡ length lits.now) }
 {
-    let mut out = Vec::new(alloc);
+    let mut out = Vec::with_capacity(alloc, lits.len())?;
     for l in lits {
-        push_copy(&mut out, l)?;
+        let set = l.1.copy()?;
+        out.push_reserved((l.0, set));
     }
     Ok(out)
 }
