@@ -12,3 +12,4 @@ pub mod CrowdLaws
 pub mod FewPlaces
 pub mod Agreeing
 pub mod QuietFrom
+pub mod QuietAgree
