@@ -13,3 +13,4 @@ pub mod FewPlaces
 pub mod Agreeing
 pub mod QuietFrom
 pub mod QuietAgree
+pub mod VarWalks

@@ -5,7 +5,6 @@ use Rattle.signed_clause.specs.Ranges.{Ranges}
 use Rattle.signed_clause.specs.Clauses.{Boxes, box_of}
 use Rattle.ground_form.specs.declared.con.Con.{Con}
 use Rattle.ground_form.specs.Meaning.{vars_of}
-use Rattle.box_rules.specs.Refuted.{refuted}
 use Rattle.box_rules.specs.Named.{Agree}
 use Rattle.box_view.specs.Views.{fixing}
 use Rattle.box_rules.specs.Quiet.{probed, none_refutes, quiet_at, quiet}
