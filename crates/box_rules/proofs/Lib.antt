@@ -12,3 +12,5 @@ pub mod CrowdLaws
 pub mod FewPlaces
 pub mod Agreeing
 pub mod QuietFrom
+pub mod QuietAgree
+pub mod VarWalks

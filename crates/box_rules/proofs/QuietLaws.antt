@@ -10,12 +10,11 @@ use Rattle.signed_clause.proofs.RangeSteps.{left_at}
 use Rattle.signed_clause.specs.Clauses.{Boxes, box_of}
 use Rattle.ground_form.specs.declared.con.Con.{Con}
 use Rattle.ground_form.specs.declared.con.Con.TheVariants.{LinLe, LinDef, ReifLe, AndDef, MemberDef, EqDef, ElementDef, CondDef, ClauseCon, AllDiff, Pack}
-use Rattle.ground_form.specs.Meaning.{item_vars}
 use Rattle.ground_form.specs.Bounds.{low_of, high_of, reach_of, weight_of, size_sum, IsBounded}
 use Rattle.box_rules.specs.Named.{IsNamed}
 use Rattle.box_rules.specs.Refuted.{width, refuted}
 use Rattle.box_view.specs.Views.{fixing}
-use Rattle.box_rules.specs.Quiet.{values_from, values_of, probed, none_refutes, quiet_at}
+use Rattle.box_rules.specs.Quiet.{values_from, values_of, probed, none_refutes}
 use Rattle.box_view.proofs.EndLaws.{above_low, below_high}
 use Rattle.box_view.proofs.SetLaws.{fixing_same, fixing_other, fixing_length}
 use Rattle.box_rules.proofs.NamedVars.{named_length}
@@ -164,32 +163,9 @@ pub many_probed : (s : Ranges) → (count_of s ≤ 64 → ⊥) → (low_of s ∷
 many_probed s h =
     let e : nat_le (count_of s) 64 ≡ false = grind (arith, nat_tests) in rw e refl
 
-pub walk_stopped : (test one rest left whole : Bool) → left ≡ (one && rest) → test ≡ one → left ≡ whole → test ≡ false → false ≡ whole
-walk_stopped test one rest left whole e h k t = grind arith
-
-pub walk_gone_on : (test one rest left whole : Bool) → left ≡ (one && rest) → test ≡ one → left ≡ whole → test ≡ true → rest ≡ whole
-walk_gone_on test one rest left whole e h k t = grind arith
-
 -- where what is looked for may be found in each step
 pub found_stops : (found one rest left whole : Bool) → left ≡ (one && rest) → not found ≡ one → left ≡ whole → found ≡ true → not found ≡ whole
 found_stops found one rest left whole e h k t = grind arith
 
 pub found_goes_on : (found one rest left whole : Bool) → left ≡ (one && rest) → not found ≡ one → left ≡ whole → found ≡ false → rest ≡ whole
 found_goes_on found one rest left whole e h k t = grind arith
-
-two_then : (b c rest : Bool) → (b && (c && rest)) ≡ ((b && c) && rest)
-two_then true c rest = refl
-two_then false c rest = refl
-
-three_then : (a b c rest : Bool) → (a && (b && (c && rest))) ≡ ((a && (b && c)) && rest)
-three_then true b c rest = two_then b c rest
-three_then false b c rest = refl
-
--- one item more is looked at
-pub item_step : (con : Con) (boxes : Boxes) (is : List (ℕ × ℕ × ℕ)) (k : ℕ) (i : ℕ × ℕ × ℕ) → k < length is → i ≡ get_or is k (0, 0, 0) →
-    quiet_at con boxes (item_vars (drop k is)) ≡ ((none_refutes con boxes i.0 (probed (box_of boxes i.0))
-    && (none_refutes con boxes i.1 (probed (box_of boxes i.1)) && none_refutes con boxes i.2 (probed (box_of boxes i.2)))) && quiet_at con boxes (item_vars (drop (k + 1) is)))
-item_step con boxes is k i h e =
-    ap (λ (z : List (ℕ × ℕ × ℕ)). quiet_at con boxes (item_vars z)) (left_at is k i (0, 0, 0) h e)
-    ∙ three_then (none_refutes con boxes i.0 (probed (box_of boxes i.0))) (none_refutes con boxes i.1 (probed (box_of boxes i.1))) (none_refutes con boxes i.2 (probed (box_of boxes i.2)))
-    (quiet_at con boxes (item_vars (drop (k + 1) is)))

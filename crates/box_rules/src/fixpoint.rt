@@ -3,13 +3,13 @@
 //! `quiet` asks at each variable of the constraint whether one of its probed values, alone in its
 //! box, refutes the constraint. Boxes with one value in place of a box are a view (`Fixing`), so
 //! nothing is built.
-ghost use Rattle.std.specs.Prelude.{◌≡◌, ◌<◌, ◌≤ℤ◌, ◌&&◌, ℤ, true, false, not, is_some, IfSome, [], ◌∷◌, length};
+ghost use Rattle.std.specs.Prelude.{◌≡◌, ◌<◌, ◌≤ℤ◌, ℤ, true, false, not, is_some, IfSome, [], ◌∷◌, length, slice_get};
 ghost use Rattle.std.specs.List.{All};
 ghost use Rattle.signed_clause.specs.Ranges.{has, in_range, is_nil, IsValid};
 ghost use Rattle.signed_clause.specs.Clauses.{box_of};
-ghost use Rattle.ground_form.specs.Meaning.{vars_of, term_vars, part_vars, clause_vars, item_vars};
+ghost use Rattle.ground_form.specs.Meaning.{vars_of};
 ghost use Rattle.ground_form.specs.Bounds.{low_of, high_of, IsBounded};
-ghost use Rattle.box_rules.specs.Named.{IsNamed, AreTermsNamed, IsItemNamed, AreItemsNamed};
+ghost use Rattle.box_rules.specs.Named.{IsNamed};
 ghost use Rattle.box_rules.specs.Refuted.{width, refuted};
 ghost use Rattle.box_view.specs.Views.{fixing};
 ghost use Rattle.box_rules.specs.Quiet.{values_from, values_of, probed, none_refutes, quiet_at, quiet, IsCulprit};
@@ -167,150 +167,31 @@ pub fn first_at(con: &Con, boxes: &[IntSet], x: u32) -> Option<Number>
     }
 }
 
-/// Whether no probed value of the box of `x` refutes the constraint.
-fn is_quiet_at(con: &Con, boxes: &[IntSet], x: u32) -> bool
+/// Whether no probed value of the box of the variable at the place refutes the constraint.
+#[tactic(auto, using(crate::proofs::VarWalks::variable_named))]
+fn is_quiet_at(con: &Con, boxes: &[IntSet], i: usize) -> bool
     requires named { IsNamed con.now boxes.now }
     requires bounded { IsBounded con.now boxes.now }
-    requires var { x < length boxes.now }
-    ensures { result ≡ none_refutes con.now boxes.now x (probed (box_of boxes.now x)) }
+    ensures { IfSome (slice_get (vars_of con.now) i) (λ x. result ≡ none_refutes con.now boxes.now x (probed (box_of boxes.now x))) }
 {
-    first_at(con, boxes, x).is_none()
-}
-
-/// Whether that is so at each term's variable.
-fn are_terms_quiet(con: &Con, boxes: &[IntSet], terms: &[(i64, u32)]) -> bool
-    requires named { IsNamed con.now boxes.now }
-    requires bounded { IsBounded con.now boxes.now }
-    requires terms { AreTermsNamed terms.now boxes.now }
-    ensures { result ≡ quiet_at con.now boxes.now (term_vars terms.now) }
-{
-    for t in terms {
-        if !is_quiet_at(con, boxes, t.1) {
-            return false;
-        }
+    match con.variable(i) {
+        Some(x) => first_at(con, boxes, x).is_none(),
+        None => true,
     }
-    true
-}
-
-/// Whether that is so at each part's variable.
-fn are_parts_quiet(con: &Con, boxes: &[IntSet], parts: &[(u32, bool)]) -> bool
-    requires named { IsNamed con.now boxes.now }
-    requires bounded { IsBounded con.now boxes.now }
-    requires parts { All (λ p. p.0 < length boxes.now) parts.now }
-    ensures { result ≡ quiet_at con.now boxes.now (part_vars parts.now) }
-{
-    for p in parts {
-        if !is_quiet_at(con, boxes, p.0) {
-            return false;
-        }
-    }
-    true
-}
-
-/// Whether that is so at the literal's variable.
-fn is_literal_quiet(con: &Con, boxes: &[IntSet], l: &(u32, IntSet)) -> bool
-    requires named { IsNamed con.now boxes.now }
-    requires bounded { IsBounded con.now boxes.now }
-    requires literal { l.now.0 < length boxes.now }
-    ensures { result ≡ none_refutes con.now boxes.now l.now.0 (probed (box_of boxes.now l.now.0)) }
-{
-    is_quiet_at(con, boxes, l.0)
-}
-
-/// Whether that is so at each literal's variable.
-fn are_literals_quiet(con: &Con, boxes: &[IntSet], literals: &[(u32, IntSet)]) -> bool
-    requires named { IsNamed con.now boxes.now }
-    requires bounded { IsBounded con.now boxes.now }
-    requires literals { All (λ l. l.0 < length boxes.now) literals.now }
-    ensures { result ≡ quiet_at con.now boxes.now (clause_vars literals.now) }
-{
-    for l in literals {
-        if !is_literal_quiet(con, boxes, l) {
-            return false;
-        }
-    }
-    true
-}
-
-/// Whether that is so at each variable of the list.
-fn are_vars_quiet(con: &Con, boxes: &[IntSet], vars: &[u32]) -> bool
-    requires named { IsNamed con.now boxes.now }
-    requires bounded { IsBounded con.now boxes.now }
-    requires vars { All (λ x. x < length boxes.now) vars.now }
-    ensures { result ≡ quiet_at con.now boxes.now vars.now }
-{
-    for x in vars {
-        if !is_quiet_at(con, boxes, *x) {
-            return false;
-        }
-    }
-    true
-}
-
-/// Whether that is so at the item's three variables.
-fn is_item_quiet(con: &Con, boxes: &[IntSet], i: (u32, u32, u32)) -> bool
-    requires named { IsNamed con.now boxes.now }
-    requires bounded { IsBounded con.now boxes.now }
-    requires item { IsItemNamed i boxes.now }
-    ensures { result ≡ (none_refutes con.now boxes.now i.0 (probed (box_of boxes.now i.0))
-        && (none_refutes con.now boxes.now i.1 (probed (box_of boxes.now i.1)) && none_refutes con.now boxes.now i.2 (probed (box_of boxes.now i.2)))) }
-{
-    is_quiet_at(con, boxes, i.0) && (is_quiet_at(con, boxes, i.1) && is_quiet_at(con, boxes, i.2))
-}
-
-/// Whether that is so at each item's variables.
-fn are_items_quiet(con: &Con, boxes: &[IntSet], items: &[(u32, u32, u32)]) -> bool
-    requires named { IsNamed con.now boxes.now }
-    requires bounded { IsBounded con.now boxes.now }
-    requires items { AreItemsNamed items.now boxes.now }
-    ensures { result ≡ quiet_at con.now boxes.now (item_vars items.now) }
-{
-    for i in items {
-        if !is_item_quiet(con, boxes, *i) {
-            return false;
-        }
-    }
-    true
 }
 
 /// Whether no probed value of a variable of the constraint refutes it when it stands alone in its
 /// box. The constraint is quiet where that is so and the boxes don't refute it.
+#[tactic(auto, using(crate::proofs::VarWalks::nothing_left))]
 pub fn are_all_quiet(con: &Con, boxes: &[IntSet]) -> bool
     requires named { IsNamed con.now boxes.now }
     requires bounded { IsBounded con.now boxes.now }
     ensures { result ≡ quiet_at con.now boxes.now (vars_of con.now) }
 {
-    match con {
-        Con::LinLe { terms, .. } => are_terms_quiet(con, boxes, terms.items()),
-        Con::LinDef { out, terms, .. } => {
-            is_quiet_at(con, boxes, *out) && are_terms_quiet(con, boxes, terms.items())
+    for i in 0..con.variable_count() {
+        if !is_quiet_at(con, boxes, i) {
+            return false;
         }
-        Con::ReifLe { flag, terms, .. } => {
-            is_quiet_at(con, boxes, *flag) && are_terms_quiet(con, boxes, terms.items())
-        }
-        Con::AndDef { flag, parts } => {
-            is_quiet_at(con, boxes, *flag) && are_parts_quiet(con, boxes, parts.items())
-        }
-        Con::MemberDef { flag, var, .. } => {
-            is_quiet_at(con, boxes, *flag) && is_quiet_at(con, boxes, *var)
-        }
-        Con::EqDef { flag, left, right } => {
-            is_quiet_at(con, boxes, *flag)
-                && is_quiet_at(con, boxes, *left)
-                && is_quiet_at(con, boxes, *right)
-        }
-        Con::ElementDef { out, index, items } => {
-            is_quiet_at(con, boxes, *out)
-                && is_quiet_at(con, boxes, *index)
-                && are_terms_quiet(con, boxes, items.items())
-        }
-        Con::CondDef { out, flag, item } => {
-            is_quiet_at(con, boxes, *out)
-                && is_quiet_at(con, boxes, *flag)
-                && is_quiet_at(con, boxes, *item)
-        }
-        Con::ClauseCon { clause } => are_literals_quiet(con, boxes, clause.literals()),
-        Con::AllDiff { vars } => are_vars_quiet(con, boxes, vars.items()),
-        Con::Pack { items } => are_items_quiet(con, boxes, items.items()),
     }
+    true
 }

@@ -12,7 +12,7 @@
 //! - `exclude`: the rule of a constraint, whatever its kind.
 //! - `refute`: when boxes refute a constraint. `justify`: when it justifies a clause.
 //! - `fixpoint`: when it is quiet, and the values that are probed for that.
-//! - `soundness`: a refuted constraint has no solution in the boxes.
+//! - `soundness`: a refuted constraint has no solution in the boxes, and which boxes are looked at.
 #![tactic(auto)]
 
 mod all_different;
@@ -30,4 +30,4 @@ mod sums;
 pub use fixpoint::{are_all_quiet, first_at, quiet};
 pub use justify::justified;
 pub use refute::refutes;
-pub use soundness::{refuted_is_false, some_interval_is_crowded};
+pub use soundness::{quiet_looks_at_variables, refuted_is_false, some_interval_is_crowded};

@@ -3,3 +3,5 @@ pub mod SingleValues
 pub mod Weights
 pub mod Products
 pub mod Ends
+pub mod VarsAt
+pub mod Equal

@@ -105,6 +105,14 @@ impl Goals {
         self.items.as_slice()
     }
 
+    /// The same goals again.
+    pub fn copy(&self) -> Result<Self, AllocError>
+        ensures { IfOk result (λ l. l ≡ self.now) }
+    {
+        let items = self.items.as_slice().to_vec(*self.items.allocator())?;
+        Ok(Goals { items })
+    }
+
     /// They as a vector again, without memory.
     pub fn into_items(self) -> Vec<GroundGoal>
         ensures { result.items ≡ self }

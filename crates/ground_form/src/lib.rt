@@ -5,7 +5,8 @@
 //! value of each variable's domain under which every constraint is true.
 //!
 //! - `lists`: the small lists that constraints and problems hold, seen by contracts as lists.
-//! - `con`: the constraint, one variant for each kind.
+//! - `con`: the constraint, one variant for each kind. `variables`: its variables, one by one.
+//!   `same`: whether two constraints are the same.
 //! - `kind`: the kinds by name.
 //! - `ground`: the problem.
 //! - `sums`: the least and the greatest sum of terms over boxes.
@@ -16,8 +17,10 @@ mod con;
 mod ground;
 mod kind;
 mod lists;
+mod same;
 mod sums;
 mod truth;
+mod variables;
 
 pub use con::Con;
 pub use ground::{Cons, Goals, Ground, GroundGoal};

@@ -2,7 +2,7 @@
 //!
 //! Each is made of a vector and gives it back, without memory, and a contract sees each as the
 //! plain list of its items.
-ghost use Rattle.std.specs.Prelude.{◌≡◌, ◌++◌, ◌∷◌, [], IfOk, OnOk};
+ghost use Rattle.std.specs.Prelude.{◌≡◌, ◌↔◌, ◌++◌, ◌∷◌, [], IsTrue, IfOk, OnOk};
 ghost use Rattle.std.specs.List.{All};
 ghost use Rattle.signed_clause.specs.Ranges.{IsValid};
 
@@ -46,6 +46,13 @@ impl Terms {
     {
         let items = self.items.as_slice().to_vec(*self.items.allocator())?;
         Ok(Terms { items })
+    }
+
+    /// Whether the other has the same items in the same order.
+    pub fn same(&self, o: &Self) -> bool
+        ensures { IsTrue result ↔ (self.now ≡ o.now) }
+    {
+        self.items() == o.items()
     }
 
     /// They as a vector again, without memory.
@@ -93,6 +100,13 @@ impl Parts {
         Ok(Parts { items })
     }
 
+    /// Whether the other has the same items in the same order.
+    pub fn same(&self, o: &Self) -> bool
+        ensures { IsTrue result ↔ (self.now ≡ o.now) }
+    {
+        self.items() == o.items()
+    }
+
     /// They as a vector again, without memory.
     pub fn into_items(self) -> Vec<(u32, bool)>
         ensures { result.items ≡ self }
@@ -138,6 +152,13 @@ impl VarList {
         Ok(VarList { items })
     }
 
+    /// Whether the other has the same items in the same order.
+    pub fn same(&self, o: &Self) -> bool
+        ensures { IsTrue result ↔ (self.now ≡ o.now) }
+    {
+        self.items() == o.items()
+    }
+
     /// They as a vector again, without memory.
     pub fn into_items(self) -> Vec<u32>
         ensures { result.items ≡ self }
@@ -181,6 +202,13 @@ impl PackItems {
     {
         let items = self.items.as_slice().to_vec(*self.items.allocator())?;
         Ok(PackItems { items })
+    }
+
+    /// Whether the other has the same items in the same order.
+    pub fn same(&self, o: &Self) -> bool
+        ensures { IsTrue result ↔ (self.now ≡ o.now) }
+    {
+        self.items() == o.items()
     }
 
     /// They as a vector again, without memory.

@@ -5,6 +5,5 @@ pub mod NumberLists
 pub mod ProbeLaws
 pub mod PlanLaws
 pub mod FlagPlans
-pub mod VarsAt
 pub mod Twice
 pub mod UpTo

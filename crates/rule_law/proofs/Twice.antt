@@ -4,14 +4,15 @@ use Rattle.std.proofs.Common.{◌≡◌, ℕ, suc, ◌+◌, ◌<◌, ◌≤◌, 
 use Rattle.std.specs.Prelude.{nat_le, IfSome}
 use Rattle.std.specs.List.{sum_by}
 use Rattle.std.specs.List.Sorted.{IsPermutation, IsNonDecreasing}
-use Rattle.std.proofs.lemmas.Bool.{and_parts}
+use Rattle.std.proofs.lemmas.Bool.{and_parts, false_from_ne_true}
 use Rattle.std.proofs.lemmas.Bool.Decides.{nat_tests}
 use Rattle.std.proofs.lemmas.List.Sorted.{sum_by-IsPermutation}
 use Rattle.std.proofs.lemmas.List.Sums.{sum_by-cons}
 use Rattle.signed_clause.specs.Clauses.{Boxes, box_of}
 use Rattle.rule_law.specs.Reasons.{has_number, no_repeat}
 use Rattle.rule_law.proofs.VarsAt.{next_var}
-use Rattle.rule_law.specs.Repeats.{is_repeated, AreRepeated, is_one, open_vars, ascends, is_again, doubles_after, IsKept}
+use Rattle.rule_law.specs.Repeats.{is_repeated, AreRepeated, is_one, all_one, open_vars, ascends, is_again, doubles_after, IsKept}
+use Rattle.box_view.proofs.SetLaws.{bool_same}
 
 -- ---- numbers that ascend
 
@@ -77,15 +78,19 @@ rise_on low top x i xs is le h =
 
 -- ---- where none stands twice
 
-pub none_twice : (xs : List ℕ) → AreRepeated [] xs → no_repeat xs ≡ true
+none_twice : (xs : List ℕ) → ((x : ℕ) → is_repeated x xs ≡ false) → no_repeat xs ≡ true
 none_twice [] h = refl
 none_twice (x ∷ xs) h =
-    let more = none_twice xs (λ y k. h y (grind arith)) in
+    let more = none_twice xs (λ y. let here = h y in grind arith) in
     let P : Bool → Type 0 = λ b. has_number x xs ≡ b → (not b && no_repeat xs) ≡ true in
     (elim (has_number x xs) as P [
-      | true ↦ λ e. let self : (x == x) ≡ true = grind (arith, nat_tests) in absurd (let bad = h x (rw (self, e) refl) in cc)
+      | true ↦ λ e. let self : (x == x) ≡ true = grind (arith, nat_tests) in absurd (let bad = h x in grind arith)
       | false ↦ λ e. more
     ]) refl
+
+no_numbers : (xs : List ℕ) → ((x : ℕ) → has_number x xs ≡ false) → length xs ≡ 0
+no_numbers [] h = refl
+no_numbers (x ∷ xs) h = let self : (x == x) ≡ true = grind (arith, nat_tests) in absurd (let bad = h x in grind arith)
 
 -- ---- open ones
 
@@ -119,11 +124,6 @@ open_twice x (y ∷ xs) boxes h =
           ]) refl k
     ]) refl h
 
--- where those that stand twice are one value, the open ones differ
-pub open_differ : (twice xs : List ℕ) (boxes : Boxes) → AreRepeated twice xs → ((x : ℕ) → has_number x twice ≡ true → is_one (box_of boxes x) ≡ true) → no_repeat (open_vars xs boxes) ≡ true
-open_differ twice xs boxes are ones =
-    none_twice (open_vars xs boxes) (λ x h. let t = open_twice x xs boxes h in let one = ones x (are x t.0) in let none = t.1 in absurd cc)
-
 pub never_twice : (x : ℕ) (xs : List ℕ) → no_repeat xs ≡ true → is_repeated x xs ≡ false
 never_twice x [] h = refl
 never_twice x (y ∷ xs) h =
@@ -136,27 +136,94 @@ never_twice x (y ∷ xs) h =
       | false ↦ λ e. more
     ]) refl
 
+other_number : (x y : ℕ) (boxes : Boxes) → is_one (box_of boxes x) ≡ false → is_one (box_of boxes y) ≡ true → (y == x) ≡ false
+other_number x y boxes h k =
+    let P : Bool → Type 0 = λ b. (y == x) ≡ b → b ≡ false in
+    (elim (y == x) as P [
+      | true ↦ λ e. absurd (let same : y ≡ x = grind (arith, nat_tests) in let both = ap (λ (z : ℕ). is_one (box_of boxes z)) same in cc)
+      | false ↦ λ e. refl
+    ]) refl
+
+-- ones that stay open
+stays_open : (x : ℕ) (xs : List ℕ) (boxes : Boxes) → is_one (box_of boxes x) ≡ false → has_number x (open_vars xs boxes) ≡ has_number x xs
+stays_open x [] boxes h = refl
+stays_open x (y ∷ xs) boxes h =
+    let more = stays_open x xs boxes h in
+    let P : Bool → Type 0 = λ b. is_one (box_of boxes y) ≡ b → has_number x (cond b (open_vars xs boxes) (y ∷ open_vars xs boxes)) ≡ (y == x || has_number x xs) in
+    (elim (is_one (box_of boxes y)) as P [
+      | true ↦ λ e. rw (other_number x y boxes h e, more) refl
+      | false ↦ λ e. rw more refl
+    ]) refl
+
+twice_open : (x : ℕ) (xs : List ℕ) (boxes : Boxes) → is_one (box_of boxes x) ≡ false → is_repeated x (open_vars xs boxes) ≡ is_repeated x xs
+twice_open x [] boxes h = refl
+twice_open x (y ∷ xs) boxes h =
+    let more = twice_open x xs boxes h in
+    let there = stays_open x xs boxes h in
+    let P : Bool → Type 0 = λ b. is_one (box_of boxes y) ≡ b → is_repeated x (cond b (open_vars xs boxes) (y ∷ open_vars xs boxes)) ≡ ((y == x && has_number x xs) || is_repeated x xs) in
+    (elim (is_one (box_of boxes y)) as P [
+      | true ↦ λ e. rw (other_number x y boxes h e, more) refl
+      | false ↦ λ e. rw (there, more) refl
+    ]) refl
+
+one_at : (x : ℕ) (xs : List ℕ) (boxes : Boxes) → all_one xs boxes ≡ true → has_number x xs ≡ true → is_one (box_of boxes x) ≡ true
+one_at x [] boxes h k = absurd cc
+one_at x (y ∷ xs) boxes h k =
+    let p = and_parts (is_one (box_of boxes y)) (all_one xs boxes) h in
+    let Q : Bool → Type 0 = λ b. (y == x) ≡ b → (b || has_number x xs) ≡ true → is_one (box_of boxes x) ≡ true in
+    (elim (y == x) as Q [
+      | true ↦ λ e m. let same : y ≡ x = grind (arith, nat_tests) in ap (λ (z : ℕ). is_one (box_of boxes z)) (sym same) ∙ p.0
+      | false ↦ λ e m. one_at x xs boxes p.1 m
+    ]) refl k
+
+all_one_from : (xs : List ℕ) (boxes : Boxes) → ((x : ℕ) → has_number x xs ≡ true → is_one (box_of boxes x) ≡ true) → all_one xs boxes ≡ true
+all_one_from [] boxes h = refl
+all_one_from (y ∷ xs) boxes h =
+    let self : (y == y) ≡ true = grind (arith, nat_tests) in
+    let here : is_one (box_of boxes y) ≡ true = h y (rw self refl) in
+    let more = all_one_from xs boxes (λ x k. h x (grind arith)) in rw (here, more) refl
+
+-- the open ones differ where those that stand twice are one value
+ones_differ : (twice xs : List ℕ) (boxes : Boxes) → AreRepeated twice xs → all_one twice boxes ≡ true → no_repeat (open_vars xs boxes) ≡ true
+ones_differ twice xs boxes are ones =
+    none_twice (open_vars xs boxes) (λ x. false_from_ne_true (is_repeated x (open_vars xs boxes)) (λ h.
+    let t = open_twice x xs boxes h in let one = one_at x twice boxes ones (are x ∙ t.0) in let none = t.1 in absurd cc))
+
+differ_ones : (twice xs : List ℕ) (boxes : Boxes) → AreRepeated twice xs → no_repeat (open_vars xs boxes) ≡ true → all_one twice boxes ≡ true
+differ_ones twice xs boxes are h =
+    all_one_from twice boxes (λ x k.
+    let P : Bool → Type 0 = λ b. is_one (box_of boxes x) ≡ b → b ≡ true in
+    (elim (is_one (box_of boxes x)) as P [
+      | true ↦ λ e. refl
+      | false ↦ λ e. absurd (let no = never_twice x (open_vars xs boxes) h in let open_too = twice_open x xs boxes e in let there = are x in cc)
+    ]) refl)
+
+-- and nowhere else
+pub open_differ : (twice xs : List ℕ) (boxes : Boxes) → AreRepeated twice xs → all_one twice boxes ≡ no_repeat (open_vars xs boxes)
+open_differ twice xs boxes are = bool_same (all_one twice boxes) (no_repeat (open_vars xs boxes)) (ones_differ twice xs boxes are) (differ_ones twice xs boxes are)
+
 -- where all differ
 pub all_differ : (xs : List ℕ) (boxes : Boxes) → no_repeat xs ≡ true → no_repeat (open_vars xs boxes) ≡ true
-all_differ xs boxes h = open_differ [] xs boxes (λ x k. let no = never_twice x xs h in absurd cc) (λ x k. absurd cc)
+all_differ xs boxes h = ones_differ [] xs boxes (λ x. sym (never_twice x xs h)) refl
 
 -- said of a list that is kept
 pub kept_twice : (known : List (List ℕ × List ℕ)) (i : ℕ) (d : List ℕ × List ℕ) (xs twice : List ℕ) → IsKept known i xs → AreRepeated twice (get_or known i d).0 → AreRepeated twice xs
-kept_twice known i d xs twice is are x h = are x (ap (is_repeated x) (is.1 d) ∙ h)
+kept_twice known i d xs twice is are x = are x ∙ ap (is_repeated x) (is.1 d)
 
-pub kept_none : (known : List (List ℕ × List ℕ)) (i : ℕ) (d : List ℕ × List ℕ) (xs twice : List ℕ) → IsKept known i xs → AreRepeated twice (get_or known i d).0 → twice ≡ [] → no_repeat xs ≡ true
-kept_none known i d xs twice is are none = none_twice xs (kept_twice known i d xs [] is (λ x h. ap (has_number x) (sym none) ∙ are x h))
-
-pub kept_once : (known : List (List ℕ × List ℕ)) (i : ℕ) (d : List ℕ × List ℕ) (xs twice : List ℕ) (x : ℕ) → IsKept known i xs → AreRepeated twice (get_or known i d).0 → has_number x twice ≡ false → is_repeated x xs ≡ false
-kept_once known i d xs twice x is are none =
-    elim (is_repeated x xs) as (λ b. is_repeated x xs ≡ b → is_repeated x xs ≡ false) [
-      | true ↦ λ e. absurd (let there = kept_twice known i d xs twice is are x e in cc)
-      | false ↦ λ e. e
-    ] refl
-
-pub no_length : (xs : List ℕ) → length xs ≡ 0 → xs ≡ []
+no_length : (xs : List ℕ) → length xs ≡ 0 → xs ≡ []
 no_length [] h = refl
 no_length (x ∷ xs) h = absurd (omega (arith, h))
+
+-- none of them stands twice exactly where nothing is listed
+pub none_listed : (twice xs : List ℕ) (test : Bool) → AreRepeated twice xs → (test ≡ true → length twice ≡ 0) → (length twice ≡ 0 → test ≡ true) → test ≡ no_repeat xs
+none_listed twice xs test are h k =
+    bool_same test (no_repeat xs)
+    (λ t. none_twice xs (λ x. sym (are x) ∙ ap (has_number x) (no_length twice (h t))))
+    (λ n. k (no_numbers twice (λ x. are x ∙ never_twice x xs n)))
+
+-- two variables of a list in which none stands twice
+pub both_once : (x y : ℕ) (xs : List ℕ) → no_repeat xs ≡ true → true ≡ (not (is_repeated x xs) && not (is_repeated y xs))
+both_once x y xs h = let first = never_twice x xs h in let second = never_twice y xs h in rw (first, second) refl
 
 -- ---- in order
 
@@ -225,7 +292,51 @@ found_twice last x (y ∷ ys) up h =
       | false ↦ rest
     ]
 
--- those side by side in a copy in order are all that stand twice
+-- x is the number last seen and stands in the list, or it stands there twice
+double_times : (last : Option ℕ) (x : ℕ) (ys : List ℕ) → has_number x (doubles_after last ys) ≡ true → 2 ≤ cond (is_again last x) 1 0 + times x ys
+double_times last x [] h = absurd cc
+double_times last x (y ∷ ys) h =
+    let here = times_cons x y ys in
+    let more : has_number x (doubles_after (Some y) ys) ≡ true → 2 ≤ one_of x y + times x ys = double_times (Some y) x ys in
+    let P : Bool → Type 0 = λ b. is_again last y ≡ b → has_number x (cond b (y ∷ doubles_after (Some y) ys) (doubles_after (Some y) ys)) ≡ true → 2 ≤ cond (is_again last x) 1 0 + times x (y ∷ ys) in
+    (elim (is_again last y) as P [
+      | true ↦ λ e k.
+          let Q : Bool → Type 0 = λ b. (y == x) ≡ b → (b || has_number x (doubles_after (Some y) ys)) ≡ true → 2 ≤ cond (is_again last x) 1 0 + times x (y ∷ ys) in
+          (elim (y == x) as Q [
+            | true ↦ λ f m.
+                let same : y ≡ x = grind (arith, nat_tests) in
+                let again : is_again last x ≡ true = ap (is_again last) (sym same) ∙ e in
+                let one : one_of x y ≡ 1 = rw f refl in rw again (omega (arith, here, one))
+            | false ↦ λ f m. let two = more m in omega (arith, here, two)
+          ]) refl k
+      | false ↦ λ e k. let two = more k in omega (arith, here, two)
+    ]) refl h
+
+number_times : (x : ℕ) (xs : List ℕ) → 1 ≤ times x xs → has_number x xs ≡ true
+number_times x [] h = absurd (let none : times x [] ≡ 0 = refl in omega (arith, h, none))
+number_times x (y ∷ xs) h =
+    let here = times_cons x y xs in
+    let more = number_times x xs in
+    let P : Bool → Type 0 = λ b. (y == x) ≡ b → (b || has_number x xs) ≡ true in
+    (elim (y == x) as P [
+      | true ↦ λ e. refl
+      | false ↦ λ e. more (let none : one_of x y ≡ 0 = rw e refl in omega (arith, h, here, none))
+    ]) refl
+
+twice_times : (x : ℕ) (xs : List ℕ) → 2 ≤ times x xs → is_repeated x xs ≡ true
+twice_times x [] h = absurd (let none : times x [] ≡ 0 = refl in omega (arith, h, none))
+twice_times x (y ∷ xs) h =
+    let here = times_cons x y xs in
+    let P : Bool → Type 0 = λ b. (y == x) ≡ b → ((b && has_number x xs) || is_repeated x xs) ≡ true in
+    (elim (y == x) as P [
+      | true ↦ λ e. let there = number_times x xs (let one : one_of x y ≡ 1 = rw e refl in omega (arith, h, here, one)) in rw there refl
+      | false ↦ λ e. twice_times x xs (let none : one_of x y ≡ 0 = rw e refl in omega (arith, h, here, none))
+    ]) refl
+
+-- those side by side in a copy in order are all that stand twice, and no others
 pub twice_in_order : (xs ys : List ℕ) → IsPermutation xs ys → IsNonDecreasing ys → AreRepeated (doubles_after None ys) xs
-twice_in_order xs ys p up x h =
-    let e = sum_by-IsPermutation (λ y. one_of x y) xs ys p in let two = two_times x xs h in found_twice None x ys up (omega (arith, e, two))
+twice_in_order xs ys p up x =
+    let e = sum_by-IsPermutation (λ y. one_of x y) xs ys p in
+    bool_same (has_number x (doubles_after None ys)) (is_repeated x xs)
+    (λ h. let two = double_times None x ys h in twice_times x xs (omega (arith, e, two)))
+    (λ h. let two = two_times x xs h in found_twice None x ys up (omega (arith, e, two)))

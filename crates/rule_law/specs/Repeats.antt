@@ -12,9 +12,9 @@ abbrev pub is_repeated : ℕ → List ℕ → Bool
 is_repeated x [] = false
 is_repeated x (y ∷ ys) = (y == x && has_number x ys) || is_repeated x ys
 
--- whatever stands twice in the list is one of `twice`
+-- `twice` has what stands twice in the list, and nothing else
 abbrev pub AreRepeated : List ℕ → List ℕ → Type 0
-AreRepeated twice xs = (x : ℕ) → is_repeated x xs ≡ true → has_number x twice ≡ true
+AreRepeated twice xs = (x : ℕ) → has_number x twice ≡ is_repeated x xs
 
 -- the set is one value
 abbrev pub is_one : Ranges → Bool
@@ -28,6 +28,11 @@ open_one x boxes rest = cond (is_one (box_of boxes x)) rest (x ∷ rest)
 abbrev pub open_vars : List ℕ → Boxes → List ℕ
 open_vars [] boxes = []
 open_vars (x ∷ xs) boxes = open_one x boxes (open_vars xs boxes)
+
+-- the boxes of the list's variables are one value each
+abbrev pub all_one : List ℕ → Boxes → Bool
+all_one [] boxes = true
+all_one (x ∷ xs) boxes = is_one (box_of boxes x) && all_one xs boxes
 
 -- ---- how it is found
 

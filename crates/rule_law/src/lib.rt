@@ -22,7 +22,9 @@ mod repeats;
 mod variables;
 mod within;
 
-pub use box_rules::{justified, quiet, refuted_is_false, refutes, some_interval_is_crowded};
+pub use box_rules::{
+    justified, quiet, quiet_looks_at_variables, refuted_is_false, refutes, some_interval_is_crowded,
+};
 pub use box_view::is_rest_within;
 pub use explain::{keep_out, pruning};
 pub use kit::{Kit, MissingKind};

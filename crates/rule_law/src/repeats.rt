@@ -7,11 +7,11 @@
 //!
 //! Variables that ascend, or ascend behind a first one that is before or behind them all, are seen
 //! to differ by one walk, and nothing is kept for them.
-ghost use Rattle.std.specs.Prelude.{◌≡◌, ◌<◌, ◌≤◌, true, false, [], ◌∷◌, ℕ, None, Some, IfOk, IfSome, length, drop, slice_get, slice_index_or};
+ghost use Rattle.std.specs.Prelude.{◌≡◌, ◌<◌, ◌&&◌, true, false, not, [], ◌∷◌, None, Some, IfOk, IfSome, length, drop, slice_get};
 ghost use Rattle.signed_clause.specs.Clauses.{box_of};
 ghost use Rattle.ground_form.specs.Meaning.{vars_of, term_vars, part_vars, item_vars, clause_vars};
 ghost use Rattle.rule_law.specs.Reasons.{has_number, no_repeat};
-ghost use Rattle.rule_law.specs.Repeats.{AreRepeated, is_repeated, ascends, doubles_after, is_again, is_one, open_vars, IsKept};
+ghost use Rattle.rule_law.specs.Repeats.{AreRepeated, is_repeated, ascends, doubles_after, is_again, is_one, all_one, open_vars, IsKept};
 
 use crate::variables::{all_vars, distinct};
 use ground_form::{Con, ends_of};
@@ -253,7 +253,7 @@ fn find_twice(con: &Con, alloc: Global) -> Result<Vec<u32>, AllocError>
 
 /// Whether the box of the variable is one value.
 fn is_one(boxes: &[IntSet], x: u32) -> bool
-    ensures { result ≡ true → is_one (box_of boxes.now x) ≡ true }
+    ensures { result ≡ is_one (box_of boxes.now x) }
 {
     if x as usize >= boxes.len() || boxes[x as usize].is_empty() {
         return false;
@@ -264,7 +264,7 @@ fn is_one(boxes: &[IntSet], x: u32) -> bool
 
 /// Whether the boxes of the variables are one value each.
 fn are_all_one(vars: &[u32], boxes: &[IntSet]) -> bool
-    ensures { result ≡ true → (x : ℕ) → has_number x vars.now ≡ true → is_one (box_of boxes.now x) ≡ true }
+    ensures { result ≡ all_one vars.now boxes.now }
 {
     for x in vars {
         if !is_one(boxes, *x) {
@@ -398,7 +398,7 @@ impl Repeats {
     /// # Errors
     /// Want of memory.
     pub fn has_no_repeat(&mut self, k: u32, con: &Con) -> Result<bool, AllocError>
-        ensures { IfOk result (λ differ. differ ≡ true → no_repeat (vars_of con.now) ≡ true) }
+        ensures { IfOk result (λ differ. differ ≡ no_repeat (vars_of con.now)) }
     {
         if do_ascend(con) {
             return Ok(true);
@@ -415,6 +415,7 @@ impl Repeats {
     pub fn occur_once(&mut self, k: u32, con: &Con, x: u32, y: u32) -> Result<bool, AllocError>
         ensures first { IfOk result (λ once. once ≡ true → is_repeated x (vars_of con.now) ≡ false) }
         ensures second { IfOk result (λ once. once ≡ true → is_repeated y (vars_of con.now) ≡ false) }
+        ensures exact { IfOk result (λ once. once ≡ (not (is_repeated x (vars_of con.now)) && not (is_repeated y (vars_of con.now)))) }
     {
         if do_ascend(con) {
             return Ok(true);
@@ -435,7 +436,7 @@ impl Repeats {
         con: &Con,
         boxes: &[IntSet],
     ) -> Result<bool, AllocError>
-        ensures { IfOk result (λ differ. differ ≡ true → no_repeat (open_vars (vars_of con.now) boxes.now) ≡ true) }
+        ensures { IfOk result (λ differ. differ ≡ no_repeat (open_vars (vars_of con.now) boxes.now)) }
     {
         if do_ascend(con) {
             return Ok(true);

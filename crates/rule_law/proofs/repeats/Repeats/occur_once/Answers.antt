@@ -1,5 +1,5 @@
 use Rattle.ground_form.specs.Meaning.{vars_of}
-use Rattle.rule_law.proofs.Twice.{never_twice}
+use Rattle.rule_law.proofs.Twice.{never_twice, both_once}
 use Rattle.rule_law.proofs.repeats.Repeats.occur_once.Goals as goal
 
 pub returns-then-do_ascend-clause-first : goal.returns-then-do_ascend-clause-first
@@ -7,3 +7,6 @@ returns-then-do_ascend-clause-first c h = never_twice c.args.x (vars_of c.args.c
 
 pub returns-then-do_ascend-clause-second : goal.returns-then-do_ascend-clause-second
 returns-then-do_ascend-clause-second c h = never_twice c.args.y (vars_of c.args.con.now) (c.do_ascend.ensures c.if-do_ascend.true)
+
+pub returns-then-do_ascend-clause-exact : goal.returns-then-do_ascend-clause-exact
+returns-then-do_ascend-clause-exact c = both_once c.args.x c.args.y (vars_of c.args.con.now) (c.do_ascend.ensures c.if-do_ascend.true)

@@ -1,7 +1,7 @@
 use Rattle.std.proofs.Common.{◌≡◌, ◌+◌, ◌*◌, ◌/◌, ◌%◌, arith, sym, ap, ◌∙◌}
 use Rattle.std.proofs.lemmas.Nat.{div-add-mod'}
-use Rattle.rule_law.proofs.VarsAt.{item_at, no_item}
-use Rattle.rule_law.proofs.repeats.nth_item.Goals as goal
+use Rattle.ground_form.proofs.VarsAt.{item_at, no_item}
+use Rattle.ground_form.proofs.variables.nth_item.Goals as goal
 
 pub returns-then-i-items : goal.returns-then-i-items
 returns-then-i-items c = let past = c.if-i-items.true in sym (no_item c.args.items.now c.args.i (c.args.i / 3) (c.args.i % 3) (sym (div-add-mod' c.args.i 3)) (grind arith))

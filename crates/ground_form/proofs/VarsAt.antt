@@ -68,6 +68,24 @@ pub behind_at : (x : ℕ) (xs : List ℕ) (i : ℕ) → 0 < i → slice_get (x �
 behind_at x xs zero h = absurd (omega arith)
 behind_at x xs (suc i) h = let e : suc i - 1 ≡ i = omega arith in rw e refl
 
+-- ---- how many
+
+pub count_terms : (ts : List (ℤ × ℕ)) → length (term_vars ts) ≡ length ts
+count_terms [] = refl
+count_terms (t ∷ ts) = let more = count_terms ts in omega arith
+
+pub count_parts : (ts : List (ℕ × Bool)) → length (part_vars ts) ≡ length ts
+count_parts [] = refl
+count_parts (t ∷ ts) = let more = count_parts ts in omega arith
+
+pub count_literals : (ts : Literals) → length (clause_vars ts) ≡ length ts
+count_literals [] = refl
+count_literals (t ∷ ts) = let more = count_literals ts in omega arith
+
+pub count_items : (ts : List (ℕ × ℕ × ℕ)) → length (item_vars ts) ≡ length ts * 3
+count_items [] = refl
+count_items (t ∷ ts) = let more = count_items ts in omega arith
+
 -- ---- walks
 
 pub next_var : (xs : List ℕ) (i x : ℕ) → slice_get xs i ≡ Some x → drop i xs ≡ x ∷ drop (suc i) xs
