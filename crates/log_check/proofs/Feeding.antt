@@ -1,16 +1,16 @@
--- Bytes that are fed one by one.
-use Rattle.std.proofs.Common.{◌≡◌, ℕ, ◌+◌, ◌<◌, Bool, true, false, not, ◌&&◌, ◌==◌, List, [], ◌∷◌, ◌++◌, length, length-append, refl, sym, ap, ◌∙◌, arith, subst, append_assoc, append-nil, add-one, take, drop, get_or, drop-cons, ◌≤◌, Result, Ok, Err, OnOk}
-use Rattle.std.proofs.lemmas.List.{take_more, take_all, take-append-drop}
+-- Bytes that are fed piece by piece.
+use Rattle.std.proofs.Common.{◌≡◌, ℕ, ◌+◌, Bool, true, false, not, ◌&&◌, ◌==◌, List, [], ◌∷◌, ◌++◌, length-append, refl, sym, ap, ◌∙◌, arith, subst, append_assoc, append-nil}
 use Rattle.std.specs.List.{AllByRecursion}
 use Rattle.std.proofs.Math.Bool.{and-true, and_assoc}
-use Rattle.std.proofs.lemmas.Bool.{and_from, ne_eqb}
+use Rattle.std.proofs.lemmas.Bool.{and_from}
 use Rattle.std.proofs.lemmas.List.Folds.{list_all-append}
 use Rattle.ground_form.specs.declared.ground.Ground.{Ground}
 use Rattle.log_form.specs.declared.line.Line.{Line}
 use Rattle.proof_log.specs.Spelling.{line_text, lines_text, IsLine, Spells}
 use Rattle.proof_log.specs.Parts.{lacks}
 use Rattle.log_form.specs.Acceptance.{Made, start, may_come, after, accepted_from, made_from}
-use Rattle.log_check.specs.Fed.{IsFed, FailsAt}
+use Rattle.log_check.specs.declared.lines.CheckError.{CheckError}
+use Rattle.log_check.specs.Fed.{IsFed, FailsAt, HasTaken, Left, IsRefusedText}
 
 pub fed_nothing : (g : Ground) (m : Made) (rest : List ℕ) (count : ℕ) → m ≡ start → rest ≡ [] → count ≡ 0 → IsFed g [] [] m rest count
 fed_nothing g m rest count e f h = record {
@@ -52,18 +52,22 @@ fed_line g bytes ls m n rest now count next l r f s asked said new empty step = 
   counted = let size = f.counted in omega (arith, length-append ls (l ∷ []));
 }
 
--- ---- one more byte
+-- ---- more bytes, in which no line ends
 
-pub fed_byte : (g : Ground) (bytes : List ℕ) (ls : List Line) (m : Made) (rest now : List ℕ) (count b : ℕ) → IsFed g bytes ls m rest count → (b ≡ 10 → ⊥) → now ≡ rest ++ b ∷ [] →
-    IsFed g (bytes ++ b ∷ []) ls m now count
-fed_byte g bytes ls m rest now count b f h e = record {
-  text = ap (λ z. z ++ b ∷ []) f.text ∙ append_assoc (lines_text ls) rest (b ∷ []) ∙ ap (λ z. lines_text ls ++ z) (sym e);
+pub fed_bytes : (g : Ground) (bytes part : List ℕ) (ls : List Line) (m : Made) (rest now : List ℕ) (count : ℕ) → IsFed g bytes ls m rest count → lacks 10 part ≡ true → now ≡ rest ++ part →
+    IsFed g (bytes ++ part) ls m now count
+fed_bytes g bytes part ls m rest now count f h e = record {
+  text = ap (λ z. z ++ part) f.text ∙ append_assoc (lines_text ls) rest part ∙ ap (λ z. lines_text ls ++ z) (sym e);
   spelled = f.spelled;
-  unended = ap (lacks 10) e ∙ list_all-append (λ x. not (x == 10)) rest (b ∷ []) ∙ and_from _ _ f.unended (let apart : (b == 10) ≡ false = ne_eqb b 10 h in rw apart refl);
+  unended = ap (lacks 10) e ∙ list_all-append (λ x. not (x == 10)) rest part ∙ and_from _ _ f.unended h;
   taken = f.taken;
   left = f.left;
   counted = f.counted;
 }
+
+pub taken_bytes : (g : Ground) (bytes part : List ℕ) (m : Made) (rest now : List ℕ) (count : ℕ) → HasTaken g bytes (record { made = m; rest = rest; ended = count }) → lacks 10 part ≡ true → now ≡ rest ++ part →
+    HasTaken g (bytes ++ part) (record { made = m; rest = now; ended = count })
+taken_bytes g bytes part m rest now count h lacking e = (h.0, fed_bytes g bytes part h.0 m rest now count h.1 lacking e)
 
 -- ---- a line that is refused
 
@@ -81,22 +85,32 @@ fails g bytes more ls m rest count n f h none = record {
   refused = λ l s. ap (λ (z : Made). may_come g z l) f.left ∙ none l s;
 }
 
--- ---- a piece, byte by byte
+-- ---- a piece, line by line
 
-pub byte_is : {T E : Type 0} (b : ℕ) (P : ℕ → Type 0) (r : Result T E) → b ≡ 10 → OnOk r (P 10) → OnOk r (P b)
-byte_is b P (Ok x) e h = subst P (sym e) h
-byte_is b P (Err x) e h = tt
+-- of the bytes and the piece behind them, these were taken, and this is left
+pub record HasGone (g : Ground) (whole left : List ℕ) (now : Left) : Type 0 where
+  pub seen : List ℕ
+  pub parts : whole ≡ seen ++ left
+  pub taken : HasTaken g seen now
 
--- the bytes up to a place, one more, and those behind it
-pub piece_more : (bytes piece : List ℕ) (k b : ℕ) → k < length piece → b ≡ get_or piece k 0 → (bytes ++ take k piece) ++ b ∷ [] ≡ bytes ++ take (k + 1) piece
-piece_more bytes piece k b h e =
-    append_assoc bytes (take k piece) (b ∷ []) ∙ ap (λ z. bytes ++ z) (ap (λ z. take k piece ++ z ∷ []) e ∙ sym (take_more piece k 0 h))
+-- a line of what is left, and what is left behind it
+pub line_on : (whole seen left part behind : List ℕ) → whole ≡ seen ++ left → left ≡ part ++ 10 ∷ behind → whole ≡ (seen ++ part) ++ 10 ∷ behind
+line_on whole seen left part behind e f = e ∙ ap (λ z. seen ++ z) f ∙ sym (append_assoc seen part (10 ∷ behind))
 
-pub piece_whole : (bytes piece : List ℕ) (k b : ℕ) → k < length piece → b ≡ get_or piece k 0 → (bytes ++ take k piece) ++ b ∷ drop (k + 1) piece ≡ bytes ++ piece
-piece_whole bytes piece k b h e =
-    append_assoc bytes (take k piece) (b ∷ drop (k + 1) piece)
-    ∙ ap (λ z. bytes ++ (take k piece ++ z)) (ap (λ z. z ∷ drop (k + 1) piece) e ∙ ap (λ n. get_or piece k 0 ∷ drop n piece) (add-one k) ∙ sym (drop-cons piece k 0 h))
-    ∙ ap (λ z. bytes ++ z) (take-append-drop k piece)
+pub gone_on : (g : Ground) (whole left part behind : List ℕ) (old new : Left) → HasGone g whole left old → left ≡ part ++ 10 ∷ behind →
+    ((bytes : List ℕ) → HasTaken g bytes old → HasTaken g ((bytes ++ part) ++ 10 ∷ []) new) → HasGone g whole behind new
+gone_on g whole left part behind old new h e more = record {
+  seen = (h.seen ++ part) ++ 10 ∷ [];
+  parts = line_on whole h.seen left part behind h.parts e ∙ sym (append_assoc (h.seen ++ part) (10 ∷ []) behind);
+  taken = more h.seen h.taken;
+}
 
-pub piece_all : (bytes piece : List ℕ) (k : ℕ) → length piece ≤ k → bytes ++ take k piece ≡ bytes ++ piece
-piece_all bytes piece k h = ap (λ z. bytes ++ z) (take_all k piece h)
+pub gone_wrong : (g : Ground) (whole left part behind : List ℕ) (old : Left) (e : CheckError) → HasGone g whole left old → left ≡ part ++ 10 ∷ behind →
+    ((bytes more : List ℕ) → HasTaken g bytes old → IsRefusedText g ((bytes ++ part) ++ 10 ∷ more) e) → IsRefusedText g whole e
+gone_wrong g whole left part behind old e h f wrong =
+    subst (λ (z : List ℕ). IsRefusedText g z e) (sym (line_on whole h.seen left part behind h.parts f)) (wrong h.seen behind h.taken)
+
+pub gone_all : (g : Ground) (whole left : List ℕ) (m : Made) (rest now : List ℕ) (count : ℕ) → HasGone g whole left (record { made = m; rest = rest; ended = count }) → lacks 10 left ≡ true → now ≡ rest ++ left →
+    HasTaken g whole (record { made = m; rest = now; ended = count })
+gone_all g whole left m rest now count h lacking e =
+    subst (λ (z : List ℕ). HasTaken g z (record { made = m; rest = now; ended = count })) (sym h.parts) (taken_bytes g h.seen left m rest now count h.taken lacking e)

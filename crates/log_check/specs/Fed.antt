@@ -1,6 +1,6 @@
 -- What a checker that is fed bytes has come to. What a reader believes after this file: it makes no
 -- difference how the bytes were cut into pieces.
-use Rattle.std.specs.Prelude.{◌≡◌, ℕ, suc, true, false, List, ◌∷◌, ◌++◌, length, Option, None}
+use Rattle.std.specs.Prelude.{◌≡◌, ℕ, suc, ◌+◌, ◌≤◌, true, false, List, ◌∷◌, ◌++◌, length, Option, None}
 use Rattle.std.specs.List.{AllByRecursion}
 use Rattle.ground_form.specs.declared.ground.Ground.{Ground}
 use Rattle.ground_form.specs.WellMade.{IsWellMade}
@@ -23,9 +23,31 @@ pub record IsFed (g : Ground) (bytes : List ℕ) (lines : List Line) (m : Made) 
   pub left : made g lines ≡ m
   pub counted : length lines ≡ count
 
--- the intake has been fed the bytes, and refused none of their lines
-abbrev pub HasTaken : Ground → List ℕ → Intake → Type 0
-HasTaken g bytes i = (lines : List Line) × IsFed g bytes lines (made_of i.progress) i.rest.items i.count
+-- what bytes leave: the clauses and values of their lines, the bytes behind the last LF, and how
+-- many lines ended
+pub record Left : Type 0 where
+  pub made : Made
+  pub rest : List ℕ
+  pub ended : ℕ
+
+-- the bytes leave this, and none of their lines is refused
+abbrev pub HasTaken : Ground → List ℕ → Left → Type 0
+HasTaken g bytes left = (lines : List Line) × IsFed g bytes lines left.made left.rest left.ended
+
+-- what the intake keeps, with other bytes behind the last LF, and with its own
+abbrev pub left_with : Intake → List ℕ → Left
+left_with i rest = record { made = made_of i.progress; rest = rest; ended = i.count }
+
+abbrev pub left_of : Intake → Left
+left_of i = left_with i i.rest.items
+
+-- a checker as its user sees it: the problem, how many bytes it was fed, what it has refused with,
+-- and what the bytes left
+pub record Feeding : Type 0 where
+  pub ground : Ground
+  pub fed : ℕ
+  pub refusal : Option CheckError
+  pub left : Left
 
 -- a line that is ended, behind these accepted ones, isn't spelled or isn't accepted
 pub record FailsAt (g : Ground) (bytes : List ℕ) (n : ℕ) : Type 0 where
@@ -44,10 +66,12 @@ abbrev pub IsRefusedText : Ground → List ℕ → CheckError → Type 0
 IsRefusedText g bytes (Rejected n) = FailsAt g bytes n
 IsRefusedText g bytes Memory = Unit {0}
 
--- a checker may go on: the problem is well made, and what it keeps is right unless it has refused
-pub record IsReady (g : Ground) (failed : Option CheckError) (i : Intake) : Type 0 where
+-- a checker of a well made problem, which has kept no more bytes and lines than it was fed bytes,
+-- and is right about them unless it has refused
+pub record IsReady (g : Ground) (fed : ℕ) (refusal : Option CheckError) (i : Intake) : Type 0 where
   pub made : IsWellMade g
-  pub right : failed ≡ None → IsRight g i.progress
+  pub right : refusal ≡ None → IsRight g i.progress
+  pub few : refusal ≡ None → i.count + length i.rest.items ≤ fed
 
 -- the bytes are accepted lines, each ended by one LF, and the verdict is theirs
 pub record IsLogOf (g : Ground) (bytes : List ℕ) (e : Ending) : Type 0 where

@@ -1,18 +1,20 @@
 //! Lines of a text that comes in pieces.
 //!
 //! The intake keeps the bytes behind the last LF, and of the lines before them what they left. A
-//! line is read and checked as soon as it ends.
-ghost use Rattle.std.specs.Prelude.{◌≡◌, ◌+◌, ◌<◌, ◌≤◌, ◌^◌, ◌++◌, [], ◌∷◌, ℕ, List, IfErr, OnOk, length};
+//! line is read and checked as soon as it ends, where it stands: only one that began in an earlier
+//! piece is copied.
+ghost use Rattle.std.specs.Prelude.{◌≡◌, ◌+◌, ◌<◌, ◌≤◌, ◌^◌, ◌++◌, [], ◌∷◌, ℕ, List, true, IfErr, OnOk, length};
 ghost use Rattle.ground_form.specs.WellMade.{IsWellMade};
-ghost use Rattle.log_form.specs.Acceptance.{start};
-ghost use Rattle.log_check.specs.Progress.{made_of, IsRight};
-ghost use Rattle.log_check.specs.Fed.{HasTaken, IsRefusedText};
+ghost use Rattle.proof_log.specs.Parts.{lacks};
+ghost use Rattle.log_check.specs.Progress.{IsRight};
+ghost use Rattle.log_check.specs.Fed.{HasTaken, IsRefusedText, left_of, left_with};
 
 use crate::lines::CheckError;
 use crate::progress::Progress;
 use ground_form::Ground;
-use proof_log::{LineError, read_line};
+use proof_log::{LineError, ended_line, read_line};
 use std::alloc::Global;
+use std::mem;
 
 /// What the bytes so far left.
 #[derive(Drop)]
@@ -29,8 +31,9 @@ impl Intake {
     /// Before the first byte.
     #[tactic(auto, using(crate::proofs::Feeding::fed_nothing))]
     pub fn new(alloc: Global, g: &Ground) -> Self
-        ensures taken { HasTaken g.now [] result }
+        ensures taken { HasTaken g.now [] (left_of result) }
         ensures right { IsRight g.now result.progress }
+        ensures rest { result.rest.items ≡ [] }
         ensures count { result.count ≡ 0 }
     {
         Intake {
@@ -47,45 +50,57 @@ impl Intake {
         requires few { self.old.count + length piece.now < 2 ^ 64 }
         ensures right { OnOk result (IsRight g.now self.new.progress) }
         ensures count { self.new.count ≤ self.old.count + length piece.now }
-        ensures taken { OnOk result ((bytes : List ℕ) → HasTaken g.now bytes self.old → HasTaken g.now (bytes ++ piece.now) self.new) }
-        ensures refused { IfErr result (λ e. (bytes : List ℕ) → HasTaken g.now bytes self.old → IsRefusedText g.now (bytes ++ piece.now) e) }
+        ensures kept { OnOk result (self.new.count + length self.new.rest.items ≤ self.old.count + length self.old.rest.items + length piece.now) }
+        ensures taken { OnOk result ((bytes : List ℕ) → HasTaken g.now bytes (left_of self.old) → HasTaken g.now (bytes ++ piece.now) (left_of self.new)) }
+        ensures refused { IfErr result (λ e. (bytes : List ℕ) → HasTaken g.now bytes (left_of self.old) → IsRefusedText g.now (bytes ++ piece.now) e) }
     {
-        for (k, b) in piece.iter().enumerate() {
-            self.take_byte(alloc, g, *b)?;
+        let mut left = piece;
+        while let Some((part, behind)) = ended_line(left) {
+            self.end_line(alloc, g, part)?;
+            left = behind;
         }
+        self.rest.extend_from_slice(left)?;
         Ok(())
     }
 
-    /// Takes in one byte.
-    fn take_byte(&mut self, alloc: Global, g: &Ground, b: u8) -> Result<(), CheckError>
+    /// Takes in bytes without a LF, and the LF behind them.
+    fn end_line(&mut self, alloc: Global, g: &Ground, part: &[u8]) -> Result<(), CheckError>
         requires made { IsWellMade g.now }
         requires right { IsRight g.now self.old.progress }
         requires few { self.old.count + 1 < 2 ^ 64 }
+        requires unended { lacks 10 part.now ≡ true }
         ensures right { OnOk result (IsRight g.now self.new.progress) }
+        ensures rest { OnOk result (self.new.rest.items ≡ []) }
         ensures count { self.new.count ≤ self.old.count + 1 }
-        ensures taken { OnOk result ((bytes : List ℕ) → HasTaken g.now bytes self.old → HasTaken g.now (bytes ++ b ∷ []) self.new) }
-        ensures refused { IfErr result (λ e. (bytes more : List ℕ) → HasTaken g.now bytes self.old → IsRefusedText g.now (bytes ++ b ∷ more) e) }
+        ensures taken { OnOk result ((bytes : List ℕ) → HasTaken g.now bytes (left_of self.old)
+            → HasTaken g.now ((bytes ++ part.now) ++ 10 ∷ []) (left_of self.new)) }
+        ensures refused { IfErr result (λ e. (bytes more : List ℕ) → HasTaken g.now bytes (left_of self.old)
+            → IsRefusedText g.now ((bytes ++ part.now) ++ 10 ∷ more) e) }
     {
-        if b == b'\n' {
-            return self.end_line(alloc, g);
+        if self.rest.is_empty() {
+            return self.take_line(alloc, g, part);
         }
-        self.rest.push(b)?;
-        Ok(())
+        self.rest.extend_from_slice(part)?;
+        let line = mem::replace(&mut self.rest, Vec::new(alloc));
+        self.take_line(alloc, g, line.as_slice())
     }
 
-    /// Reads and checks the line that ends here.
-    fn end_line(&mut self, alloc: Global, g: &Ground) -> Result<(), CheckError>
+    /// Reads and checks a line that ends, where nothing is kept of it.
+    fn take_line(&mut self, alloc: Global, g: &Ground, text: &[u8]) -> Result<(), CheckError>
         requires made { IsWellMade g.now }
         requires right { IsRight g.now self.old.progress }
         requires few { self.old.count + 1 < 2 ^ 64 }
+        requires rest { self.old.rest.items ≡ [] }
         ensures right { OnOk result (IsRight g.now self.new.progress) }
-        ensures count { OnOk result (self.new.count ≡ self.old.count + 1) }
-        ensures most { self.new.count ≤ self.old.count + 1 }
-        ensures taken { OnOk result ((bytes : List ℕ) → HasTaken g.now bytes self.old → HasTaken g.now (bytes ++ 10 ∷ []) self.new) }
-        ensures refused { IfErr result (λ e. (bytes more : List ℕ) → HasTaken g.now bytes self.old → IsRefusedText g.now (bytes ++ 10 ∷ more) e) }
+        ensures rest { OnOk result (self.new.rest.items ≡ []) }
+        ensures count { self.new.count ≤ self.old.count + 1 }
+        ensures taken { OnOk result ((bytes : List ℕ) → HasTaken g.now bytes (left_with self.old text.now)
+            → HasTaken g.now (bytes ++ 10 ∷ []) (left_of self.new)) }
+        ensures refused { IfErr result (λ e. (bytes more : List ℕ) → HasTaken g.now bytes (left_with self.old text.now)
+            → IsRefusedText g.now (bytes ++ 10 ∷ more) e) }
     {
         let number = self.count + 1;
-        let line = match read_line(alloc, self.rest.as_slice()) {
+        let line = match read_line(alloc, text) {
             Ok(line) => line,
             Err(LineError::BadLine) => return Err(CheckError::Rejected(number)),
             Err(LineError::Memory) => return Err(CheckError::Memory),
@@ -93,7 +108,6 @@ impl Intake {
         if !self.progress.step_with(alloc, g, line)? {
             return Err(CheckError::Rejected(number));
         }
-        self.rest.clear();
         self.count = number;
         Ok(())
     }

@@ -2,7 +2,7 @@
 ghost use Rattle.std.specs.Prelude.{◌≡◌, true, IfOk, IfErr, OnOk};
 ghost use Rattle.ground_form.specs.WellMade.{IsWellMade};
 ghost use Rattle.log_form.specs.Acceptance.{accepted};
-ghost use Rattle.log_check.specs.Soundness.{Means};
+ghost use Rattle.log_check.specs.Soundness.{Means, FoundSolves};
 ghost use Rattle.log_check.specs.Verdicts.{ending, shown_of};
 ghost use Rattle.log_check.specs.Refusals.{IsRefusedAs};
 ghost use Rattle.log_check.specs.declared.lines.CheckError.TheVariants.{Memory};
@@ -41,7 +41,8 @@ impl From<AllocError> for CheckError {
 /// Checks lines against a ground problem.
 ///
 /// Where they are accepted it answers their verdict, and what that says is so: Best, that the
-/// values found last are a solution and none is better; NoSolution, that there is none.
+/// values found last are a solution and none is better; NoSolution, that there is none. Whichever
+/// it is, the verdict's values are a solution, where it has some.
 ///
 /// # Errors
 /// `Rejected` exactly where the lines aren't accepted.
@@ -50,6 +51,7 @@ pub fn check(alloc: Global, g: &Ground, lines: &[Line]) -> Result<Verdict, Check
     ensures accepted { OnOk result (accepted g.now lines.now ≡ true) }
     ensures verdict { IfOk result (λ v. v ≡ ending g.now lines.now) }
     ensures sound { IfOk result (λ v. Means g.now (shown_of v)) }
+    ensures found { IfOk result (λ v. FoundSolves g.now v.found) }
     ensures refused { IfErr result (λ e. IsRefusedAs g.now lines.now e) }
 {
     let mut progress = Progress::new(alloc, g);

@@ -298,6 +298,39 @@ fn where_a_text_is_cut_changes_no_answer(rt: HostRuntime) -> Result<(), AllocErr
     Ok(())
 }
 
+/// What it says of two pieces, one after the other, and then at the end.
+fn answers_in_two(
+    alloc: Global,
+    g: &Ground,
+    first: &[u8],
+    second: &[u8],
+) -> [Result<(), CheckError>; 3]
+    requires well_made { IsWellMade g.now }
+    requires few { length first.now + length second.now < 1000 }
+{
+    let mut checker = Checker::new(alloc, g);
+    let one = checker.feed(first);
+    let other = checker.feed(second);
+    match checker.finish() {
+        Ok(_) => [one, other, Ok(())],
+        Err(e) => [one, other, Err(e)],
+    }
+}
+
+#[test]
+fn refused_once_is_refused_for_good(rt: HostRuntime) -> Result<(), AllocError> {
+    let alloc = rt.alloc();
+    let g = no_value(alloc)?;
+    let refusal = Err(CheckError::Rejected(2));
+    for second in ["", "empty 0", "empty 0\n", "use 0\n\nhello\n"] {
+        let said = answers_in_two(alloc, &g, b"decide 0 \nuse 0\n", second.as_bytes());
+        assert_eq!(rt; said, [refusal, refusal, refusal], "{second}");
+    }
+    let said = answers_in_two(alloc, &g, b"decide 0 \n", b"empty 0\n");
+    assert_eq!(rt; said, [Ok(()), Ok(()), Ok(())]);
+    Ok(())
+}
+
 #[test]
 fn a_text_is_refused_at_its_first_wrong_line(rt: HostRuntime) -> Result<(), AllocError> {
     let alloc = rt.alloc();

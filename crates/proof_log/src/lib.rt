@@ -21,6 +21,7 @@ mod writing;
 
 pub use fault::LineError;
 pub use log_form::{Indexes, Line, Lines, Values};
+pub use parts::ended_line;
 pub use reading::read_line;
 pub use record::{Record, Round};
 pub use writing::{line_text, lines_text};

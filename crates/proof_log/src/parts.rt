@@ -1,5 +1,5 @@
 //! Texts cut at a separator.
-ghost use Rattle.std.specs.Prelude.{◌≡◌, ℕ, ◌≤◌, List, ◌∷◌, length, take, drop, true, IfSome, IfNone};
+ghost use Rattle.std.specs.Prelude.{◌≡◌, ℕ, ◌≤◌, List, ◌∷◌, ◌++◌, length, take, drop, true, IfSome, IfNone};
 ghost use Rattle.proof_log.specs.Parts.{lacks, heads, IsCut, IsNextPart};
 
 /// The text up to the first separator, and what is left.
@@ -43,4 +43,14 @@ pub fn next_part(text: &[u8], separator: u8) -> Option<(&[u8], &[u8])>
 {
     let rest = behind_separator(text, separator)?;
     Some(split_before(rest, separator))
+}
+
+/// The bytes up to the first LF, and those behind it.
+pub fn ended_line(text: &[u8]) -> Option<(&[u8], &[u8])>
+    ensures some { IfSome result (λ parts. (text.now ≡ parts.0.now ++ 10 ∷ parts.1.now) × (lacks 10 parts.0.now ≡ true)) }
+    ensures none { IfNone result (lacks 10 text.now ≡ true) }
+{
+    let (line, rest) = split_before(text, b'\n');
+    let behind = behind_separator(rest, b'\n')?;
+    Some((line, behind))
 }

@@ -4,6 +4,7 @@ use Rattle.log_check.proofs.checker.Checker.finish.Goals as goal
 
 pub returns-clause-sound : goal.returns-clause-sound
 returns-clause-sound c =
-    let progress = c.args.self.intake.progress in
-    let right = c.requires.ready.right c.in_default.is in
-    verdict_sound c.args.self.ground.now (made_of progress) progress.derived.closed c.into_verdict.result right.sound right.closed c.into_verdict.ensures
+    let fields = c.self.inside in
+    let progress = fields.intake.progress in
+    let right = c.self.invariant.right c.in_default.is in
+    rw (← c.self.view_is) (verdict_sound fields.ground.now (made_of progress) progress.derived.closed c.into_verdict.result right.sound right.closed c.into_verdict.ensures)

@@ -1,28 +1,36 @@
-use Rattle.std.proofs.Common.{◌+◌, ◌++◌, ℕ, List, take, drop, get_or, subst, refl, arith}
+use Rattle.std.proofs.Common.{◌≡◌, ◌+◌, ◌∷◌, ◌++◌, length, length-append, ap, ◌∙◌, arith}
 use Rattle.std.proofs.lemmas.Result.{err_from_is_err_and}
-use Rattle.log_check.specs.Fed.{HasTaken, IsRefusedText}
-use Rattle.log_check.proofs.Feeding.{piece_whole, piece_more, piece_all}
+use Rattle.log_check.specs.Progress.{made_of}
+use Rattle.log_check.specs.Fed.{left_of}
+use Rattle.log_check.proofs.Feeding.{gone_on, gone_wrong, gone_all}
 use Rattle.log_check.proofs.intake.Intake.take.Goals as goal
 
-pub returns-in_err-take_byte-clause-refused : goal.returns-in_err-take_byte-clause-refused
-returns-in_err-take_byte-clause-refused c =
+pub returns-in_err-end_line-clause-refused : goal.returns-in_err-end_line-clause-refused
+returns-in_err-end_line-clause-refused c =
     let p = err_from_is_err_and c.from_residual.result c.from_residual.ensures.1 in
-    let piece = c.args.piece.now in
-    let k = c.loop-k.k in
-    rw (p.1, p.2) (λ bytes h. subst (λ (z : List ℕ). IsRefusedText c.args.g.now z c.in_err-take_byte.field-0.0) (piece_whole bytes piece k (get_or piece k 0) c.loop-k-test.true refl)
-    (c.in_err-take_byte.ensures.refused (bytes ++ take k piece) (drop (k + 1) piece) (c.loop-k.invariant.taken bytes h)))
+    rw (p.1, p.2) (λ bytes h.
+    gone_wrong c.args.g.now (bytes ++ c.args.piece.now) c.loop-part.left.now c.in-Some.part.now c.in-Some.behind.now (left_of c.loop-part.self) c.in_err-end_line.field-0.0
+    (c.loop-part.invariant.taken bytes h) c.in-Some.ensures.some.0 c.in_err-end_line.ensures.refused)
 
-pub loop-k-preserved : goal.loop-k-preserved
-loop-k-preserved c =
-    let piece = c.args.piece.now in
-    let k = c.loop-k.k in
+pub loop-part-preserved : goal.loop-part-preserved
+loop-part-preserved c =
+    let whole = c.in-Some.ensures.some.0 in
+    let part = c.in-Some.part.now in
+    let behind = c.in-Some.behind.now in
+    let size : length c.loop-part.left.now ≡ length part + length (10 ∷ behind) = ap length whole ∙ length-append part (10 ∷ behind) in
+    let more = c.in_ok-end_line.ensures.count in
+    let few = c.loop-part.invariant.few in
+    let kept = c.loop-part.invariant.kept in
+    let empty : length c.end_line.new.self.rest.items ≡ 0 = ap length c.in_ok-end_line.ensures.rest in
     record {
-      right = c.in_ok-take_byte.ensures.right;
-      few = let more = c.in_ok-take_byte.ensures.count in let before = c.loop-k.invariant.few in omega arith;
-      taken = λ bytes h. subst (λ (z : List ℕ). HasTaken c.args.g.now z c.take_byte.new.self) (piece_more bytes piece k (get_or piece k 0) c.loop-k-test.true refl)
-          (c.in_ok-take_byte.ensures.taken (bytes ++ take k piece) (c.loop-k.invariant.taken bytes h));
+      right = c.in_ok-end_line.ensures.right;
+      few = omega arith;
+      kept = omega arith;
+      taken = λ bytes h. gone_on c.args.g.now (bytes ++ c.args.piece.now) c.loop-part.left.now part behind (left_of c.loop-part.self) (left_of c.end_line.new.self)
+          (c.loop-part.invariant.taken bytes h) whole c.in_ok-end_line.ensures.taken;
     }
 
 pub returns-clause-taken : goal.returns-clause-taken
 returns-clause-taken c bytes h =
-    subst (λ (z : List ℕ). HasTaken c.args.g.now z c.loop-k.self) (piece_all bytes c.args.piece.now c.loop-k.k c.loop-k-test.false) (c.loop-k.invariant.taken bytes h)
+    gone_all c.args.g.now (bytes ++ c.args.piece.now) c.loop-part.left.now (made_of c.loop-part.self.progress) c.loop-part.self.rest.items c.extend_from_slice.new.self.items c.loop-part.self.count
+    (c.loop-part.invariant.taken bytes h) c.in_default.ensures.none c.in_ok-extend_from_slice.ensures.items
