@@ -7,3 +7,4 @@ pub mod PlanLaws
 pub mod FlagPlans
 pub mod Twice
 pub mod UpTo
+pub mod AllVars

@@ -10,7 +10,7 @@ use Rattle.std.proofs.lemmas.List.Sorted.{sum_by-IsPermutation}
 use Rattle.std.proofs.lemmas.List.Sums.{sum_by-cons}
 use Rattle.signed_clause.specs.Clauses.{Boxes, box_of}
 use Rattle.rule_law.specs.Reasons.{has_number, no_repeat}
-use Rattle.rule_law.proofs.VarsAt.{next_var}
+use Rattle.ground_form.proofs.VarsAt.{next_var}
 use Rattle.rule_law.specs.Repeats.{is_repeated, AreRepeated, is_one, all_one, open_vars, ascends, is_again, doubles_after, IsKept}
 use Rattle.box_view.proofs.SetLaws.{bool_same}
 

@@ -9,7 +9,7 @@
 //! to differ by one walk, and nothing is kept for them.
 ghost use Rattle.std.specs.Prelude.{◌≡◌, ◌<◌, ◌&&◌, true, false, not, [], ◌∷◌, None, Some, IfOk, IfSome, length, drop, slice_get};
 ghost use Rattle.signed_clause.specs.Clauses.{box_of};
-ghost use Rattle.ground_form.specs.Meaning.{vars_of, term_vars, part_vars, item_vars, clause_vars};
+ghost use Rattle.ground_form.specs.Meaning.{vars_of};
 ghost use Rattle.rule_law.specs.Reasons.{has_number, no_repeat};
 ghost use Rattle.rule_law.specs.Repeats.{AreRepeated, is_repeated, ascends, doubles_after, is_again, is_one, all_one, open_vars, IsKept};
 
@@ -53,133 +53,16 @@ impl Known {
     }
 }
 
-// ---- the variables of a constraint, one by one
-
-/// The variable of the term at the place.
-#[tactic(auto, using(crate::proofs::VarsAt::term_at, crate::proofs::VarsAt::no_term))]
-fn nth_term(terms: &[(i64, u32)], i: usize) -> Option<u32>
-    ensures { result ≡ slice_get (term_vars terms.now) i }
-{
-    if i < terms.len() {
-        Some(terms[i].1)
-    } else {
-        None
-    }
-}
-
-/// The variable of the part at the place.
-#[tactic(auto, using(crate::proofs::VarsAt::part_at, crate::proofs::VarsAt::no_part))]
-fn nth_part(parts: &[(u32, bool)], i: usize) -> Option<u32>
-    ensures { result ≡ slice_get (part_vars parts.now) i }
-{
-    if i < parts.len() {
-        Some(parts[i].0)
-    } else {
-        None
-    }
-}
-
-/// The variable of the literal.
-fn literal_var(l: &(u32, IntSet)) -> u32
-    ensures { result ≡ l.now.0 }
-{
-    l.0
-}
-
-/// The variable of the literal at the place.
-#[tactic(auto, using(crate::proofs::VarsAt::literal_at, crate::proofs::VarsAt::no_literal))]
-fn nth_literal(literals: &[(u32, IntSet)], i: usize) -> Option<u32>
-    ensures { result ≡ slice_get (clause_vars literals.now) i }
-{
-    if i < literals.len() {
-        Some(literal_var(&literals[i]))
-    } else {
-        None
-    }
-}
-
-/// The variable at the place of a list in which each item has its three.
-fn nth_item(items: &[(u32, u32, u32)], i: usize) -> Option<u32>
-    ensures { result ≡ slice_get (item_vars items.now) i }
-{
-    if i / 3 >= items.len() {
-        return None;
-    }
-    let item = items[i / 3];
-    match i % 3 {
-        0 => Some(item.0),
-        1 => Some(item.1),
-        _ => Some(item.2),
-    }
-}
-
-/// The variable at the place.
-fn nth(vars: &[u32], i: usize) -> Option<u32>
-    ensures { result ≡ slice_get vars.now i }
-{
-    if i < vars.len() { Some(vars[i]) } else { None }
-}
-
-/// The variable at the place, where one stands before the terms.
-#[tactic(auto, using(crate::proofs::VarsAt::behind_at))]
-fn nth_term_behind(head: u32, terms: &[(i64, u32)], i: usize) -> Option<u32>
-    ensures { result ≡ slice_get (head ∷ term_vars terms.now) i }
-{
-    if i == 0 {
-        Some(head)
-    } else {
-        nth_term(terms, i - 1)
-    }
-}
-
-/// The variable at the place, where one stands before the parts.
-#[tactic(auto, using(crate::proofs::VarsAt::behind_at))]
-fn nth_part_behind(head: u32, parts: &[(u32, bool)], i: usize) -> Option<u32>
-    ensures { result ≡ slice_get (head ∷ part_vars parts.now) i }
-{
-    if i == 0 {
-        Some(head)
-    } else {
-        nth_part(parts, i - 1)
-    }
-}
-
-/// The variable at the place of the constraint's.
-#[tactic(auto, using(crate::proofs::VarsAt::behind_at))]
-fn nth_var(con: &Con, i: usize) -> Option<u32>
-    ensures { result ≡ slice_get (vars_of con.now) i }
-{
-    match con {
-        Con::LinLe { terms, .. } => nth_term(terms.items(), i),
-        Con::LinDef { out, terms, .. } => nth_term_behind(*out, terms.items(), i),
-        Con::ReifLe { flag, terms, .. } => nth_term_behind(*flag, terms.items(), i),
-        Con::AndDef { flag, parts } => nth_part_behind(*flag, parts.items(), i),
-        Con::MemberDef { flag, var, .. } => nth(&[*flag, *var], i),
-        Con::EqDef { flag, left, right } => nth(&[*flag, *left, *right], i),
-        Con::ElementDef { out, index, items } => {
-            if i == 0 {
-                Some(*out)
-            } else {
-                nth_term_behind(*index, items.items(), i - 1)
-            }
-        }
-        Con::CondDef { out, flag, item } => nth(&[*out, *flag, *item], i),
-        Con::ClauseCon { clause } => nth_literal(clause.literals(), i),
-        Con::AllDiff { vars } => nth(vars.items(), i),
-        Con::Pack { items } => nth_item(items.items(), i),
-    }
-}
-
 // ---- variables that ascend
 
 /// The number behind the last of the constraint's variables from the place on, where they ascend.
-#[tactic(auto, using(crate::proofs::VarsAt::next_var, crate::proofs::VarsAt::no_var))]
+#[tactic(auto, using(ground_form::proofs::VarsAt::next_var, ground_form::proofs::VarsAt::no_var))]
 fn end_of_rise(con: &Con, from: usize) -> Option<u64>
     ensures { IfSome result (λ top. ascends 0 top (drop from (vars_of con.now)) ≡ true) }
 {
     let mut low = 0u64;
     for i in from..usize::MAX {
-        let Some(x) = nth_var(con, i) else {
+        let Some(x) = con.variable(i) else {
             return Some(low);
         };
         if (x as u64) < low {
@@ -194,7 +77,7 @@ fn end_of_rise(con: &Con, from: usize) -> Option<u64>
 fn is_first_before(con: &Con, first: u32) -> bool
     ensures { result ≡ true → IfSome (slice_get (vars_of con.now) 1) (λ second. first < second) }
 {
-    match nth_var(con, 1) {
+    match con.variable(1) {
         Some(second) => first < second,
         None => true,
     }
@@ -204,7 +87,7 @@ fn is_first_before(con: &Con, first: u32) -> bool
 fn do_ascend(con: &Con) -> bool
     ensures { result ≡ true → no_repeat (vars_of con.now) ≡ true }
 {
-    match nth_var(con, 0) {
+    match con.variable(0) {
         None => true,
         Some(first) => match end_of_rise(con, 1) {
             None => false,
@@ -277,7 +160,7 @@ fn are_all_one(vars: &[u32], boxes: &[IntSet]) -> bool
 // ---- what is kept
 
 /// Whether the list is that of the constraint's variables.
-#[tactic(auto, using(crate::proofs::VarsAt::next_var, crate::proofs::VarsAt::no_var))]
+#[tactic(auto, using(ground_form::proofs::VarsAt::next_var, ground_form::proofs::VarsAt::no_var))]
 fn are_vars(vars: &[u32], con: &Con) -> bool
     ensures { result ≡ true → vars.now ≡ vars_of con.now }
 {
@@ -286,7 +169,7 @@ fn are_vars(vars: &[u32], con: &Con) -> bool
             return false;
         }
     }
-    match nth_var(con, vars.len()) {
+    match con.variable(vars.len()) {
         None => true,
         Some(_) => false,
     }
@@ -296,7 +179,7 @@ fn are_vars(vars: &[u32], con: &Con) -> bool
 fn is_at(con: &Con, i: usize, x: u32) -> bool
     ensures { result ≡ true → slice_get (vars_of con.now) i ≡ Some x }
 {
-    match nth_var(con, i) {
+    match con.variable(i) {
         Some(y) => y == x,
         None => false,
     }

@@ -1,6 +1,6 @@
 use Rattle.std.proofs.Common.{◌≡◌, length, sym, arith, ◌∙◌}
 use Rattle.ground_form.specs.Meaning.{vars_of}
-use Rattle.rule_law.proofs.VarsAt.{same_on, same_end}
+use Rattle.ground_form.proofs.VarsAt.{same_on, same_end}
 use Rattle.rule_law.proofs.repeats.are_vars.Goals as goal
 
 pub loop-i-preserved : goal.loop-i-preserved
@@ -13,4 +13,4 @@ pub returns-in-None : goal.returns-in-None
 returns-in-None c none =
     let past = c.loop-i-test.false in
     let at : c.loop-i.i ≡ length c.args.vars.now = let end = c.loop-i.auto.i-end in grind arith in
-    c.loop-i.invariant (rw at (same_end c.args.vars.now (vars_of c.args.con.now) (sym c.nth_var.ensures ∙ c.in-None.is)))
+    c.loop-i.invariant (rw at (same_end c.args.vars.now (vars_of c.args.con.now) (sym c.variable.ensures ∙ c.in-None.is)))
