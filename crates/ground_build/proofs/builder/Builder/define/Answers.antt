@@ -8,11 +8,11 @@ use Rattle.ground_build.proofs.Steps.{definition_view, definition_made, definiti
 use Rattle.ground_build.proofs.builder.Builder.define.Goals as goal
 
 -- what the fields are after both pushes
-built : (c : goal.After-push_reserved-2) → problem c.push_reserved.new.self.items c.self.is_within.search c.push_reserved-2.new.self.items ≡ with_definition c.args.self.now c.args.domain c.args.con
+built : (c : goal.After-push_reserved-2) → problem c.push_reserved.new.self.items c.self.inside.search c.push_reserved-2.new.self.items ≡ with_definition c.args.self.now c.args.domain c.args.con
 built c =
     let first = c.push_reserved.ensures.items in let second = c.push_reserved-2.ensures.items in
     let kept = c.in_ok-reserve.ensures.items in let kept_cons = c.in_ok-reserve-2.ensures.items in
-    definition_view c.args.self.now c.self.is_within.domains.items c.push_reserved.new.self.items c.self.is_within.search c.self.is_within.cons.items c.push_reserved-2.new.self.items c.args.domain c.args.con c.self.view_is
+    definition_view c.args.self.now c.self.inside.domains.items c.push_reserved.new.self.items c.self.inside.search c.self.inside.cons.items c.push_reserved-2.new.self.items c.args.domain c.args.con c.self.view_is
     (first ∙ ap (λ (z : Boxes). z ++ c.args.domain ∷ []) kept) (second ∙ ap (λ (z : List Con). z ++ c.args.con ∷ []) kept_cons)
 
 pub invariant_of-self-2 : goal.invariant_of-self-2

@@ -6,8 +6,8 @@ use Rattle.ground_build.proofs.Steps.{statement_view, statement_made, statement_
 use Rattle.ground_build.proofs.builder.Builder.state.Goals as goal
 
 -- what the fields are after the push
-built : (c : goal.In_ok-push) → problem c.self.is_within.domains.items c.self.is_within.search c.push.new.self.items ≡ with_constraint c.args.self.now c.args.con
-built c = statement_view c.args.self.now c.self.is_within.domains.items c.self.is_within.search c.self.is_within.cons.items c.push.new.self.items c.args.con c.self.view_is c.in_ok-push.ensures.items
+built : (c : goal.In_ok-push) → problem c.self.inside.domains.items c.self.inside.search c.push.new.self.items ≡ with_constraint c.args.self.now c.args.con
+built c = statement_view c.args.self.now c.self.inside.domains.items c.self.inside.search c.self.inside.cons.items c.push.new.self.items c.args.con c.self.view_is c.in_ok-push.ensures.items
 
 pub invariant_of-self-2 : goal.invariant_of-self-2
 invariant_of-self-2 c =
