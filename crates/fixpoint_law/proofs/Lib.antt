@@ -1,0 +1,5 @@
+pub mod SingleBoxes
+pub mod ProbedEnds
+pub mod Determined
+pub mod Narrowed
+pub mod Defined
