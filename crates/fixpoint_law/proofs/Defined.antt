@@ -56,7 +56,7 @@ same_others boxes x (y ∷ xs) v w h =
 
 -- ---- the constraint is true there
 
-true_from : (r t : Bool) → r ≡ not t → r ≡ false → t ≡ true
+pub true_from : (r t : Bool) → r ≡ not t → r ≡ false → t ≡ true
 true_from r true e h = refl
 true_from r false e h = absurd cc
 

@@ -3,3 +3,4 @@ pub mod ProbedEnds
 pub mod Determined
 pub mod Narrowed
 pub mod Defined
+pub mod Fixpoint
