@@ -1,7 +1,7 @@
--- Boxes at a fixpoint: from the first variable to the last each has a single value, and these values
--- are a solution.
-use Rattle.std.proofs.Common.{◌≡◌, ℕ, zero, suc, ◌<◌, ◌≤◌, true, false, not, inl, inr, List, ℤ, Some}
-use Rattle.std.proofs.Common.{length, get_or, slice_get, All, refl, sym, ap, subst, ◌∙◌, arith}
+-- Boxes at a fixpoint: from the first variable to the last each has a single value, and these
+-- values are a solution.
+use Rattle.std.proofs.Common.{◌≡◌, ℕ, zero, suc, ◌<◌, ◌≤◌, true, false, inl, inr, ℤ, Some}
+use Rattle.std.proofs.Common.{length, get_or, slice_get, All, sym, subst, ◌∙◌, arith}
 use Rattle.std.proofs.lemmas.Bool.{cases_lt}
 use Rattle.std.proofs.lemmas.Option.{slice_get-get_or, slice_get_within, get_or_from_slice_get}
 use Rattle.signed_clause.specs.Ranges.{has, is_nil, IsValid}
@@ -12,22 +12,24 @@ use Rattle.ground_form.specs.declared.ground.Ground.{Ground}
 use Rattle.ground_form.specs.Meaning.{value_of, con_true, vars_of}
 use Rattle.ground_form.specs.Bounds.{low_of, singles}
 use Rattle.ground_form.specs.Solutions.{IsPoint, IsSolution}
-use Rattle.ground_form.specs.WellMade.{IsWellMadeCon, IsDefinedAt, IsWellMade}
-use Rattle.box_view.proofs.EndLaws.{are_sets, has_low}
+use Rattle.ground_form.specs.WellMade.{IsWellMadeCon, IsWellMade}
+use Rattle.box_view.proofs.EndLaws.{AreSingle, are_sets, has_low}
 use Rattle.box_rules.specs.Refuted.{refuted}
 use Rattle.box_rules.specs.Quiet.{quiet}
 use Rattle.box_rules.proofs.RefutedLaws.{refuted-single}
 use Rattle.fixpoint_law.specs.Singles.{IsSingle, least_values}
-use Rattle.fixpoint_law.proofs.SingleBoxes.{single_list, single_boxes, value_of-least_values, length-least_values}
+use Rattle.fixpoint_law.proofs.SingleBoxes.{single_list, single_boxes, value_of-least_values}
+use Rattle.fixpoint_law.proofs.SingleBoxes.{length-least_values}
 use Rattle.fixpoint_law.proofs.ProbedEnds.{quiet_not_refuted}
 use Rattle.fixpoint_law.proofs.Narrowed.{AreWithin, in_domain, bounded_within}
-use Rattle.fixpoint_law.proofs.Defined.{AreSingleBefore, IsDefining, single_defined, true_from}
+use Rattle.fixpoint_law.proofs.Defined.{AreSingleBefore, single_defined, true_from}
 
 -- what is asked of the problem and of the boxes
 pub record IsFixpoint (g : Ground) (boxes : Boxes) : Type 0 where
   pub well_made : IsWellMade g
   pub size : length boxes ≡ length g.domains
-  pub within : (x : ℕ) → x < length boxes → is_within (box_of boxes x) (box_of g.domains x) ≡ true
+  pub within : (x : ℕ) → x < length boxes →
+      is_within (box_of boxes x) (box_of g.domains x) ≡ true
   pub some : (x : ℕ) → x < length boxes → is_nil (box_of boxes x) ≡ false
   pub sets : All (λ s. IsValid s) boxes
   pub all_quiet : (k : ℕ) (con : Con) → slice_get g.cons k ≡ Some con → quiet con boxes ≡ true
@@ -44,13 +46,14 @@ within_domains g boxes f = record {
 
 -- ---- from the first variable to the last
 
-well_made_at : (g : Ground) (k : ℕ) (con : Con) → IsWellMade g → slice_get g.cons k ≡ Some con → IsWellMadeCon g.domains con
+well_made_at : (g : Ground) (k : ℕ) (con : Con) → IsWellMade g → slice_get g.cons k ≡ Some con →
+    IsWellMadeCon g.domains con
 well_made_at g k con w e =
     subst (λ (c : Con). IsWellMadeCon g.domains c) (get_or_from_slice_get g.cons k con con e)
     (w.constraints k con (slice_get_within g.cons k con e))
 
-next_single : (g : Ground) (boxes : Boxes) (x : ℕ) → IsFixpoint g boxes → g.search ≤ x → x < length boxes →
-    AreSingleBefore boxes x → IsSingle (box_of boxes x)
+next_single : (g : Ground) (boxes : Boxes) (x : ℕ) → IsFixpoint g boxes → g.search ≤ x →
+    x < length boxes → AreSingleBefore boxes x → IsSingle (box_of boxes x)
 next_single g boxes x f h lt before =
     let size = f.size in
     let found = f.well_made.defined x h (omega arith) in
@@ -65,7 +68,8 @@ next_single g boxes x f h lt before =
       before = before;
     }) (f.all_quiet found.0 con there)
 
-single_before : (g : Ground) (boxes : Boxes) (n : ℕ) → IsFixpoint g boxes → n ≤ length boxes → AreSingleBefore boxes n
+single_before : (g : Ground) (boxes : Boxes) (n : ℕ) → IsFixpoint g boxes → n ≤ length boxes →
+    AreSingleBefore boxes n
 single_before g boxes zero f h x lt = absurd (omega arith)
 single_before g boxes (suc n) f h x lt =
     let before = single_before g boxes n f (omega arith) in
@@ -80,7 +84,8 @@ single_before g boxes (suc n) f h x lt =
           ])
     ]
 
-all_single : (g : Ground) (boxes : Boxes) → IsFixpoint g boxes → (x : ℕ) → x < length boxes → IsSingle (box_of boxes x)
+all_single : (g : Ground) (boxes : Boxes) → IsFixpoint g boxes → (x : ℕ) → x < length boxes →
+    IsSingle (box_of boxes x)
 all_single g boxes f = single_before g boxes (length boxes) f (omega arith)
 
 -- ---- the values are a solution
@@ -93,24 +98,39 @@ value_within g boxes x f lt =
     subst (λ (v : ℤ). has (box_of g.domains x) v ≡ true) (sym (value_of-least_values boxes x))
     (in_domain g.domains boxes x (low_of (box_of boxes x)) w lt low)
 
-values_point : (g : Ground) (boxes : Boxes) → IsFixpoint g boxes → IsPoint g.domains (least_values boxes)
+values_point : (g : Ground) (boxes : Boxes) → IsFixpoint g boxes →
+    IsPoint g.domains (least_values boxes)
 values_point g boxes f = record {
   size = length-least_values boxes ∙ f.size;
   within = λ x lt. let size = f.size in value_within g boxes x f (omega arith);
 }
 
-true_at : (g : Ground) (boxes : Boxes) (k : ℕ) (con : Con) → IsFixpoint g boxes → slice_get g.cons k ≡ Some con →
-    con_true con (least_values boxes) ≡ true
+vars_named : (g : Ground) (boxes : Boxes) (con : Con) → IsFixpoint g boxes →
+    IsWellMadeCon g.domains con → All (λ x. x < length boxes) (vars_of con)
+vars_named g boxes con f made k d lt =
+    let size = f.size in let named = made.named k d lt in omega arith
+
+vars_single : (g : Ground) (boxes : Boxes) (con : Con) → IsFixpoint g boxes →
+    IsWellMadeCon g.domains con → AreSingle (vars_of con) boxes (least_values boxes)
+vars_single g boxes con f made =
+    let named = vars_named g boxes con f made in
+    single_list (vars_of con) boxes
+    (λ k d lt. all_single g boxes f (get_or (vars_of con) k d) (named k d lt))
+
+true_at : (g : Ground) (boxes : Boxes) (k : ℕ) (con : Con) → IsFixpoint g boxes →
+    slice_get g.cons k ≡ Some con → con_true con (least_values boxes) ≡ true
 true_at g boxes k con f e =
-    let size = f.size in
+    let a = least_values boxes in
     let w = within_domains g boxes f in
     let made = well_made_at g k con f.well_made e in
-    let single = single_list (vars_of con) boxes
-    (λ j d lt. all_single g boxes f (get_or (vars_of con) j d) (let named = made.named j d lt in omega arith)) in
-    let law = refuted-single con boxes (least_values boxes) w.sets made.sets (bounded_within con g.domains boxes w made.bounded) single in
-    true_from (refuted con boxes) (con_true con (least_values boxes)) law (quiet_not_refuted con boxes (f.all_quiet k con e))
+    let bounded = bounded_within con g.domains boxes w made.bounded in
+    let single = vars_single g boxes con f made in
+    let law = refuted-single con boxes a w.sets made.sets bounded single in
+    let kept = quiet_not_refuted con boxes (f.all_quiet k con e) in
+    true_from (refuted con boxes) (con_true con a) law kept
 
-values_solution : (g : Ground) (boxes : Boxes) → IsFixpoint g boxes → IsSolution g (least_values boxes)
+values_solution : (g : Ground) (boxes : Boxes) → IsFixpoint g boxes →
+    IsSolution g (least_values boxes)
 values_solution g boxes f = record {
   point = values_point g boxes f;
   truths = λ k d lt. true_at g boxes k (get_or g.cons k d) f (slice_get-get_or g.cons k d lt);

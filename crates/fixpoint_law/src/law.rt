@@ -20,10 +20,12 @@ use signed_clause::IntSet;
 pub fn fixpoint_is_solution(g: &Ground, boxes: &[IntSet])
     requires well_made { IsWellMade g.now }
     requires size { length boxes.now ≡ length g.now.domains }
-    requires within { (x : ℕ) → x < length boxes.now → is_within (box_of boxes.now x) (box_of g.now.domains x) ≡ true }
+    requires within { (x : ℕ) → x < length boxes.now
+        → is_within (box_of boxes.now x) (box_of g.now.domains x) ≡ true }
     requires some { (x : ℕ) → x < length boxes.now → is_nil (box_of boxes.now x) ≡ false }
     requires sets { All (λ s. IsValid s) boxes.now }
-    requires quiet { (k : ℕ) (con : Con) → slice_get g.now.cons k ≡ Some con → quiet con boxes.now ≡ true }
+    requires quiet { (k : ℕ) (con : Con) → slice_get g.now.cons k ≡ Some con
+        → quiet con boxes.now ≡ true }
     requires decided { (x : ℕ) → x < g.now.search → IsSingle (box_of boxes.now x) }
     ensures single { (x : ℕ) → x < length boxes.now → IsSingle (box_of boxes.now x) }
     ensures values { boxes.now ≡ singles (least_values boxes.now) }
