@@ -17,6 +17,9 @@ use signed_clause::IntSet;
 /// It does nothing; its contract is the law. Where a ground problem is well made, the boxes lie
 /// within the domains and none is empty, every constraint is quiet and the searched variables have
 /// single values, all variables have single values, and these are a solution.
+///
+/// `size`, `within`, `some` and `sets` are what propagators ask of boxes, `quiet` is what is known
+/// when none of them has anything left to say, `decided` when nothing is left to choose.
 pub fn fixpoint_is_solution(g: &Ground, boxes: &[IntSet])
     requires well_made { IsWellMade g.now }
     requires size { length boxes.now ≡ length g.now.domains }
