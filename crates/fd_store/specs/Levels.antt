@@ -34,14 +34,27 @@ bottom boxes = record { top = record { first = boxes; now = boxes; entries = [] 
 -- in the last level
 abbrev pub with_entry : Option ℕ → Boxes → Entry → Stack → Stack
 with_entry None boxes e s =
-    record { top = record { first = boxes; now = boxes; entries = e ∷ [] }; below = s.top ∷ s.below }
+    record {
+      top = record { first = boxes; now = boxes; entries = e ∷ [] };
+      below =
+          s.top ∷ s.below;
+    }
 with_entry (Some j) boxes e s =
-    record { top = record { first = s.top.first; now = boxes; entries = e ∷ s.top.entries }; below = s.below }
+    record {
+      top = record { first = s.top.first; now = boxes; entries = e ∷ s.top.entries };
+      below =
+          s.below;
+    }
 
 -- the variable gets another box, by a clause or by a decision
 abbrev pub moved : Option ℕ → ℕ → Ranges → Stack → Stack
 moved from x set s =
-    with_entry from (slice_set s.top.now x set) (record { var = x; before = box_of s.top.now x; from = from }) s
+    with_entry from (slice_set s.top.now x set) (record {
+      var = x;
+      before =
+          box_of s.top.now x;
+      from = from;
+    }) s
 
 -- ---- levels that are dropped
 

@@ -19,7 +19,8 @@ entries_of (m ∷ ms) = entry_of m ∷ entries_of ms
 -- the levels of a trail, with the boxes behind it
 abbrev pub stack_of : Boxes → List Moved → Stack
 stack_of boxes [] = bottom boxes
-stack_of boxes (m ∷ ms) = with_entry m.from boxes (entry_of m) (stack_of (slice_set boxes m.var m.before) ms)
+stack_of boxes (m ∷ ms) =
+    with_entry m.from boxes (entry_of m) (stack_of (slice_set boxes m.var m.before) ms)
 
 -- the level of the newest entry
 abbrev pub level_of : List Moved → ℕ

@@ -6,7 +6,8 @@ use Rattle.fd_store.proofs.trail.undo.Given as goal
 abbrev pub invariant-loop-boxes : goal.invariant-loop-boxes
 invariant-loop-boxes l = record {
   kept : IsStore l.boxes.items (reverse l.trail.items);
-  levels : dropped l.level (stack_of l.boxes.items (reverse l.trail.items)) ≡ dropped l.level (stack_of l.initial.boxes.items (reverse l.initial.trail.items));
+  levels : dropped l.level (stack_of l.boxes.items (reverse l.trail.items))
+      ≡ dropped l.level (stack_of l.initial.boxes.items (reverse l.initial.trail.items));
 }
 
 abbrev pub decreases-loop-boxes : goal.decreases-loop-boxes

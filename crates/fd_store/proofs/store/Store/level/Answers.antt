@@ -8,4 +8,5 @@ pub returns : goal.returns
 returns c =
     c.last_level.ensures
     ∙ ap (λ (ms : List Moved). level_of (reverse ms)) c.as_slice.ensures.value
-    ∙ level_is (reverse c.self.inside.trail.items) c.self.inside.boxes.items _ c.self.invariant c.self.view_is
+    ∙ level_is (reverse c.self.inside.trail.items) c.self.inside.boxes.items _ c.self.invariant
+    c.self.view_is

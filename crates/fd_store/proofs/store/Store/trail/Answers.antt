@@ -4,8 +4,11 @@ use Rattle.fd_store.proofs.store.Store.trail.Goals as goal
 
 pub returns-clause-stack : goal.returns-clause-stack
 returns-clause-stack c =
-    rw c.as_slice.ensures.value (stack_is (reverse c.self.inside.trail.items) c.self.inside.boxes.items _ c.self.view_is)
+    rw c.as_slice.ensures.value
+    (stack_is (reverse c.self.inside.trail.items) c.self.inside.boxes.items _ c.self.view_is)
 
 pub returns-clause-entries : goal.returns-clause-entries
 returns-clause-entries c =
-    rw c.as_slice.ensures.value (trail_is (reverse c.self.inside.trail.items) c.self.inside.boxes.items _ c.self.invariant c.self.view_is)
+    rw c.as_slice.ensures.value
+    (trail_is (reverse c.self.inside.trail.items) c.self.inside.boxes.items _ c.self.invariant
+    c.self.view_is)
