@@ -63,7 +63,7 @@ pub put_back : (boxes : Boxes) (x : ℕ) (set : Ranges) →
     slice_set (slice_set boxes x set) x (box_of boxes x) ≡ boxes
 put_back boxes x set = set-set boxes x set (box_of boxes x) ∙ set-get_or boxes x []
 
-entry_in : Moved → Boxes → Entry
+abbrev entry_in : Moved → Boxes → Entry
 entry_in m boxes = record { var = m.var; before = box_of boxes m.var; from = m.from }
 
 pub stack-moved : (ms : List Moved) (boxes : Boxes) (set : Ranges) (m : Moved) →
