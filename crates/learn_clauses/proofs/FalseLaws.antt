@@ -49,11 +49,11 @@ pub false_in-narrower : (c : Literals) (boxes wide : Boxes) → IsClause c → A
     AreValid wide → ((y : ℕ) → IsSubset (box_of boxes y) (box_of wide y)) →
     false_in wide c ≡ true → false_in boxes c ≡ true
 false_in-narrower c boxes wide f a b sub h = false_from_sets c 0 boxes f a (λ y v e.
-  let out = sets_from_false c 0 wide f b h y v e in
-  (elim (has (box_of boxes y) v) as (λ b. has (box_of boxes y) v ≡ b → b ≡ false) [
-    | true ↦ λ i. let there = sub y v i in absurd (cc)
-    | false ↦ λ i. refl
-  ]) refl)
+    let out = sets_from_false c 0 wide f b h y v e in
+    (elim (has (box_of boxes y) v) as (λ b. has (box_of boxes y) v ≡ b → b ≡ false) [
+      | true ↦ λ i. let there = sub y v i in absurd (cc)
+      | false ↦ λ i. refl
+    ]) refl)
 
 -- ---- one box is another
 
