@@ -1,5 +1,5 @@
 -- The levels of a trail: its entries, its domains, and the level that a clause leads back to.
-use Rattle.std.proofs.Common.{◌≡◌, ℕ, suc, ◌+◌, ◌-◌, ◌<◌, ◌≤◌, Bool, true, false, not, ◌&&◌, cond, List, [], ◌∷◌, ◌++◌, length, refl, sym, ap, ◌∙◌, arith, inl, inr, subst, slice_set, Option, Some, None, length-set}
+use Rattle.std.proofs.Common.{◌≡◌, ℕ, suc, ◌-◌, ◌<◌, true, false, not, ◌&&◌, cond, List, [], ◌∷◌, length, refl, sym, ap, ◌∙◌, arith, inl, inr, subst, slice_set, Option, Some, None, length-set}
 use Rattle.std.proofs.lemmas.Bool.{and_parts, not-true, lt-ltb, le-ltb, cases_lt}
 use Rattle.signed_clause.specs.Clauses.{Boxes, Literals, false_in}
 use Rattle.fd_store.specs.declared.trail.Moved.{Moved}

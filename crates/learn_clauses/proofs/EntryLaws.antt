@@ -1,9 +1,9 @@
 -- One entry of the trail: what is false behind it and before it.
-use Rattle.std.proofs.Common.{◌≡◌, ◌≢◌, ℕ, suc, ◌+◌, ◌<◌, ◌≤◌, Bool, true, false, not, ◌&&◌, ◌||◌, cond, List, [], ◌∷◌, ℤ, length, refl, sym, ap, ◌∙◌, arith, inl, inr, subst, slice_set, ◌==◌, Option, Some, None}
+use Rattle.std.proofs.Common.{◌≡◌, ◌≢◌, ℕ, suc, ◌<◌, Bool, true, false, not, ◌&&◌, ◌||◌, cond, List, [], ◌∷◌, length, refl, sym, ap, ◌∙◌, arith, inl, inr, subst, slice_set, ◌==◌, Some, None}
 use Rattle.std.proofs.lemmas.List.{get_or-set_same, get_or-set_other}
-use Rattle.std.proofs.lemmas.Bool.{and_parts, cases_eq, ne_eqb, eq-eqb}
+use Rattle.std.proofs.lemmas.Bool.{and_parts, cases_eq, eq-eqb}
 use Rattle.signed_clause.specs.Ranges.{Ranges, has, IsValid, IsSubset, HaveNoCommonValue}
-use Rattle.signed_clause.specs.SetAlgebra.{is_disjoint, is_within, meet, join}
+use Rattle.signed_clause.specs.SetAlgebra.{is_disjoint, is_within, meet}
 use Rattle.signed_clause.specs.Clauses.{Boxes, Literals, box_of, set_of, has_var, false_in, unit_of, alone_of, resolvent, IsClauseFrom, IsClause}
 use Rattle.signed_clause.specs.Running.{AreValid}
 use Rattle.signed_clause.proofs.SetFacts.{within_law}
@@ -12,7 +12,7 @@ use Rattle.signed_clause.proofs.ClauseLaws.{IsClauseFrom-resolvent}
 use Rattle.signed_clause.proofs.ResolventLaws.{set_here, set_later, var_below, set_valid, other_is, pivot_is}
 use Rattle.fd_store.specs.declared.trail.Moved.{Moved}
 use Rattle.fd_store.specs.Trails.{IsEntry}
-use Rattle.learn_clauses.proofs.FalseLaws.{false_from_sets, sets_from_false, false_in-unseen}
+use Rattle.learn_clauses.proofs.FalseLaws.{false_from_sets, sets_from_false}
 
 -- the boxes before an entry are sets where those behind it are
 pub valid_before : (boxes : Boxes) (x : ℕ) (b : Ranges) → x < length boxes → AreValid boxes →

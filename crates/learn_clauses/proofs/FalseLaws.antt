@@ -1,8 +1,8 @@
 -- Clauses that are false in boxes, by the values that they name.
-use Rattle.std.proofs.Common.{◌≡◌, ◌≢◌, ℕ, suc, ◌+◌, ◌<◌, ◌≤◌, Bool, true, false, not, ◌&&◌, ◌||◌, cond, List, [], ◌∷◌, ℤ, length, refl, sym, ap, ◌∙◌, arith, inl, inr, subst, slice_set, ◌==◌}
+use Rattle.std.proofs.Common.{◌≡◌, ℕ, suc, ◌<◌, true, false, ◌&&◌, ◌||◌, cond, [], ◌∷◌, length, refl, sym, ap, ◌∙◌, arith, inl, inr, subst, slice_set, ◌==◌}
 use Rattle.std.proofs.lemmas.List.{get_or-set_same, get_or-set_other}
 use Rattle.std.proofs.lemmas.Bool.{and_parts, cases_eq, ne_eqb, eq-eqb}
-use Rattle.signed_clause.specs.Ranges.{Ranges, has, IsValid, IsSubset, HaveNoCommonValue}
+use Rattle.signed_clause.specs.Ranges.{Ranges, has, IsSubset, HaveNoCommonValue}
 use Rattle.signed_clause.specs.SetAlgebra.{is_disjoint}
 use Rattle.signed_clause.specs.Clauses.{Boxes, Literals, box_of, set_of, has_var, false_in, IsClauseFrom, IsClause}
 use Rattle.signed_clause.specs.Running.{AreValid}

@@ -1,5 +1,5 @@
 -- The walk by the number of entries that are left.
-use Rattle.std.proofs.Common.{◌≡◌, ℕ, suc, ◌+◌, ◌<◌, ◌≤◌, Bool, true, false, List, [], ◌∷◌, ◌++◌, length, refl, sym, ap, ◌∙◌, arith, subst, slice_set, Option, Some, None, is_none, not, ◌&&◌, cond, reverse, take, drop, get_or}
+use Rattle.std.proofs.Common.{◌≡◌, ℕ, ◌+◌, ◌<◌, ◌≤◌, Bool, true, false, List, [], ◌∷◌, ◌++◌, length, refl, sym, ap, ◌∙◌, arith, subst, slice_set, Option, Some, None, is_none, not, ◌&&◌, cond, reverse, take, drop, get_or}
 use Rattle.std.proofs.lemmas.List.{reverse-append, take_all, drop_all, take_more}
 use Rattle.std.specs.List.{All}
 use Rattle.signed_clause.specs.Clauses.{Boxes, Literals, IsClause}
@@ -7,11 +7,11 @@ use Rattle.signed_clause.proofs.RangeSteps.{left_at}
 use Rattle.fd_store.specs.declared.trail.Moved.{Moved}
 use Rattle.fd_store.specs.Levels.{Entry, Stack}
 use Rattle.fd_store.specs.Trails.{entries_of, stack_of, IsStore}
-use Rattle.learn_clauses.specs.Walk.{clause_at, domains_of, trail_of, AreFrom, IsWithinDomains, Walk, walk, walk_from, IsDroppedBy}
-use Rattle.learn_clauses.specs.Turns.{is_passed, ends_at, clause_by, steps_by, next_clause, next_steps, IsReadable, IsResolvable, IsStart, IsEnd}
+use Rattle.learn_clauses.specs.Walk.{clause_at, domains_of, trail_of, AreFrom, IsWithinDomains, walk, IsDroppedBy, IsLearnt}
+use Rattle.learn_clauses.specs.Turns.{is_passed, ends_at, clause_by, steps_by, next_clause, next_steps, IsReadable, IsResolvable, IsStart}
 use Rattle.learn_clauses.proofs.BackLaws.{trail_of-stack, length-domains}
 use Rattle.learn_clauses.proofs.WithinLaws.{within_at, vars_within}
-use Rattle.learn_clauses.proofs.Walking.{Conflict, levels, domains, whole_walk, Walking, HasEnded, walking_first, walking_resolves, walking_goes, walking_ends, walking_last}
+use Rattle.learn_clauses.proofs.Walking.{Conflict, domains, Walking, HasEnded, walking_first, walking_resolves, walking_goes, walking_ends, walking_last}
 
 -- the boxes before the entries, the oldest of which stands first
 abbrev pub boxes_before : Boxes → List Moved → Boxes
@@ -116,10 +116,11 @@ walking_on clauses s trail n i left m c new steps news k within at w h forms p q
 
 -- ---- the end
 
-ended_is : (clauses : List Literals) (s : Stack) (trail : List Moved) (n level : ℕ) (c : Literals) (steps : List (ℕ × ℕ)) → IsShown s trail →
-    HasEnded (conflict_of clauses s.top.now trail n) c steps level → IsEnd clauses s n c steps level
-ended_is clauses s trail n level c steps k e = record {
+learnt_is : (clauses : List Literals) (s : Stack) (trail : List Moved) (n level : ℕ) (c : Literals) (steps : List (ℕ × ℕ)) → IsShown s trail →
+    HasEnded (conflict_of clauses s.top.now trail n) c steps level → IsLearnt clauses s n c steps level
+learnt_is clauses s trail n level c steps k e = record {
   walk_is = ap (λ (es : List Entry). walk s.top.now es clauses (clause_at clauses n)) (entries_are s trail k) ∙ e.walks;
+  form = e.form;
   within = subst (λ (t : Stack). IsWithinDomains (domains_of t) c) (sym k.levels_are) e.within;
   closes = e.closes;
   drops = λ z. subst (λ (t : Stack). IsDroppedBy c t level) (sym k.levels_are) (e.drops z);
@@ -134,16 +135,16 @@ stays clauses (Some j) x false c steps h = absurd (cc)
 
 pub walk_ends : (clauses : List Literals) (s : Stack) (trail : List Moved) (n i left : ℕ) (m : Moved) (c new : Literals) (steps news : List (ℕ × ℕ)) →
     IsShown s trail → IsEntryAt trail i left m → WalkingAt clauses s.top.now trail n left c steps → ends_at m c ≡ true →
-    new ≡ next_clause clauses m c → news ≡ next_steps m c steps → IsEnd clauses s n new news m.level
+    new ≡ next_clause clauses m c → news ≡ next_steps m c steps → IsLearnt clauses s n new news m.level
 walk_ends clauses s trail n i left m c new steps news k at w h p q =
     let same = stays clauses m.from m.var (is_passed m c) c steps h in
-    let ended = ended_is clauses s trail n m.level c steps k
+    let ended = learnt_is clauses s trail n m.level c steps k
     (walking_ends (conflict_of clauses s.top.now trail n) (boxes_before s.top.now (drop left trail)) m (reverse (take i trail)) c steps (walking_here clauses s.top.now trail n i left m c steps at w) h) in
     rw (p, q, same.0, same.1) ended
 
 pub walk_closes : (clauses : List Literals) (s : Stack) (trail : List Moved) (n left : ℕ) (c : Literals) (steps : List (ℕ × ℕ)) →
-    IsShown s trail → left ≤ 0 → WalkingAt clauses s.top.now trail n left c steps → IsEnd clauses s n c steps 0
+    IsShown s trail → left ≤ 0 → WalkingAt clauses s.top.now trail n left c steps → IsLearnt clauses s n c steps 0
 walk_closes clauses s trail n left c steps k h w' =
     let zero : left ≡ 0 = omega arith in
     let w = subst (λ (left : ℕ). WalkingAt clauses s.top.now trail n left c steps) zero w' in
-    ended_is clauses s trail n 0 c steps k (walking_last (conflict_of clauses s.top.now trail n) (boxes_before s.top.now (drop 0 trail)) c steps w)
+    learnt_is clauses s trail n 0 c steps k (walking_last (conflict_of clauses s.top.now trail n) (boxes_before s.top.now (drop 0 trail)) c steps w)

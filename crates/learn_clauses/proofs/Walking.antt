@@ -1,17 +1,14 @@
 -- The walk, entry by entry.
-use Rattle.std.proofs.Common.{◌≡◌, ◌↔◌, ℕ, suc, ◌+◌, ◌-◌, ◌<◌, ◌≤◌, Bool, true, false, not, ◌&&◌, cond, List, [], ◌∷◌, ◌++◌, ℤ, length, refl, sym, ap, ◌∙◌, arith, subst, slice_set, Option, Some, None, is_none, append_assoc, append-nil}
-use Rattle.std.proofs.lemmas.Bool.{and_parts}
+use Rattle.std.proofs.Common.{◌≡◌, ◌↔◌, ℕ, ◌+◌, ◌-◌, ◌<◌, ◌≤◌, Bool, true, false, not, ◌&&◌, cond, List, [], ◌∷◌, ◌++◌, ℤ, length, refl, sym, ap, ◌∙◌, arith, subst, slice_set, Option, Some, None, is_none, append_assoc, append-nil}
 use Rattle.std.specs.List.{All}
-use Rattle.signed_clause.specs.Ranges.{is_nil, IsValid}
-use Rattle.signed_clause.specs.SetAlgebra.{is_disjoint}
-use Rattle.signed_clause.specs.Clauses.{Boxes, Literals, box_of, set_of, has_var, false_in, unit_of, resolvent, IsClause, IsWithinBoxes}
+use Rattle.signed_clause.specs.Clauses.{Boxes, Literals, box_of, false_in, resolvent, IsClause}
 use Rattle.signed_clause.proofs.ClauseLaws.{IsClauseFrom-resolvent}
 use Rattle.fd_store.specs.declared.trail.Moved.{Moved}
-use Rattle.fd_store.specs.Levels.{Entry, Stack, dropped}
-use Rattle.fd_store.specs.Trails.{entry_of, entries_of, stack_of, level_of, level_after, IsStore}
+use Rattle.fd_store.specs.Levels.{Stack, dropped}
+use Rattle.fd_store.specs.Trails.{entries_of, stack_of, level_of, level_after, IsStore}
 use Rattle.fd_store.proofs.StackLaws.{store-older, dropped-older, dropped-none}
 use Rattle.learn_clauses.specs.Walk.{clause_at, domains_of, IsFrom, AreFrom, IsWithinDomains, Walk, with_step, walk, back_to, IsDroppedBy}
-use Rattle.learn_clauses.specs.Turns.{is_passed, ends_at, clause_by, steps_by, next_clause, next_steps, IsReadable, IsResolvable}
+use Rattle.learn_clauses.specs.Turns.{is_passed, ends_at, clause_by, steps_by, next_clause, next_steps, IsResolvable}
 use Rattle.learn_clauses.proofs.FalseLaws.{false_in-narrower, false_in-set, has_var-met}
 use Rattle.learn_clauses.proofs.EntryLaws.{valid_before, narrower_behind, unit_has, false_in-resolvent}
 use Rattle.learn_clauses.proofs.WithinLaws.{valid_boxes, within-resolvent, within_at, empty_from_false, vars_within}
@@ -168,6 +165,7 @@ walking_goes r boxes m ms c steps within w h forms =
 
 pub record HasEnded (r : Conflict) (c : Literals) (steps : List (ℕ × ℕ)) (level : ℕ) : Type 0 where
   pub walks : whole_walk r ≡ Some (record { steps = steps; clause = c })
+  pub form : IsClause c
   pub within : IsWithinDomains (domains r) c
   pub closes : (level ≡ 0) ↔ (c ≡ [])
   pub drops : 0 < level → IsDroppedBy c (levels r) level
@@ -199,6 +197,7 @@ walking_ends r boxes m ms c steps w h =
     w.back c w.form w.is_false ∙ back_to-decision m ms c boxes from w.is_false not_before ∙ ap (λ (s : Stack). Some s) (sym below) in
     record {
       walks = w.walks ∙ rw (not_before, from) (ap (λ (ss : List (ℕ × ℕ)). Some (record { steps = ss; clause = c })) (append-nil steps));
+      form = w.form;
       within = w.within;
       closes = (λ z. absurd (omega arith), λ e. absurd (some_literal before c not_before e));
       drops = λ z. dropped_by c (levels r) m.level z back;
@@ -211,6 +210,7 @@ walking_last r boxes c steps w =
     let within : IsWithinDomains boxes c = subst (λ (d : Boxes). IsWithinDomains d c) (sym w.domains_are) w.within in
     record {
       walks = w.walks ∙ ap (λ (ss : List (ℕ × ℕ)). Some (record { steps = ss; clause = c })) (append-nil steps);
+      form = w.form;
       within = w.within;
       closes = (λ z. empty_from_false boxes c w.form (valid_boxes boxes w.store.sets) within w.is_false, λ e. refl);
       drops = λ z. absurd (omega arith);

@@ -1,13 +1,13 @@
 -- Clauses that lie within the domains.
-use Rattle.std.proofs.Common.{◌≡◌, ◌≢◌, ℕ, suc, ◌<◌, ◌≤◌, Bool, true, false, ◌&&◌, ◌||◌, List, [], ◌∷◌, length, refl, sym, ap, ◌∙◌, arith, inl, inr, subst}
+use Rattle.std.proofs.Common.{◌≡◌, ℕ, suc, ◌<◌, ◌≤◌, Bool, true, false, ◌&&◌, ◌||◌, List, [], ◌∷◌, length, refl, sym, ap, ◌∙◌, arith, inl, inr, subst}
 use Rattle.std.proofs.lemmas.Int.{ints}
 use Rattle.std.proofs.lemmas.List.{get_or_past}
 use Rattle.std.proofs.lemmas.List.Elements.{All-cons, All-get_or}
 use Rattle.std.proofs.lemmas.Bool.{and_parts, cases_eq, cases_lt}
 use Rattle.std.specs.List.{All}
 use Rattle.signed_clause.specs.Ranges.{Ranges, has, is_nil, IsValid, IsSubset, HasNoValue}
-use Rattle.signed_clause.specs.SetAlgebra.{is_disjoint, meet, join}
-use Rattle.signed_clause.specs.Clauses.{Boxes, Literals, box_of, set_of, has_var, false_in, resolvent, IsClauseFrom, IsClause, IsWithinBoxes}
+use Rattle.signed_clause.specs.SetAlgebra.{is_disjoint}
+use Rattle.signed_clause.specs.Clauses.{Boxes, Literals, box_of, set_of, has_var, false_in, resolvent, IsClauseFrom, IsClause}
 use Rattle.signed_clause.specs.Running.{AreValid}
 use Rattle.signed_clause.proofs.SetFacts.{nil_law, disjoint_law}
 use Rattle.signed_clause.proofs.RangeSteps.{has-meet_valid, has-join_valid}

@@ -1,13 +1,12 @@
 -- The walk by the code's steps. What a reader believes after this file: nothing that a public
--- contract needs; it says what one entry does to the walk, and what the walk has to begin with and
--- ends with.
-use Rattle.std.specs.Prelude.{◌≡◌, ◌↔◌, ℕ, ◌<◌, ◌≤◌, Bool, true, false, not, ◌&&◌, cond, List, [], ◌∷◌, ◌++◌, Option, Some, None, is_none, length}
+-- contract needs; it says what one entry does to the walk, and what the walk has to begin with.
+use Rattle.std.specs.Prelude.{◌≡◌, ℕ, ◌<◌, ◌≤◌, Bool, true, not, ◌&&◌, cond, List, [], ◌∷◌, ◌++◌, Option, Some, None, is_none, length}
 use Rattle.std.specs.List.{All}
 use Rattle.signed_clause.specs.SetAlgebra.{is_disjoint}
 use Rattle.signed_clause.specs.Clauses.{Boxes, Literals, set_of, has_var, false_in, resolvent, IsClause, IsWithinBoxes}
 use Rattle.fd_store.specs.declared.trail.Moved.{Moved}
 use Rattle.fd_store.specs.Levels.{Stack}
-use Rattle.learn_clauses.specs.Walk.{clause_at, domains_of, CameFrom, IsWithinDomains, walk_from, IsDroppedBy}
+use Rattle.learn_clauses.specs.Walk.{clause_at, domains_of, CameFrom, IsWithinDomains}
 
 -- the clause is false before the entry too, so the entry is passed over
 abbrev pub is_passed : Moved → Literals → Bool
@@ -51,10 +50,3 @@ pub record IsStart (clauses : List Literals) (s : Stack) (count n : ℕ) : Type 
   pub is_false : false_in s.top.now (clause_at clauses n) ≡ true
   pub within : All (λ c. IsWithinDomains (domains_of s) c) clauses
   pub came : CameFrom clauses s
-
--- what it ends with
-pub record IsEnd (clauses : List Literals) (s : Stack) (n : ℕ) (c : Literals) (steps : List (ℕ × ℕ)) (level : ℕ) : Type 0 where
-  pub walk_is : walk_from s clauses n ≡ Some (record { steps = steps; clause = c })
-  pub within : IsWithinDomains (domains_of s) c
-  pub closes : (level ≡ 0) ↔ (c ≡ [])
-  pub drops : 0 < level → IsDroppedBy c s level

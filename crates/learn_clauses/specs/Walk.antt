@@ -1,9 +1,9 @@
 -- What a conflict shows: the walk back along the trail. What a reader believes after this file:
 -- when prunings came from clauses, which clause the walk from a conflict ends with and by which
 -- chain, and to which level a clause leads back.
-use Rattle.std.specs.Prelude.{◌≡◌, ℕ, ◌<◌, ◌≤◌, ◌-◌, true, false, not, ◌&&◌, cond, List, [], ◌∷◌, ◌++◌, Option, Some, None, length, slice_set, slice_index_or}
+use Rattle.std.specs.Prelude.{◌≡◌, ◌↔◌, ℕ, ◌<◌, ◌≤◌, ◌-◌, true, false, not, ◌&&◌, cond, List, [], ◌∷◌, ◌++◌, Option, Some, None, length, slice_set, slice_index_or}
 use Rattle.signed_clause.specs.Ranges.{Ranges, IsSubset}
-use Rattle.signed_clause.specs.Clauses.{Boxes, Literals, box_of, set_of, has_var, false_in, unit_of, resolvent}
+use Rattle.signed_clause.specs.Clauses.{Boxes, Literals, box_of, set_of, has_var, false_in, unit_of, resolvent, IsClause}
 use Rattle.fd_store.specs.Levels.{Entry, Level, Stack, dropped}
 
 -- the clause of a number
@@ -107,3 +107,15 @@ pub record IsDroppedBy (c : Literals) (s : Stack) (level : ℕ) : Type 0 where
   pub is_false : false_in (dropped level s).top.first c ≡ true
   pub not_below : false_in (dropped (level - 1) s).top.now c ≡ false
   pub highest : back_to c s ≡ Some (dropped (level - 1) s)
+
+-- ---- what a conflict shows
+
+-- what is learnt from the conflict of clause n: steps and clause are the walk's; the clause lies
+-- within the domains; the level is 0 exactly where it is the empty one, and else the one that it
+-- drops
+pub record IsLearnt (clauses : List Literals) (s : Stack) (n : ℕ) (c : Literals) (steps : List (ℕ × ℕ)) (level : ℕ) : Type 0 where
+  pub walk_is : walk_from s clauses n ≡ Some (record { steps = steps; clause = c })
+  pub form : IsClause c
+  pub within : IsWithinDomains (domains_of s) c
+  pub closes : (level ≡ 0) ↔ (c ≡ [])
+  pub drops : 0 < level → IsDroppedBy c s level

@@ -13,8 +13,8 @@ ghost use Rattle.std.specs.Prelude.{◌≡◌, ◌<◌, ◌≤◌, ◌↔◌, []
 ghost use Rattle.std.specs.List.{All};
 ghost use Rattle.signed_clause.specs.Clauses.{has_var, false_in, resolvent, IsClause, IsWithinBoxes};
 ghost use Rattle.signed_clause.specs.Running.{listed};
-ghost use Rattle.learn_clauses.specs.Walk.{clause_at, domains_of, CameFrom, IsWithinDomains, walk_from, IsDroppedBy};
-ghost use Rattle.learn_clauses.specs.Turns.{is_passed, ends_at, next_clause, next_steps, IsReadable, IsResolvable, IsStart, IsEnd};
+ghost use Rattle.learn_clauses.specs.Walk.{clause_at, domains_of, CameFrom, IsWithinDomains, walk_from, IsDroppedBy, IsLearnt};
+ghost use Rattle.learn_clauses.specs.Turns.{is_passed, ends_at, next_clause, next_steps, IsReadable, IsResolvable, IsStart};
 
 use fd_store::{Moved, Store};
 use numbered_clauses::{Chain, ChainSteps, Clauses};
@@ -87,8 +87,8 @@ fn walk_back(
 ) -> Result<u32, AllocError>
     requires start { IsStart clauses.now store.now (length running.old) conflict }
     requires none { steps.old.items ≡ [] }
-    ensures end { IfOk result (λ level.
-        IsEnd clauses.now store.now conflict (listed 0 running.new) steps.new.items level) }
+    ensures learnt { IfOk result (λ level.
+        IsLearnt clauses.now store.now conflict (listed 0 running.new) steps.new.items level) }
     ensures len { length running.new ≡ length running.old }
 {
     let trail = store.trail();

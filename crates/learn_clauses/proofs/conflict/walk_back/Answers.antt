@@ -1,7 +1,7 @@
-use Rattle.std.proofs.Common.{◌≡◌, ◌<◌, ◌≤◌, ◌+◌, ◌-◌, true, false, arith, length, sym, ◌∙◌}
+use Rattle.std.proofs.Common.{◌≡◌, ◌-◌, true, false, arith, length, sym, ◌∙◌}
 use Rattle.signed_clause.specs.Running.{listed}
 use Rattle.learn_clauses.specs.Turns.{ends_at}
-use Rattle.learn_clauses.proofs.WalkPlaces.{IsShown, IsEntryAt, start_readable, walking_begins, entry_var, entry_resolves, walking_on, walk_ends, walk_closes}
+use Rattle.learn_clauses.proofs.WalkPlaces.{start_readable, walking_begins, entry_var, entry_resolves, walking_on, walk_ends, walk_closes}
 use Rattle.learn_clauses.proofs.conflict.walk_back.Goals as goal
 
 pub load-requires : goal.load-requires
@@ -32,8 +32,8 @@ turn-requires-clause-step c =
     (record { levels_are = c.trail-trail.ensures.stack; kept = c.trail-trail.ensures.kept }) c.requires.start.within (omega (arith, room, size))
     (record { left_is = omega arith; within = omega arith; is = c.index-trail-left.is }) c.loop-left.invariant.walking
 
-pub returns-then-branch-clause-end : goal.returns-then-branch-clause-end
-returns-then-branch-clause-end c =
+pub returns-then-branch-clause-learnt : goal.returns-then-branch-clause-learnt
+returns-then-branch-clause-learnt c =
     let ends : ends_at c.index-trail-left.result (listed 0 c.loop-left.running) ≡ true = sym c.in_ok-turn.ensures.ends ∙ c.if-branch.true in
     walk_ends c.args.clauses.now c.args.store.now c.trail-trail.result.now c.args.conflict (c.loop-left.left - 1) c.loop-left.left c.index-trail-left.result _ _ _ _
     (record { levels_are = c.trail-trail.ensures.stack; kept = c.trail-trail.ensures.kept })
@@ -52,7 +52,7 @@ loop-left-preserved c =
           goes c.in_ok-turn.ensures.form c.in_ok-turn.ensures.clause c.in_ok-turn.ensures.steps;
     }
 
-pub returns-clause-end : goal.returns-clause-end
-returns-clause-end c =
+pub returns-clause-learnt : goal.returns-clause-learnt
+returns-clause-learnt c =
     walk_closes c.args.clauses.now c.args.store.now c.trail-trail.result.now c.args.conflict c.loop-left.left _ _
     (record { levels_are = c.trail-trail.ensures.stack; kept = c.trail-trail.ensures.kept }) (omega arith) c.loop-left.invariant.walking
