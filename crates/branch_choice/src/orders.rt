@@ -1,5 +1,5 @@
 //! The functions that pick by the orders. Each walks the searched boxes once, copies none of them,
-//! and takes no memory.
+//! and takes no memory. Each answers None exactly where all searched boxes are single values.
 ghost use Rattle.std.specs.Prelude.{◌≡◌, ◌<◌, ◌+◌, false, length};
 ghost use Rattle.signed_clause.specs.Clauses.{Boxes, box_of};
 ghost use Rattle.branch_choice.specs.declared.split.Order.TheVariants as orders;
