@@ -1,0 +1,6 @@
+//! x
+#![tactic(auto)]
+
+mod listing;
+mod lists;
+mod urgency;
