@@ -14,7 +14,8 @@ use Rattle.learn_clauses.proofs.EntryLaws.{valid_before, narrower_behind, unit_h
 use Rattle.learn_clauses.proofs.WithinLaws.{valid_boxes, within-resolvent, within_at, empty_from_false, vars_within}
 use Rattle.learn_clauses.proofs.BackLaws.{domains_of-older, length-domains, back_to-older, back_to-decision, dropped_by}
 
--- what a walk is over: clauses, the present boxes, the entries, the newest first, and the clause that it begins with
+-- what a walk is over: clauses, the present boxes, the entries, the newest first, and the clause
+-- that it begins with
 pub record Conflict : Type 0 where
   pub clauses : List Literals
   pub boxes : Boxes

@@ -112,11 +112,14 @@ fn turn(
     steps: &mut Vec<(u32, u64)>,
 ) -> Result<bool, AllocError>
     requires var { entry.now.var < length running.old }
-    requires step { (j : ℕ) → entry.now.from ≡ Some j → is_passed entry.now (listed 0 running.old) ≡ false
+    requires step { (j : ℕ) → entry.now.from ≡ Some j
+        → is_passed entry.now (listed 0 running.old) ≡ false
         → IsResolvable clauses.now (listed 0 running.old) entry.now.var j running.old }
     ensures ends { IfOk result (λ b. b ≡ ends_at entry.now (listed 0 running.old)) }
-    ensures clause { OnOk result (listed 0 running.new ≡ next_clause clauses.now entry.now (listed 0 running.old)) }
-    ensures steps { OnOk result (steps.new.items ≡ next_steps entry.now (listed 0 running.old) steps.old.items) }
+    ensures clause { OnOk result (listed 0 running.new
+        ≡ next_clause clauses.now entry.now (listed 0 running.old)) }
+    ensures steps { OnOk result (steps.new.items
+        ≡ next_steps entry.now (listed 0 running.old) steps.old.items) }
     ensures form { OnOk result ((j : ℕ) → entry.now.from ≡ Some j
         → is_passed entry.now (listed 0 running.old) ≡ false → IsClause (clause_at clauses.now j)) }
     ensures len { length running.new ≡ length running.old }
