@@ -124,7 +124,7 @@ fn turn(
         → is_passed entry.now (listed 0 running.old) ≡ false → IsClause (clause_at clauses.now j)) }
     ensures len { length running.new ≡ length running.old }
 {
-    if running.set_of(entry.var).disjoint(&entry.before) {
+    if is_passed(running, entry) {
         return Ok(false);
     }
     match entry.from {
@@ -135,6 +135,14 @@ fn turn(
             Ok(false)
         }
     }
+}
+
+/// Whether the clause is false before an entry too: one look-up, and one test of two sets.
+fn is_passed(running: &RunningClause, entry: &Moved) -> bool
+    requires { entry.now.var < length running.now }
+    ensures { result ≡ is_passed entry.now (listed 0 running.now) }
+{
+    running.set_of(entry.var).disjoint(&entry.before)
 }
 
 /// Makes the running clause the one of a number.
