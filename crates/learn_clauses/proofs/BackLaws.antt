@@ -14,12 +14,15 @@ trail_of-with_entry : (from : Option ℕ) (boxes : Boxes) (e : Entry) (s : Stack
     trail_of (with_entry from boxes e s) ≡ e ∷ trail_of s
 trail_of-with_entry None boxes e s = refl
 trail_of-with_entry (Some j) boxes e s =
-    elim s.below as (λ b. trail_from (record { first = s.top.first; now = boxes; entries = e ∷ s.top.entries }) b ≡ e ∷ trail_from s.top b) [
+    elim s.below as
+    (λ b. trail_from (record { first = s.top.first; now = boxes; entries = e ∷ s.top.entries })
+    b ≡ e ∷ trail_from s.top b) [
       | [] ↦ refl
       | l ∷ ls ↦ refl
     ]
 
-pub trail_of-stack : (ms : List Moved) (boxes : Boxes) → trail_of (stack_of boxes ms) ≡ entries_of ms
+pub trail_of-stack : (ms : List Moved) (boxes : Boxes) →
+    trail_of (stack_of boxes ms) ≡ entries_of ms
 trail_of-stack [] boxes = refl
 trail_of-stack (m ∷ ms) boxes =
     trail_of-with_entry m.from boxes (entry_of m) (stack_of (slice_set boxes m.var m.before) ms)
@@ -29,7 +32,13 @@ domains_of-with_entry : (from : Option ℕ) (boxes : Boxes) (e : Entry) (s : Sta
     domains_of (with_entry from boxes e s) ≡ domains_of s
 domains_of-with_entry None boxes e s = refl
 domains_of-with_entry (Some j) boxes e s =
-    elim s.below as (λ b. domains_from (record { first = s.top.first; now = boxes; entries = e ∷ s.top.entries }) b ≡ domains_from s.top b) [
+    elim s.below as
+    (λ b. domains_from (record {
+      first = s.top.first;
+      now = boxes;
+      entries =
+          e ∷ s.top.entries;
+    }) b ≡ domains_from s.top b) [
       | [] ↦ refl
       | l ∷ ls ↦ refl
     ]
@@ -54,7 +63,8 @@ back_from-first : (below : List Level) (c : Literals) (t u : Level) → t.first 
     back_from c t below ≡ back_from c u below
 back_from-first [] c t u h = refl
 back_from-first (l ∷ ls) c t u h =
-    ap (λ (b : Boxes). cond (false_in b c && not (false_in l.now c)) (Some (record { top = l; below = ls })) (back_from c l ls)) h
+    ap (λ (b : Boxes). cond (false_in b c && not (false_in l.now c))
+    (Some (record { top = l; below = ls })) (back_from c l ls)) h
 
 back_to-with_entry : (from : Option ℕ) (c : Literals) (boxes : Boxes) (e : Entry) (s : Stack) →
     false_in s.top.now c ≡ true → back_to c (with_entry from boxes e s) ≡ back_to c s
@@ -65,7 +75,12 @@ back_to-with_entry None c boxes e s h =
       | false ↦ refl
     ])
 back_to-with_entry (Some j) c boxes e s h =
-    back_from-first s.below c (record { first = s.top.first; now = boxes; entries = e ∷ s.top.entries }) s.top refl
+    back_from-first s.below c (record {
+      first = s.top.first;
+      now = boxes;
+      entries =
+          e ∷ s.top.entries;
+    }) s.top refl
 
 -- an entry before which the clause is false is passed over
 pub back_to-older : (m : Moved) (ms : List Moved) (c : Literals) (boxes : Boxes) →
@@ -78,13 +93,15 @@ back_to-older m ms c boxes h =
     back_to-with_entry m.from c boxes (entry_of m) (stack_of before ms) now
 
 -- at a decision behind which it is false and before which it isn't, the levels below are the answer
-back_to-opened : (from : Option ℕ) (c : Literals) (boxes : Boxes) (e : Entry) (s : Stack) → from ≡ None →
+back_to-opened : (from : Option ℕ) (c : Literals) (boxes : Boxes) (e : Entry) (s : Stack) →
+    from ≡ None →
     false_in boxes c ≡ true → false_in s.top.now c ≡ false →
     back_to c (with_entry from boxes e s) ≡ Some s
 back_to-opened None c boxes e s n h k = rw (h, k) refl
 back_to-opened (Some j) c boxes e s n h k = absurd (cc)
 
-pub back_to-decision : (m : Moved) (ms : List Moved) (c : Literals) (boxes : Boxes) → m.from ≡ None →
+pub back_to-decision : (m : Moved) (ms : List Moved) (c : Literals) (boxes : Boxes) →
+    m.from ≡ None →
     false_in boxes c ≡ true → false_in (slice_set boxes m.var m.before) c ≡ false →
     back_to c (stack_of boxes (m ∷ ms)) ≡ Some (stack_of (slice_set boxes m.var m.before) ms)
 back_to-decision m ms c boxes n h k =
@@ -106,7 +123,8 @@ record IsBack (c : Literals) (top : Level) (below : List Level) (t : Stack) : Ty
   pub is_false : false_in (dropped_from (suc (length t.below)) top below).top.first c ≡ true
   pub not_below : false_in t.top.now c ≡ false
 
-back_says : (below : List Level) (c : Literals) (top : Level) (t : Stack) → back_from c top below ≡ Some t →
+back_says : (below : List Level) (c : Literals) (top : Level) (t : Stack) →
+    back_from c top below ≡ Some t →
     IsBack c top below t
 back_says [] c top t h = absurd (none_some t h)
 back_says (l ∷ ls) c top t h =
@@ -127,7 +145,8 @@ back_says (l ∷ ls) c top t h =
           let lower = more.lower in
           record {
             lower = omega (arith, lower);
-            is_false = rw (lt-ltb (suc (length t.below)) (suc (length ls)) (omega (arith, lower))) more.is_false;
+            is_false = rw (lt-ltb (suc (length t.below)) (suc (length ls)) (omega (arith, lower)))
+                more.is_false;
             not_below = more.not_below;
           }
     ]) refl h
@@ -156,11 +175,13 @@ dropped_by c s level some h =
           let k = length-dropped s.below s.top (level - 1) lt in omega (arith, k, some) in
           record {
             exists = omega (arith, lt, some);
-            is_false = subst (λ (k : ℕ). false_in (dropped k s).top.first c ≡ true) is back.is_false;
+            is_false = subst (λ (k : ℕ). false_in (dropped k s).top.first c
+                ≡ true) is back.is_false;
             not_below = back.not_below;
             highest = h;
           }
       | inr le ↦
-          let all = ap (λ (s : Stack). length s.below) (dropped_from-none s.below s.top (level - 1) le) in
+          let all = ap (λ (s : Stack). length s.below)
+          (dropped_from-none s.below s.top (level - 1) le) in
           absurd (omega (arith, all, lower))
     ]

@@ -61,8 +61,12 @@ alone_is boxes l c u h =
     cond b (Some (l.0, meet l.1 (box_of boxes l.0))) None ≡ Some u →
     (false_in boxes c ≡ true) × (l.0 ≡ u.0) × (meet l.1 (box_of boxes l.0) ≡ u.1)) [
       | true ↦ λ t h.
-          let pair : (l.0, meet l.1 (box_of boxes l.0)) ≡ u = some_same _ u h in
-          ((and_parts (false_in boxes c) (not (is_within (box_of boxes l.0) l.1)) t).0, ap (λ (p : ℕ × Ranges). p.0) pair, ap (λ (p : ℕ × Ranges). p.1) pair)
+          let pair : (l.0, meet l.1 (box_of boxes l.0)) ≡ u = some_same _ u h in (
+            (and_parts (false_in boxes c) (not (is_within (box_of boxes l.0) l.1)) t).0,
+            ap
+                (λ (p : ℕ × Ranges). p.0) pair,
+            ap (λ (p : ℕ × Ranges). p.1) pair,
+          )
       | false ↦ λ t h. absurd (some_none u h)
     ]) refl h
 
@@ -93,13 +97,15 @@ unit_is (l ∷ d) n boxes u f a h =
       | true ↦ λ m h.
           let more = unit_is d (suc l.0) boxes u f.3 a h in
           let var = unit_has d boxes u h in
-          let differ : l.0 ≢ u.0 = λ e. let none = var_below (suc l.0) d u.0 f.3 (omega arith) in absurd (cc) in
+          let differ : l.0 ≢ u.0 = λ e. let none =
+          var_below (suc l.0) d u.0 f.3 (omega arith) in absurd (cc) in
           let alone : false_in boxes (l ∷ []) ≡ true = rw m refl in
           record {
             others = λ y ne v e. elim (cases_eq l.0 y) [
               | inl i ↦
                   sets_from_false (l ∷ []) n boxes (f.0, f.1, f.2, tt) a alone y v
-                  (ap (λ z. has z v) (set_here l [] y i) ∙ sym (ap (λ z. has z v) (set_here l d y i)) ∙ e)
+                  (ap (λ z. has z v) (set_here l [] y i)
+                  ∙ sym (ap (λ z. has z v) (set_here l d y i)) ∙ e)
               | inr i ↦ more.others y ne v (sym (ap (λ z. has z v) (set_later l d y i)) ∙ e)
             ];
             is = more.is ∙ ap (λ z. meet z (box_of boxes u.0)) (sym (set_later l d u.0 differ));
@@ -123,13 +129,15 @@ second_false : (a b : Bool) → a ≡ true → (a && b) ≡ false → b ≡ fals
 second_false true b h k = k
 second_false false b h k = absurd (cc)
 
-false_either : (a b z : Bool) → (a || b) ≡ true → (a ≡ true → z ≡ false) → (b ≡ true → z ≡ false) → z ≡ false
+false_either : (a b z : Bool) → (a || b) ≡ true → (a ≡ true → z ≡ false) → (b ≡ true → z ≡ false) →
+    z ≡ false
 false_either true b z h p q = p refl
 false_either false b z h p q = q h
 
 -- c is false behind an entry of x, and d was unit before it, with the new box: the resolvent is
 -- false before it
-pub false_in-resolvent : (boxes : Boxes) (x : ℕ) (b : Ranges) (c d : Literals) → IsClause c → IsClause d →
+pub false_in-resolvent : (boxes : Boxes) (x : ℕ) (b : Ranges) (c d : Literals) → IsClause c →
+    IsClause d →
     AreValid boxes → AreValid (slice_set boxes x b) → has_var c x ≡ true →
     unit_of (slice_set boxes x b) d ≡ Some (x, box_of boxes x) → false_in boxes c ≡ true →
     false_in (slice_set boxes x b) (resolvent x c d) ≡ true
@@ -140,7 +148,8 @@ false_in-resolvent boxes x b c d f g a a' var unit h =
     false_from_sets (resolvent x c d) 0 before (IsClauseFrom-resolvent x c d 0 f g) a' (λ y v i.
     elim (cases_eq y x) [
       | inl q ↦
-          let law : has (set_of (resolvent x c d) x) v ≡ (has (set_of c x) v && has (set_of d x) v) =
+          let law : has (set_of (resolvent x c d) x) v
+          ≡ (has (set_of c x) v && has (set_of d x) v) =
           ap (λ z. has z v) (pivot_is x c d 0 0 f g var had)
           ∙ has-meet_valid (set_of c x) (set_of d x) (set_valid 0 c x f) (set_valid 0 d x g) v in
           let i' : has (set_of (resolvent x c d) x) v ≡ true =
@@ -154,7 +163,8 @@ false_in-resolvent boxes x b c d f g a a' var unit h =
           second_false (has (set_of d x) v) (has (box_of before x) v) both.1 (sym now ∙ gone) in
           subst (λ (y : ℕ). has (box_of before y) v ≡ false) (sym q) out
       | inr q ↦
-          let law : has (set_of (resolvent x c d) y) v ≡ (has (set_of c y) v || has (set_of d y) v) =
+          let law : has (set_of (resolvent x c d) y) v
+          ≡ (has (set_of c y) v || has (set_of d y) v) =
           ap (λ z. has z v) (other_is x y c d 0 0 q f g)
           ∙ has-join_valid (set_of c y) (set_of d y) (set_valid 0 c y f) (set_valid 0 d y g) v in
           let same : has (box_of before y) v ≡ has (box_of boxes y) v =

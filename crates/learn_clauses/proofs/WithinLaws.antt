@@ -34,7 +34,8 @@ pub within-resolvent : (domains : Boxes) (x : ℕ) (c d : Literals) → IsClause
 within-resolvent domains x c d f g p q s t y v h =
     elim (cases_eq y x) [
       | inl e ↦
-          let law : has (set_of (resolvent x c d) x) v ≡ (has (set_of c x) v && has (set_of d x) v) =
+          let law : has (set_of (resolvent x c d) x) v
+          ≡ (has (set_of c x) v && has (set_of d x) v) =
           ap (λ z. has z v) (pivot_is x c d 0 0 f g p q)
           ∙ has-meet_valid (set_of c x) (set_of d x) (set_valid 0 c x f) (set_valid 0 d x g) v in
           let h' : has (set_of (resolvent x c d) x) v ≡ true =
@@ -42,7 +43,8 @@ within-resolvent domains x c d f g p q s t y v h =
           let both = and_parts (has (set_of c x) v) (has (set_of d x) v) (sym law ∙ h') in
           s y v (subst (λ (y : ℕ). has (set_of c y) v ≡ true) (sym e) both.0)
       | inr e ↦
-          let law : has (set_of (resolvent x c d) y) v ≡ (has (set_of c y) v || has (set_of d y) v) =
+          let law : has (set_of (resolvent x c d) y) v
+          ≡ (has (set_of c y) v || has (set_of d y) v) =
           ap (λ z. has z v) (other_is x y c d 0 0 e f g)
           ∙ has-join_valid (set_of c y) (set_of d y) (set_valid 0 c y f) (set_valid 0 d y g) v in
           true_either (has (set_of c y) v) (has (set_of d y) v) (has (box_of domains y) v)

@@ -38,10 +38,11 @@ pub record IsReadable (clauses : List Literals) (j : ℕ) (sets : Boxes) : Type 
   pub vars : IsClause (clause_at clauses j) → IsWithinBoxes (clause_at clauses j) sets
 
 -- c and clause j can be resolved on x in the table
-pub record IsResolvable (clauses : List Literals) (c : Literals) (x j : ℕ) (sets : Boxes) : Type 0 where
-  pub readable : IsReadable clauses j sets
-  pub first : has_var c x ≡ true
-  pub second : has_var (clause_at clauses j) x ≡ true
+pub record IsResolvable (clauses : List Literals) (c : Literals) (x j : ℕ) (sets : Boxes) : Type 0
+  where
+    pub readable : IsReadable clauses j sets
+    pub first : has_var c x ≡ true
+    pub second : has_var (clause_at clauses j) x ≡ true
 
 -- what a walk from clause n over the levels begins with, in a table of so many variables
 pub record IsStart (clauses : List Literals) (s : Stack) (count n : ℕ) : Type 0 where

@@ -70,7 +70,8 @@ with_step s (Some w) = Some (record { steps = s ∷ w.steps; clause = w.clause }
 -- the walk from an entry of x before which c isn't false, where `rest` walks on from there: it ends
 -- at a decision, and at a pruning by clause j it goes on with the resolvent on x of c and clause j,
 -- where both have x
-abbrev pub walk_at : Option ℕ → List Literals → ℕ → Literals → (Literals → Option Walk) → Option Walk
+abbrev pub walk_at : Option ℕ → List Literals → ℕ → Literals → (Literals → Option Walk) →
+    Option Walk
 walk_at None clauses x c rest = Some (record { steps = []; clause = c })
 walk_at (Some j) clauses x c rest =
     cond (has_var c x && has_var (clause_at clauses j) x)
@@ -82,7 +83,8 @@ abbrev pub walk : Boxes → List Entry → List Literals → Literals → Option
 walk boxes [] clauses c = Some (record { steps = []; clause = c })
 walk boxes (e ∷ es) clauses c =
     let before = slice_set boxes e.var e.before in
-    cond (false_in before c) (walk before es clauses c) (walk_at e.from clauses e.var c (walk before es clauses))
+    cond (false_in before c) (walk before es clauses c)
+    (walk_at e.from clauses e.var c (walk before es clauses))
 
 -- the walk from clause n over all entries
 abbrev pub walk_from : Stack → List Literals → ℕ → Option Walk
@@ -95,7 +97,8 @@ walk_from s clauses n = walk s.top.now (trail_of s) clauses (clause_at clauses n
 abbrev pub back_from : Literals → Level → List Level → Option Stack
 back_from c top [] = None
 back_from c top (l ∷ ls) =
-    cond (false_in top.first c && not (false_in l.now c)) (Some (record { top = l; below = ls })) (back_from c l ls)
+    cond (false_in top.first c && not (false_in l.now c)) (Some (record { top = l; below = ls }))
+    (back_from c l ls)
 
 abbrev pub back_to : Literals → Stack → Option Stack
 back_to c s = back_from c s.top s.below
@@ -113,7 +116,8 @@ pub record IsDroppedBy (c : Literals) (s : Stack) (level : ℕ) : Type 0 where
 -- what is learnt from the conflict of clause n: steps and clause are the walk's; the clause lies
 -- within the domains; the level is 0 exactly where it is the empty one, and else the one that it
 -- drops
-pub record IsLearnt (clauses : List Literals) (s : Stack) (n : ℕ) (c : Literals) (steps : List (ℕ × ℕ)) (level : ℕ) : Type 0 where
+pub record IsLearnt (clauses : List Literals) (s : Stack) (n : ℕ) (c : Literals)
+    (steps : List (ℕ × ℕ)) (level : ℕ) : Type 0 where
   pub walk_is : walk_from s clauses n ≡ Some (record { steps = steps; clause = c })
   pub form : IsClause c
   pub within : IsWithinDomains (domains_of s) c

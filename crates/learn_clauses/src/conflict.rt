@@ -112,16 +112,19 @@ fn turn(
     steps: &mut Vec<(u32, u64)>,
 ) -> Result<bool, AllocError>
     requires var { entry.now.var < length running.old }
-    requires step { (j : ℕ) → entry.now.from ≡ Some j → is_passed entry.now (listed 0 running.old) ≡ false
+    requires step { (j : ℕ) → entry.now.from ≡ Some j
+        → is_passed entry.now (listed 0 running.old) ≡ false
         → IsResolvable clauses.now (listed 0 running.old) entry.now.var j running.old }
     ensures ends { IfOk result (λ b. b ≡ ends_at entry.now (listed 0 running.old)) }
-    ensures clause { OnOk result (listed 0 running.new ≡ next_clause clauses.now entry.now (listed 0 running.old)) }
-    ensures steps { OnOk result (steps.new.items ≡ next_steps entry.now (listed 0 running.old) steps.old.items) }
+    ensures clause { OnOk result (listed 0 running.new
+        ≡ next_clause clauses.now entry.now (listed 0 running.old)) }
+    ensures steps { OnOk result (steps.new.items
+        ≡ next_steps entry.now (listed 0 running.old) steps.old.items) }
     ensures form { OnOk result ((j : ℕ) → entry.now.from ≡ Some j
         → is_passed entry.now (listed 0 running.old) ≡ false → IsClause (clause_at clauses.now j)) }
     ensures len { length running.new ≡ length running.old }
 {
-    if running.set_of(entry.var).disjoint(&entry.before) {
+    if is_passed(running, entry) {
         return Ok(false);
     }
     match entry.from {
@@ -132,6 +135,14 @@ fn turn(
             Ok(false)
         }
     }
+}
+
+/// Whether the clause is false before an entry too: one look-up, and one test of two sets.
+fn is_passed(running: &RunningClause, entry: &Moved) -> bool
+    requires { entry.now.var < length running.now }
+    ensures { result ≡ is_passed entry.now (listed 0 running.now) }
+{
+    running.set_of(entry.var).disjoint(&entry.before)
 }
 
 /// Makes the running clause the one of a number.

@@ -7,7 +7,8 @@ abbrev pub invariant-loop-left : goal.invariant-loop-left
 invariant-loop-left l = record {
   left : l.left ≤ length l.trail;
   size : length l.running ≡ length l.fn.running;
-  walking : WalkingAt l.clauses l.store.top.now l.trail l.fn.conflict l.left (listed 0 l.running) l.steps.items;
+  walking : WalkingAt l.clauses l.store.top.now l.trail l.fn.conflict l.left (listed 0 l.running)
+      l.steps.items;
 }
 
 abbrev pub decreases-loop-left : goal.decreases-loop-left
