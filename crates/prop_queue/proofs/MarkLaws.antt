@@ -1,8 +1,7 @@
 -- Marks, and the order of what is marked.
-use Rattle.std.proofs.Common.{◌≡◌, ℕ, suc, zero, ◌<◌, ◌≤◌, ◌==◌, Bool, true, false, cond, List, [], ◌∷◌, ◌||◌, ◌⊎◌, Option, Some, None, length, arith, refl, sym, ap, ◌∙◌, inl, inr, subst, slice_set, slice_index_or}
+use Rattle.std.proofs.Common.{◌≡◌, ℕ, suc, zero, ◌<◌, ◌≤◌, ◌==◌, Bool, true, false, cond, List, [], ◌∷◌, ◌||◌, ◌⊎◌, Option, Some, None, length, arith, refl, sym, ap, ◌∙◌, inl, inr, subst, slice_set}
 use Rattle.std.specs.Option.{IfSome, IfNone}
 use Rattle.std.proofs.lemmas.Bool.{cases_eq}
-use Rattle.rule_law.specs.Reasons.{has_number}
 use Rattle.prop_queue.specs.Work.{is_marked}
 use Rattle.prop_queue.specs.Lists.{first_of, occurs, count_marked, IsKept}
 
@@ -157,14 +156,3 @@ one_or_none false e = refl
 
 pub none_marked : (ms : List Bool) (order : List ℕ) (k : ℕ) → IsKept ms order → order ≡ [] → is_marked ms k ≡ false
 none_marked ms order k kept e = one_or_none (is_marked ms k) (subst (λ (o : List ℕ). occurs k o ≡ cond (is_marked ms k) 1 0) e (kept.stands k))
-
--- ---- numbers in a list
-
-or_true : (a b : Bool) → b ≡ true → (a || b) ≡ true
-or_true true b e = refl
-or_true false b e = e
-
-pub has_at : (xs : List ℕ) (i d : ℕ) → i < length xs → has_number (slice_index_or xs i d) xs ≡ true
-has_at [] i d h = absurd (omega arith)
-has_at (x ∷ xs) zero d h = let same : (x == x) ≡ true = grind arith in rw same refl
-has_at (x ∷ xs) (suc i) d h = or_true (x == slice_index_or xs i d) _ (has_at xs i d (omega arith))

@@ -3,4 +3,5 @@
 
 mod listing;
 mod lists;
+mod rows;
 mod urgency;
