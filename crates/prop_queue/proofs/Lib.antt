@@ -1,3 +1,4 @@
 pub mod MarkLaws
 pub mod LineLaws
 pub mod RowLaws
+pub mod FitLaws
