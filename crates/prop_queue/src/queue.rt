@@ -43,7 +43,8 @@ impl Model for Queue {
 
 impl Queue {
     /// The queue over the problem, with every constraint listed. It makes the room that it will
-    /// ever need: 18 bytes a constraint, 24 a variable, and 4 for each variable of a constraint.
+    /// ever need: 14 bytes a constraint, and for each variable a list of the constraints that name
+    /// it.
     ///
     /// # Errors
     /// Want of memory.
@@ -127,7 +128,7 @@ impl Queue {
         ensures size { length self.new.marks ≡ length self.old.marks }
         ensures rows { self.new.rows ≡ self.old.rows }
         ensures over { IsOver g.now self.new }
-        ensures marks { (k : ℕ) → is_marked self.new.marks k ≡ true
+        ensures fewer { (k : ℕ) → is_marked self.new.marks k ≡ true
             → is_marked self.old.marks k ≡ true }
         ensures fits { Fits g.now self.new boxes.now }
         ensures there { IfOk result (λ o. IfSome o (λ a. a.0 < length g.now.cons)) }

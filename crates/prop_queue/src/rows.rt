@@ -62,7 +62,8 @@ impl Rows {
 /// As many empty rows.
 fn empty_rows(alloc: Global, count: usize) -> Result<Vec<Vec<u32>>, AllocError>
     ensures size { IfOk result (λ rows. length rows.items ≡ count) }
-    ensures empty { IfOk result (λ rows. (x k : ℕ) → has_number k (row_of (map (λ r. r.items) rows.items) x) ≡ false) }
+    ensures empty { IfOk result (λ rows. (x k : ℕ)
+        → has_number k (row_of (map (λ r. r.items) rows.items) x) ≡ false) }
 {
     let mut rows = Vec::with_capacity(alloc, count)?;
     for _ in 0..count {

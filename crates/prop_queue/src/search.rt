@@ -14,12 +14,7 @@ use signed_clause::{Clause, IntSet};
 use std::alloc::AllocError;
 
 /// What the kit answers of constraint `k`.
-fn ask(
-    g: &Ground,
-    k: u32,
-    boxes: &[IntSet],
-    kit: &mut Kit,
-) -> Result<Option<Clause>, AllocError>
+fn ask(g: &Ground, k: u32, boxes: &[IntSet], kit: &mut Kit) -> Result<Option<Clause>, AllocError>
     requires well_made { IsWellMade g.now }
     requires con { k < length g.now.cons }
     requires boxes { AreBoxesWithin g.now.domains boxes.now }

@@ -1,4 +1,4 @@
-use Rattle.std.proofs.Common.{rules, arith}
+use Rattle.std.proofs.Common.{arith}
 use Rattle.prop_queue.proofs.RowLaws.{has_at}
 use Rattle.prop_queue.proofs.listing.list_row.Goals as goal
 

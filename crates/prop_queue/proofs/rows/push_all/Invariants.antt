@@ -6,5 +6,6 @@ use Rattle.prop_queue.proofs.rows.push_all.Given as goal
 abbrev pub invariant-loop-x : goal.invariant-loop-x
 invariant-loop-x l =
     (length l.rows ≡ length l.initial.rows)
-    × ((y j : ℕ) → (has_number j (row_of l.rows y) || has_number y (drop l.x-index l.vars) && l.k == j)
+    × ((y j : ℕ) →
+    (has_number j (row_of l.rows y) || has_number y (drop l.x-index l.vars) && l.k == j)
     ≡ (has_number j (row_of l.initial.rows y) || has_number y l.vars && l.k == j))

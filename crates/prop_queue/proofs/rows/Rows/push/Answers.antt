@@ -16,5 +16,6 @@ returns-clause-rows c = λ y j.
     let grown : c.push.new.self.items ≡ c.index_mut.result.now.items ++ k ∷ [] = search rules in
     let pushed = row_pushed (λ r. r.items) rows x y k j c.push.new.self here
     (grown ∙ ap (λ (l : List ℕ). l ++ k ∷ []) there) in
-    subst (λ (v : List (List ℕ)). has_number j (row_of (map (λ r. r.items) (slice_set rows x c.push.new.self)) y) ≡
+    subst (λ (v : List (List ℕ)). has_number j
+    (row_of (map (λ r. r.items) (slice_set rows x c.push.new.self)) y) ≡
     (has_number j (row_of v y) || x == y && k == j)) c.self.view_is pushed
