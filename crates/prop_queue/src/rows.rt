@@ -73,6 +73,7 @@ fn empty_rows(alloc: Global, count: usize) -> Result<Vec<Vec<u32>>, AllocError>
 }
 
 /// Whether the row's last constraint is this one.
+#[tactic(auto, using(crate::proofs::RowLaws::has_last))]
 fn ends_with(row: &[u32], k: u32) -> bool
     ensures { result ≡ true → has_number k row.now ≡ true }
 {
