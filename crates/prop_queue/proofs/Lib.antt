@@ -1,2 +1,4 @@
 pub mod MarkLaws
 pub mod LineLaws
+pub mod RowLaws
+pub mod FitLaws

@@ -87,7 +87,8 @@ impl Listing {
     pub fn list(&mut self, k: u32)
         requires { k < length self.old.marks }
         ensures size { length self.new.marks ≡ length self.old.marks }
-        ensures marks { (j : ℕ) → is_marked self.new.marks j ≡ (is_marked self.old.marks j || k == j) }
+        ensures marks { (j : ℕ) → is_marked self.new.marks j
+            ≡ (is_marked self.old.marks j || k == j) }
     {
         if !self.marks[k as usize] {
             let urgency = self.urgencies[k as usize];
@@ -113,8 +114,8 @@ impl Listing {
     pub fn unlist_first(&mut self) -> Option<u32>
         ensures first { result ≡ first_of self.old.order }
         ensures size { length self.new.marks ≡ length self.old.marks }
-        ensures marks { (k : ℕ) → first_of self.old.order ≡ Some k
-            → (j : ℕ) → is_marked self.new.marks j ≡ cond (k == j) false (is_marked self.old.marks j) }
+        ensures marks { (k : ℕ) → first_of self.old.order ≡ Some k → (j : ℕ)
+            → is_marked self.new.marks j ≡ cond (k == j) false (is_marked self.old.marks j) }
         ensures fewer { (k : ℕ) → first_of self.old.order ≡ Some k
             → suc (length self.new.order) ≡ length self.old.order }
         ensures none { IfNone result ((j : ℕ) → is_marked self.new.marks j ≡ false) }

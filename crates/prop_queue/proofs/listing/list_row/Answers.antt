@@ -1,5 +1,5 @@
-use Rattle.std.proofs.Common.{rules, arith}
-use Rattle.prop_queue.proofs.MarkLaws.{has_at}
+use Rattle.std.proofs.Common.{arith}
+use Rattle.prop_queue.proofs.RowLaws.{has_at}
 use Rattle.prop_queue.proofs.listing.list_row.Goals as goal
 
 pub list-requires : goal.list-requires

@@ -6,6 +6,7 @@ use Rattle.prop_queue.proofs.listing.Listing.first.Goals as goal
 
 pub returns-clause-there : goal.returns-clause-there
 returns-clause-there c =
+    let q = c.self.inside in
     let kept = c.self.invariant.0 in
-    let there = first_there c.self.inside.marks.items c.self.inside.lists.order c.front.result kept c.front.ensures in
+    let there = first_there q.marks.items q.lists.order c.front.result kept c.front.ensures in
     subst (λ (v : Listed). IfSome c.front.result (λ k. k < length v.marks)) c.self.view_is there

@@ -1,11 +1,11 @@
 use Rattle.std.proofs.Common.{rules}
-use Rattle.std.proofs.lemmas.Grind.{common_steps}
 use Rattle.prop_queue.proofs.MarkLaws.{kept_rest}
 use Rattle.prop_queue.proofs.listing.Listing.unlist_first.Goals as goal
 
 pub invariant_of-self : goal.invariant_of-self
 invariant_of-self c =
+    let q = c.self.inside in
     let h = c.self.invariant in
-    let kept = kept_rest c.self.inside.marks.items c.set_mark.new.marks.items c.self.inside.lists.order
+    let kept = kept_rest q.marks.items c.set_mark.new.marks.items q.lists.order
     c.pop.new.self.order c.in-Some.k h.0 c.in-Some.ensures.some c.set_mark.ensures in
     (kept, search rules, search rules, search rules)
