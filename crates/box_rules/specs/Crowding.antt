@@ -12,12 +12,14 @@ ends_of (x ∷ xs) boxes = (low_of (box_of boxes x), high_of (box_of boxes x)) �
 -- none of them ends before it begins
 abbrev pub AreInOrder : List ℕ → Boxes → Type 0
 AreInOrder [] boxes = Unit {0}
-AreInOrder (x ∷ xs) boxes = (low_of (box_of boxes x) ≤ℤ high_of (box_of boxes x)) × AreInOrder xs boxes
+AreInOrder (x ∷ xs) boxes = (low_of (box_of boxes x) ≤ℤ high_of (box_of boxes x)) × AreInOrder xs
+    boxes
 
 -- how many of the ends lie within a..b
 abbrev pub count_ends : ℤ → ℤ → List (ℤ × ℤ) → ℕ
 count_ends a b [] = 0
-count_ends a b (p ∷ ps) = cond (int_le a p.0 && int_le p.1 b) (suc (count_ends a b ps)) (count_ends a b ps)
+count_ends a b (p ∷ ps) =
+    cond (int_le a p.0 && int_le p.1 b) (suc (count_ends a b ps)) (count_ends a b ps)
 
 -- the first n numbers, added up
 abbrev pub total : ℕ → List ℕ → ℕ

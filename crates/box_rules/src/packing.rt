@@ -2,8 +2,8 @@
 //!
 //! Two loads are compared with room: at a place where items are fixed, and over all places. The
 //! room of all places is added up from value to value, from where the first place's box begins to
-//! where the last one's ends; values that no place's box has are passed over, so a walk over the
-//! items is made for each value that some box has, and two for each gap between them. Sums are of
+//! where the last one's ends. Values that no bin may be are passed over: a walk over the items is
+//! made for each value that some bin may be, and two for each gap between such values. Sums are of
 //! 128 bits, which as many values of 64 bits as a list can have don't fill.
 ghost use Rattle.std.specs.Prelude.{◌≡◌, ◌<◌, ◌≤◌, ◌≤ℤ◌, ◌<ℤ◌, ◌^◌, ◌-◌, ◌&&◌, ◌||◌, ◌+ℤ◌, ℤ, false, cond, pos, int_lt, length};
 ghost use Rattle.std.specs.Int.{int_max, int_min};
@@ -174,8 +174,8 @@ fn last_place<V: View>(view: &V, items: &[(u32, u32, u32)], from: Number) -> Num
     last
 }
 
-/// The smaller of the number and the first value from `from` on of the item's place.
-fn with_place<V: View>(next: Number, i: (u32, u32, u32), view: &V, from: Number) -> Number
+/// The smaller of the number and the first value from `from` on that the item's bin may be.
+fn with_bin<V: View>(next: Number, i: (u32, u32, u32), view: &V, from: Number) -> Number
     requires item { IsItemNamed i (V.boxes view.now) }
     requires order { from.value ≤ℤ next.value }
     ensures from { from.value ≤ℤ result.value }
@@ -189,8 +189,8 @@ fn with_place<V: View>(next: Number, i: (u32, u32, u32), view: &V, from: Number)
     }
 }
 
-/// The first value from `from` on that some place's box has, or `last` where that is less.
-fn next_place<V: View>(view: &V, items: &[(u32, u32, u32)], from: Number, last: Number) -> Number
+/// The first value from `from` on that some bin may be, or `last` where that is less.
+fn next_bin<V: View>(view: &V, items: &[(u32, u32, u32)], from: Number, last: Number) -> Number
     requires items { AreItemsNamed items.now (V.boxes view.now) }
     requires order { from.value ≤ℤ last.value }
     ensures from { from.value ≤ℤ result.value }
@@ -200,14 +200,14 @@ fn next_place<V: View>(view: &V, items: &[(u32, u32, u32)], from: Number, last: 
 {
     let mut next = last;
     for i in items {
-        next = with_place(next, *i, view, from);
+        next = with_bin(next, *i, view, from);
     }
     next
 }
 
-/// The value behind `at` that is looked at next: where there is no room at `at`, places may lack the
-/// values behind it, and those are passed over.
-fn place_behind<V: View>(
+/// The value behind `at` that is looked at next. Where there is no room at `at`, it may be that no
+/// bin can be the values behind it either, and those are passed over.
+fn bin_behind<V: View>(
     view: &V,
     items: &[(u32, u32, u32)],
     at: Number,
@@ -223,14 +223,14 @@ fn place_behind<V: View>(
 {
     let from = next(at, last);
     if room.value == 0 {
-        next_place(view, items, from, last)
+        next_bin(view, items, from, last)
     } else {
         from
     }
 }
 
-/// The best rooms of the values from `first` to `last`, added up. Values that no place's box has
-/// have no room, and one step passes over all of them up to the next that some box has.
+/// The best rooms of the values from `first` to `last`, added up. Values that no bin may be have no
+/// room, and one step passes over all of them up to the next that some bin may be.
 fn rooms_between<V: View>(view: &V, items: &[(u32, u32, u32)], first: Number, last: Number) -> Total
     requires items { AreItemsNamed items.now (V.boxes view.now) }
     requires order { first.value ≤ℤ last.value }
@@ -240,7 +240,7 @@ fn rooms_between<V: View>(view: &V, items: &[(u32, u32, u32)], first: Number, la
     let mut room = best_room(view, items, at);
     let mut sum = Total { value: 0 }.plus(room);
     while is_below(at, last) {
-        at = place_behind(view, items, at, room, last);
+        at = bin_behind(view, items, at, room, last);
         room = best_room(view, items, at);
         sum = sum.plus(room);
     }

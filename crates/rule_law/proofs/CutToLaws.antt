@@ -33,7 +33,8 @@ box_past (b ∷ boxes) (suc x) h = box_past boxes x (omega arith)
 less_meet : (d s : Ranges) → IsValid d → IsValid s → less d (meet s d) ≡ less d s
 less_meet d s f g =
     let m = IsValid-meet s d g f in
-    (same_law (less d (meet s d)) (less d s) (IsValid-less d (meet s d) f m) (IsValid-less d s f g)).1 (λ v.
+    (same_law (less d (meet s d)) (less d s) (IsValid-less d (meet s d) f m)
+    (IsValid-less d s f g)).1 (λ v.
     let part = has-less_valid d (meet s d) f m v in
     let both = has-meet_valid s d g f v in
     let whole = has-less_valid d s f g v in grind arith)
@@ -43,7 +44,8 @@ meet_meet : (d s b : Ranges) → IsValid d → IsValid s → IsValid b → is_wi
     meet (meet s d) b ≡ meet s b
 meet_meet d s b f g i h =
     let m = IsValid-meet s d g f in
-    (same_law (meet (meet s d) b) (meet s b) (IsValid-meet (meet s d) b m i) (IsValid-meet s b g i)).1 (λ v.
+    (same_law (meet (meet s d) b) (meet s b) (IsValid-meet (meet s d) b m i)
+    (IsValid-meet s b g i)).1 (λ v.
     let part = has-meet_valid (meet s d) b m i v in
     let both = has-meet_valid s d g f v in
     let whole = has-meet_valid s b g i v in
@@ -53,7 +55,8 @@ less_box : (d s b : Ranges) → IsValid d → IsValid s → IsValid b → is_wit
     less b (meet s d) ≡ less b s
 less_box d s b f g i h =
     let m = IsValid-meet s d g f in
-    (same_law (less b (meet s d)) (less b s) (IsValid-less b (meet s d) i m) (IsValid-less b s i g)).1 (λ v.
+    (same_law (less b (meet s d)) (less b s) (IsValid-less b (meet s d) i m)
+    (IsValid-less b s i g)).1 (λ v.
     let part = has-less_valid b (meet s d) i m v in
     let both = has-meet_valid s d g f v in
     let whole = has-less_valid b s i g v in
@@ -61,7 +64,8 @@ less_box d s b f g i h =
 
 meet_within : (d s : Ranges) → IsValid d → IsValid s → is_within (meet s d) d ≡ true
 meet_within d s f g =
-    (within_law (meet s d) d (IsValid-meet s d g f) f).1 (λ v h. (and_parts (has s v) (has d v) (sym (has-meet_valid s d g f v) ∙ h)).1)
+    (within_law (meet s d) d (IsValid-meet s d g f) f).1
+    (λ v h. (and_parts (has s v) (has d v) (sym (has-meet_valid s d g f v) ∙ h)).1)
 
 pub meet_all : (d s : Ranges) → IsValid d → IsValid s → is_within s d ≡ true → meet s d ≡ s
 meet_all d s f g h =
@@ -80,7 +84,8 @@ pub cut_form : (n : ℕ) (domains : Boxes) (c : Literals) → AreSets domains �
     IsClauseFrom n (cut_to domains c)
 cut_form n domains [] f s = tt
 cut_form n domains (l ∷ c) f s =
-    cut_clause n l.0 (meet l.1 (box_of domains l.0)) (cut_to domains c) s.0 (IsValid-meet l.1 (box_of domains l.0) s.2 (f l.0)) (cut_form (suc l.0) domains c f s.3)
+    cut_clause n l.0 (meet l.1 (box_of domains l.0)) (cut_to domains c) s.0
+    (IsValid-meet l.1 (box_of domains l.0) s.2 (f l.0)) (cut_form (suc l.0) domains c f s.3)
 
 -- the same as a test, whatever the domains are
 tested_later : (n m : ℕ) (c : Literals) → n ≤ m → clause_from m c ≡ true → clause_from n c ≡ true
@@ -95,20 +100,26 @@ tested_one n x (r ∷ s) rest h t = grind (arith, nat_tests)
 pub cut_tested : (n : ℕ) (domains : Boxes) (c : Literals) → IsClauseFrom n c →
     clause_from n (cut_to domains c) ≡ true
 cut_tested n domains [] s = refl
-cut_tested n domains (l ∷ c) s = tested_one n l.0 (meet l.1 (box_of domains l.0)) (cut_to domains c) s.0 (cut_tested (suc l.0) domains c s.3)
+cut_tested n domains (l ∷ c) s =
+    tested_one n l.0 (meet l.1 (box_of domains l.0)) (cut_to domains c) s.0
+    (cut_tested (suc l.0) domains c s.3)
 
 cut_within : (n : ℕ) (domains : Boxes) (c : Literals) → AreSets domains → IsClauseFrom n c →
     AreSetsWithin domains (cut_to domains c)
 cut_within n domains [] f s k d lt = absurd (omega arith)
 cut_within n domains (l ∷ c) f s k d lt =
-    one_all (λ m. is_within m.1 (box_of domains m.0) ≡ true) (is_nil (meet l.1 (box_of domains l.0))) (l.0, meet l.1 (box_of domains l.0)) (cut_to domains c)
-    (λ e. meet_within (box_of domains l.0) l.1 (f l.0) s.2) (cut_within (suc l.0) domains c f s.3) k d lt
+    one_all (λ m. is_within m.1 (box_of domains m.0) ≡ true)
+    (is_nil (meet l.1 (box_of domains l.0))) (l.0, meet l.1 (box_of domains l.0))
+    (cut_to domains c)
+    (λ e. meet_within (box_of domains l.0) l.1 (f l.0) s.2) (cut_within (suc l.0) domains c f s.3)
+    k d lt
 
 cut_named : (n : ℕ) (domains : Boxes) (c : Literals) → All (λ l. l.0 < n) c →
     All (λ l. l.0 < n) (cut_to domains c)
 cut_named n domains [] h k d lt = absurd (omega arith)
 cut_named n domains (l ∷ c) h k d lt =
-    one_all (λ m. m.0 < n) (is_nil (meet l.1 (box_of domains l.0))) (l.0, meet l.1 (box_of domains l.0)) (cut_to domains c)
+    one_all (λ m. m.0 < n) (is_nil (meet l.1 (box_of domains l.0)))
+    (l.0, meet l.1 (box_of domains l.0)) (cut_to domains c)
     (λ e. h 0 l (omega arith)) (cut_named n domains c (λ i e le. h (suc i) e (omega arith))) k d lt
 
 -- ---- the sets of the variables
@@ -117,12 +128,14 @@ set_before : (n : ℕ) (c : Literals) (x : ℕ) → IsClauseFrom n c → x < n �
 set_before n [] x s h = refl
 set_before n (l ∷ c) x s h =
     let up = s.0 in
-    let other : (l.0 == x) ≡ false = ne_eqb l.0 x (λ e. omega arith) in rw other (set_before (suc l.0) c x s.3 (omega arith))
+    let other : (l.0 == x) ≡ false = ne_eqb l.0 x (λ e. omega arith) in
+    rw other (set_before (suc l.0) c x s.3 (omega arith))
 
 set_is : (n : ℕ) (c : Literals) (x : ℕ) → IsClauseFrom n c → IsValid (set_of c x)
 set_is n [] x s = omega (arith, ints)
 set_is n (l ∷ c) x s =
-    elim (l.0 == x) as (λ b. IsValid (cond b l.1 (set_of c x))) [ true ↦ s.2 | false ↦ set_is (suc l.0) c x s.3 ]
+    elim (l.0 == x) as (λ b. IsValid (cond b l.1 (set_of c x)))
+    [ true ↦ s.2 | false ↦ set_is (suc l.0) c x s.3 ]
 
 pub set_cut : (n : ℕ) (domains : Boxes) (c : Literals) (x : ℕ) → IsClauseFrom n c →
     set_of (cut_to domains c) x ≡ meet (set_of c x) (box_of domains x)
@@ -132,20 +145,26 @@ set_cut n domains (l ∷ c) x s =
     let part = meet l.1 (box_of domains l.0) in
     elim (cases_eq l.0 x) [
       | inl e ↦
-          let none : set_of rest l.0 ≡ [] = set_cut (suc l.0) domains c l.0 s.3 ∙ ap (λ (z : Ranges). meet z (box_of domains l.0)) (set_before (suc l.0) c l.0 s.3 (omega arith)) in
+          let none : set_of rest l.0 ≡ [] = set_cut (suc l.0) domains c l.0 s.3
+          ∙ ap (λ (z : Ranges). meet z (box_of domains l.0))
+          (set_before (suc l.0) c l.0 s.3 (omega arith)) in
           let first : set_of (l ∷ c) l.0 ≡ l.1 = rw (eq-eqb l.0 l.0 refl) refl in
-          subst (λ (z : ℕ). set_of (kept_one l.0 part rest) z ≡ meet (set_of (l ∷ c) z) (box_of domains z)) e
-          (set_here l.0 part rest none ∙ ap (λ (z : Ranges). meet z (box_of domains l.0)) (sym first))
+          subst (λ (z : ℕ). set_of (kept_one l.0 part rest) z ≡ meet (set_of (l ∷ c) z)
+          (box_of domains z)) e
+          (set_here l.0 part rest none ∙ ap (λ (z : Ranges). meet z (box_of domains l.0))
+          (sym first))
       | inr f ↦
           let later : set_of (l ∷ c) x ≡ set_of c x = rw (ne_eqb l.0 x f) refl in
-          set_one x l.0 part rest (ne_eqb l.0 x f) ∙ set_cut (suc l.0) domains c x s.3 ∙ ap (λ (z : Ranges). meet z (box_of domains x)) (sym later)
+          set_one x l.0 part rest (ne_eqb l.0 x f) ∙ set_cut (suc l.0) domains c x s.3
+          ∙ ap (λ (z : Ranges). meet z (box_of domains x)) (sym later)
     ]
 
 -- of a variable without a domain nothing is left
 pub no_part : (domains : Boxes) (l : Literal) (ls : Literals) → length domains ≤ l.0 →
     ls ≡ ls ++ kept_one l.0 (meet l.1 (box_of domains l.0)) []
 no_part domains l ls h =
-    let none : meet l.1 (box_of domains l.0) ≡ [] = ap (λ (z : Ranges). meet l.1 z) (box_past domains l.0 h) ∙ meet-none l.1 in
+    let none : meet l.1 (box_of domains l.0) ≡ [] =
+    ap (λ (z : Ranges). meet l.1 z) (box_past domains l.0 h) ∙ meet-none l.1 in
     sym (ap (λ (s : Ranges). ls ++ kept_one l.0 s []) none ∙ append-nil ls)
 
 -- ---- what is justified
@@ -157,7 +176,8 @@ agree_all a b (x ∷ xs) h = (h x, agree_all a b xs h)
 pub cut_justified : (con : Con) (domains : Boxes) (c : Literals) → AreSets domains →
     IsClauseFrom 0 c → justified con domains (cut_to domains c) ≡ justified con domains c
 cut_justified con domains c f s =
-    agree_refuted con (cut domains (cut_to domains c)) (cut domains c) (agree_all _ _ (vars_of con) (λ x.
+    agree_refuted con (cut domains (cut_to domains c)) (cut domains c)
+    (agree_all _ _ (vars_of con) (λ x.
     cut_box domains (cut_to domains c) x
     ∙ ap (λ (z : Ranges). less (box_of domains x) z) (set_cut 0 domains c x s)
     ∙ less_meet (box_of domains x) (set_of c x) (f x) (set_is 0 c x s)
@@ -196,7 +216,8 @@ pub cut_false : (n : ℕ) (domains boxes : Boxes) (c : Literals) → AreParts do
     IsClauseFrom n c → false_in boxes (cut_to domains c) ≡ false_in boxes c
 cut_false n domains boxes [] p s = refl
 cut_false n domains boxes (l ∷ c) p s =
-    let common = meet_meet (box_of domains l.0) l.1 (box_of boxes l.0) (p.wide l.0) s.2 (p.narrow l.0) (p.within l.0) in
+    let common = meet_meet (box_of domains l.0) l.1 (box_of boxes l.0) (p.wide l.0) s.2
+    (p.narrow l.0) (p.within l.0) in
     let more = cut_false (suc l.0) domains boxes c p s.3 in
     false_one boxes l.0 (meet l.1 (box_of domains l.0)) (cut_to domains c) ∙ rw (common, more) refl
 
@@ -204,11 +225,14 @@ pub cut_unit : (n : ℕ) (domains boxes : Boxes) (c : Literals) → AreParts dom
     IsClauseFrom n c → unit_of boxes (cut_to domains c) ≡ unit_of boxes c
 cut_unit n domains boxes [] p s = refl
 cut_unit n domains boxes (l ∷ c) p s =
-    let common = meet_meet (box_of domains l.0) l.1 (box_of boxes l.0) (p.wide l.0) s.2 (p.narrow l.0) (p.within l.0) in
-    let outside = less_box (box_of domains l.0) l.1 (box_of boxes l.0) (p.wide l.0) s.2 (p.narrow l.0) (p.within l.0) in
+    let common = meet_meet (box_of domains l.0) l.1 (box_of boxes l.0) (p.wide l.0) s.2
+    (p.narrow l.0) (p.within l.0) in
+    let outside = less_box (box_of domains l.0) l.1 (box_of boxes l.0) (p.wide l.0) s.2
+    (p.narrow l.0) (p.within l.0) in
     let none = cut_false (suc l.0) domains boxes c p s.3 in
     let more = cut_unit (suc l.0) domains boxes c p s.3 in
-    unit_one boxes l.0 (meet l.1 (box_of domains l.0)) (cut_to domains c) ∙ rw (common, outside, none, more) refl
+    unit_one boxes l.0 (meet l.1 (box_of domains l.0)) (cut_to domains c)
+    ∙ rw (common, outside, none, more) refl
 
 -- ---- the laws
 

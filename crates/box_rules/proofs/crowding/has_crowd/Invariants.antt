@@ -6,4 +6,5 @@ use Rattle.box_rules.proofs.crowding.has_crowd.Given as goal
 
 abbrev pub invariant-loop-p : goal.invariant-loop-p
 invariant-loop-p l =
-    (xs : List ℕ) → (boxes : Boxes) → l.ends ≡ ends_of xs boxes → AreInOrder xs boxes → some_crowded (drop l.p-index xs) xs boxes ≡ some_crowded xs xs boxes
+    (xs : List ℕ) → (boxes : Boxes) → l.ends ≡ ends_of xs boxes → AreInOrder xs boxes →
+    some_crowded (drop l.p-index xs) xs boxes ≡ some_crowded xs xs boxes
