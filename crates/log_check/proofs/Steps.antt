@@ -80,11 +80,14 @@ at_append P [] (d ∷ ds) (suc j) old new h = at_append P [] ds j (λ i lt. absu
 at_append P (c ∷ cs) ds zero old new h = old 0 (omega arith)
 at_append P (c ∷ cs) ds (suc j) old new h = at_append P cs ds j (λ i lt. old (suc i) (omega arith)) new (omega arith)
 
-pub all_append : (P : Literals → Type 0) → P [] → (cs ds : List Literals) (j : ℕ) → ((i : ℕ) → P (clause_at cs i)) → AllByRecursion P ds → P (clause_at (cs ++ ds) j)
+-- what holds of each clause, and of the empty one past the end
+pub all_append : (P : Literals → Type 0) → P [] → (cs ds : List Literals) (j : ℕ) →
+    ((i : ℕ) → P (clause_at cs i)) → AllByRecursion P ds → P (clause_at (cs ++ ds) j)
 all_append P none [] [] zero old new = none
 all_append P none [] [] (suc j) old new = none
 all_append P none [] (d ∷ ds) zero old new = new.0
-all_append P none [] (d ∷ ds) (suc j) old new = all_append P none [] ds j (λ i. none_at P none i) new.1
+all_append P none [] (d ∷ ds) (suc j) old new =
+    all_append P none [] ds j (λ i. none_at P none i) new.1
 all_append P none (c ∷ cs) ds zero old new = old 0
 all_append P none (c ∷ cs) ds (suc j) old new = all_append P none cs ds j (λ i. old (suc i)) new
 
@@ -241,7 +244,11 @@ sound_step g m (Empty x) w f s h =
 -- ---- all lines
 
 pub sound_start : (g : Ground) → IsSound g start
-sound_start g = record { forms = λ j. none_at (λ c. IsClause c) tt j; truths = λ a sol b j lt. absurd (omega arith); solved = tt }
+sound_start g = record {
+  forms = λ j. none_at (λ c. IsClause c) tt j;
+  truths = λ a sol b j lt. absurd (omega arith);
+  solved = tt;
+}
 
 empty_at : (cs : List Literals) (P : Literals → Type 0) → has_empty cs ≡ true → ((j : ℕ) → j < length cs → P (clause_at cs j)) → P []
 empty_at [] P h k = absurd (cc)

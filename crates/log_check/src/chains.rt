@@ -26,7 +26,9 @@ pub fn derives(
     requires { AreBelow (length running.old) clauses.now }
     ensures exact { IfOk result (λ b. b ≡ (nat_lt chain.now.first (length clauses.now)
         && (chain_holds clauses.now (clause_at clauses.now chain.now.first) chain.now.steps
-        && same_clause (chain_end clauses.now (clause_at clauses.now chain.now.first) chain.now.steps) stated.now))) }
+        && same_clause
+        (chain_end clauses.now (clause_at clauses.now chain.now.first) chain.now.steps)
+        stated.now))) }
     ensures len { length running.new ≡ length running.old }
 {
     let Some(first) = clauses.get(chain.first) else {
@@ -51,7 +53,8 @@ fn replays(
     steps: &[(u32, u64)],
 ) -> Result<bool, AllocError>
     requires { AreBelow (length running.old) clauses.now }
-    ensures holds { IfOk result (λ b. b ≡ chain_holds clauses.now (listed 0 running.old) steps.now) }
+    ensures holds { IfOk result (λ b. b
+        ≡ chain_holds clauses.now (listed 0 running.old) steps.now) }
     ensures end { IfOk result (λ b. b ≡ true
         → listed 0 running.new ≡ chain_end clauses.now (listed 0 running.old) steps.now) }
     ensures len { length running.new ≡ length running.old }
@@ -75,7 +78,8 @@ fn takes_step(
     requires { AreBelow (length running.old) clauses.now }
     ensures holds { IfOk result (λ b. b ≡ step_holds clauses.now (listed 0 running.old) step) }
     ensures list { IfOk result (λ b. b ≡ true
-        → listed 0 running.new ≡ resolvent step.0 (listed 0 running.old) (clause_at clauses.now step.1)) }
+        → listed 0 running.new
+        ≡ resolvent step.0 (listed 0 running.old) (clause_at clauses.now step.1)) }
     ensures len { length running.new ≡ length running.old }
 {
     let Some(other) = clauses.get(step.1) else {

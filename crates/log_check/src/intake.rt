@@ -3,7 +3,8 @@
 //! The intake keeps the bytes behind the last LF, and of the lines before them what they left. A
 //! line is read and checked as soon as it ends, where it stands: only one that began in an earlier
 //! piece is copied.
-ghost use Rattle.std.specs.Prelude.{◌≡◌, ◌+◌, ◌<◌, ◌≤◌, ◌^◌, ◌++◌, [], ◌∷◌, ℕ, List, true, IfOk, IfErr, OnOk, length};
+ghost use Rattle.std.specs.Prelude.{◌≡◌, ◌+◌, ◌<◌, ◌≤◌, ◌^◌, ◌++◌, [], ◌∷◌, ℕ, List, true, length};
+ghost use Rattle.std.specs.Prelude.{IfOk, IfErr, OnOk};
 ghost use Rattle.ground_form.specs.WellMade.{IsWellMade};
 ghost use Rattle.proof_log.specs.Parts.{lacks};
 ghost use Rattle.log_check.specs.Progress.{IsRight};

@@ -58,8 +58,10 @@ impl Progress {
     pub fn step(&mut self, alloc: Global, g: &Ground, line: &Line) -> Result<bool, AllocError>
         requires made { IsWellMade g.now }
         requires right { IsRight g.now self.old }
-        ensures asked { IfOk result (λ b. b ≡ acceptance.may_come g.now (made_of self.old) line.now) }
-        ensures made { IfOk result (λ b. b ≡ true → made_of self.new ≡ after g.now (made_of self.old) line.now) }
+        ensures asked { IfOk result (λ b. b
+            ≡ acceptance.may_come g.now (made_of self.old) line.now) }
+        ensures made { IfOk result (λ b. b ≡ true
+            → made_of self.new ≡ after g.now (made_of self.old) line.now) }
         ensures right { IfOk result (λ b. b ≡ true → IsRight g.now self.new) }
     {
         if !self.may_come(alloc, g, line)? {
@@ -75,7 +77,8 @@ impl Progress {
         requires made { IsWellMade g.now }
         requires right { IsRight g.now self.old }
         ensures asked { IfOk result (λ b. b ≡ acceptance.may_come g.now (made_of self.old) line) }
-        ensures made { IfOk result (λ b. b ≡ true → made_of self.new ≡ after g.now (made_of self.old) line) }
+        ensures made { IfOk result (λ b. b ≡ true
+            → made_of self.new ≡ after g.now (made_of self.old) line) }
         ensures right { IfOk result (λ b. b ≡ true → IsRight g.now self.new) }
     {
         if !self.may_come(alloc, g, &line)? {
@@ -90,7 +93,8 @@ impl Progress {
     fn may_come(&mut self, alloc: Global, g: &Ground, line: &Line) -> Result<bool, AllocError>
         requires made { IsWellMade g.now }
         requires right { IsRight g.now self.old }
-        ensures asked { IfOk result (λ b. b ≡ acceptance.may_come g.now (made_of self.old) line.now) }
+        ensures asked { IfOk result (λ b. b
+            ≡ acceptance.may_come g.now (made_of self.old) line.now) }
         ensures kept { made_of self.new ≡ made_of self.old }
         ensures right { IsRight g.now self.new }
     {
@@ -107,7 +111,8 @@ impl Progress {
     fn accepts(&mut self, alloc: Global, g: &Ground, line: &Line) -> Result<bool, AllocError>
         requires made { IsWellMade g.now }
         requires right { IsRight g.now self.old }
-        ensures asked { IfOk result (λ b. b ≡ acceptance.accepts g.now (made_of self.old) line.now) }
+        ensures asked { IfOk result (λ b. b
+            ≡ acceptance.accepts g.now (made_of self.old) line.now) }
         ensures kept { made_of self.new ≡ made_of self.old }
         ensures right { IsRight g.now self.new }
     {
@@ -135,7 +140,8 @@ impl Progress {
         requires right { IsRight g.now self.old }
         requires accepted { accepts g.now (made_of self.old) line.now ≡ true }
         ensures made { OnOk result (made_of self.new ≡ after g.now (made_of self.old) line.now) }
-        ensures closed { OnOk result (self.new.derived.closed ≡ has_empty self.new.derived.clauses) }
+        ensures closed { OnOk result (self.new.derived.closed
+            ≡ has_empty self.new.derived.clauses) }
         ensures table { self.new.running ≡ self.old.running }
     {
         match line {
@@ -158,7 +164,8 @@ impl Progress {
         requires right { IsRight g.now self.old }
         requires accepted { accepts g.now (made_of self.old) line ≡ true }
         ensures made { OnOk result (made_of self.new ≡ after g.now (made_of self.old) line) }
-        ensures closed { OnOk result (self.new.derived.closed ≡ has_empty self.new.derived.clauses) }
+        ensures closed { OnOk result (self.new.derived.closed
+            ≡ has_empty self.new.derived.clauses) }
         ensures table { self.new.running ≡ self.old.running }
     {
         match line {
@@ -181,7 +188,8 @@ impl Progress {
         requires right { IsRight g.now self.old }
         ensures clauses { OnOk result (self.new.derived.clauses ≡ self.old.derived.clauses ++ bounds g.now self.old.found) }
         ensures found { OnOk result (self.new.found ≡ self.old.found) }
-        ensures closed { OnOk result (self.new.derived.closed ≡ has_empty self.new.derived.clauses) }
+        ensures closed { OnOk result (self.new.derived.closed
+            ≡ has_empty self.new.derived.clauses) }
         ensures table { self.new.running ≡ self.old.running }
     {
         match &self.found {

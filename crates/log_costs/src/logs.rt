@@ -1,4 +1,5 @@
 //! Logs of one kind of line, and the problem that they speak of.
+ghost use Rattle.std.specs.Prelude.{◌≤ℤ◌, pos};
 
 use ground_form::{Con, Cons, Domains, Goals, Ground};
 use log_form::Line;
@@ -53,15 +54,25 @@ fn nth_kind(kind: u32) -> Kind {
     }
 }
 
-/// The clause that some of the first variables is at least 0 and at most 4, or a little more.
-fn clause_of(alloc: Global, literals: u32, more: u32) -> Result<Clause, AllocError> {
-    let mut out = Vec::new(alloc);
-    for x in 0..literals {
-        let most = match x.saturating_add(more) % 3 {
+/// The greatest value that a clause of a number gives a variable; without a number 4.
+fn most_of(x: u32, number: Option<u32>) -> i64
+    ensures { pos 0 ≤ℤ result }
+{
+    match number {
+        None => 4,
+        Some(number) => match x.wrapping_add(number) % 3 {
             0 => 4,
             1 => 5,
             _ => 6,
-        };
+        },
+    }
+}
+
+/// The clause that some of the first variables has a small value.
+fn clause_of(alloc: Global, literals: u32, number: Option<u32>) -> Result<Clause, AllocError> {
+    let mut out = Vec::new(alloc);
+    for x in 0..literals {
+        let most = most_of(x, number);
         out.push((x, IntSet::range(alloc, 0, most)))?;
     }
     Clause::of(out).map_err(|_| AllocError)
@@ -74,10 +85,10 @@ pub(crate) fn problem(alloc: Global) -> Result<Ground, AllocError> {
         domains.push(IntSet::range(alloc, 0, 9))?;
     }
     let all = Con::ClauseCon {
-        clause: clause_of(alloc, VARIABLES, 0)?,
+        clause: clause_of(alloc, VARIABLES, None)?,
     };
     let first = Con::ClauseCon {
-        clause: clause_of(alloc, 1, 0)?,
+        clause: clause_of(alloc, 1, None)?,
     };
     Ok(Ground {
         domains: Domains::of(domains),
@@ -98,9 +109,62 @@ fn text_of(alloc: Global, line: Line) -> Result<Vec<u8>, AllocError> {
     lines_text(alloc, lines.as_slice())
 }
 
-/// The text of an axiom, whose clause the constraint justifies.
-fn axiom(alloc: Global, literals: u32, more: u32) -> Result<Vec<u8>, AllocError> {
+/// The text of an axiom, the clause of a number.
+fn axiom(alloc: Global, literals: u32, number: u32) -> Result<Vec<u8>, AllocError> {
     let con = if literals == 1 { 1 } else { 0 };
-    let clause = clause_of(alloc, literals, more.saturating_mul(3))?;
+    let clause = clause_of(alloc, literals, Some(number))?;
     text_of(alloc, Line::Axiom(con, owned(alloc, clause)?))
+}
+
+/// The resolvent on a variable that both clauses have; else the first clause again.
+fn resolvent(alloc: Global, a: &Clause, b: &Clause, x: u32) -> Result<Clause, AllocError> {
+    if a.set_of(x).is_none() || b.set_of(x).is_none() {
+        return a.copy();
+    }
+    resolve(alloc, a, b, x)
+}
+
+/// The text of a chain, from clause 0 on, on one variable after the other.
+fn chain(alloc: Global, literals: u32, steps: u32) -> Result<Vec<u8>, AllocError> {
+    let mut last = clause_of(alloc, literals, Some(0))?;
+    let mut items = Vec::new(alloc);
+    for step in 0..steps {
+        let number = step % CLAUSES;
+        let x = step % literals.max(1);
+        let other = clause_of(alloc, literals, Some(number))?;
+        last = resolvent(alloc, &last, &other, x)?;
+        items.push((x, u64::from(number)))?;
+    }
+    let steps = ChainSteps::of(items);
+    text_of(
+        alloc,
+        Line::Chain(Chain { first: 0, steps }, owned(alloc, last)?),
+    )
+}
+
+/// The clauses that chains name, and then the line, so many times.
+fn repeated(alloc: Global, literals: u32, line: &[u8], times: u32) -> Result<Vec<u8>, AllocError> {
+    let mut text = Vec::new(alloc);
+    for number in 0..CLAUSES {
+        text.extend_from_slice(axiom(alloc, literals, number)?.as_slice())?;
+    }
+    for _ in 0..times {
+        text.extend_from_slice(line)?;
+    }
+    Ok(text)
+}
+
+/// The log of a kind, whose lines are so many times those of a short one.
+pub(crate) fn nth_log(alloc: Global, number: u32, times: u32) -> Result<Log, AllocError> {
+    let kind = nth_kind(number);
+    let line = if kind.steps == 0 {
+        axiom(alloc, kind.literals, 0)?
+    } else {
+        chain(alloc, kind.literals, kind.steps)?
+    };
+    let times = kind.lines.saturating_mul(times);
+    Ok(Log {
+        name: kind.name,
+        text: repeated(alloc, kind.literals, line.as_slice(), times)?,
+    })
 }

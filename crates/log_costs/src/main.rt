@@ -23,11 +23,23 @@ fn show(rt: &HostRuntime, g: &Ground, log: &Log, timed: bool) -> io::Result<()> 
     }
     if timed {
         let (check, feed) = speeds(rt, alloc, g, log)?;
-        println!(rt; "{}: {} bytes, check {} lines/s, feed {} lines/s", log.name, log.text.len(), check, feed)?;
+        println!(rt;
+            "{}: {} bytes, check {} lines/s, feed {} lines/s",
+            log.name,
+            log.text.len(),
+            check,
+            feed
+        )?;
         return Ok(());
     }
     let (check, feed) = answers(alloc, g, log)?;
-    println!(rt; "{}: {} bytes, check {}, feed {}", log.name, log.text.len(), check, feed)?;
+    println!(rt;
+        "{}: {} bytes, check {}, feed {}",
+        log.name,
+        log.text.len(),
+        check,
+        feed
+    )?;
     Ok(())
 }
 
@@ -36,7 +48,7 @@ fn show_all(rt: &HostRuntime, timed: bool) -> io::Result<()> {
     let alloc = rt.alloc();
     let g = problem(alloc)?;
     for kind in 0..KINDS {
-        let log = nth_log(alloc, kind, if timed { 2000000 } else { 2000 })?;
+        let log = nth_log(alloc, kind, if timed { 1000 } else { 1 })?;
         show(rt, &g, &log, timed)?;
     }
     Ok(())

@@ -5,7 +5,11 @@ use Rattle.log_check.proofs.progress.Progress.step.Goals as goal
 
 pub returns-clause-right : goal.returns-clause-right
 returns-clause-right c _ =
+    let g = c.args.g.now in
+    let line = c.args.line.now in
     let asked = c.in_ok-may_come.ensures in
-    let came = ap (λ (m : Made). may_come c.args.g.now m c.args.line.now) asked.kept ∙ sym asked.asked ∙ c.if-not-branch.false in
     let now = c.in_ok-advance.ensures in
-    right_step c.args.g.now c.may_come.new.self c.advance.new.self c.args.line.now c.requires.made c.know_clause.ensures asked.right came now.made now.closed (ap length now.table)
+    let comes = ap (λ (m : Made). may_come g m line) asked.kept in
+    let came = comes ∙ sym asked.asked ∙ c.if-not-branch.false in
+    right_step g c.may_come.new.self c.advance.new.self line c.requires.made c.know_clause.ensures
+    asked.right came now.made now.closed (ap length now.table)
