@@ -1,2 +1,4 @@
 pub mod Volumes
 pub mod Units
+pub mod Budget
+pub mod LineSteps

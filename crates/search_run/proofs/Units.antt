@@ -69,6 +69,18 @@ pub box-set_other : (boxes : Boxes) (x y : ℕ) (s : Ranges) → y ≢ x →
     box_of (slice_set boxes x s) y ≡ box_of boxes y
 box-set_other boxes x y s h = get_or-set_other boxes x y s [] h
 
+-- boxes stay sets where one becomes a set
+pub AreValid-set : (boxes : Boxes) (x : ℕ) (s : Ranges) → x < length boxes → AreValid boxes →
+    IsValid s → AreValid (slice_set boxes x s)
+AreValid-set boxes x s lt a v y =
+    elim (cases_eq y x) [
+      | inl e ↦
+          let at : box_of (slice_set boxes x s) y ≡ s =
+          ap (λ (y : ℕ). box_of (slice_set boxes x s) y) e ∙ box-set_same boxes x s lt in
+          subst IsValid (sym at) v
+      | inr e ↦ subst IsValid (sym (box-set_other boxes x y s e)) (a y)
+    ]
+
 -- a clause whose variables come behind x doesn't see its box
 false-set : (c : Literals) (n : ℕ) (boxes : Boxes) (x : ℕ) (s : Ranges) → IsClauseFrom n c → x < n →
     false_in (slice_set boxes x s) c ≡ false_in boxes c
