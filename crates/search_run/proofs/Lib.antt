@@ -2,3 +2,4 @@ pub mod Volumes
 pub mod Units
 pub mod Budget
 pub mod LineSteps
+pub mod FewDecisions
