@@ -53,9 +53,9 @@ pub stack_is : (ms : List Moved) (boxes : Boxes) (s : Stack) → stack_of boxes 
     s ≡ stack_of s.top.now ms
 stack_is ms boxes s h = sym h ∙ ap (λ (b : Boxes). stack_of b ms) (boxes_of ms boxes s h)
 
-pub trail_is : (ms : List Moved) (boxes : Boxes) (s : Stack) → IsStore boxes ms →
-    stack_of boxes ms ≡ s → IsTrail s.top.now ms
-trail_is ms boxes s k h = subst (λ (b : Boxes). IsTrail b ms) (boxes_of ms boxes s h) k.trail
+pub store_is : (ms : List Moved) (boxes : Boxes) (s : Stack) → IsStore boxes ms →
+    stack_of boxes ms ≡ s → IsStore s.top.now ms
+store_is ms boxes s k h = subst (λ (b : Boxes). IsStore b ms) (boxes_of ms boxes s h) k
 
 -- ---- an entry more
 
@@ -153,7 +153,7 @@ dropped-older (m ∷ ms) k boxes t h =
     with_entry-dropped m.from boxes (entry_of m) (stack_of (slice_set boxes m.var m.before) ms) k
     (omega (arith, level))
 
-dropped_from-none : (below : List Level) (top : Level) (k : ℕ) → length below ≤ k →
+pub dropped_from-none : (below : List Level) (top : Level) (k : ℕ) → length below ≤ k →
     dropped_from k top below ≡ record { top = top; below = below }
 dropped_from-none [] top k h = refl
 dropped_from-none (l ∷ ls) top k h = rw (le-ltb k (suc (length ls)) h) refl

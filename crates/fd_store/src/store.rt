@@ -11,7 +11,7 @@ ghost use Rattle.signed_clause.specs.Ranges.{is_nil, IsValid};
 ghost use Rattle.signed_clause.specs.SetAlgebra.{is_within};
 ghost use Rattle.signed_clause.specs.Clauses.{box_of, unit_of, IsWithinBoxes};
 ghost use Rattle.fd_store.specs.Levels.{bottom, moved, dropped, applied, reacted};
-ghost use Rattle.fd_store.specs.Trails.{stack_of, IsTrail, IsNarrowing};
+ghost use Rattle.fd_store.specs.Trails.{stack_of, IsStore, IsNarrowing};
 
 use crate::trail::{Moved, last_level, narrow, undo};
 use ground_form::{Ground, copy_sets};
@@ -80,7 +80,7 @@ impl Store {
     /// way, and each entry's box lies within the one before.
     pub fn trail(&self) -> &[Moved]
         ensures stack { self.now ≡ stack_of self.now.top.now (reverse result.now) }
-        ensures entries { IsTrail self.now.top.now (reverse result.now) }
+        ensures kept { IsStore self.now.top.now (reverse result.now) }
     {
         self.trail.as_slice()
     }

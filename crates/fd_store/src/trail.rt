@@ -14,17 +14,17 @@ use signed_clause::IntSet;
 use std::alloc::AllocError;
 use std::mem;
 
-/// What was done to a box. It takes 72 bytes beside the ranges of `before`.
+/// What was done to a box. It takes 72 bytes, and more only where `before` has more than two ranges.
 #[derive(Drop)]
 pub struct Moved {
     /// The variable.
     pub var: u32,
+    /// The level in which it was done; of a decision the one that it opened.
+    pub level: u32,
     /// Its box before.
     pub before: IntSet,
     /// The number of the clause that pruned it, none for a decision.
     pub from: Option<u64>,
-    /// The level in which it was done; of a decision the one that it opened.
-    pub level: u32,
 }
 
 /// The level of the newest entry.
@@ -62,9 +62,9 @@ pub(crate) fn narrow(
     let before = replaced(boxes, x, set);
     trail.push_reserved(Moved {
         var: x,
+        level,
         before,
         from,
-        level,
     });
     Ok(())
 }

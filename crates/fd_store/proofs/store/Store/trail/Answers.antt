@@ -1,5 +1,5 @@
 use Rattle.std.proofs.Common.{reverse}
-use Rattle.fd_store.proofs.StackLaws.{stack_is, trail_is}
+use Rattle.fd_store.proofs.StackLaws.{stack_is, store_is}
 use Rattle.fd_store.proofs.store.Store.trail.Goals as goal
 
 pub returns-clause-stack : goal.returns-clause-stack
@@ -7,8 +7,8 @@ returns-clause-stack c =
     rw c.as_slice.ensures.value
     (stack_is (reverse c.self.inside.trail.items) c.self.inside.boxes.items _ c.self.view_is)
 
-pub returns-clause-entries : goal.returns-clause-entries
-returns-clause-entries c =
+pub returns-clause-kept : goal.returns-clause-kept
+returns-clause-kept c =
     rw c.as_slice.ensures.value
-    (trail_is (reverse c.self.inside.trail.items) c.self.inside.boxes.items _ c.self.invariant
+    (store_is (reverse c.self.inside.trail.items) c.self.inside.boxes.items _ c.self.invariant
     c.self.view_is)
