@@ -1,0 +1,5 @@
+pub mod Volumes
+pub mod Units
+pub mod Budget
+pub mod LineSteps
+pub mod FewDecisions
