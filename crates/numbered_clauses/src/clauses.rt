@@ -3,8 +3,9 @@
 //! Clauses are numbered from 0 in the order in which they were added; none is ever taken away or
 //! changed. A number is looked up in constant time. Each is kept by a handle, so that a clause that
 //! stands here and elsewhere takes memory once.
-ghost use Rattle.std.specs.Prelude.{◌≡◌, ◌<◌, ◌↔◌, ◌++◌, [], ◌∷◌, IsSome, IfSome, IfOk, OnOk, OnErr, length, slice_index_or};
+ghost use Rattle.std.specs.Prelude.{◌≡◌, ◌<◌, ◌↔◌, ◌++◌, [], ◌∷◌, IsSome, IfSome, IfOk, OnOk, OnErr, length};
 ghost use Rattle.signed_clause.specs.Clauses.{IsClause};
+ghost use Rattle.numbered_clauses.specs.Numbered.{clause_at};
 
 use signed_clause::{Clause, ClauseHandle};
 use std::alloc::{AllocError, Global};
@@ -56,7 +57,7 @@ impl Clauses {
     /// The clause of a number, where there is one.
     pub fn get(&self, k: u64) -> Option<&Clause>
         ensures variant { IsSome result ↔ (k < length self.now) }
-        ensures clause { IfSome result (λ c. c.now ≡ slice_index_or self.now k []) }
+        ensures clause { IfSome result (λ c. c.now ≡ clause_at self.now k) }
         ensures form { IfSome result (λ c. IsClause c.now) }
     {
         let handle = self.handle(k)?;
@@ -66,7 +67,7 @@ impl Clauses {
     /// The handle of a number's clause, where there is one. Whoever keeps the clause copies it.
     pub fn handle(&self, k: u64) -> Option<&ClauseHandle>
         ensures variant { IsSome result ↔ (k < length self.now) }
-        ensures clause { IfSome result (λ c. c.now ≡ slice_index_or self.now k []) }
+        ensures clause { IfSome result (λ c. c.now ≡ clause_at self.now k) }
         ensures form { IfSome result (λ c. IsClause c.now) }
     {
         let handles = self.items.as_slice();
