@@ -1,4 +1,4 @@
+pub mod OrderLaws
 pub mod MarkLaws
-pub mod LineLaws
 pub mod RowLaws
 pub mod FitLaws

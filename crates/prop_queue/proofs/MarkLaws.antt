@@ -3,7 +3,10 @@ use Rattle.std.proofs.Common.{◌≡◌, ℕ, suc, zero, ◌<◌, ◌≤◌, ◌
 use Rattle.std.specs.Option.{IfSome}
 use Rattle.std.proofs.lemmas.Bool.{cases_eq}
 use Rattle.prop_queue.specs.Work.{is_marked}
-use Rattle.prop_queue.specs.Lists.{first_of, occurs, count_marked, IsKept}
+use Rattle.prop_queue.specs.Lists.{occurs, count_marked, IsKept}
+use Rattle.prop_queue.specs.declared.urgency.Urgency.{Urgency}
+use Rattle.prop_queue.specs.Urgencies.{Waiting, order_of, first_of, queued}
+use Rattle.prop_queue.proofs.OrderLaws.{queued_more, queued_length}
 
 -- ---- one mark
 
@@ -101,7 +104,7 @@ unmarked_same : (ms : List Bool) (k j : ℕ) → is_marked ms k ≡ false → (k
 unmarked_same ms k j n e =
     let same : k ≡ j = grind arith in subst (λ (i : ℕ). is_marked ms i ≡ false) same n
 
-pub kept_pushed : (ms news : List Bool) (order more : List ℕ) (k : ℕ) → IsKept ms order →
+kept_pushed : (ms news : List Bool) (order more : List ℕ) (k : ℕ) → IsKept ms order →
     k < length ms →
     is_marked ms k ≡ false → news ≡ slice_set ms k true →
     ((j : ℕ) → occurs j more ≡ cond (k == j) (suc (occurs j order)) (occurs j order)) →
@@ -114,6 +117,14 @@ kept_pushed ms news order more k kept h n e occur long =
           (kept.stands j) (unmarked_same ms k j n));
       count = let two = kept.count in let one = count_set ms k h n in omega arith;
     })
+
+pub kept_queued : (ms news : List Bool) (w new : Waiting) (u : Urgency) (k : ℕ) → IsKept ms (order_of w) →
+    k < length ms → is_marked ms k ≡ false → news ≡ slice_set ms k true → new ≡ queued u k w →
+    IsKept news (order_of new)
+kept_queued ms news w new u k kept h n e is =
+    subst (λ (z : Waiting). IsKept news (order_of z)) (sym is)
+    (kept_pushed ms news (order_of w) (order_of (queued u k w)) k kept h n e (queued_more u k w)
+    (queued_length u k w))
 
 -- ---- the first number goes off
 

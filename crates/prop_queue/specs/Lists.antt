@@ -1,33 +1,18 @@
 -- How it is kept which constraints are listed. What a reader believes after this file: the order
 -- has each marked number once and no other, so it is never longer than there are marks; and the
 -- rows are filled one constraint after the other.
-use Rattle.std.specs.Prelude.{◌≡◌, ℕ, suc, ◌<◌, ◌==◌, Bool, true, cond, List, [], ◌∷◌, Option, Some, None, length, slice_get}
+use Rattle.std.specs.Prelude.{◌≡◌, ℕ, suc, ◌<◌, ◌==◌, Bool, true, cond, List, [], ◌∷◌, Some, length, slice_get}
 use Rattle.ground_form.specs.declared.con.Con.{Con}
 use Rattle.ground_form.specs.Meaning.{vars_of}
 use Rattle.rule_law.specs.Reasons.{has_number}
 use Rattle.prop_queue.specs.Work.{is_marked, row_of}
 
--- ---- numbers in order
-
--- numbers in the order in which they are taken, and how many there may be
-pub record Line : Type 0 where
-  pub order : List ℕ
-  pub room : ℕ
-
-abbrev pub line : List ℕ → ℕ → Line
-line order room = record { order = order; room = room }
-
--- the one that is taken next
-abbrev pub first_of : List ℕ → Option ℕ
-first_of [] = None
-first_of (k ∷ ks) = Some k
+-- ---- marks
 
 -- how often the number stands in the list
 abbrev pub occurs : ℕ → List ℕ → ℕ
 occurs k [] = 0
 occurs k (x ∷ xs) = cond (x == k) (suc (occurs k xs)) (occurs k xs)
-
--- ---- marks
 
 -- which numbers are listed, and in which order they are taken
 pub record Listed : Type 0 where

@@ -5,7 +5,7 @@
 ghost use Rattle.std.specs.Prelude.{◌≡◌, ◌<◌, ◌==◌, ◌||◌, ◌^◌, ℕ, suc, Some, cond, false, true, length, slice_set, IfOk, IfSome, IfNone};
 ghost use Rattle.rule_law.specs.Reasons.{has_number};
 ghost use Rattle.prop_queue.specs.Work.{is_marked};
-ghost use Rattle.prop_queue.specs.Lists.{first_of, AreBelow};
+ghost use Rattle.prop_queue.specs.Urgencies.{first_of};
 
 use crate::lists::Lists;
 use crate::urgency::Urgency;
@@ -23,12 +23,13 @@ pub struct Listing {
 impl Model for Listing {
     ghost use Rattle.std.specs.Prelude.{◌≡◌, ◌≤◌, ◌<◌, ◌^◌, length};
     ghost use Rattle.prop_queue.specs.Lists.{Listed, listed, IsKept};
+    ghost use Rattle.prop_queue.specs.Urgencies.{order_of};
 
     ghost Value = { Listed };
 
-    ghost view = { λ l. listed l.marks.items l.lists.order };
+    ghost view = { λ l. listed l.marks.items (order_of l.lists) };
 
-    ghost invariant = { λ l. IsKept l.marks.items l.lists.order
+    ghost invariant = { λ l. IsKept l.marks.items (order_of l.lists)
         × (length l.urgencies.items ≡ length l.marks.items)
         × (length l.marks.items ≤ l.lists.room)
         × (length l.marks.items < 2 ^ 32) };
@@ -83,7 +84,7 @@ impl Listing {
     }
 
     /// Lists the number, where it isn't listed. It takes no memory.
-    #[tactic(auto, using(crate::proofs::MarkLaws::kept_pushed, crate::proofs::MarkLaws::order_room, crate::proofs::MarkLaws::marked_set))]
+    #[tactic(auto, using(crate::proofs::MarkLaws::marked_set))]
     pub fn list(&mut self, k: u32)
         requires { k < length self.old.marks }
         ensures size { length self.new.marks ≡ length self.old.marks }
@@ -110,7 +111,7 @@ impl Listing {
     }
 
     /// Takes it off, where there is one.
-    #[tactic(auto, using(crate::proofs::MarkLaws::below_first, crate::proofs::MarkLaws::kept_rest, crate::proofs::MarkLaws::marked_set, crate::proofs::MarkLaws::none_marked))]
+    #[tactic(auto, using(crate::proofs::MarkLaws::below_first, crate::proofs::MarkLaws::marked_set, crate::proofs::MarkLaws::none_marked))]
     pub fn unlist_first(&mut self) -> Option<u32>
         ensures first { result ≡ first_of self.old.order }
         ensures size { length self.new.marks ≡ length self.old.marks }

@@ -1,6 +1,6 @@
 //! Three lists of numbers, one for each urgency, each first in, first out.
-ghost use Rattle.std.specs.Prelude.{◌≡◌, ◌<◌, ◌==◌, ◌++◌, ℕ, suc, cond, [], ◌∷◌, length, IfOk, IfSome, IfNone};
-ghost use Rattle.prop_queue.specs.Lists.{first_of, occurs};
+ghost use Rattle.std.specs.Prelude.{◌≡◌, ◌<◌, [], ◌∷◌, length, IfOk, IfSome, IfNone};
+ghost use Rattle.prop_queue.specs.Urgencies.{waiting, order_of, first_of, queued};
 
 use crate::urgency::Urgency;
 use std::alloc::{AllocError, Global};
@@ -16,14 +16,13 @@ pub struct Lists {
 }
 
 impl Model for Lists {
-    ghost use Rattle.std.specs.Prelude.{◌≤◌, ◌++◌};
+    ghost use Rattle.std.specs.Prelude.{◌≤◌};
     ghost use Rattle.std.specs.VecDeque.{deque_capacity};
-    ghost use Rattle.prop_queue.specs.Lists.{Line, line};
+    ghost use Rattle.prop_queue.specs.Urgencies.{Waiting, waiting};
 
-    ghost Value = { Line };
+    ghost Value = { Waiting };
 
-    ghost view = { λ l. line (l.cheap.items ++ (l.sums.items ++ l.packings.items))
-        (deque_capacity l.cheap) };
+    ghost view = { λ l. waiting l.cheap.items l.sums.items l.packings.items (deque_capacity l.cheap) };
 
     ghost invariant = { λ l. (deque_capacity l.cheap ≤ deque_capacity l.sums)
         × (deque_capacity l.cheap ≤ deque_capacity l.packings) };
@@ -35,8 +34,7 @@ impl Lists {
     /// # Errors
     /// Want of memory.
     pub fn with_room(alloc: Global, room: usize) -> Result<Lists, AllocError>
-        ensures order { IfOk result (λ l. l.order ≡ []) }
-        ensures room { IfOk result (λ l. l.room ≡ room) }
+        ensures { IfOk result (λ l. l ≡ waiting [] [] [] room) }
     {
         let cheap = VecDeque::with_capacity(alloc, room)?;
         let sums = VecDeque::with_capacity(alloc, room)?;
@@ -50,7 +48,7 @@ impl Lists {
 
     /// The number that is taken next, where there is one.
     pub fn front(&self) -> Option<u32>
-        ensures { result ≡ first_of self.now.order }
+        ensures { result ≡ first_of (order_of self.now) }
     {
         if let Some(k) = self.cheap.front() {
             return Some(*k);
@@ -63,9 +61,9 @@ impl Lists {
 
     /// Takes it.
     pub fn pop(&mut self) -> Option<u32>
-        ensures some { IfSome result (λ k. self.old.order ≡ k ∷ self.new.order) }
-        ensures none { IfNone result (self.old.order ≡ []) }
-        ensures left { IfNone result (self.new.order ≡ []) }
+        ensures some { IfSome result (λ k. order_of self.old ≡ k ∷ order_of self.new) }
+        ensures none { IfNone result (order_of self.old ≡ []) }
+        ensures left { IfNone result (order_of self.new ≡ []) }
         ensures room { self.new.room ≡ self.old.room }
     {
         if let Some(k) = self.cheap.pop_front() {
@@ -78,13 +76,9 @@ impl Lists {
     }
 
     /// Adds a number behind those of its urgency. It takes no memory.
-    #[tactic(auto, using(crate::proofs::LineLaws::pushed_first, crate::proofs::LineLaws::pushed_second, crate::proofs::LineLaws::pushed_third))]
     pub fn push(&mut self, urgency: Urgency, k: u32)
-        requires { length self.old.order < self.old.room }
-        ensures occurs { (j : ℕ) → occurs j self.new.order
-            ≡ cond (k == j) (suc (occurs j self.old.order)) (occurs j self.old.order) }
-        ensures length { length self.new.order ≡ suc (length self.old.order) }
-        ensures room { self.new.room ≡ self.old.room }
+        requires { length (order_of self.old) < self.old.room }
+        ensures { self.new ≡ queued urgency k self.old }
     {
         match urgency {
             Urgency::Cheap => self.cheap.push_back_reserved(k),

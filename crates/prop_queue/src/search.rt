@@ -5,7 +5,7 @@ ghost use Rattle.ground_form.specs.WellMade.{IsWellMade};
 ghost use Rattle.box_rules.specs.Quiet.{quiet};
 ghost use Rattle.rule_law.specs.Answers.{AreBoxesWithin, IsPruning};
 ghost use Rattle.prop_queue.specs.Work.{is_marked, FitsMarks, AreAllQuiet};
-ghost use Rattle.prop_queue.specs.Lists.{first_of};
+ghost use Rattle.prop_queue.specs.Urgencies.{first_of};
 
 use crate::listing::Listing;
 use ground_form::Ground;
