@@ -4,3 +4,4 @@ pub mod Budget
 pub mod LineSteps
 pub mod LineSets
 pub mod FewDecisions
+pub mod Within
