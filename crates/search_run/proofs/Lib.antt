@@ -5,3 +5,5 @@ pub mod LineSteps
 pub mod LineSets
 pub mod FewDecisions
 pub mod Within
+pub mod LevelFacts
+pub mod LevelSteps
