@@ -7,3 +7,4 @@ pub mod FewDecisions
 pub mod Within
 pub mod LevelFacts
 pub mod LevelSteps
+pub mod StateSteps
