@@ -8,3 +8,4 @@ pub mod Within
 pub mod LevelFacts
 pub mod LevelSteps
 pub mod StateSteps
+pub mod States
