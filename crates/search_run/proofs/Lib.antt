@@ -8,4 +8,7 @@ pub mod Within
 pub mod LevelFacts
 pub mod LevelSteps
 pub mod StateSteps
+pub mod ClauseStates
 pub mod States
+pub mod Fronts
+pub mod RunLaws
