@@ -25,17 +25,17 @@ has-within low top (r ∷ rs) v s h =
 
 -- ---- the sets
 
-abbrev Fits : ℤ → Type 0
+abbrev pub Fits : ℤ → Type 0
 Fits v = (negsuc 9223372036854775807 ≤ℤ v) × (v ≤ℤ pos 9223372036854775807)
 
 piece_valid : (low high : ℤ) → negsuc 9223372036854775807 ≤ℤ low → high ≤ℤ pos 9223372036854775807 → IsValid (piece low high [])
 piece_valid low high h k = Ascends-piece (negsuc 9223372036854775807) low high (pos 9223372036854775807) [] h (omega (arith, ints)) (λ _. omega (arith, ints))
 
-better_than_valid : (up : Bool) (v : ℤ) → Fits v → IsValid (better_than up v)
+pub better_than_valid : (up : Bool) (v : ℤ) → Fits v → IsValid (better_than up v)
 better_than_valid true v h = piece_valid (v +ℤ pos 1) (pos 9223372036854775807) (omega (arith, ints)) (omega (arith, ints))
 better_than_valid false v h = piece_valid (negsuc 9223372036854775807) (v -ℤ pos 1) (omega (arith, ints)) (omega (arith, ints))
 
-as_good_as_valid : (up : Bool) (v : ℤ) → Fits v → IsValid (as_good_as up v)
+pub as_good_as_valid : (up : Bool) (v : ℤ) → Fits v → IsValid (as_good_as up v)
 as_good_as_valid true v h = piece_valid v (pos 9223372036854775807) h.0 (omega (arith, ints))
 as_good_as_valid false v h = piece_valid (negsuc 9223372036854775807) v (omega (arith, ints)) h.1
 
@@ -124,7 +124,7 @@ with_true n x s (l ∷ c) a v f =
 
 -- ---- the clauses at a better solution
 
-fits_at : (ds : Boxes) (a : List ℤ) (x : ℕ) → All (λ s. IsValid s) ds → IsPoint ds a → x < length ds → Fits (value_of a x)
+pub fits_at : (ds : Boxes) (a : List ℤ) (x : ℕ) → All (λ s. IsValid s) ds → IsPoint ds a → x < length ds → Fits (value_of a x)
 fits_at ds a x s p h = has-within _ _ (box_of ds x) (value_of a x) (s x [] h) (p.within x h)
 
 -- at the first goal where a is not b, a is better; so at that goal a's value is among the better

@@ -13,7 +13,7 @@ use Rattle.log_form.specs.declared.line.Line.{Line}
 use Rattle.log_form.specs.declared.line.Line.TheVariants.{Axiom, Chain, Bound, Use, Found, Decide, Empty}
 use Rattle.log_form.specs.Acceptance.{Made, clause_at, has_empty, accepts, after, may_come}
 use Rattle.log_form.specs.Acceptance as acceptance
-use Rattle.log_check.specs.Soundness.{HasClause, IsSound}
+use Rattle.log_check.specs.Soundness.{IsSound}
 use Rattle.log_check.proofs.Steps.{sound_step, sound_start}
 use Rattle.fd_store.specs.Levels.{Level, Stack, moved, reacted, pruned_by}
 use Rattle.learn_clauses.specs.Walk.{back_to, walk_from}
@@ -21,6 +21,7 @@ use Rattle.learn_clauses.proofs.WithinLaws.{valid_boxes}
 use Rattle.search_run.specs.Replay.{State, Mode, Going, Conflict, AtFound, Closed, start, top_boxes, is_walk, leads_back, may_explain, jumped, jumped_to, react, learned, may_stand, changed, next, run_from, is_run}
 use Rattle.search_run.specs.Decisions.{decisions, MayDecide}
 use Rattle.search_run.specs.Lines.{HasSets}
+use Rattle.search_run.proofs.LineSets.{has_clause, first_has, rest_has, one_more}
 use Rattle.search_run.proofs.Volumes.{volume-some, prune_adds_none}
 use Rattle.search_run.proofs.Units.{AreValid-set, IsUnitBy, unit_is}
 use Rattle.search_run.proofs.Budget.{IsBounded, in_mode}
@@ -47,29 +48,7 @@ decisions-behind (l ∷ ls) x half =
     let other = decisions-cons l ls in
     omega (arith, more, one, other)
 
--- ---- what lines have
-
-has_clause : (l : Line) → HasSets l → HasClause l
-has_clause (Axiom k c) h = h
-has_clause (Chain chain c) h = h
-has_clause (Bound values) h = tt
-has_clause (Use i) h = tt
-has_clause (Found a) h = tt
-has_clause (Decide x half) h = tt
-has_clause (Empty x) h = tt
-
-first_has : (l : Line) (ls : List Line) → All (λ l. HasSets l) (l ∷ ls) → HasSets l
-first_has l ls h = h 0 l (omega arith)
-
-rest_has : (l : Line) (ls : List Line) → All (λ l. HasSets l) (l ∷ ls) → All (λ l. HasSets l) ls
-rest_has l ls h = λ k d lt. h (suc k) d (omega arith)
-
-one_more : (ls : List Line) (l : Line) → All (λ l. HasSets l) ls → HasSets l →
-    All (λ l. HasSets l) (ls ++ l ∷ [])
-one_more [] l h one zero d lt = one
-one_more [] l h one (suc k) d lt = absurd (omega arith)
-one_more (m ∷ ls) l h one zero d lt = first_has m ls h
-one_more (m ∷ ls) l h one (suc k) d lt = one_more ls l (rest_has m ls h) one k d (omega arith)
+-- ---- one line of a run
 
 -- the parts of one line of a run
 pub record IsRunLine (g : Ground) (m : Made) (s : State) (l : Line) (ls : List Line) : Type 0 where

@@ -2,4 +2,13 @@ pub mod Volumes
 pub mod Units
 pub mod Budget
 pub mod LineSteps
+pub mod LineSets
 pub mod FewDecisions
+pub mod Within
+pub mod LevelFacts
+pub mod LevelSteps
+pub mod StateSteps
+pub mod ClauseStates
+pub mod States
+pub mod Fronts
+pub mod RunLaws

@@ -18,7 +18,7 @@ use Rattle.search_run.specs.Replay.{State, Mode, Going, Conflict, AtFound, Close
 use Rattle.search_run.specs.Decisions.{decisions}
 use Rattle.search_run.specs.Lines.{HasSets}
 use Rattle.search_run.proofs.Volumes.{IsCut}
-use Rattle.search_run.proofs.Units.{AreValid-set}
+use Rattle.search_run.proofs.Units.{AreValid-set, IsHalf}
 use Rattle.search_run.proofs.Budget.{Stacked, pending, counted, Alive, IsBounded, IsOpen, in_mode, reacted_open, decided_open, learned_open}
 
 -- ---- what the modes say
@@ -71,25 +71,33 @@ exists_from_within (b ∷ bs) zero (r ∷ half) v n h = omega arith
 exists_from_within (b ∷ bs) (suc x) (r ∷ half) v n h =
     let more = exists_from_within bs x (r ∷ half) v n h in omega arith
 
-split_cut : (n : ℕ) (boxes : Boxes) (x : ℕ) (half : Ranges) → IsValid half →
-    (nat_lt x n && is_split half (box_of boxes x)) ≡ true →
-    IsCut n boxes (slice_set boxes x half)
-split_cut n boxes x half v h =
+-- a split is a cut, and a half of its box
+record IsSplit (n : ℕ) (boxes : Boxes) (x : ℕ) (half : Ranges) : Type 0 where
+  pub cut : IsCut n boxes (slice_set boxes x half)
+  pub half_is : IsHalf boxes x half
+
+split_parts : (n : ℕ) (boxes : Boxes) (x : ℕ) (half : Ranges) → IsValid half →
+    (nat_lt x n && is_split half (box_of boxes x)) ≡ true → IsSplit n boxes x half
+split_parts n boxes x half v h =
     let box = box_of boxes x in
     let p = and_parts (nat_lt x n) (is_split half box) h in
     let q = and_parts (not (is_nil half)) (is_within half box && not (is_within box half)) p.1 in
     let r = and_parts (is_within half box) (not (is_within box half)) q.1 in
     let some = not-true (is_nil half) q.0 in
+    let exists = exists_from_within boxes x half v some r.0 in
     record {
-      var = x;
-      half = half;
-      searched = ltb-true x n p.0;
-      exists = exists_from_within boxes x half v some r.0;
-      valid = v;
-      some = some;
-      part = r.0;
-      proper = not-true (is_within box half) r.1;
-      is = refl;
+      cut = record {
+        var = x;
+        half = half;
+        searched = ltb-true x n p.0;
+        exists = exists;
+        valid = v;
+        some = some;
+        part = r.0;
+        proper = not-true (is_within box half) r.1;
+        is = refl;
+      };
+      half_is = record { exists = exists; valid = v; some = some; part = r.0 };
     }
 
 -- the parts of what is asked of a decision
@@ -97,6 +105,7 @@ pub record IsDecision (g : Ground) (s : State) (x : ℕ) (half : Ranges) : Type 
   pub going : is_going s.mode ≡ true
   pub some : none_empty (top_boxes s) ≡ true
   pub cut : IsCut g.search (top_boxes s) (slice_set (top_boxes s) x half)
+  pub half_is : IsHalf (top_boxes s) x half
 
 pub decision_parts : (g : Ground) (m : Made) (s : State) (x : ℕ) (half : Ranges) → IsValid half →
     may_stand g m s (Decide x half) ≡ true → IsDecision g s x half
@@ -109,7 +118,8 @@ decision_parts g m s x half v h =
     let q = and_parts (none_empty top) (are_quiet g.cons top && (is_settled s && last)) p.1 in
     let r = and_parts (are_quiet g.cons top) (is_settled s && last) q.1 in
     let t = and_parts (is_settled s) last r.1 in
-    record { going = p.0; some = q.0; cut = split_cut g.search top x half v t.1 }
+    let split = split_parts g.search top x half v t.1 in
+    record { going = p.0; some = q.0; cut = split.cut; half_is = split.half_is }
 
 decide_step : (g : Ground) (d x : ℕ) (half : Ranges) (s : State) → IsValid half →
     IsDecision g s x half → IsBounded g d s.levels s.mode →

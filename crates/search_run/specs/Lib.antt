@@ -1,3 +1,4 @@
 pub mod Replay
 pub mod Decisions
 pub mod Lines
+pub mod Conflicts
