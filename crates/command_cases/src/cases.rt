@@ -18,7 +18,7 @@ pub struct Case<'a> {
     /// What is printed, each line with its LF.
     pub printed: Vec<u8>,
     /// The status: its number, and its line where it has one.
-    pub ending: &'a [u8],
+    pub status: &'a [u8],
 }
 
 /// Adds what a line says of a case.
@@ -29,7 +29,7 @@ fn extend<'a>(case: &mut Case<'a>, line: &'a [u8]) -> Result<(), AllocError> {
         case.printed.extend_from_slice(text)?;
         case.printed.push(b'\n')?;
     } else if let Some(text) = line.strip_prefix(b"ends ") {
-        case.ending = text;
+        case.status = text;
     }
     Ok(())
 }
@@ -46,7 +46,7 @@ pub fn cases_of(alloc: Global, text: &[u8]) -> Result<Vec<Case<'_>>, AllocError>
                 model,
                 config: None,
                 printed: Vec::new(alloc),
-                ending: b"",
+                status: b"",
             })?;
         } else if let Some(case) = cases.last_mut() {
             extend(case, line)?;

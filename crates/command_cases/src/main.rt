@@ -30,25 +30,25 @@ fn words(alloc: Global, texts: &[&str]) -> Result<Vec<String>, AllocError> {
 
 /// What a run printed, and its status: the number, and the line where it has one.
 #[derive(Drop)]
-struct Ending {
+struct Outcome {
     printed: Vec<u8>,
-    ending: Vec<u8>,
+    status: Vec<u8>,
 }
 
 /// The number of the status, and behind a space its line where it has one.
-fn ending_of(alloc: Global, status: &Status) -> Result<Vec<u8>, AllocError> {
+fn text_of(alloc: Global, status: &Status) -> Result<Vec<u8>, AllocError> {
     let number = status.number();
-    let mut ending = format!(in alloc; "{number}")?.into_bytes();
+    let mut text = format!(in alloc; "{number}")?.into_bytes();
     let line = line_of(alloc, status)?;
     if !line.is_empty() {
-        ending.push(b' ')?;
-        ending.extend_from_slice(&line)?;
+        text.push(b' ')?;
+        text.extend_from_slice(&line)?;
     }
-    Ok(ending)
+    Ok(text)
 }
 
 /// What comes of a case.
-fn outcome(alloc: Global, case: &Case<'_>) -> Result<Ending, AllocError> {
+fn run_case(alloc: Global, case: &Case<'_>) -> Result<Outcome, AllocError> {
     let model = String::from_str(alloc, "m.conf")?;
     let mut files = vec![in alloc; (model, case.model.to_vec(alloc)?)]?;
     let words = match case.config {
@@ -60,23 +60,23 @@ fn outcome(alloc: Global, case: &Case<'_>) -> Result<Ending, AllocError> {
     };
     let mut desk = SteadyDesk::new(alloc, files);
     let status = run(alloc, &words, &mut desk);
-    Ok(Ending {
+    Ok(Outcome {
         printed: desk.printed().to_vec(alloc)?,
-        ending: ending_of(alloc, &status)?,
+        status: text_of(alloc, &status)?,
     })
 }
 
 /// Runs the case, and whether it came out as it says. Where it didn't, what came is printed.
 fn is_as_said(rt: &HostRuntime, file: &str, case: &Case<'_>) -> Result<bool, AllocError> {
     let alloc = rt.alloc();
-    let came = outcome(alloc, case)?;
-    if came.printed.as_slice() == case.printed.as_slice() && came.ending.as_slice() == case.ending {
+    let came = run_case(alloc, case)?;
+    if came.printed.as_slice() == case.printed.as_slice() && came.status.as_slice() == case.status {
         return Ok(true);
     }
     let line = case.line;
     let printed = String::from_utf8_lossy(alloc, &came.printed)?;
-    let ending = String::from_utf8_lossy(alloc, &came.ending)?;
-    let _ = println!(rt; "{file}:{line}: printed\n{printed}and ended with '{ending}'");
+    let status = String::from_utf8_lossy(alloc, &came.status)?;
+    let _ = println!(rt; "{file}:{line}: printed\n{printed}and ended with '{status}'");
     Ok(false)
 }
 
