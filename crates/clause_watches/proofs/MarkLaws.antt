@@ -1,5 +1,5 @@
 -- Marks and the list of what is marked.
-use Rattle.std.proofs.Common.{◌≡◌, ℕ, suc, zero, ◌<◌, ◌≤◌, ◌==◌, ◌+◌, Bool, true, false, cond, List, [], ◌∷◌, ◌++◌, ◌||◌, ◌⊎◌, length, take, ◌-◌, slice_get, Option, Some, None, IfSome, arith, refl, sym, ap, ◌∙◌, inl, inr, subst, slice_set, slice_index_or}
+use Rattle.std.proofs.Common.{◌≡◌, ℕ, suc, zero, ◌<◌, ◌≤◌, ◌==◌, ◌+◌, Bool, true, false, cond, List, [], ◌∷◌, ◌++◌, ◌||◌, ◌⊎◌, length, arith, refl, sym, ap, ◌∙◌, inl, inr, subst, slice_set, slice_index_or}
 use Rattle.std.proofs.lemmas.Bool.{cases_eq}
 use Rattle.clause_watches.specs.Marks.{is_marked, count_marked, occurs, IsKept}
 
@@ -156,25 +156,3 @@ taken ms list front k kept e =
       kept = kept_popped ms front k whole;
       count = count_clear ms k (kept_below ms front k whole) (kept_last ms front k whole);
     }
-
-split_last : (x : ℕ) (xs : List ℕ) → (x ∷ xs) ≡ take (length xs) (x ∷ xs) ++ slice_index_or (x ∷ xs) (length xs) 0 ∷ []
-split_last x [] = refl
-split_last x (y ∷ ys) = ap (λ (l : List ℕ). x ∷ l) (split_last y ys)
-
-got_at : (xs : List ℕ) (i : ℕ) (P : ℕ → Type 0) → i < length xs → P (slice_index_or xs i 0) → IfSome (slice_get xs i) P
-got_at [] i P h p = absurd (omega arith)
-got_at (x ∷ xs) zero P h p = p
-got_at (x ∷ xs) (suc i) P h p = got_at xs i P (omega arith) p
-
-last_got : (ms : List Bool) (list : List ℕ) → IsKept ms list → IfSome (slice_get list (length list - 1)) (λ k. is_marked ms k ≡ true)
-last_got ms [] kept = tt
-last_got ms (x ∷ xs) kept =
-    let end = kept_last ms (take (length xs) (x ∷ xs)) (slice_index_or (x ∷ xs) (length xs) 0) (subst (λ (l : List ℕ). IsKept ms l) (split_last x xs) kept) in
-    let place : length xs ≡ length (x ∷ xs) - 1 = omega arith in
-    subst (λ (n : ℕ). IfSome (slice_get (x ∷ xs) n) (λ k. is_marked ms k ≡ true)) place (got_at (x ∷ xs) (length xs) (λ k. is_marked ms k ≡ true) (omega arith) end)
-
--- the last number of the list is marked
-pub last_waits : (ms : List Bool) (list xs : List ℕ) (o : Option ℕ) → IsKept ms list → xs ≡ list → o ≡ slice_get xs (length xs - 1) → IfSome o (λ k. is_marked ms k ≡ true)
-last_waits ms list xs o kept e f =
-    subst (λ (p : Option ℕ). IfSome p (λ k. is_marked ms k ≡ true)) (sym f)
-    (subst (λ (l : List ℕ). IfSome (slice_get l (length l - 1)) (λ k. is_marked ms k ≡ true)) (sym e) (last_got ms list kept))

@@ -1,10 +1,14 @@
 //! Clauses that are looked at only where they may have become unit or false.
 //!
 //! - `rest`: why a clause needs no look.
+//! - `steps`: what is still known of a clause, step by step.
 //! - `work_list`: numbers that wait, each once, with room for all of them.
+//! - `rests`: what is known of each added clause, and lists of those that need a look.
 #![tactic(auto)]
 
 mod rest;
+mod rests;
+mod steps;
 mod work_list;
 
 pub use rest::Rest;

@@ -78,14 +78,6 @@ impl WorkList {
         unmark(&mut self.marks, k);
         Some(k)
     }
-
-    /// The number that `take` takes out next.
-    pub(crate) fn last(&self) -> Option<u32>
-        ensures some { IfSome result (λ k. is_marked self.now k ≡ true) }
-        ensures none { IfNone result ((j : ℕ) → is_marked self.now j ≡ false) }
-    {
-        self.list.as_slice().last().copied()
-    }
 }
 
 /// Adds unset marks until there are `n`.
