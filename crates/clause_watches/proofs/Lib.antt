@@ -1,1 +1,4 @@
 pub mod MarkLaws
+pub mod RestLaws
+pub mod RowLaws
+pub mod MaskLaws

@@ -4,11 +4,14 @@
 //! - `steps`: what is still known of a clause, step by step.
 //! - `work_list`: numbers that wait, each once, with room for all of them.
 //! - `rests`: what is known of each added clause, and lists of those that need a look.
+//! - `watch`, `row`: the clauses that a variable watches, and a walk along them.
 #![tactic(auto)]
 
 mod rest;
 mod rests;
+mod row;
 mod steps;
+mod watch;
 mod work_list;
 
 pub use rest::Rest;

@@ -2,6 +2,7 @@
 ghost use Rattle.std.specs.Prelude.{◌≡◌, ◌==◌};
 ghost use Rattle.clause_watches.specs.Watching.{is_listed, touched, widened};
 ghost use Rattle.clause_watches.specs.Keeping.{is_held};
+ghost use Rattle.clause_watches.specs.Rows.{holds};
 
 use crate::rest::Rest;
 
@@ -45,5 +46,15 @@ pub(crate) fn widened(rest: Rest) -> Rest
     match rest {
         Rest::Held(x) => Rest::Half(x),
         kept => kept,
+    }
+}
+
+/// Whether the clause rests by the literal of `x` alone.
+pub(crate) fn holds(rest: Rest, x: u32) -> bool
+    ensures { result ≡ holds rest x }
+{
+    match rest {
+        Rest::Held(y) => y == x,
+        _ => false,
     }
 }
