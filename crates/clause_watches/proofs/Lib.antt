@@ -2,3 +2,4 @@ pub mod MarkLaws
 pub mod RestLaws
 pub mod RowLaws
 pub mod MaskLaws
+pub mod WalkLaws

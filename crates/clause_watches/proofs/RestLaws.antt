@@ -1,11 +1,11 @@
 -- What becomes of a rest, step by step.
-use Rattle.std.proofs.Common.{◌≡◌, ◌≢◌, ℕ, ◌<◌, ◌==◌, Bool, true, false, not, cond, List, ◌||◌, length, arith, refl, sym, ap, ◌∙◌, slice_set}
-use Rattle.std.proofs.lemmas.List.{get_or-set_same, get_or-set_other}
+use Rattle.std.proofs.Common.{◌≡◌, ◌≢◌, ℕ, ◌<◌, ◌==◌, Bool, true, false, not, cond, List, ◌||◌, length, arith, refl, sym, ap, ◌∙◌, subst, slice_set}
+use Rattle.std.proofs.lemmas.List.{get_or-set_same, get_or-set_other, set-get_or}
 use Rattle.clause_watches.specs.declared.rest.Rest.{Rest}
 use Rattle.clause_watches.specs.declared.rest.Rest.TheVariants.{Listed, Half, On, Held}
 use Rattle.clause_watches.specs.Watching.{rest_of, without, touched}
 use Rattle.clause_watches.specs.Marks.{is_marked}
-use Rattle.clause_watches.specs.Rows.{names, holds, differ, seen, IsStep}
+use Rattle.clause_watches.specs.Rows.{names, holds, differ, seen, raised, IsStep}
 
 pub rest_set_same : (rests : List Rest) (i : ℕ) (r : Rest) → i < length rests → rest_of (slice_set rests i r) i ≡ r
 rest_set_same rests i r h = get_or-set_same rests i r Listed h
@@ -62,10 +62,32 @@ step_touched x r = record {
   apart = touched_apart x r;
 }
 
-pub step_raised : (x : ℕ) → IsStep x (Held x) (Half x)
-step_raised x = record {
+step_half : (x a : ℕ) (b : Bool) → (a == x) ≡ b → IsStep x (Held a) (cond b (Half x) (Held a))
+step_half x a true e = let is : a ≡ x = grind arith in subst (λ (y : ℕ). IsStep x (Held y) (Half x)) (sym is) (record {
   named = λ y h. h;
   unseen = λ changed h. grind arith;
   unheld = λ y h. absurd (cc);
   apart = λ h. refl;
-}
+})
+step_half x a false e = step_none x (Held a)
+
+pub step_raised : (x : ℕ) (r : Rest) → IsStep x r (raised x r)
+step_raised x Listed = step_none x Listed
+step_raised x (Half a) = step_none x (Half a)
+step_raised x (On a b) = step_none x (On a b)
+step_raised x (Held a) = step_half x a (a == x) refl
+
+half_unheld : (x a : ℕ) (b : Bool) → (a == x) ≡ b → holds (cond b (Half x) (Held a)) x ≡ false
+half_unheld x a true e = refl
+half_unheld x a false e = e
+
+pub raised_unheld : (x : ℕ) (r : Rest) → holds (raised x r) x ≡ false
+raised_unheld x Listed = refl
+raised_unheld x (Half a) = refl
+raised_unheld x (On a b) = refl
+raised_unheld x (Held a) = half_unheld x a (a == x) refl
+
+pub raised_none : (rests : List Rest) (i x : ℕ) → holds (rest_of rests i) x ≡ false → slice_set rests i (raised x (rest_of rests i)) ≡ rests
+raised_none rests i x h =
+    let same : raised x (rest_of rests i) ≡ rest_of rests i = rw h refl in
+    ap (λ (r : Rest). slice_set rests i r) same ∙ set-get_or rests i Listed

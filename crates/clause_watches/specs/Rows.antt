@@ -1,6 +1,6 @@
 -- The watches of each variable. What a reader believes after this file: what a watch says of its
 -- clause's set is true, and how a walk along a row leaves the rests.
-use Rattle.std.specs.Prelude.{◌≡◌, ℕ, ◌<◌, Bool, true, false, not, ◌||◌, ◌==◌, List, ℤ, pos, ◌+ℤ◌, length, take}
+use Rattle.std.specs.Prelude.{◌≡◌, ℕ, ◌<◌, Bool, true, false, not, cond, ◌||◌, ◌==◌, List, ℤ, pos, ◌+ℤ◌, length, take}
 use Rattle.std.specs.Int.{bit_at}
 use Rattle.std.specs.List.{All, list_any}
 use Rattle.signed_clause.specs.Ranges.{Ranges, has}
@@ -65,6 +65,10 @@ abbrev pub has_watch : ℕ → List Watch → Bool
 has_watch i row = list_any (λ w. w.clause == i) row
 
 -- ---- a walk along a row
+
+-- of a clause that rests by x alone, only that x meets is kept
+abbrev pub raised : ℕ → Rest → Rest
+raised x r = cond (holds r x) (Half x) r
 
 -- a rest may become the other: it names no more, and where x may have changed nothing is seen of it
 pub record IsStep (x : ℕ) (before after : Rest) : Type 0 where
