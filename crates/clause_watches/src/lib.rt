@@ -7,12 +7,16 @@
 //! - `watch`, `row`: the clauses that a variable watches, and a walk along them.
 #![tactic(auto)]
 
+mod counts;
 mod mask;
 mod rest;
 mod rests;
 mod row;
+mod settle;
 mod steps;
+mod table;
 mod watch;
 mod work_list;
 
+pub use counts::Counts;
 pub use rest::Rest;

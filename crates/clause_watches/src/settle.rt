@@ -1,0 +1,60 @@
+//! The first half of a search for a clause: rows of variables that may have changed are walked.
+ghost use Rattle.std.specs.Prelude.{◌≡◌, ◌≢◌, ◌<◌, ℕ, Bool, List, false, true, length, slice_index_or};
+ghost use Rattle.signed_clause.specs.Ranges.{Ranges, IsValid};
+ghost use Rattle.signed_clause.specs.Clauses.{box_of};
+ghost use Rattle.clause_watches.specs.declared.rest.Rest.{Rest};
+ghost use Rattle.clause_watches.specs.Marks.{is_marked, count_marked};
+ghost use Rattle.clause_watches.specs.Rows.{AreBelow, IsMaskOf, IsWalked};
+ghost use Rattle.clause_watches.specs.Sound.{row_of, least_at, IsSound, AreKnown, IsUnmarked};
+
+use crate::mask::mask_of;
+use crate::rests::Rests;
+use crate::row::{Row, walk};
+use crate::table::Table;
+use crate::watch::Site;
+use signed_clause::IntSet;
+
+/// The box of a variable.
+pub(crate) fn box_at(boxes: &[IntSet], x: u32) -> &IntSet
+    requires { x < length boxes.now }
+    ensures { result.now ≡ box_of boxes.now x }
+{
+    &boxes[x as usize]
+}
+
+/// Walks the row of the site's variable.
+fn walk_row(rows: &mut Vec<Row>, rests: &mut Rests, at: &IntSet, site: Site)
+    requires there { site.variable < length rows.old.items }
+    requires below { AreBelow (length rests.old) (row_of rows.old.items site.variable) }
+    ensures size { length rests.new ≡ length rests.old }
+    ensures count { length rows.new.items ≡ length rows.old.items }
+    ensures others { (y : ℕ) → y ≢ site.variable
+        → row_of rows.new.items y ≡ row_of rows.old.items y }
+    ensures below { AreBelow (length rests.new) (row_of rows.new.items site.variable) }
+    ensures walked { (sets : ℕ → Ranges) (before : List Rest) → IsMaskOf site.least at.now site.mask
+        → IsValid at.now → ((i : ℕ) → IsValid (sets i))
+        → IsWalked sets at.now site before rests.old (row_of rows.old.items site.variable) 0
+        → IsWalked sets at.now site before rests.new (row_of rows.new.items site.variable)
+            (length (row_of rows.new.items site.variable)) }
+{
+    walk(&mut rows[site.variable as usize], rests, at, site);
+}
+
+/// What a walk along the row of `x` asks of its box.
+fn site_of(table: &Table, at: &IntSet, x: u32) -> Site
+    requires leasts { x < length table.now.leasts.items }
+    requires holds { x < length table.now.holds.items }
+    ensures variable { result.variable ≡ x }
+    ensures least { result.least ≡ least_at table.now.leasts.items x }
+    ensures mask { IsMaskOf (least_at table.now.leasts.items x) at.now result.mask }
+    ensures valid { IsValid at.now }
+    ensures holds { result.holds ≡ is_marked table.now.holds.items x }
+{
+    let least = table.leasts[x as usize];
+    Site {
+        variable: x,
+        least,
+        mask: mask_of(at, least),
+        holds: table.holds[x as usize],
+    }
+}
