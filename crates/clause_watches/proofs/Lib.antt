@@ -3,3 +3,5 @@ pub mod RestLaws
 pub mod RowLaws
 pub mod MaskLaws
 pub mod WalkLaws
+pub mod KnownLaws
+pub mod SettleLaws

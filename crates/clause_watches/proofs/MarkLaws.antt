@@ -3,12 +3,12 @@ use Rattle.std.proofs.Common.{◌≡◌, ℕ, suc, zero, ◌<◌, ◌≤◌, ◌
 use Rattle.std.proofs.lemmas.Bool.{cases_eq}
 use Rattle.clause_watches.specs.Marks.{is_marked, count_marked, occurs, IsKept}
 
-marked_same : (ms : List Bool) (k : ℕ) (b : Bool) → k < length ms → is_marked (slice_set ms k b) k ≡ b
+pub marked_same : (ms : List Bool) (k : ℕ) (b : Bool) → k < length ms → is_marked (slice_set ms k b) k ≡ b
 marked_same [] k b h = absurd (omega arith)
 marked_same (m ∷ ms) zero b h = refl
 marked_same (m ∷ ms) (suc k) b h = marked_same ms k b (omega arith)
 
-marked_other : (ms : List Bool) (k j : ℕ) (b : Bool) → (j ≡ k → ⊥) → is_marked (slice_set ms k b) j ≡ is_marked ms j
+pub marked_other : (ms : List Bool) (k j : ℕ) (b : Bool) → (j ≡ k → ⊥) → is_marked (slice_set ms k b) j ≡ is_marked ms j
 marked_other [] k j b n = refl
 marked_other (m ∷ ms) zero zero b n = absurd (n refl)
 marked_other (m ∷ ms) zero (suc j) b n = refl

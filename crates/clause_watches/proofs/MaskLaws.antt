@@ -51,9 +51,11 @@ pub bits_from : (first last j : ℕ) → first ≤ last → last < 64 →
     bit_at (bit_and (18446744073709551615 * 2 ^ first % 18446744073709551616) (18446744073709551615 / 2 ^ (63 - last))) j ≡ 1 →
     (first ≤ j) × (j ≤ last)
 bits_from first last j h k e =
+    let low : 18446744073709551615 * 2 ^ first % 18446744073709551616 ≡ 2 ^ 64 - 2 ^ first =
+        ones_shl 64 first (omega arith) in
+    let high : 18446744073709551615 / 2 ^ (63 - last) ≡ 2 ^ (64 - (63 - last)) - 1 =
+        ones_shr 64 (63 - last) (omega arith) in
     let both = both_set _ _ j e in
-    let low : 18446744073709551615 * 2 ^ first % 18446744073709551616 ≡ 2 ^ 64 - 2 ^ first = ones_shl 64 first (omega arith) in
-    let high : 18446744073709551615 / 2 ^ (63 - last) ≡ 2 ^ (64 - (63 - last)) - 1 = ones_shr 64 (63 - last) (omega arith) in
     let one = ap (λ (n : ℕ). bit_at n j) (sym low) ∙ both.0 in
     let two = ap (λ (n : ℕ). bit_at n j) (sym high) ∙ both.1 in
     (not_below first j _ one (λ l. bit_at_mask_below first 64 j l),

@@ -45,10 +45,10 @@ fn site_of(table: &Table, at: &IntSet, x: u32) -> Site
     requires leasts { x < length table.now.leasts.items }
     requires holds { x < length table.now.holds.items }
     ensures variable { result.variable ≡ x }
-    ensures least { result.least ≡ least_at table.now.leasts.items x }
-    ensures mask { IsMaskOf (least_at table.now.leasts.items x) at.now result.mask }
+    ensures least { result.least ≡ least_at table.now.leasts.items result.variable }
+    ensures mask { IsMaskOf result.least at.now result.mask }
     ensures valid { IsValid at.now }
-    ensures holds { result.holds ≡ is_marked table.now.holds.items x }
+    ensures holds { result.holds ≡ is_marked table.now.holds.items result.variable }
 {
     let least = table.leasts[x as usize];
     Site {
@@ -57,4 +57,34 @@ fn site_of(table: &Table, at: &IntSet, x: u32) -> Site
         mask: mask_of(at, least),
         holds: table.holds[x as usize],
     }
+}
+
+/// Walks the row of a variable that may have changed and isn't noted any longer.
+#[tactic(auto, using(crate::proofs::SettleLaws::walk_begins, crate::proofs::SettleLaws::linked_after, crate::proofs::SettleLaws::known_after))]
+fn settle(table: &mut Table, boxes: &[IntSet], x: u32)
+    requires sound { IsSound table.old }
+    requires there { x < length table.old.rows.items }
+    requires boxes { length boxes.now ≡ length table.old.rows.items }
+    ensures sound { IsSound table.new }
+    ensures added { table.new.added ≡ table.old.added }
+    ensures count { length table.new.rows.items ≡ length table.old.rows.items }
+    ensures size { length table.new.rests ≡ length table.old.rests }
+    ensures changed { table.new.changed ≡ table.old.changed }
+    ensures known { (before : List Bool) → is_marked before x ≡ true
+        → IsUnmarked x before table.old.changed
+        → AreKnown boxes.now table.old.added.items table.old.rests before
+        → AreKnown boxes.now table.new.added.items table.new.rests table.new.changed }
+{
+    let at = box_at(boxes, x);
+    let site = site_of(table, at, x);
+    table.counts.met = table.counts.met.saturating_add(row_len(&table.rows, x));
+    walk_row(&mut table.rows, &mut table.rests, at, site);
+    table.holds[site.variable as usize] = false;
+}
+
+/// How many watches the row of `x` has.
+fn row_len(rows: &[Row], x: u32) -> u64
+    requires { x < length rows.now }
+{
+    rows[x as usize].len() as u64
 }
