@@ -14,6 +14,25 @@ use crate::table::Table;
 use crate::watch::Site;
 use signed_clause::IntSet;
 
+/// Walks the rows of all variables that may have changed. It takes no memory, and costs the watches
+/// of those rows.
+#[tactic(auto, using(crate::proofs::MarkLaws::marked_below))]
+pub(crate) fn settle_all(table: &mut Table, boxes: &[IntSet])
+    requires sound { IsSound table.old }
+    requires boxes { length boxes.now ≡ length table.old.rows.items }
+    requires known { AreKnown boxes.now table.old.added.items table.old.rests table.old.changed }
+    ensures sound { IsSound table.new }
+    ensures added { table.new.added ≡ table.old.added }
+    ensures count { length table.new.rows.items ≡ length table.old.rows.items }
+    ensures size { length table.new.rests ≡ length table.old.rests }
+    ensures changed { (x : ℕ) → is_marked table.new.changed x ≡ false }
+    ensures known { AreKnown boxes.now table.new.added.items table.new.rests table.new.changed }
+{
+    while let Some(x) = table.changed.take() {
+        settle(table, boxes, x);
+    }
+}
+
 /// The box of a variable.
 pub(crate) fn box_at(boxes: &[IntSet], x: u32) -> &IntSet
     requires { x < length boxes.now }

@@ -2,7 +2,7 @@
 ghost use Rattle.std.specs.Prelude.{◌≡◌, ◌==◌};
 ghost use Rattle.clause_watches.specs.Watching.{is_listed, touched, widened};
 ghost use Rattle.clause_watches.specs.Keeping.{is_held};
-ghost use Rattle.clause_watches.specs.Rows.{holds};
+ghost use Rattle.clause_watches.specs.Rows.{names, holds};
 
 use crate::rest::Rest;
 
@@ -56,5 +56,16 @@ pub(crate) fn holds(rest: Rest, x: u32) -> bool
     match rest {
         Rest::Held(y) => y == x,
         _ => false,
+    }
+}
+
+/// Whether the rest names `x`.
+pub(crate) fn names(rest: Rest, x: u32) -> bool
+    ensures { result ≡ names rest x }
+{
+    match rest {
+        Rest::Listed => false,
+        Rest::Half(y) | Rest::Held(y) => y == x,
+        Rest::On(y, z) => y == x || z == x,
     }
 }

@@ -72,7 +72,8 @@ impl WorkList {
         ensures waited { IfSome result (λ k. is_marked self.old k ≡ true) }
         ensures marks { IfSome result (λ k. (j : ℕ) → is_marked self.new j ≡ cond (k == j) false (is_marked self.old j)) }
         ensures count { IfSome result (λ k. suc (count_marked self.new) ≡ count_marked self.old) }
-        ensures none { IfNone result ((j : ℕ) → is_marked self.old j ≡ false) }
+        ensures none { IfNone result ((j : ℕ) → is_marked self.new j ≡ false) }
+        ensures kept { IfNone result (self.new ≡ self.old) }
     {
         let k = self.list.pop()?;
         unmark(&mut self.marks, k);
