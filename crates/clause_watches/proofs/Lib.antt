@@ -5,3 +5,4 @@ pub mod MaskLaws
 pub mod WalkLaws
 pub mod KnownLaws
 pub mod SettleLaws
+pub mod ActLaws

@@ -17,6 +17,7 @@ mod settle;
 mod steps;
 mod table;
 mod watch;
+mod witness;
 mod work_list;
 
 pub use counts::Counts;

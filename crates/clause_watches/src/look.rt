@@ -1,13 +1,14 @@
 //! The second half of a search for a clause: listed clauses are opened one after the other.
 ghost use Rattle.std.specs.Prelude.{◌≡◌, ◌<◌, ℕ, List, ℤ, Bool, false, true, length, slice_index_or, IfNone, IfSome};
 ghost use Rattle.std.specs.List.{All};
-ghost use Rattle.signed_clause.specs.Clauses.{box_of, IsWithinBoxes};
+ghost use Rattle.signed_clause.specs.Clauses.{box_of, IsClause, IsWithinBoxes};
+ghost use Rattle.clause_watches.specs.Watching.{clause_of};
 ghost use Rattle.clause_watches.specs.Rows.{names};
 ghost use Rattle.clause_watches.specs.Looking.{IsMeeting, IsOut};
 
 use crate::rest::Rest;
 use crate::steps::names;
-use signed_clause::IntSet;
+use signed_clause::{ClauseHandle, IntSet};
 
 /// The first literal that the rest doesn't name and that meets its box.
 fn find_meeting(lits: &[(u32, IntSet)], boxes: &[IntSet], rest: Rest) -> Option<usize>
@@ -31,4 +32,13 @@ fn is_meeting(l: &(u32, IntSet), boxes: &[IntSet], rest: Rest) -> bool
     ensures no { result ≡ false → IsOut boxes.now rest l.now }
 {
     !names(rest, l.0) && !l.1.disjoint(&boxes[l.0 as usize])
+}
+
+/// The literals of clause `i`.
+fn literals_at(added: &[(u64, ClauseHandle)], i: u32) -> &[(u32, IntSet)]
+    requires { i < length added.now }
+    ensures items { result.now ≡ clause_of added.now i }
+    ensures form { IsClause result.now }
+{
+    added[i as usize].1.clause().literals()
 }
