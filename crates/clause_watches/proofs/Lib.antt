@@ -6,3 +6,4 @@ pub mod WalkLaws
 pub mod KnownLaws
 pub mod SettleLaws
 pub mod ActLaws
+pub mod LinkLaws

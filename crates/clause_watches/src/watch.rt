@@ -30,3 +30,12 @@ pub(crate) struct Site {
     /// Whether some clause may rest by this variable's literal alone.
     pub(crate) holds: bool,
 }
+
+/// A watch and the variable in whose row it belongs.
+#[derive(Clone, Copy)]
+pub(crate) struct Link {
+    /// The variable.
+    pub(crate) variable: u32,
+    /// The watch.
+    pub(crate) watch: Watch,
+}
