@@ -8,6 +8,7 @@
 #![tactic(auto)]
 
 mod counts;
+mod link;
 mod look;
 mod mask;
 mod rest;

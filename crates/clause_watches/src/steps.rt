@@ -3,6 +3,7 @@ ghost use Rattle.std.specs.Prelude.{◌≡◌, ◌==◌};
 ghost use Rattle.clause_watches.specs.Watching.{is_listed, touched, widened};
 ghost use Rattle.clause_watches.specs.Keeping.{is_held};
 ghost use Rattle.clause_watches.specs.Rows.{names, holds};
+ghost use Rattle.clause_watches.specs.Looking.{linked};
 
 use crate::rest::Rest;
 
@@ -67,5 +68,16 @@ pub(crate) fn names(rest: Rest, x: u32) -> bool
         Rest::Listed => false,
         Rest::Half(y) | Rest::Held(y) => y == x,
         Rest::On(y, z) => y == x || z == x,
+    }
+}
+
+/// What is known once the literal of `x` is found to meet its box, too.
+pub(crate) fn linked(rest: Rest, x: u32) -> Rest
+    ensures { result ≡ linked x rest }
+{
+    match rest {
+        Rest::Listed => Rest::Half(x),
+        Rest::Half(y) => Rest::On(y, x),
+        kept => kept,
     }
 }
