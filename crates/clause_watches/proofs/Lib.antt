@@ -7,3 +7,4 @@ pub mod KnownLaws
 pub mod SettleLaws
 pub mod ActLaws
 pub mod LinkLaws
+pub mod LookLaws

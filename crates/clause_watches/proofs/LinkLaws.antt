@@ -66,7 +66,7 @@ linked_apart x (On a b) n d = d
 linked_apart x (Held a) n d = d
 
 -- in place of one rest another, at a property of all of them
-rest_cases : (rests : List Rest) (i : ℕ) (r : Rest) (P : ℕ → Rest → Type 0) → i < length rests → P i r → ((j : ℕ) → P j (rest_of rests j)) → (j : ℕ) → P j (rest_of (slice_set rests i r) j)
+pub rest_cases : (rests : List Rest) (i : ℕ) (r : Rest) (P : ℕ → Rest → Type 0) → i < length rests → P i r → ((j : ℕ) → P j (rest_of rests j)) → (j : ℕ) → P j (rest_of (slice_set rests i r) j)
 rest_cases rests i r P h p all j = elim (cases_eq j i) [
   | inl same ↦ subst (λ (k : ℕ). P k (rest_of (slice_set rests i r) k)) (sym same) (subst (λ (q : Rest). P i q) (sym (rest_set_same rests i r h)) p)
   | inr other ↦ subst (λ (q : Rest). P j q) (sym (rest_set_other rests i j r other)) (all j)

@@ -100,7 +100,7 @@ known_after boxes added rests news row s before after on unmarked apart walked k
     known_again boxes (clause_of added i) x (rest_of news i) before after on unmarked (apart i) (λ n. (met n).meets) (λ n. (met n).unheld)
     (subst (λ (r : Rest). IsKnown boxes (clause_of added i) r) (sym ((walked.steps i).unseen before on)) (known i))
 
-clause_form : (added : List (ℕ × Literals)) (i : ℕ) → All (λ a. IsClause a.1) added → IsClause (clause_of added i)
+pub clause_form : (added : List (ℕ × Literals)) (i : ℕ) → All (λ a. IsClause a.1) added → IsClause (clause_of added i)
 clause_form [] i f = tt
 clause_form (a ∷ rest) zero f = f 0 a (omega arith)
 clause_form (a ∷ rest) (suc i) f = clause_form rest i (λ k d h. f (suc k) d (omega arith))

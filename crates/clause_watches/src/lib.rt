@@ -14,6 +14,7 @@ mod mask;
 mod rest;
 mod rests;
 mod row;
+mod search;
 mod settle;
 mod steps;
 mod table;
