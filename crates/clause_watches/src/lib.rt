@@ -7,6 +7,7 @@
 //! - `watch`, `row`: the clauses that a variable watches, and a walk along them.
 #![tactic(auto)]
 
+mod build;
 mod counts;
 mod link;
 mod look;

@@ -46,6 +46,7 @@ impl WorkList {
     pub(crate) fn reach(&mut self, n: usize) -> Result<(), AllocError>
         ensures enough { OnOk result (n ≤ length self.new) }
         ensures longer { length self.old ≤ length self.new }
+        ensures few { length self.new ≤ max n (length self.old) }
         ensures marks { (k : ℕ) → is_marked self.new k ≡ is_marked self.old k }
     {
         let more = n.saturating_sub(self.list.len());
