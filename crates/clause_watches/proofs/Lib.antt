@@ -8,3 +8,4 @@ pub mod SettleLaws
 pub mod ActLaws
 pub mod LinkLaws
 pub mod LookLaws
+pub mod WatchingLaws
