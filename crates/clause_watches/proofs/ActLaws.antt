@@ -1,5 +1,5 @@
 -- Clauses that rest don't act, and those of which no two literals meet do.
-use Rattle.std.proofs.Common.{◌≡◌, ◌≢◌, ℕ, suc, zero, ◌<◌, ◌≤◌, ◌==◌, Bool, true, false, not, cond, List, [], ◌∷◌, ◌||◌, ◌&&◌, ◌⊎◌, ℤ, All, length, arith, refl, sym, ap, ◌∙◌, inl, inr, subst, slice_index_or, Option, Some, None}
+use Rattle.std.proofs.Common.{◌≡◌, ◌≢◌, ℕ, suc, zero, ◌<◌, ◌≤◌, ◌==◌, Bool, true, false, not, cond, [], ◌∷◌, ◌||◌, ◌&&◌, All, length, arith, refl, sym, ap, ◌∙◌, inl, inr, subst, slice_index_or, Option, Some, None}
 use Rattle.std.specs.Prelude.{is_some}
 use Rattle.std.proofs.lemmas.Bool.{cases_eq}
 use Rattle.std.proofs.lemmas.List.Elements.{All-head, All-tail}
@@ -151,7 +151,7 @@ one_unit boxes (l ∷ ls) x n f m h w = elim (cases_eq l.0 x) [
       let no : (x == l.0) ≡ false = let d : x ≢ l.0 = λ e. other (sym e) in grind arith in
       skip_unit (is_disjoint l.1 (box_of boxes l.0)) _ (unit_of boxes ls) (alone_of boxes l ls) ((out_head boxes (Half x) l ls h).disjoint no)
       (one_unit boxes ls x (suc l.0) f.3 (rest_meets boxes l ls x other m) (out_tail boxes (Half x) l ls h)
-        (subst (λ (s : Ranges). is_within (box_of boxes x) s ≡ false) (later l ls x other) w))
+      (subst (λ (s : Ranges). is_within (box_of boxes x) s ≡ false) (later l ls x other) w))
 ]
 
 -- one literal alone meets, and takes something away

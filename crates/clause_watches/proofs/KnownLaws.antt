@@ -1,10 +1,10 @@
 -- What is known of clauses once a row was walked.
-use Rattle.std.proofs.Common.{◌≡◌, ◌≢◌, ℕ, ◌<◌, ◌==◌, Bool, true, false, not, cond, List, ◌⊎◌, inl, inr, length, arith, refl, sym, ap, ◌∙◌, subst}
+use Rattle.std.proofs.Common.{◌≡◌, ◌≢◌, ℕ, ◌==◌, Bool, true, false, not, cond, List, inl, inr, arith, refl, sym, ap, ◌∙◌, subst}
 use Rattle.std.proofs.lemmas.Bool.{cases_eq}
 use Rattle.signed_clause.specs.Clauses.{Boxes, Literals}
 use Rattle.clause_watches.specs.declared.rest.Rest.{Rest}
 use Rattle.clause_watches.specs.declared.rest.Rest.TheVariants.{Listed, Half, On, Held}
-use Rattle.clause_watches.specs.Watching.{Meets, IsWatched, IsHeld, IsKnown}
+use Rattle.clause_watches.specs.Watching.{Meets, IsKnown}
 use Rattle.clause_watches.specs.Marks.{is_marked}
 use Rattle.clause_watches.specs.Rows.{names, holds, differ, seen}
 use Rattle.clause_watches.specs.Sound.{IsUnmarked}
@@ -52,15 +52,15 @@ known_again boxes c x (On a b) before after on u d meets free k =
           subst (λ (m : Bool). IsKnown boxes c (cond m (cond (is_marked after b) Listed (Half b)) (cond (is_marked after b) (Half a) (On a b)))) (sym off)
           (subst (λ (m : Bool). IsKnown boxes c (cond m (Half a) (On a b))) (sym rest) (on_first boxes c a b (is_marked before b) apart met left))
       | inr other ↦ elim (cases_eq b x) [
-          | inl same ↦ let off : is_marked after b ≡ false = subst (λ (y : ℕ). is_marked after y ≡ false) (sym same) (unmarked_same x before after u) in
-              let was : is_marked before b ≡ true = subst (λ (y : ℕ). is_marked before y ≡ true) (sym same) on in
-              let met : Meets boxes c b = subst (λ (y : ℕ). Meets boxes c y) (sym same) (meets (grind arith)) in
-              let rest : is_marked after a ≡ is_marked before a = unmarked_other x a before after u other in
-              let left : IsKnown boxes c (cond (is_marked before a) Listed (Half a)) = subst (λ (m : Bool). IsKnown boxes c (cond (is_marked before a) (cond m Listed (Half b)) (cond m (Half a) (On a b)))) was k in
-              subst (λ (m : Bool). IsKnown boxes c (cond (is_marked after a) (cond m Listed (Half b)) (cond m (Half a) (On a b)))) (sym off)
-              (subst (λ (m : Bool). IsKnown boxes c (cond m (Half b) (On a b))) (sym rest) (on_second boxes c a b (is_marked before a) apart met left))
-          | inr third ↦
-              subst (λ (m : Bool). IsKnown boxes c (cond m (cond (is_marked after b) Listed (Half b)) (cond (is_marked after b) (Half a) (On a b)))) (sym (unmarked_other x a before after u other))
-              (subst (λ (m : Bool). IsKnown boxes c (cond (is_marked before a) (cond m Listed (Half b)) (cond m (Half a) (On a b)))) (sym (unmarked_other x b before after u third)) k)
-        ]
+        | inl same ↦ let off : is_marked after b ≡ false = subst (λ (y : ℕ). is_marked after y ≡ false) (sym same) (unmarked_same x before after u) in
+            let was : is_marked before b ≡ true = subst (λ (y : ℕ). is_marked before y ≡ true) (sym same) on in
+            let met : Meets boxes c b = subst (λ (y : ℕ). Meets boxes c y) (sym same) (meets (grind arith)) in
+            let rest : is_marked after a ≡ is_marked before a = unmarked_other x a before after u other in
+            let left : IsKnown boxes c (cond (is_marked before a) Listed (Half a)) = subst (λ (m : Bool). IsKnown boxes c (cond (is_marked before a) (cond m Listed (Half b)) (cond m (Half a) (On a b)))) was k in
+            subst (λ (m : Bool). IsKnown boxes c (cond (is_marked after a) (cond m Listed (Half b)) (cond m (Half a) (On a b)))) (sym off)
+            (subst (λ (m : Bool). IsKnown boxes c (cond m (Half b) (On a b))) (sym rest) (on_second boxes c a b (is_marked before a) apart met left))
+        | inr third ↦
+            subst (λ (m : Bool). IsKnown boxes c (cond m (cond (is_marked after b) Listed (Half b)) (cond (is_marked after b) (Half a) (On a b)))) (sym (unmarked_other x a before after u other))
+            (subst (λ (m : Bool). IsKnown boxes c (cond (is_marked before a) (cond m Listed (Half b)) (cond m (Half a) (On a b)))) (sym (unmarked_other x b before after u third)) k)
+      ]
     ]

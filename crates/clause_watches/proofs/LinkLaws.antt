@@ -1,5 +1,5 @@
 -- Watches by literals that are found.
-use Rattle.std.proofs.Common.{◌≡◌, ◌≢◌, ℕ, zero, suc, ◌<◌, ◌≤◌, ◌+◌, ◌==◌, Bool, true, false, not, cond, List, [], ◌∷◌, ◌++◌, ◌||◌, ◌⊎◌, inl, inr, ℤ, length, arith, refl, sym, ap, ◌∙◌, subst, slice_set, slice_index_or}
+use Rattle.std.proofs.Common.{◌≡◌, ◌≢◌, ℕ, zero, suc, ◌<◌, ◌==◌, Bool, true, false, not, List, [], ◌∷◌, ◌++◌, ◌||◌, ◌⊎◌, inl, inr, ℤ, length, arith, refl, sym, ap, ◌∙◌, subst, slice_set, slice_index_or}
 use Rattle.std.proofs.lemmas.Bool.{cases_eq}
 use Rattle.std.proofs.lemmas.List.{length-set}
 use Rattle.std.proofs.lemmas.List.Elements.{All-push}
@@ -16,7 +16,6 @@ use Rattle.clause_watches.specs.Rows.{names, holds, differ, has_watch, AreBelow,
 use Rattle.clause_watches.specs.Sound.{row_of, least_at, sets_at, AreLinked}
 use Rattle.clause_watches.specs.Looking.{IsMeeting, IsLink, linked}
 use Rattle.clause_watches.proofs.ActLaws.{set_at}
-use Rattle.clause_watches.proofs.MarkLaws.{marked_same, marked_other}
 use Rattle.clause_watches.proofs.RestLaws.{rest_set_same, rest_set_other}
 
 pub link_made : (boxes : Boxes) (added : List (ℕ × Literals)) (leasts : List ℤ) (i : ℕ) (rest : Rest) (lits : Literals) (k : ℕ) (l : ℕ × Ranges) (link : Link) (least : ℤ) →

@@ -1,5 +1,5 @@
 -- What a look at a clause leaves to do.
-use Rattle.std.proofs.Common.{◌≡◌, ◌≢◌, ℕ, zero, suc, ◌<◌, ◌≤◌, ◌+◌, ◌==◌, Bool, true, false, List, [], ◌∷◌, ◌||◌, ℤ, length, arith, refl, sym, ap, ◌∙◌, subst, slice_set, slice_index_or}
+use Rattle.std.proofs.Common.{◌≡◌, ℕ, zero, suc, ◌<◌, ◌==◌, Bool, true, false, List, [], ◌∷◌, ◌||◌, ℤ, length, arith, refl, ap, subst, slice_set}
 use Rattle.std.specs.List.{All}
 use Rattle.signed_clause.specs.SetAlgebra.{is_disjoint, is_within}
 use Rattle.signed_clause.specs.Clauses.{Boxes, Literals, box_of, set_of, has_var, IsClause}
@@ -82,4 +82,4 @@ no_set (l ∷ ls) x n =
 pub no_literal : (boxes : Boxes) (c : Literals) (x : ℕ) → has_var c x ≡ false → Meets boxes c x → ⊥
 no_literal boxes c x n m =
     let none : is_disjoint [] (box_of boxes x) ≡ false =
-        subst (λ (s : List (ℤ × ℤ)). is_disjoint s (box_of boxes x) ≡ false) (no_set c x n) m in absurd (cc)
+    subst (λ (s : List (ℤ × ℤ)). is_disjoint s (box_of boxes x) ≡ false) (no_set c x n) m in absurd (cc)

@@ -1,5 +1,5 @@
 -- Marks and the list of what is marked.
-use Rattle.std.proofs.Common.{◌≡◌, ℕ, suc, zero, ◌<◌, ◌≤◌, ◌==◌, ◌+◌, Bool, true, false, cond, List, [], ◌∷◌, ◌++◌, ◌||◌, ◌⊎◌, length, arith, refl, sym, ap, ◌∙◌, inl, inr, subst, slice_set, slice_index_or}
+use Rattle.std.proofs.Common.{◌≡◌, ℕ, suc, zero, ◌<◌, ◌≤◌, ◌==◌, Bool, true, false, cond, List, [], ◌∷◌, ◌++◌, length, arith, refl, sym, ap, ◌∙◌, inl, inr, subst, slice_set}
 use Rattle.std.proofs.lemmas.Bool.{cases_eq}
 use Rattle.clause_watches.specs.Marks.{is_marked, count_marked, occurs, IsKept}
 

@@ -1,5 +1,5 @@
 -- Masks and single values that show a common value of two sets.
-use Rattle.std.proofs.Common.{◌≡◌, ◌≢◌, ℕ, ◌<◌, Bool, true, false, ℤ, pos, ◌+ℤ◌, arith, sym, ap, ◌∙◌, bit_and, min, ◌+◌, ◌⊎◌, inl, inr, zero, suc, refl, ◌≤◌, ◌-◌, ◌*◌, ◌/◌, ◌%◌, ◌^◌, bit_or, max, List, [], ◌∷◌, ◌||◌, length, slice_index_or, subst}
+use Rattle.std.proofs.Common.{◌≡◌, ◌≢◌, ℕ, ◌<◌, Bool, true, false, ℤ, pos, ◌+ℤ◌, arith, sym, ap, ◌∙◌, bit_and, min, ◌+◌, ◌⊎◌, inl, inr, zero, suc, refl, ◌≤◌, ◌-◌, ◌*◌, ◌/◌, ◌%◌, ◌^◌, bit_or, max, [], ◌∷◌, ◌||◌, length, slice_index_or, subst}
 use Rattle.std.proofs.lemmas.Bool.{false_from_ne_true}
 use Rattle.std.proofs.lemmas.Nat.Bits.{bit_at_and, bit_at_or, bit_at-lt, bit_at-zero, same_from_bits, ones_shl, ones_shr, bit_at_mask_below, bit_at_ones_above}
 use Rattle.std.specs.Int.{bit_at}
@@ -52,14 +52,15 @@ pub bits_from : (first last j : ℕ) → first ≤ last → last < 64 →
     (first ≤ j) × (j ≤ last)
 bits_from first last j h k e =
     let low : 18446744073709551615 * 2 ^ first % 18446744073709551616 ≡ 2 ^ 64 - 2 ^ first =
-        ones_shl 64 first (omega arith) in
+    ones_shl 64 first (omega arith) in
     let high : 18446744073709551615 / 2 ^ (63 - last) ≡ 2 ^ (64 - (63 - last)) - 1 =
-        ones_shr 64 (63 - last) (omega arith) in
+    ones_shr 64 (63 - last) (omega arith) in
     let both = both_set _ _ j e in
     let one = ap (λ (n : ℕ). bit_at n j) (sym low) ∙ both.0 in
-    let two = ap (λ (n : ℕ). bit_at n j) (sym high) ∙ both.1 in
-    (not_below first j _ one (λ l. bit_at_mask_below first 64 j l),
-    let above = not_below (j + 1) (64 - (63 - last)) _ two (λ l. bit_at_ones_above (64 - (63 - last)) j (omega arith)) in omega arith)
+    let two = ap (λ (n : ℕ). bit_at n j) (sym high) ∙ both.1 in (
+      not_below first j _ one (λ l. bit_at_mask_below first 64 j l),
+      let above = not_below (j + 1) (64 - (63 - last)) _ two (λ l. bit_at_ones_above (64 - (63 - last)) j (omega arith)) in omega arith,
+    )
 
 has_at : (set : Ranges) (i : ℕ) (r d : ℤ × ℤ) (v : ℤ) → i < length set → r ≡ slice_index_or set i d → in_range r v ≡ true → has set v ≡ true
 has_at [] i r d v h e t = absurd (omega arith)

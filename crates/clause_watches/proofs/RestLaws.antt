@@ -1,9 +1,9 @@
 -- What becomes of a rest, step by step.
-use Rattle.std.proofs.Common.{◌≡◌, ◌≢◌, ℕ, ◌<◌, ◌==◌, Bool, true, false, not, cond, List, ◌||◌, length, arith, refl, sym, ap, ◌∙◌, subst, slice_set}
+use Rattle.std.proofs.Common.{◌≡◌, ◌≢◌, ℕ, ◌<◌, ◌==◌, Bool, true, false, cond, List, length, arith, refl, sym, ap, ◌∙◌, subst, slice_set}
 use Rattle.std.proofs.lemmas.List.{get_or-set_same, get_or-set_other, set-get_or}
 use Rattle.clause_watches.specs.declared.rest.Rest.{Rest}
 use Rattle.clause_watches.specs.declared.rest.Rest.TheVariants.{Listed, Half, On, Held}
-use Rattle.clause_watches.specs.Watching.{rest_of, without, touched}
+use Rattle.clause_watches.specs.Watching.{rest_of, touched}
 use Rattle.clause_watches.specs.Marks.{is_marked}
 use Rattle.clause_watches.specs.Rows.{names, holds, differ, seen, raised, IsStep}
 

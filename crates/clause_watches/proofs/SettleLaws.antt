@@ -1,10 +1,10 @@
 -- The table once a row was walked.
-use Rattle.std.proofs.Common.{◌≡◌, ◌≢◌, ℕ, zero, suc, ◌<◌, ◌==◌, Bool, true, false, List, [], ◌∷◌, ◌||◌, ◌⊎◌, inl, inr, length, take, ℤ, arith, refl, sym, ap, ◌∙◌, subst, slice_set, slice_index_or}
-use Rattle.std.specs.List.{All, list_any}
+use Rattle.std.proofs.Common.{◌≡◌, ◌≢◌, ℕ, zero, suc, ◌<◌, ◌==◌, Bool, true, false, List, [], ◌∷◌, ◌||◌, inl, inr, length, take, ℤ, arith, refl, sym, ap, ◌∙◌, subst, slice_set}
+use Rattle.std.specs.List.{All}
 use Rattle.std.proofs.lemmas.Bool.{cases_eq, false_from_ne_true}
 use Rattle.std.proofs.lemmas.List.Elements.{All-nil, All-tail}
 use Rattle.signed_clause.specs.Ranges.{Ranges, IsValid}
-use Rattle.signed_clause.specs.Clauses.{Boxes, Literals, box_of, set_of, IsClause}
+use Rattle.signed_clause.specs.Clauses.{Boxes, Literals, box_of, IsClause}
 use Rattle.signed_clause.proofs.ResolventLaws.{set_valid}
 use Rattle.clause_watches.specs.declared.rest.Rest.{Rest}
 use Rattle.clause_watches.specs.declared.rest.Rest.TheVariants.{Listed, Half, On, Held}
@@ -12,10 +12,10 @@ use Rattle.clause_watches.specs.declared.watch.Watch.{Watch}
 use Rattle.clause_watches.specs.declared.watch.Site.{Site}
 use Rattle.clause_watches.specs.Watching.{rest_of, clause_of, IsKnown}
 use Rattle.clause_watches.specs.Marks.{is_marked}
-use Rattle.clause_watches.specs.Rows.{names, holds, differ, seen, has_watch, AreBelow, AreRight, IsMet, IsWalked}
+use Rattle.clause_watches.specs.Rows.{names, holds, differ, has_watch, AreBelow, AreRight, IsMet, IsWalked}
 use Rattle.clause_watches.specs.Sound.{row_of, least_at, sets_at, AreClauses, AreLinked, AreKnown, IsUnmarked}
 use Rattle.clause_watches.proofs.RestLaws.{step_none}
-use Rattle.clause_watches.proofs.MarkLaws.{marked_same, marked_other}
+use Rattle.clause_watches.proofs.MarkLaws.{marked_other}
 use Rattle.clause_watches.proofs.KnownLaws.{known_again}
 
 -- the walk begins

@@ -1,17 +1,17 @@
 -- A walk along a row, watch by watch.
-use Rattle.std.proofs.Common.{◌≡◌, ◌≢◌, ℕ, zero, suc, ◌<◌, ◌≤◌, ◌+◌, ◌==◌, Bool, true, false, List, [], ◌∷◌, ◌⊎◌, inl, inr, length, take, arith, refl, sym, ap, ◌∙◌, subst, slice_set, slice_index_or, ◌||◌}
-use Rattle.std.specs.List.{All, list_any}
+use Rattle.std.proofs.Common.{◌≡◌, ◌≢◌, ℕ, ◌<◌, ◌+◌, ◌==◌, Bool, true, false, List, ◌∷◌, inl, inr, length, take, arith, sym, ap, ◌∙◌, subst, slice_set, slice_index_or, ◌||◌}
+use Rattle.std.specs.List.{All}
 use Rattle.std.specs.List.Sorted.{IsPermutation}
 use Rattle.std.proofs.lemmas.Bool.{cases_eq, false_from_ne_true}
-use Rattle.std.proofs.lemmas.List.Elements.{All-more, All-weaker, All-tail, All-same}
+use Rattle.std.proofs.lemmas.List.Elements.{All-more, All-tail, All-same}
 use Rattle.std.proofs.lemmas.List.Sorted.{All-permutation, list_any-IsPermutation}
-use Rattle.signed_clause.specs.Ranges.{Ranges, IsValid}
+use Rattle.signed_clause.specs.Ranges.{Ranges}
 use Rattle.signed_clause.specs.SetAlgebra.{is_disjoint}
 use Rattle.clause_watches.specs.declared.rest.Rest.{Rest}
 use Rattle.clause_watches.specs.declared.watch.Watch.{Watch}
 use Rattle.clause_watches.specs.declared.watch.Site.{Site}
 use Rattle.clause_watches.specs.Watching.{rest_of, touched}
-use Rattle.clause_watches.specs.Rows.{names, holds, has_watch, raised, IsStep, IsMet, IsWalked, AreRight, IsTrueOf}
+use Rattle.clause_watches.specs.Rows.{names, holds, has_watch, IsStep, IsMet, IsWalked, IsTrueOf}
 use Rattle.clause_watches.proofs.RestLaws.{rest_set_same, rest_set_other, step_none, step_then, step_touched, touched_names}
 
 -- one rest takes a step
@@ -75,7 +75,7 @@ walked_out sets at s before rests row xs k w below front moved walked =
       steps = λ i. step_then x _ _ _ (walked.steps i) (all i);
       linked = λ i n. elim (cases_eq i w.clause) [
         | inl same ↦ let gone : names (rest_of news i) x ≡ false = subst (λ (j : ℕ). names (rest_of news j) x ≡ false) (sym same)
-              (ap (λ (q : Rest). names q x) (rest_set_same rests w.clause r below) ∙ touched_names x (rest_of rests w.clause)) in absurd (cc)
+            (ap (λ (q : Rest). names q x) (rest_set_same rests w.clause r below) ∙ touched_names x (rest_of rests w.clause)) in absurd (cc)
         | inr other ↦ others_stay row xs w i moved other (walked.linked i ((all i).named x n))
       ];
       right = let P : Watch → Type 0 = λ v. IsTrueOf s.least (sets v.clause) v.witness in All-tail P w xs (All-permutation P row (w ∷ xs) moved walked.right);

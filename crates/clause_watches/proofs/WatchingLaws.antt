@@ -1,7 +1,7 @@
 -- What contracts see of a table, and when boxes change.
-use Rattle.std.proofs.Common.{◌≡◌, ◌≢◌, ℕ, zero, suc, ◌<◌, ◌==◌, Bool, true, false, cond, List, [], ◌∷◌, ◌++◌, ◌||◌, ◌⊎◌, inl, inr, ℤ, length, map, arith, refl, sym, ap, ◌∙◌, subst, slice_index_or}
+use Rattle.std.proofs.Common.{◌≡◌, ◌≢◌, ℕ, zero, suc, ◌==◌, Bool, true, false, cond, List, [], ◌∷◌, ◌||◌, length, map, arith, refl, sym, ap, ◌∙◌, subst}
 use Rattle.std.specs.List.{All}
-use Rattle.std.proofs.lemmas.Bool.{cases_eq, false_from_ne_true}
+use Rattle.std.proofs.lemmas.Bool.{false_from_ne_true}
 use Rattle.signed_clause.specs.Ranges.{Ranges, has, IsValid, IsSubset}
 use Rattle.signed_clause.specs.SetAlgebra.{is_disjoint, is_within}
 use Rattle.signed_clause.specs.Clauses.{Boxes, Literals, box_of, set_of, IsClause}

@@ -1,6 +1,6 @@
 -- The watches of each variable. What a reader believes after this file: what a watch says of its
 -- clause's set is true, and how a walk along a row leaves the rests.
-use Rattle.std.specs.Prelude.{◌≡◌, ℕ, ◌<◌, Bool, true, false, not, cond, ◌||◌, ◌==◌, List, ℤ, pos, ◌+ℤ◌, length, take}
+use Rattle.std.specs.Prelude.{◌≡◌, ℕ, ◌<◌, Bool, true, false, not, cond, ◌||◌, ◌==◌, List, ℤ, pos, ◌+ℤ◌, take}
 use Rattle.std.specs.Int.{bit_at}
 use Rattle.std.specs.List.{All, list_any}
 use Rattle.signed_clause.specs.Ranges.{Ranges, has}

@@ -81,7 +81,11 @@ fn empty_list(alloc: Global, n: usize) -> Result<WorkList, AllocError>
 }
 
 /// Adds a clause, of which nothing is known yet. After an error the clauses are as before.
-pub(crate) fn add_clause(table: &mut Table, number: u64, clause: ClauseHandle) -> Result<(), AllocError>
+pub(crate) fn add_clause(
+    table: &mut Table,
+    number: u64,
+    clause: ClauseHandle,
+) -> Result<(), AllocError>
     requires sound { IsSound table.old }
     requires within { All (λ l. l.0 < length table.old.rows.items) clause }
     ensures sound { IsSound table.new }

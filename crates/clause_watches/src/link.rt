@@ -31,7 +31,9 @@ pub(crate) fn add_link(table: &mut Table, link: Link) -> Result<(), AllocError>
 {
     push_watch(&mut table.rows, link)?;
     let rest = table.rests.get(link.watch.clause);
-    table.rests.set(link.watch.clause, linked(rest, link.variable));
+    table
+        .rests
+        .set(link.watch.clause, linked(rest, link.variable));
     Ok(())
 }
 

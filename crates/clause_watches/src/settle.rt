@@ -54,7 +54,7 @@ fn walk_row(rows: &mut Vec<Row>, rests: &mut Rests, at: &IntSet, site: Site)
         → IsValid at.now → ((i : ℕ) → IsValid (sets i))
         → IsWalked sets at.now site before rests.old (row_of rows.old.items site.variable) 0
         → IsWalked sets at.now site before rests.new (row_of rows.new.items site.variable)
-            (length (row_of rows.new.items site.variable)) }
+        (length (row_of rows.new.items site.variable)) }
 {
     walk(&mut rows[site.variable as usize], rests, at, site);
 }

@@ -1,4 +1,4 @@
-use Rattle.std.proofs.Common.{rules, ◌≡◌, arith, subst}
+use Rattle.std.proofs.Common.{subst}
 use Rattle.std.proofs.lemmas.List.Elements.{All-more}
 use Rattle.clause_watches.specs.Looking.{IsOut}
 use Rattle.clause_watches.proofs.look.find_meeting.Goals as goal

@@ -1,5 +1,4 @@
-use Rattle.std.proofs.Common.{rules, ◌≡◌, ◌<◌, ◌∙◌, ℕ, ℤ, pos, subst, sym, refl, w64}
-use Rattle.std.proofs.lemmas.Int.{to_z-of_z}
+use Rattle.std.proofs.Common.{pos, refl}
 use Rattle.clause_watches.proofs.MaskLaws.{mask_more}
 use Rattle.clause_watches.proofs.mask.mask_of.Goals as goal
 

@@ -1,5 +1,4 @@
-use Rattle.std.proofs.Common.{rules, ◌≡◌, ◌∙◌, ap, subst, sym, false}
-use Rattle.clause_watches.specs.declared.rest.Rest.{Rest}
+use Rattle.std.proofs.Common.{◌∙◌, ap}
 use Rattle.clause_watches.specs.Watching.{is_listed}
 use Rattle.clause_watches.proofs.WatchingLaws.{known_fits, fits_now, rest_none, none_acts_now, unmarked_still}
 use Rattle.clause_watches.proofs.next.next_acting.Goals as goal

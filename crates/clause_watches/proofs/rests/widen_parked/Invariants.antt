@@ -1,4 +1,4 @@
-use Rattle.std.proofs.Common.{◌≡◌, ◌<◌, ℕ, true, length}
+use Rattle.std.proofs.Common.{◌≡◌, ℕ, length}
 use Rattle.clause_watches.specs.Marks.{count_marked}
 use Rattle.clause_watches.specs.Watching.{rest_of, widened}
 use Rattle.clause_watches.specs.Keeping.{IsCovered}

@@ -1,4 +1,4 @@
-use Rattle.std.proofs.Common.{rules, tests, ◌≡◌, ◌≢◌, ℕ, true, bit_and, arith, subst, ap, ◌∙◌, ℤ, w64}
+use Rattle.std.proofs.Common.{rules, tests, ◌≢◌, bit_and, subst, ap, ◌∙◌, ℤ, w64}
 use Rattle.std.proofs.lemmas.Int.{to_z-of_z}
 use Rattle.signed_clause.specs.Ranges.{has}
 use Rattle.clause_watches.specs.declared.watch.Witness.{Witness}

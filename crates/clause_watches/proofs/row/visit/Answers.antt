@@ -1,4 +1,4 @@
-use Rattle.std.proofs.Common.{rules, ◌≡◌, ◌<◌, ◌+◌, ◌∷◌, ◌∙◌, ℕ, List, length, subst, sym, ap, arith, slice_set}
+use Rattle.std.proofs.Common.{rules, ◌≡◌, ◌+◌, ◌∷◌, ◌∙◌, List, length, subst, sym, ap, slice_set}
 use Rattle.std.specs.List.Sorted.{IsPermutation}
 use Rattle.clause_watches.specs.declared.rest.Rest.{Rest}
 use Rattle.clause_watches.specs.declared.watch.Watch.{Watch}
@@ -17,12 +17,12 @@ returns-then-is_met-clause-walked c = λ sets before mask at valid walked.
     let r = raised s.variable (rest_of rests w.clause) in
     let below = below_at (length rests) c.args.k row w c.requires.below c.requires.there c.get-watch.ensures.watch in
     let right = subst (λ (v : Watch). IsTrueOf s.least (sets v.clause) v.witness) (sym (c.get-watch.ensures.watch w))
-        (walked.right c.args.k w c.requires.there) in
+    (walked.right c.args.k w c.requires.there) in
     let meets = c.is_met.ensures c.if-is_met.true s.least (sets w.clause) mask right (valid w.clause) at in
     let on = walked_on sets c.args.at.now s before rests row c.args.k w r c.requires.there c.get-watch.ensures.watch below
-        (step_raised s.variable (rest_of rests w.clause)) (raised_unheld s.variable (rest_of rests w.clause)) meets walked in
+    (step_raised s.variable (rest_of rests w.clause)) (raised_unheld s.variable (rest_of rests w.clause)) meets walked in
     subst (λ (l : List Rest). IsWalked sets c.args.at.now s before l row (c.args.k + 1))
-        (sym (c.raise.ensures.rest (λ e. walked.unheld e w.clause))) on
+    (sym (c.raise.ensures.rest (λ e. walked.unheld e w.clause))) on
 
 pub returns-clause-below : goal.returns-clause-below
 returns-clause-below c =
@@ -40,5 +40,5 @@ returns-clause-walked c = λ sets before mask at valid walked.
     let moved = subst (λ (v : Watch). IsPermutation row (v ∷ c.remove.new.self)) same c.remove.ensures.others in
     let out = walked_out sets c.args.at.now s before rests row c.remove.new.self c.args.k w below c.remove.ensures.before moved walked in
     let news : c.set.new.self ≡ slice_set rests w.clause (touched s.variable (rest_of rests w.clause)) =
-        c.set.ensures ∙ ap (λ (r : Rest). slice_set rests w.clause r) (c.touched.ensures ∙ ap (λ (r : Rest). touched s.variable r) c.get-rest.ensures) in
+    c.set.ensures ∙ ap (λ (r : Rest). slice_set rests w.clause r) (c.touched.ensures ∙ ap (λ (r : Rest). touched s.variable r) c.get-rest.ensures) in
     subst (λ (l : List Rest). IsWalked sets c.args.at.now s before l c.remove.new.self c.args.k) (sym news) out

@@ -1,4 +1,4 @@
-use Rattle.std.proofs.Common.{rules, ◌≡◌, ◌≤◌, ◌∙◌, ℕ, length, subst, arith}
+use Rattle.std.proofs.Common.{rules, ◌≡◌, ◌∙◌, ℕ, length, subst}
 use Rattle.clause_watches.specs.Rows.{IsWalked}
 use Rattle.clause_watches.proofs.row.walk.Goals as goal
 

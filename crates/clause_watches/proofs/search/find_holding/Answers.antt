@@ -1,4 +1,4 @@
-use Rattle.std.proofs.Common.{rules, ◌≡◌, ◌<◌, ◌∙◌, ℕ, true, length, arith, subst, sym, refl, ◌==◌}
+use Rattle.std.proofs.Common.{rules, ◌≡◌, ◌<◌, ℕ, true, arith, subst, sym, ◌==◌}
 use Rattle.clause_watches.specs.declared.rest.Rest.{Rest}
 use Rattle.clause_watches.specs.declared.rest.Rest.TheVariants.{Half}
 use Rattle.clause_watches.specs.Watching.{rest_of}

@@ -1,6 +1,5 @@
-use Rattle.std.proofs.Common.{rules, ◌≡◌, ◌<◌, ◌∙◌, ℕ, List, true, length, arith, subst, sym, slice_set}
+use Rattle.std.proofs.Common.{◌≡◌, ◌<◌, ℕ, List, subst, sym, slice_set}
 use Rattle.clause_watches.specs.declared.rest.Rest.{Rest}
-use Rattle.clause_watches.specs.declared.rest.Rest.TheVariants.{Held}
 use Rattle.clause_watches.specs.Watching.{rest_of}
 use Rattle.clause_watches.specs.Looking.{linked, left_in}
 use Rattle.clause_watches.proofs.SettleLaws.{clause_form}

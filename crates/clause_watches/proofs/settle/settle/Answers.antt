@@ -1,9 +1,9 @@
-use Rattle.std.proofs.Common.{rules, ◌≡◌, ◌<◌, ℕ, List, Bool, length, true, subst, sym, arith}
+use Rattle.std.proofs.Common.{rules, ◌≡◌, ◌<◌, ℕ, length, true, subst, sym}
 use Rattle.signed_clause.specs.Ranges.{Ranges}
 use Rattle.signed_clause.specs.Clauses.{box_of}
 use Rattle.clause_watches.specs.Marks.{is_marked}
 use Rattle.clause_watches.specs.Rows.{IsWalked}
-use Rattle.clause_watches.specs.Sound.{row_of, sets_at, AreLinked, IsUnmarked}
+use Rattle.clause_watches.specs.Sound.{row_of, sets_at, IsUnmarked}
 use Rattle.clause_watches.proofs.SettleLaws.{walk_begins, linked_after, known_after, sets_valid}
 use Rattle.clause_watches.proofs.settle.settle.Goals as goal
 
@@ -13,9 +13,9 @@ returns-clause-sound c =
     let s = c.site_of-site.result in
     let sound = c.requires.sound in
     let begin = walk_begins t.added.items t.rests t.rows.items t.leasts.items t.holds.items c.box_at-at.result.now s
-        sound.fit c.site_of-site.ensures.least c.site_of-site.ensures.holds in
+    sound.fit c.site_of-site.ensures.least c.site_of-site.ensures.holds in
     let walked = c.walk_row.ensures.walked (sets_at t.added.items s.variable) t.rests c.site_of-site.ensures.mask
-        c.site_of-site.ensures.valid (λ i. sets_valid _ t.added.items s.variable i sound.clauses) begin in
+    c.site_of-site.ensures.valid (λ i. sets_valid _ t.added.items s.variable i sound.clauses) begin in
     let there : s.variable < length t.holds.items = search rules in record {
       leasts_size = search rules;
       holds_size = search rules;
@@ -34,9 +34,9 @@ returns-clause-known c = λ before on unmarked known.
     let news = c.walk_row.new.rests in
     let row = row_of c.walk_row.new.rows.items s.variable in
     let begin = walk_begins t.added.items t.rests t.rows.items t.leasts.items t.holds.items at s
-        sound.fit c.site_of-site.ensures.least c.site_of-site.ensures.holds in
+    sound.fit c.site_of-site.ensures.least c.site_of-site.ensures.holds in
     let walked = c.walk_row.ensures.walked (sets_at t.added.items s.variable) t.rests c.site_of-site.ensures.mask
-        c.site_of-site.ensures.valid (λ i. sets_valid _ t.added.items s.variable i sound.clauses) begin in
+    c.site_of-site.ensures.valid (λ i. sets_valid _ t.added.items s.variable i sound.clauses) begin in
     let is : at ≡ box_of c.args.boxes.now s.variable = search rules in
     known_after c.args.boxes.now t.added.items t.rests news row s before t.changed
     (subst (λ (y : ℕ). is_marked before y ≡ true) (sym c.site_of-site.ensures.variable) on)

@@ -1,7 +1,6 @@
-use Rattle.std.proofs.Common.{◌≡◌, ℕ, List, length, subst, sym}
+use Rattle.std.proofs.Common.{List, length, subst, sym}
 use Rattle.clause_watches.specs.declared.watch.Watch.{Watch}
 use Rattle.clause_watches.specs.Rows.{IsWalked}
-use Rattle.clause_watches.specs.Sound.{row_of}
 use Rattle.clause_watches.proofs.RowLaws.{row_set_same, row_read}
 use Rattle.clause_watches.proofs.settle.walk_row.Goals as goal
 

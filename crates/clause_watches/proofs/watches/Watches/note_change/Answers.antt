@@ -1,4 +1,4 @@
-use Rattle.std.proofs.Common.{◌≡◌, ◌∙◌, ap, map, subst, sym}
+use Rattle.std.proofs.Common.{◌∙◌, ap, map, subst, sym}
 use Rattle.clause_watches.specs.Watching.{Watching, Fits, touched}
 use Rattle.clause_watches.proofs.WatchingLaws.{map_touched, fits_touched}
 use Rattle.clause_watches.proofs.watches.Watches.note_change.Goals as goal

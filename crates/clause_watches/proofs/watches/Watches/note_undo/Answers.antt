@@ -1,4 +1,4 @@
-use Rattle.std.proofs.Common.{◌≡◌, ◌∙◌, ap, map, subst, sym}
+use Rattle.std.proofs.Common.{◌∙◌, ap, map, subst, sym}
 use Rattle.clause_watches.specs.Watching.{Watching, Fits, widened}
 use Rattle.clause_watches.proofs.WatchingLaws.{map_widened, fits_widened}
 use Rattle.clause_watches.proofs.watches.Watches.note_undo.Goals as goal

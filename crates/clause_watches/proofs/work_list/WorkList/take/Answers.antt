@@ -1,4 +1,4 @@
-use Rattle.std.proofs.Common.{rules, ◌≡◌, ◌≤◌, ◌<◌, ◌∷◌, [], ◌++◌, List, Bool, ℕ, suc, true, false, length, subst, sym, ap, ◌∙◌, slice_set, arith}
+use Rattle.std.proofs.Common.{rules, ◌≡◌, List, Bool, suc, true, subst, sym, ap, ◌∙◌}
 use Rattle.clause_watches.specs.Marks.{IsKept, is_marked, count_marked}
 use Rattle.clause_watches.proofs.MarkLaws.{taken}
 use Rattle.clause_watches.proofs.work_list.WorkList.take.Goals as goal
