@@ -38,7 +38,8 @@ masks_meet least a b m n some f g va vb =
     none all j = elim (zero_or_one (bit_at (bit_and m n) j) (bit_at-lt (bit_and m n) j)) [
       | inl off ↦ off ∙ sym (bit_at-zero j)
       | inr on ↦ let both = both_set m n j on in
-          let meets = common_meets a b (least +ℤ pos j) va vb (f j both.0) (g j both.1) in absurd (cc)
+          let meets = common_meets a b (least +ℤ pos j) va vb (f j both.0) (g j both.1) in
+          absurd (cc)
     ]
 
 -- ---- masks of ranges
@@ -48,7 +49,8 @@ not_below n i b e h = grind arith
 
 -- the bits from the first to the last alone are set
 pub bits_from : (first last j : ℕ) → first ≤ last → last < 64 →
-    bit_at (bit_and (18446744073709551615 * 2 ^ first % 18446744073709551616) (18446744073709551615 / 2 ^ (63 - last))) j ≡ 1 →
+    bit_at (bit_and (18446744073709551615 * 2 ^ first % 18446744073709551616)
+    (18446744073709551615 / 2 ^ (63 - last))) j ≡ 1 →
     (first ≤ j) × (j ≤ last)
 bits_from first last j h k e =
     let low : 18446744073709551615 * 2 ^ first % 18446744073709551616 ≡ 2 ^ 64 - 2 ^ first =
@@ -59,13 +61,17 @@ bits_from first last j h k e =
     let one = ap (λ (n : ℕ). bit_at n j) (sym low) ∙ both.0 in
     let two = ap (λ (n : ℕ). bit_at n j) (sym high) ∙ both.1 in (
       not_below first j _ one (λ l. bit_at_mask_below first 64 j l),
-      let above = not_below (j + 1) (64 - (63 - last)) _ two (λ l. bit_at_ones_above (64 - (63 - last)) j (omega arith)) in omega arith,
+      let above = not_below (j + 1) (64 - (63 - last)) _ two
+          (λ l. bit_at_ones_above (64 - (63 - last)) j (omega arith)) in omega arith,
     )
 
-has_at : (set : Ranges) (i : ℕ) (r d : ℤ × ℤ) (v : ℤ) → i < length set → r ≡ slice_index_or set i d → in_range r v ≡ true → has set v ≡ true
+has_at : (set : Ranges) (i : ℕ) (r d : ℤ × ℤ) (v : ℤ) → i < length set →
+    r ≡ slice_index_or set i d → in_range r v ≡ true → has set v ≡ true
 has_at [] i r d v h e t = absurd (omega arith)
-has_at (s ∷ rs) zero r d v h e t = let same : in_range s v ≡ true = subst (λ (q : ℤ × ℤ). in_range q v ≡ true) e t in rw same refl
-has_at (s ∷ rs) (suc i) r d v h e t = or_true (in_range s v) (has rs v) (has_at rs i r d v (omega arith) e t)
+has_at (s ∷ rs) zero r d v h e t = let same : in_range s v ≡ true =
+    subst (λ (q : ℤ × ℤ). in_range q v ≡ true) e t in rw same refl
+has_at (s ∷ rs) (suc i) r d v h e t =
+    or_true (in_range s v) (has rs v) (has_at rs i r d v (omega arith) e t)
   where
     or_true : (a b : Bool) → b ≡ true → (a || b) ≡ true
     or_true true b e = refl
@@ -77,9 +83,11 @@ either (suc zero) b h e = inl refl
 either (suc (suc a)) b h e = absurd (omega arith)
 
 -- one range more
-pub mask_more : (least : ℤ) (set xs : Ranges) (i : ℕ) (r d : ℤ × ℤ) (m n : ℕ) → xs ≡ set → i < length xs →
+pub mask_more : (least : ℤ) (set xs : Ranges) (i : ℕ) (r d : ℤ × ℤ) (m n : ℕ) → xs ≡ set →
+    i < length xs →
     r ≡ slice_index_or xs i d → IsMaskOf least set m →
-    ((j : ℕ) → bit_at n j ≡ 1 → in_range r (least +ℤ pos j) ≡ true) → IsMaskOf least set (bit_or m n)
+    ((j : ℕ) → bit_at n j ≡ 1 → in_range r (least +ℤ pos j) ≡ true) →
+    IsMaskOf least set (bit_or m n)
 mask_more least set xs i r d m n is h e old more j t =
     elim (either (bit_at m j) (bit_at n j) (bit_at-lt m j) (sym (bit_at_or m n j) ∙ t)) [
       | inl was ↦ old j was

@@ -7,14 +7,17 @@ use Rattle.clause_watches.specs.Watching.{rest_of, touched}
 use Rattle.clause_watches.specs.Marks.{is_marked}
 use Rattle.clause_watches.specs.Rows.{names, holds, differ, seen, raised, IsStep}
 
-pub rest_set_same : (rests : List Rest) (i : ℕ) (r : Rest) → i < length rests → rest_of (slice_set rests i r) i ≡ r
+pub rest_set_same : (rests : List Rest) (i : ℕ) (r : Rest) → i < length rests →
+    rest_of (slice_set rests i r) i ≡ r
 rest_set_same rests i r h = get_or-set_same rests i r Listed h
 
-pub rest_set_other : (rests : List Rest) (i j : ℕ) (r : Rest) → j ≢ i → rest_of (slice_set rests i r) j ≡ rest_of rests j
+pub rest_set_other : (rests : List Rest) (i j : ℕ) (r : Rest) → j ≢ i →
+    rest_of (slice_set rests i r) j ≡ rest_of rests j
 rest_set_other rests i j r n = get_or-set_other rests i j r Listed n
 
 pub step_none : (x : ℕ) (r : Rest) → IsStep x r r
-step_none x r = record { named = λ y h. h; unseen = λ changed h. refl; unheld = λ y h. h; apart = λ h. h }
+step_none x r =
+    record { named = λ y h. h; unseen = λ changed h. refl; unheld = λ y h. h; apart = λ h. h }
 
 pub step_then : (x : ℕ) (a b c : Rest) → IsStep x a b → IsStep x b c → IsStep x a c
 step_then x a b c f g = record {
@@ -36,7 +39,8 @@ touched_named x (Half a) y h = grind arith
 touched_named x (On a b) y h = grind arith
 touched_named x (Held a) y h = grind arith
 
-touched_unseen : (x : ℕ) (r : Rest) (changed : List Bool) → is_marked changed x ≡ true → seen changed (touched x r) ≡ seen changed r
+touched_unseen : (x : ℕ) (r : Rest) (changed : List Bool) → is_marked changed x ≡ true →
+    seen changed (touched x r) ≡ seen changed r
 touched_unseen x Listed changed h = refl
 touched_unseen x (Half a) changed h = grind arith
 touched_unseen x (On a b) changed h = grind arith
@@ -63,12 +67,13 @@ step_touched x r = record {
 }
 
 step_half : (x a : ℕ) (b : Bool) → (a == x) ≡ b → IsStep x (Held a) (cond b (Half x) (Held a))
-step_half x a true e = let is : a ≡ x = grind arith in subst (λ (y : ℕ). IsStep x (Held y) (Half x)) (sym is) (record {
-  named = λ y h. h;
-  unseen = λ changed h. grind arith;
-  unheld = λ y h. absurd (cc);
-  apart = λ h. refl;
-})
+step_half x a true e = let is : a ≡ x = grind arith in
+    subst (λ (y : ℕ). IsStep x (Held y) (Half x)) (sym is) (record {
+      named = λ y h. h;
+      unseen = λ changed h. grind arith;
+      unheld = λ y h. absurd (cc);
+      apart = λ h. refl;
+    })
 step_half x a false e = step_none x (Held a)
 
 pub step_raised : (x : ℕ) (r : Rest) → IsStep x r (raised x r)
@@ -87,7 +92,8 @@ raised_unheld x (Half a) = refl
 raised_unheld x (On a b) = refl
 raised_unheld x (Held a) = half_unheld x a (a == x) refl
 
-pub raised_none : (rests : List Rest) (i x : ℕ) → holds (rest_of rests i) x ≡ false → slice_set rests i (raised x (rest_of rests i)) ≡ rests
+pub raised_none : (rests : List Rest) (i x : ℕ) → holds (rest_of rests i) x ≡ false →
+    slice_set rests i (raised x (rest_of rests i)) ≡ rests
 raised_none rests i x h =
     let same : raised x (rest_of rests i) ≡ rest_of rests i = rw h refl in
     ap (λ (r : Rest). slice_set rests i r) same ∙ set-get_or rests i Listed

@@ -17,5 +17,6 @@ is_held (Held x) = true
 pub record IsCovered (rests : List Rest) (listed parked : List Bool) : Type 0 where
   pub listed_room : length rests ≤ length listed
   pub parked_room : length rests ≤ length parked
-  pub waits : (i : ℕ) → i < length rests → is_listed (rest_of rests i) ≡ true → is_marked listed i ≡ true
+  pub waits : (i : ℕ) → i < length rests → is_listed (rest_of rests i) ≡ true →
+      is_marked listed i ≡ true
   pub parks : (i : ℕ) → is_held (rest_of rests i) ≡ true → is_marked parked i ≡ true

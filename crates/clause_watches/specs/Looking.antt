@@ -21,7 +21,8 @@ pub record IsOut (boxes : Boxes) (rest : Rest) (l : ℕ × List (ℤ × ℤ)) : 
   pub disjoint : names rest l.0 ≡ false → is_disjoint l.1 (box_of boxes l.0) ≡ true
 
 -- a right watch of clause i for a variable that the rest doesn't name and whose literal meets
-pub record IsLink (boxes : Boxes) (added : List (ℕ × Literals)) (leasts : List ℤ) (i : ℕ) (rest : Rest) (l : Link) : Type 0 where
+pub record IsLink (boxes : Boxes) (added : List (ℕ × Literals)) (leasts : List ℤ) (i : ℕ)
+    (rest : Rest) (l : Link) : Type 0 where
   pub clause : l.watch.clause ≡ i
   pub there : l.variable < length boxes
   pub unnamed : names rest l.variable ≡ false

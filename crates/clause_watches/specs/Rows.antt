@@ -73,7 +73,8 @@ raised x r = cond (holds r x) (Half x) r
 -- a rest may become the other: it names no more, and where x may have changed nothing is seen of it
 pub record IsStep (x : ℕ) (before after : Rest) : Type 0 where
   pub named : (y : ℕ) → names after y ≡ true → names before y ≡ true
-  pub unseen : (changed : List Bool) → is_marked changed x ≡ true → seen changed after ≡ seen changed before
+  pub unseen : (changed : List Bool) → is_marked changed x ≡ true →
+      seen changed after ≡ seen changed before
   pub unheld : (y : ℕ) → holds after y ≡ true → holds before y ≡ true
   pub apart : differ before ≡ true → differ after ≡ true
 
@@ -83,7 +84,8 @@ pub record IsMet (set at : Ranges) (x : ℕ) (r : Rest) : Type 0 where
   pub unheld : holds r x ≡ false
 
 -- a walk has come to the k-th watch
-pub record IsWalked (sets : ℕ → Ranges) (at : Ranges) (s : Site) (before rests : List Rest) (row : List Watch) (k : ℕ) : Type 0 where
+pub record IsWalked (sets : ℕ → Ranges) (at : Ranges) (s : Site) (before rests : List Rest)
+    (row : List Watch) (k : ℕ) : Type 0 where
   pub steps : (i : ℕ) → IsStep s.variable (rest_of before i) (rest_of rests i)
   pub linked : (i : ℕ) → names (rest_of rests i) s.variable ≡ true → has_watch i row ≡ true
   pub right : AreRight s.least sets row

@@ -29,7 +29,8 @@ pub record AreClauses (n : ℕ) (added : List (ℕ × Literals)) : Type 0 where
   pub within : All (λ a. All (λ l. l.0 < n) a.1) added
 
 -- rests, rows and marks fit together
-pub record AreLinked (added : List (ℕ × Literals)) (rests : List Rest) (rows : List (List Watch)) (leasts : List ℤ) (held : List Bool) : Type 0 where
+pub record AreLinked (added : List (ℕ × Literals)) (rests : List Rest) (rows : List (List Watch))
+    (leasts : List ℤ) (held : List Bool) : Type 0 where
   pub size : length rests ≡ length added
   pub apart : (i : ℕ) → differ (rest_of rests i) ≡ true
   pub linked : (i x : ℕ) → names (rest_of rests i) x ≡ true → has_watch i (row_of rows x) ≡ true
@@ -47,7 +48,8 @@ pub record IsSound (t : Table) : Type 0 where
 
 -- what is known of each clause is true in the boxes, where the marked variables may have changed
 abbrev pub AreKnown : Boxes → List (ℕ × Literals) → List Rest → List Bool → Type 0
-AreKnown boxes added rests changed = (i : ℕ) → IsKnown boxes (clause_of added i) (seen changed (rest_of rests i))
+AreKnown boxes added rests changed =
+    (i : ℕ) → IsKnown boxes (clause_of added i) (seen changed (rest_of rests i))
 
 -- x isn't marked any longer, the others are as before
 abbrev pub IsUnmarked : ℕ → List Bool → List Bool → Type 0

@@ -11,15 +11,18 @@ returns-clause-sound c =
     let t = c.args.table.now in
     let l = c.args.link in
     let sound = c.requires.sound in
-    let news : c.set.new.self ≡ slice_set t.rests l.watch.clause (linked l.variable (rest_of t.rests l.watch.clause)) =
+    let news : c.set.new.self ≡ slice_set t.rests l.watch.clause
+    (linked l.variable (rest_of t.rests l.watch.clause)) =
     c.set.ensures ∙ ap (λ (r : Rest). slice_set t.rests l.watch.clause r)
     (c.linked.ensures ∙ ap (λ (r : Rest). linked l.variable r) c.get-rest.ensures) in
     let rows = c.push_watch.new.rows.items in
     let more = linked_more t.added.items t.rests t.rows.items rows t.leasts.items t.holds.items l
-    sound.fit c.requires.there c.requires.unnamed c.requires.right c.in_ok-push_watch.ensures.others c.in_ok-push_watch.ensures.ok in record {
+    sound.fit c.requires.there c.requires.unnamed c.requires.right c.in_ok-push_watch.ensures.others
+    c.in_ok-push_watch.ensures.ok in record {
       leasts_size = search rules;
       holds_size = search rules;
       changed_size = search rules;
       clauses = search rules;
-      fit = subst (λ (rests : List Rest). AreLinked t.added.items rests rows t.leasts.items t.holds.items) (sym news) more;
+      fit = subst (λ (rests : List Rest). AreLinked t.added.items rests rows t.leasts.items
+          t.holds.items) (sym news) more;
     }

@@ -15,13 +15,15 @@ returns-clause-some c =
     let rest = rest_of t.rests c.args.i in
     let is : lits ≡ clause_of t.added.items c.args.i =
     c.literals_at-lits.ensures.items ∙ ap (λ xs. clause_of xs c.args.i) c.as_slice.ensures.value in
-    let met = subst (λ (r : Rest). IsMeeting c.args.boxes.now r (slice_index_or lits c.in_ok-k.k l)) c.get.ensures
+    let met = subst (λ (r : Rest). IsMeeting c.args.boxes.now r (slice_index_or lits c.in_ok-k.k l))
+    c.get.ensures
     (c.in_ok-k.ensures.some l) in
     let below : l.0 < length c.args.boxes.now = search rules in
     let there : l.0 < length t.leasts.items = search rules in
     let low = least_read t.leasts.items l.0 c.index.result.now _ there c.index.ensures in
     let right = subst (λ (v : ℤ). IsTrueOf v l.1 c.link_by.result.watch.witness)
     (to_z-of_z w64 c.index.result.now (search rules)) c.link_by.ensures.right in
-    link_made c.args.boxes.now t.added.items t.leasts.items c.args.i rest lits c.in_ok-k.k l c.link_by.result _
+    link_made c.args.boxes.now t.added.items t.leasts.items c.args.i rest lits c.in_ok-k.k l
+    c.link_by.result _
     is c.literals_at-lits.ensures.form c.in_ok-k.ensures.there c.index-lits-k.is met below
     c.link_by.ensures.variable c.link_by.ensures.clause low right

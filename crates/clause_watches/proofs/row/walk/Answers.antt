@@ -8,11 +8,14 @@ loop-k-preserved c = record {
   size = c.visit-k.ensures.size ∙ c.loop-k.invariant.size;
   below = c.visit-k.ensures.below;
   walked = λ sets before mask at valid walked.
-      c.visit-k.ensures.walked sets before mask at valid (c.loop-k.invariant.walked sets before mask at valid walked);
+      c.visit-k.ensures.walked sets before mask at valid
+      (c.loop-k.invariant.walked sets before mask at valid walked);
 }
 
 pub returns-clause-walked : goal.returns-clause-walked
 returns-clause-walked c = λ sets before mask at valid walked.
-    let end : c.loop-k.k ≡ length c.loop-k.row = let h = c.loop-k.invariant.within in search rules in
-    subst (λ (k : ℕ). IsWalked sets c.args.at.now c.args.site before c.loop-k.rests c.loop-k.row k) end
+    let end : c.loop-k.k ≡ length c.loop-k.row = let h = c.loop-k.invariant.within in
+    search rules in
+    subst (λ (k : ℕ). IsWalked sets c.args.at.now c.args.site before c.loop-k.rests c.loop-k.row k)
+    end
     (c.loop-k.invariant.walked sets before mask at valid walked)

@@ -12,7 +12,8 @@ returns-in-Half-clause-row c =
     let x = c.in-Half.x in
     let yes : (x == x) ≡ true = grind arith in
     let is : Half x ≡ rest_of t.rests c.args.i = search rules in
-    let named : names (rest_of t.rests c.args.i) x ≡ true = subst (λ (r : Rest). names r x ≡ true) is yes in
+    let named : names (rest_of t.rests c.args.i) x ≡ true =
+    subst (λ (r : Rest). names r x ≡ true) is yes in
     watched_below t.rows.items c.args.i x (c.requires.sound.fit.linked c.args.i x named)
 
 pub lies_within-requires-clause-row : goal.lies_within-requires-clause-row
@@ -21,5 +22,7 @@ lies_within-requires-clause-row c =
     let x = c.in-Half.x in
     let yes : (x == x) ≡ true = grind arith in
     let is : Half x ≡ rest_of t.rests c.args.i = search rules in
-    let named : names (rest_of t.rests c.args.i) x ≡ true = subst (λ (r : Rest). names r x ≡ true) is yes in
-    subst (λ (n : ℕ). x < n) (sym c.requires.boxes) (watched_below t.rows.items c.args.i x (c.requires.sound.fit.linked c.args.i x named))
+    let named : names (rest_of t.rests c.args.i) x ≡ true =
+    subst (λ (r : Rest). names r x ≡ true) is yes in
+    subst (λ (n : ℕ). x < n) (sym c.requires.boxes)
+    (watched_below t.rows.items c.args.i x (c.requires.sound.fit.linked c.args.i x named))

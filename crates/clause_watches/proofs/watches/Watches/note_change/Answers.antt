@@ -12,5 +12,6 @@ returns-clause-rests c =
 pub returns-clause-fits : goal.returns-clause-fits
 returns-clause-fits c = λ a b fits d.
     let t = c.self.inside.table in
-    fits_touched a b t.added.items _ _ c.args.x (map_touched c.args.x t.changed c.add.new.self t.rests c.add.ensures.marks) d
+    fits_touched a b t.added.items _ _ c.args.x
+    (map_touched c.args.x t.changed c.add.new.self t.rests c.add.ensures.marks) d
     (subst (λ (w : Watching). Fits a w) (sym c.self.view_is) fits)

@@ -6,7 +6,9 @@ use Rattle.clause_watches.proofs.work_list.WorkList.add.Goals as goal
 pub invariant_of-self : goal.invariant_of-self
 invariant_of-self c =
     let marks = c.self.inside.marks.items in (
-      subst (λ (l : List ℕ). IsKept (slice_set marks c.args.k true) l) (sym c.push_reserved.ensures.items)
-          (kept_pushed marks c.self.inside.list.items c.args.k c.self.invariant.0 (search rules) (search rules)),
+      subst (λ (l : List ℕ). IsKept (slice_set marks c.args.k true) l)
+          (sym c.push_reserved.ensures.items)
+          (kept_pushed marks c.self.inside.list.items c.args.k c.self.invariant.0 (search rules)
+          (search rules)),
       search rules,
     )

@@ -5,12 +5,16 @@ use Rattle.clause_watches.proofs.work_list.WorkList.take.Goals as goal
 
 pub unmark-requires : goal.unmark-requires
 unmark-requires c =
-    let t = taken _ _ c.pop.new.self.items c.in_ok-k.k c.self.invariant.0 c.in_ok-k.ensures.items in t.below
+    let t = taken _ _ c.pop.new.self.items c.in_ok-k.k c.self.invariant.0 c.in_ok-k.ensures.items in
+    t.below
 
 pub invariant_of-self-2 : goal.invariant_of-self-2
 invariant_of-self-2 c =
-    let t = taken _ _ c.pop.new.self.items c.in_ok-k.k c.self.invariant.0 c.in_ok-k.ensures.items in
-    (subst (λ (m : List Bool). IsKept m c.pop.new.self.items) (sym c.unmark.ensures) t.kept, search rules)
+    let t = taken _ _ c.pop.new.self.items c.in_ok-k.k c.self.invariant.0 c.in_ok-k.ensures.items in (
+      subst (λ (m : List Bool). IsKept m c.pop.new.self.items) (sym c.unmark.ensures) t.kept,
+      search
+          rules,
+    )
 
 pub returns-clause-waited : goal.returns-clause-waited
 returns-clause-waited c =
@@ -20,4 +24,5 @@ returns-clause-waited c =
 pub returns-clause-count : goal.returns-clause-count
 returns-clause-count c =
     let t = taken _ _ c.pop.new.self.items c.in_ok-k.k c.self.invariant.0 c.in_ok-k.ensures.items in
-    ap (λ (m : List Bool). suc (count_marked m)) c.unmark.ensures ∙ t.count ∙ ap count_marked c.self.view_is
+    ap (λ (m : List Bool). suc (count_marked m)) c.unmark.ensures ∙ t.count
+    ∙ ap count_marked c.self.view_is
