@@ -10,20 +10,13 @@ use Rattle.clause_watches.specs.declared.rest.Rest.{Rest}
 use Rattle.clause_watches.specs.declared.rest.Rest.TheVariants.{Listed, Half, On, Held}
 use Rattle.clause_watches.specs.Watching.{acts, is_listed, Meets, IsWatched, IsHeld, IsKnown}
 use Rattle.clause_watches.specs.Looking.{IsOut}
+use Rattle.clause_watches.proofs.TestLaws.{or_left, or_right, or_none, and_true, and_first, and_second}
 
 here : (l : ℕ × Ranges) (c : Literals) (x : ℕ) → l.0 ≡ x → set_of (l ∷ c) x ≡ l.1
 here l c x e = let yes : (l.0 == x) ≡ true = grind arith in rw yes refl
 
 later : (l : ℕ × Ranges) (c : Literals) (x : ℕ) → (l.0 ≡ x → ⊥) → set_of (l ∷ c) x ≡ set_of c x
 later l c x n = let no : (l.0 == x) ≡ false = grind arith in rw no refl
-
-and_false : (a b : Bool) → b ≡ false → (a && b) ≡ false
-and_false true b e = e
-and_false false b e = refl
-
-and_first : (a b : Bool) → a ≡ false → (a && b) ≡ false
-and_first true b e = absurd (cc)
-and_first false b e = refl
 
 -- where some literal meets its box, the clause isn't false
 pub meets_true : (boxes : Boxes) (c : Literals) (x : ℕ) → Meets boxes c x → false_in boxes c ≡ false
@@ -35,7 +28,7 @@ meets_true boxes (l ∷ ls) x h =
           and_first _ _
           (subst (λ (y : ℕ). is_disjoint l.1 (box_of boxes y) ≡ false) (sym same) meets)
       | inr other ↦
-          and_false _ _
+          and_second _ _
           (meets_true boxes ls x
           (subst (λ (s : Ranges). is_disjoint s (box_of boxes x) ≡ false)
           (later l ls x other) h))
@@ -76,10 +69,6 @@ watched_no_unit boxes (l ∷ ls) x y d h k =
       | inr other ↦ and_first _ _ (meets_true boxes ls x (rest_meets boxes l ls x other h))
     ])
 
-or_none : (a b : Bool) → a ≡ false → b ≡ false → (a || b) ≡ false
-or_none true b e f = absurd (cc)
-or_none false b e f = f
-
 pub watched_rests : (boxes : Boxes) (c : Literals) (x y : ℕ) → IsWatched boxes c x y →
     acts boxes c ≡ false
 watched_rests boxes c x y w =
@@ -102,7 +91,7 @@ held_no_unit boxes (l ∷ ls) x h i =
           subst (λ (s : Ranges). is_within (box_of boxes x) s ≡ true) (here l ls x same) i in
           let at : is_within (box_of boxes l.0) l.1 ≡ true =
           subst (λ (y : ℕ). is_within (box_of boxes y) l.1 ≡ true) (sym same) lies in
-          and_false _ _ (ap (λ (b : Bool). not b) at)
+          and_second _ _ (ap (λ (b : Bool). not b) at)
       | inr other ↦ and_first _ _ (meets_true boxes ls x (rest_meets boxes l ls x other h))
     ])
 
@@ -128,26 +117,13 @@ out_head : (boxes : Boxes) (r : Rest) (l : ℕ × Ranges) (ls : Literals) →
     All (λ m. IsOut boxes r m) (l ∷ ls) → IsOut boxes r l
 out_head boxes r l ls h = All-head (λ m. IsOut boxes r m) l ls h
 
-both_true : (a b : Bool) → a ≡ true → b ≡ true → (a && b) ≡ true
-both_true true true e f = refl
-both_true true false e f = absurd (cc)
-both_true false b e f = absurd (cc)
-
 -- no literal meets
 none_false : (boxes : Boxes) (c : Literals) → All (λ m. IsOut boxes Listed m) c →
     false_in boxes c ≡ true
 none_false boxes [] h = refl
 none_false boxes (l ∷ ls) h =
-    both_true _ _ ((out_head boxes Listed l ls h).disjoint refl)
+    and_true _ _ ((out_head boxes Listed l ls h).disjoint refl)
     (none_false boxes ls (out_tail boxes Listed l ls h))
-
-or_left : (a b : Bool) → a ≡ true → (a || b) ≡ true
-or_left true b e = refl
-or_left false b e = absurd (cc)
-
-or_right : (a b : Bool) → b ≡ true → (a || b) ≡ true
-or_right true b e = refl
-or_right false b e = e
 
 pub none_acts : (boxes : Boxes) (c : Literals) → All (λ m. IsOut boxes Listed m) c →
     acts boxes c ≡ true
@@ -160,7 +136,7 @@ behind_false boxes [] x n lt f h = refl
 behind_false boxes (l ∷ ls) x n lt f h =
     let no : (x == l.0) ≡ false = let up = f.0 in let d : x ≢ l.0 = λ e. omega arith in
     grind arith in
-    both_true _ _ ((out_head boxes (Half x) l ls h).disjoint no)
+    and_true _ _ ((out_head boxes (Half x) l ls h).disjoint no)
     (behind_false boxes ls x (suc l.0) (let up = f.0 in omega arith) f.3
     (out_tail boxes (Half x) l ls h))
 

@@ -29,10 +29,6 @@ on_second : (boxes : Boxes) (c : Literals) (a b : ℕ) (m : Bool) → a ≢ b �
 on_second boxes c a b true n h k = h
 on_second boxes c a b false n h k = record { differ = n; one = k; other = h }
 
--- what is seen of two variables
-two : Rest → Rest → Rest → Bool → Bool → Rest
-two left right both m n = cond m (cond n Listed right) (cond n left both)
-
 -- x is looked at again, and meets where the rest names it
 pub known_again : (boxes : Boxes) (c : Literals) (x : ℕ) (r : Rest) (before after : List Bool) →
     is_marked before x ≡ true → IsUnmarked x before after → differ r ≡ true →

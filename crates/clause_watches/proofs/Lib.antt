@@ -9,3 +9,4 @@ pub mod ActLaws
 pub mod LinkLaws
 pub mod LookLaws
 pub mod WatchingLaws
+pub mod TestLaws

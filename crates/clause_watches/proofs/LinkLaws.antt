@@ -17,6 +17,7 @@ use Rattle.clause_watches.specs.Sound.{row_of, least_at, sets_at, AreLinked}
 use Rattle.clause_watches.specs.Looking.{IsMeeting, IsLink, linked}
 use Rattle.clause_watches.proofs.ActLaws.{set_at}
 use Rattle.clause_watches.proofs.RestLaws.{rest_set_same, rest_set_other}
+use Rattle.clause_watches.proofs.TestLaws.{or_right, or_more}
 
 pub link_made : (boxes : Boxes) (added : List (ℕ × Literals)) (leasts : List ℤ) (i : ℕ)
     (rest : Rest) (lits : Literals) (k : ℕ) (l : ℕ × Ranges) (link : Link) (least : ℤ) →
@@ -50,13 +51,13 @@ least_read (l ∷ ls) (suc x) v d h e = least_read ls x v d (omega arith) e
 
 -- ---- one literal more is known to meet
 
+or_is : (x y : ℕ) (b d : Bool) → (b || d) ≡ true → (d ≡ true → y ≡ x) → (b ≡ true) ⊎ (y ≡ x)
+or_is x y true d e f = inl refl
+or_is x y false d e f = inr (f e)
+
 linked_names : (x y : ℕ) (r : Rest) → names (linked x r) y ≡ true → (names r y ≡ true) ⊎ (y ≡ x)
 linked_names x y Listed h = inr (grind arith)
-linked_names x y (Half a) h = or_cases (a == y) (x == y) h (grind arith)
-  where
-    or_cases : (b d : Bool) → (b || d) ≡ true → (d ≡ true → y ≡ x) → (b ≡ true) ⊎ (y ≡ x)
-    or_cases true d e f = inl refl
-    or_cases false d e f = inr (f e)
+linked_names x y (Half a) h = or_is x y (a == y) (x == y) h (grind arith)
 linked_names x y (On a b) h = inl h
 linked_names x y (Held a) h = inl h
 
@@ -84,19 +85,11 @@ rest_cases rests i r P h p all j = elim (cases_eq j i) [
 has_own : (row : List Watch) (w : Watch) (i : ℕ) → w.clause ≡ i → has_watch i (row ++ w ∷ []) ≡ true
 has_own [] w i e = let yes : (w.clause == i) ≡ true = grind arith in rw yes refl
 has_own (v ∷ vs) w i e = or_right (v.clause == i) _ (has_own vs w i e)
-  where
-    or_right : (a b : Bool) → b ≡ true → (a || b) ≡ true
-    or_right true b e = refl
-    or_right false b e = e
 
 has_still : (row : List Watch) (w : Watch) (i : ℕ) → has_watch i row ≡ true →
     has_watch i (row ++ w ∷ []) ≡ true
 has_still [] w i e = absurd (cc)
 has_still (v ∷ vs) w i e = or_more (v.clause == i) (has_watch i vs) _ (λ h. has_still vs w i h) e
-  where
-    or_more : (a b d : Bool) → (b ≡ true → d ≡ true) → (a || b) ≡ true → (a || d) ≡ true
-    or_more true b d f e = refl
-    or_more false b d f e = f e
 
 -- one row has a watch more, and the clause's rest names its variable
 pub linked_more : (added : List (ℕ × Literals)) (rests : List Rest) (rows rows' : List (List Watch))

@@ -13,6 +13,7 @@ use Rattle.clause_watches.specs.Sound.{row_of}
 use Rattle.clause_watches.specs.Looking.{IsOut, IsLink, linked, AreKnownNow, left_of, left_in}
 use Rattle.clause_watches.proofs.ActLaws.{none_acts, one_acts}
 use Rattle.clause_watches.proofs.LinkLaws.{rest_cases}
+use Rattle.clause_watches.proofs.TestLaws.{or_false}
 
 left_set : (rests : List Rest) (i : ℕ) (r : Rest) → i < length rests →
     left_of r < left_of (rest_of rests i) → left_in (slice_set rests i r) < left_in rests
@@ -94,10 +95,6 @@ pub watched_below : (rows : List (List Watch)) (i x : ℕ) → has_watch i (row_
 watched_below [] i x h = absurd (cc)
 watched_below (r ∷ rs) i zero h = omega arith
 watched_below (r ∷ rs) i (suc x) h = let more = watched_below rs i x h in omega arith
-
-or_false : (a b : Bool) → (a || b) ≡ false → (a ≡ false) × (b ≡ false)
-or_false true b e = absurd (cc)
-or_false false b e = (refl, e)
 
 no_set : (c : Literals) (x : ℕ) → has_var c x ≡ false → set_of c x ≡ []
 no_set [] x n = refl

@@ -57,18 +57,18 @@ count_room (true ∷ ms) zero h n = absurd (cc)
 count_room (false ∷ ms) (suc k) h n = let more = count_room ms k (omega arith) n in omega arith
 count_room (true ∷ ms) (suc k) h n = let more = count_room ms k (omega arith) n in omega arith
 
+push_cases : (a b : Bool) (n m : ℕ) → m ≡ cond b (suc n) n →
+    cond a (suc m) m ≡ cond b (suc (cond a (suc n) n)) (cond a (suc n) n)
+push_cases true true n m e = ap (λ (z : ℕ). suc z) e
+push_cases true false n m e = ap (λ (z : ℕ). suc z) e
+push_cases false true n m e = e
+push_cases false false n m e = e
+
 occurs_push : (xs : List ℕ) (k j : ℕ) → occurs j (xs ++ k ∷ []) ≡ cond (k == j) (suc (occurs j xs))
     (occurs j xs)
 occurs_push [] k j = refl
 occurs_push (x ∷ xs) k j = push_cases (x == j) (k == j) (occurs j xs) (occurs j (xs ++ k ∷ []))
     (occurs_push xs k j)
-  where
-    push_cases : (a b : Bool) (n m : ℕ) → m ≡ cond b (suc n) n →
-        cond a (suc m) m ≡ cond b (suc (cond a (suc n) n)) (cond a (suc n) n)
-    push_cases true true n m e = ap (λ (z : ℕ). suc z) e
-    push_cases true false n m e = ap (λ (z : ℕ). suc z) e
-    push_cases false true n m e = e
-    push_cases false false n m e = e
 
 length_push : (xs : List ℕ) (k : ℕ) → length (xs ++ k ∷ []) ≡ suc (length xs)
 length_push [] k = refl
@@ -80,6 +80,11 @@ push_stands true true n o e s h = absurd (let no = h refl in cc)
 push_stands true false n o e s h = e ∙ ap (λ (z : ℕ). suc z) s
 push_stands false m n o e s h = e ∙ s
 
+unmarked_at : (ms : List Bool) (k j : ℕ) → (k == j) ≡ true → is_marked ms k ≡ false →
+    is_marked ms j ≡ false
+unmarked_at ms k j e n =
+    let same : k ≡ j = grind arith in subst (λ (i : ℕ). is_marked ms i ≡ false) same n
+
 -- a number that wasn't marked goes on the list
 pub kept_pushed : (ms : List Bool) (list : List ℕ) (k : ℕ) → IsKept ms list → k < length ms →
     is_marked ms k ≡ false → IsKept (slice_set ms k true) (list ++ k ∷ [])
@@ -87,14 +92,10 @@ kept_pushed ms list k kept h n = record {
   stands = λ j. subst (λ (m : Bool). occurs j (list ++ k ∷ []) ≡ cond m 1 0)
       (sym (marked_set ms k j true h))
       (push_stands (k == j) (is_marked ms j) (occurs j list) (occurs j (list ++ k ∷ []))
-      (occurs_push list k j) (kept.stands j) (λ e. unmarked j e));
+      (occurs_push list k j) (kept.stands j) (λ e. unmarked_at ms k j e n));
   count = let one = length_push list k in let two = kept.count in let more = count_set ms k h n in
       omega arith;
 }
-  where
-    unmarked : (j : ℕ) → (k == j) ≡ true → is_marked ms j ≡ false
-    unmarked j e = let same : k ≡ j = grind arith in
-        subst (λ (i : ℕ). is_marked ms i ≡ false) same n
 
 pop_stands : (same m : Bool) (n o : ℕ) → o ≡ cond same (suc n) n → o ≡ cond m 1 0 →
     n ≡ cond (cond same false m) 1 0

@@ -7,6 +7,7 @@ use Rattle.signed_clause.specs.Ranges.{Ranges, has, in_range, IsValid}
 use Rattle.signed_clause.specs.SetAlgebra.{is_disjoint}
 use Rattle.signed_clause.proofs.ClauseLaws.{has_from_disjoint}
 use Rattle.clause_watches.specs.Rows.{IsMaskOf}
+use Rattle.clause_watches.proofs.TestLaws.{or_right}
 
 -- a common value
 pub common_meets : (a b : Ranges) (v : ℤ) → IsValid a → IsValid b →
@@ -28,19 +29,21 @@ both_set m n j h =
     let e : min (bit_at m j) (bit_at n j) ≡ 1 = sym (bit_at_and m n j) ∙ h in
     (omega (arith, bit_at-lt m j, bit_at-lt n j), omega (arith, bit_at-lt m j, bit_at-lt n j))
 
--- a common bit
-pub masks_meet : (least : ℤ) (a b : Ranges) (m n : ℕ) → bit_and m n ≢ 0 →
-    IsMaskOf least a m → IsMaskOf least b n → IsValid a → IsValid b → is_disjoint a b ≡ false
-masks_meet least a b m n some f g va vb =
-    false_from_ne_true _ (λ all. some (same_from_bits (bit_and m n) 0 (λ j. none all j)))
-  where
-    none : is_disjoint a b ≡ true → (j : ℕ) → bit_at (bit_and m n) j ≡ bit_at 0 j
-    none all j = elim (zero_or_one (bit_at (bit_and m n) j) (bit_at-lt (bit_and m n) j)) [
+no_bit : (least : ℤ) (a b : Ranges) (m n j : ℕ) → IsMaskOf least a m → IsMaskOf least b n →
+    IsValid a → IsValid b → is_disjoint a b ≡ true → bit_at (bit_and m n) j ≡ bit_at 0 j
+no_bit least a b m n j f g va vb all =
+    elim (zero_or_one (bit_at (bit_and m n) j) (bit_at-lt (bit_and m n) j)) [
       | inl off ↦ off ∙ sym (bit_at-zero j)
       | inr on ↦ let both = both_set m n j on in
           let meets = common_meets a b (least +ℤ pos j) va vb (f j both.0) (g j both.1) in
           absurd (cc)
     ]
+
+-- a common bit
+pub masks_meet : (least : ℤ) (a b : Ranges) (m n : ℕ) → bit_and m n ≢ 0 →
+    IsMaskOf least a m → IsMaskOf least b n → IsValid a → IsValid b → is_disjoint a b ≡ false
+masks_meet least a b m n some f g va vb =
+    false_from_ne_true _ (λ all. some (same_from_bits (bit_and m n) 0 (λ j. no_bit least a b m n j f g va vb all)))
 
 -- ---- masks of ranges
 
@@ -71,11 +74,7 @@ has_at [] i r d v h e t = absurd (omega arith)
 has_at (s ∷ rs) zero r d v h e t = let same : in_range s v ≡ true =
     subst (λ (q : ℤ × ℤ). in_range q v ≡ true) e t in rw same refl
 has_at (s ∷ rs) (suc i) r d v h e t =
-    or_true (in_range s v) (has rs v) (has_at rs i r d v (omega arith) e t)
-  where
-    or_true : (a b : Bool) → b ≡ true → (a || b) ≡ true
-    or_true true b e = refl
-    or_true false b e = e
+    or_right (in_range s v) (has rs v) (has_at rs i r d v (omega arith) e t)
 
 either : (a b : ℕ) → a < 2 → max a b ≡ 1 → (a ≡ 1) ⊎ (b ≡ 1)
 either zero b h e = inr (omega arith)

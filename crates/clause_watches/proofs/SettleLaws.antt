@@ -17,6 +17,7 @@ use Rattle.clause_watches.specs.Sound.{row_of, least_at, sets_at, AreClauses, Ar
 use Rattle.clause_watches.proofs.RestLaws.{step_none}
 use Rattle.clause_watches.proofs.MarkLaws.{marked_other}
 use Rattle.clause_watches.proofs.KnownLaws.{known_again}
+use Rattle.clause_watches.proofs.TestLaws.{or_other}
 
 -- the walk begins
 pub walk_begins : (added : List (ℕ × Literals)) (rests : List Rest) (rows : List (List Watch))
@@ -44,10 +45,6 @@ found (w ∷ ws) i Q h e = elim (cases_eq w.clause i) [
   | inr other ↦ found ws i Q (All-tail (λ (v : Watch). Q v.clause) w ws h)
       (or_other (w.clause == i) (has_watch i ws) (grind arith) e)
 ]
-  where
-    or_other : (a b : Bool) → a ≡ false → (a || b) ≡ true → b ≡ true
-    or_other true b e f = absurd (cc)
-    or_other false b e f = f
 
 take_whole : {X : Type 0} (xs : List X) → take (length xs) xs ≡ xs
 take_whole [] = refl

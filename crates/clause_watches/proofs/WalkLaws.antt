@@ -13,6 +13,7 @@ use Rattle.clause_watches.specs.declared.watch.Site.{Site}
 use Rattle.clause_watches.specs.Watching.{rest_of, touched}
 use Rattle.clause_watches.specs.Rows.{names, holds, has_watch, IsStep, IsMet, IsWalked, IsTrueOf}
 use Rattle.clause_watches.proofs.RestLaws.{rest_set_same, rest_set_other, step_none, step_then, step_touched, touched_names}
+use Rattle.clause_watches.proofs.TestLaws.{or_other}
 
 -- one rest takes a step
 set_step : (x : ℕ) (rests : List Rest) (i : ℕ) (r : Rest) → i < length rests →
@@ -77,10 +78,6 @@ others_stay : (row xs : List Watch) (w : Watch) (i : ℕ) → IsPermutation row 
     i ≢ w.clause → has_watch i row ≡ true → has_watch i xs ≡ true
 others_stay row xs w i moved n h = or_other (w.clause == i) (has_watch i xs) (grind arith)
     (sym (list_any-IsPermutation (λ (v : Watch). v.clause == i) row (w ∷ xs) moved) ∙ h)
-  where
-    or_other : (a b : Bool) → a ≡ false → (a || b) ≡ true → b ≡ true
-    or_other true b e f = absurd (cc)
-    or_other false b e f = f
 
 -- the watch goes
 pub walked_out : (sets : ℕ → Ranges) (at : Ranges) (s : Site) (before rests : List Rest)

@@ -91,7 +91,8 @@ pub(crate) fn add_clause(
     ensures sound { IsSound table.new }
     ensures rows { table.new.rows ≡ table.old.rows }
     ensures changed { table.new.changed ≡ table.old.changed }
-    ensures added { OnOk result (table.new.added.items ≡ table.old.added.items ++ (number, clause) ∷ []) }
+    ensures added { OnOk result (table.new.added.items
+        ≡ table.old.added.items ++ (number, clause) ∷ []) }
     ensures rests { OnOk result (table.new.rests ≡ table.old.rests ++ Rest.Listed ∷ []) }
     ensures added_kept { OnErr result (table.new.added.items ≡ table.old.added.items) }
     ensures rests_kept { OnErr result (table.new.rests ≡ table.old.rests) }

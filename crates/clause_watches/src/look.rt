@@ -48,7 +48,8 @@ fn link_by(l: &(u32, IntSet), at: &IntSet, least: i64, i: u32) -> Link
 fn find_meeting(lits: &[(u32, IntSet)], boxes: &[IntSet], rest: Rest) -> Option<usize>
     requires { IsWithinBoxes lits.now boxes.now }
     ensures there { IfSome result (λ k. k < length lits.now) }
-    ensures some { IfSome result (λ k. (d : ℕ × List (ℤ × ℤ)) → IsMeeting boxes.now rest (slice_index_or lits.now k d)) }
+    ensures some { IfSome result (λ k. (d : ℕ × List (ℤ × ℤ))
+        → IsMeeting boxes.now rest (slice_index_or lits.now k d)) }
     ensures none { IfNone result (All (λ l. IsOut boxes.now rest l) lits.now) }
 {
     for (k, l) in lits.iter().enumerate() {

@@ -94,7 +94,8 @@ impl Rests {
         ensures rests { self.new ≡ self.old }
         ensures there { IfSome result (λ i. i < length self.old) }
         ensures some { IfSome result (λ i. is_listed (rest_of self.old i) ≡ true) }
-        ensures none { IfNone result ((i : ℕ) → i < length self.old → is_listed (rest_of self.old i) ≡ false) }
+        ensures none { IfNone result ((i : ℕ) → i < length self.old
+            → is_listed (rest_of self.old i) ≡ false) }
     {
         find_listed(&self.rests, &mut self.listed)
     }
@@ -110,12 +111,15 @@ impl Rests {
 
 /// The first of the waiting clauses that is still to be looked at; those before it are taken out.
 fn find_listed(rests: &[Rest], listed: &mut WorkList) -> Option<u32>
-    requires { (i : ℕ) → i < length rests.now → is_listed (rest_of rests.now i) ≡ true → is_marked listed.old i ≡ true }
+    requires { (i : ℕ) → i < length rests.now → is_listed (rest_of rests.now i) ≡ true
+        → is_marked listed.old i ≡ true }
     ensures size { length listed.new ≡ length listed.old }
-    ensures waits { (i : ℕ) → i < length rests.now → is_listed (rest_of rests.now i) ≡ true → is_marked listed.new i ≡ true }
+    ensures waits { (i : ℕ) → i < length rests.now → is_listed (rest_of rests.now i) ≡ true
+        → is_marked listed.new i ≡ true }
     ensures there { IfSome result (λ i. i < length rests.now) }
     ensures some { IfSome result (λ i. is_listed (rest_of rests.now i) ≡ true) }
-    ensures none { IfNone result ((i : ℕ) → i < length rests.now → is_listed (rest_of rests.now i) ≡ false) }
+    ensures none { IfNone result ((i : ℕ) → i < length rests.now
+        → is_listed (rest_of rests.now i) ≡ false) }
 {
     while let Some(i) = listed.take() {
         if has_listed(rests, i) {

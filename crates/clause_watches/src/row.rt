@@ -141,7 +141,8 @@ fn raise(rests: &mut Rests, i: u32, site: Site)
 #[tactic(auto, using(crate::proofs::MaskLaws::masks_meet, crate::proofs::MaskLaws::value_meets))]
 fn is_met(witness: Witness, at: &IntSet, mask: u64) -> bool
     ensures { result ≡ true → (least : ℤ) (set : Ranges) → IsMaskOf least at.now mask
-        → IsTrueOf least set witness → IsValid set → IsValid at.now → is_disjoint set at.now ≡ false }
+        → IsTrueOf least set witness → IsValid set → IsValid at.now
+        → is_disjoint set at.now ≡ false }
 {
     match witness {
         Witness::Mask(bits) => bits & mask != 0,

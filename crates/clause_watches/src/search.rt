@@ -25,8 +25,10 @@ pub(crate) fn find_acting(table: &mut Table, boxes: &[IntSet]) -> Result<Option<
     ensures changed { table.new.changed ≡ table.old.changed }
     ensures known { AreKnownNow boxes.now table.new.added.items table.new.rests }
     ensures there { IfOk result (λ o. IfSome o (λ i. i < length table.new.added.items)) }
-    ensures acts { IfOk result (λ o. IfSome o (λ i. acts boxes.now (clause_of table.new.added.items i) ≡ true)) }
-    ensures listed { IfOk result (λ o. IfSome o (λ i. is_listed (rest_of table.new.rests i) ≡ true)) }
+    ensures acts { IfOk result (λ o. IfSome o (λ i.
+        acts boxes.now (clause_of table.new.added.items i) ≡ true)) }
+    ensures listed { IfOk result (λ o. IfSome o (λ i.
+        is_listed (rest_of table.new.rests i) ≡ true)) }
     ensures none { IfOk result (λ o. IfNone o ((i : ℕ) → i < length table.new.added.items
         → is_listed (rest_of table.new.rests i) ≡ false)) }
 {

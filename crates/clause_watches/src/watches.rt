@@ -1,11 +1,12 @@
 //! `Watches`, clauses that are looked at only where they may have become unit or false.
 //!
 //! A clause rests by two literals that meet their boxes, or by one whose box lies within its set;
-//! their variables have it in their rows. When a variable is noted as changed, its row is walked at
-//! the next search: a watch carries values of the literal's set, so most clauses aren't opened. Only
-//! clauses that lose a watch are, and those that were added, answered, or freed by an undo. So a
-//! search costs the watches of changed variables and the clauses that lost one, however many clauses
-//! there are. Contracts see the clauses and why each of them rests (`specs/Watching.antt`).
+//! the rows of their variables have it. When a variable is noted as changed, its row is walked at
+//! the next search. A watch carries values of its literal's set, so most clauses aren't opened
+//! then; only those are that lose a watch, and those that were added, answered or freed by an undo.
+//! So a search costs the watches of changed variables and the clauses that lost one, however many
+//! clauses there are. Contracts see the clauses, and why each of them rests
+//! (`specs/Watching.antt`).
 ghost use Rattle.std.specs.Prelude.{◌≡◌, ◌<◌, ◌++◌, ◌∷◌, [], ℕ, false, map, length, IfOk, OnOk, OnErr, IfNone, IfSome};
 ghost use Rattle.std.specs.List.{All};
 ghost use Rattle.signed_clause.specs.Clauses.{Boxes};
@@ -51,8 +52,8 @@ impl Watches {
         Ok(Watches { table })
     }
 
-    /// Adds a clause with its number, to be looked at. It makes all room that noting and listing the
-    /// clause will ever need.
+    /// Adds a clause with its number, to be looked at. It makes the room that noting and listing the
+    /// clause will ever need; a copy of a handle is enough, the clause isn't copied.
     ///
     /// # Errors
     /// Want of memory, or more clauses than 32 bits number; the watches are as before.
@@ -89,8 +90,10 @@ impl Watches {
         self.table.rests.widen();
     }
 
-    /// The number of a clause that is false in the boxes or unit. It stays listed, so the same one is
-    /// answered until it has been acted on. None only where no clause is so.
+    /// The number of a clause that is false in the boxes or unit; None only where no clause is so.
+    /// The clause stays listed, so it is answered again until its box has been narrowed or boxes
+    /// have become wider. It costs the watches of the variables that were noted since the last
+    /// search, and the literals of the clauses that lost a watch or were listed.
     ///
     /// # Errors
     /// Want of memory; what the watches know is still true in the boxes.

@@ -26,7 +26,8 @@ impl Model for WorkList {
 
     ghost view = { λ w. w.marks.items };
 
-    ghost invariant = { λ w. IsKept w.marks.items w.list.items × (length w.marks.items ≤ vec_capacity w.list) };
+    ghost invariant = { λ w. IsKept w.marks.items w.list.items
+        × (length w.marks.items ≤ vec_capacity w.list) };
 }
 
 impl WorkList {
@@ -71,7 +72,8 @@ impl WorkList {
     pub(crate) fn take(&mut self) -> Option<u32>
         ensures size { length self.new ≡ length self.old }
         ensures waited { IfSome result (λ k. is_marked self.old k ≡ true) }
-        ensures marks { IfSome result (λ k. (j : ℕ) → is_marked self.new j ≡ cond (k == j) false (is_marked self.old j)) }
+        ensures marks { IfSome result (λ k. (j : ℕ)
+            → is_marked self.new j ≡ cond (k == j) false (is_marked self.old j)) }
         ensures count { IfSome result (λ k. suc (count_marked self.new) ≡ count_marked self.old) }
         ensures none { IfNone result ((j : ℕ) → is_marked self.new j ≡ false) }
         ensures kept { IfNone result (self.new ≡ self.old) }
