@@ -1,5 +1,5 @@
 -- Clauses that rest don't act, and those of which no two literals meet do.
-use Rattle.std.proofs.Common.{◌≡◌, ◌≢◌, ℕ, suc, zero, ◌<◌, ◌≤◌, ◌==◌, Bool, true, false, not, cond, [], ◌∷◌, ◌||◌, ◌&&◌, All, length, arith, refl, sym, ap, ◌∙◌, inl, inr, subst, slice_index_or, Option, Some, None}
+use Rattle.std.proofs.Common.{◌≡◌, ◌≢◌, ℕ, suc, zero, ◌<◌, ◌≤◌, ◌==◌, Bool, true, false, not, cond, [], ◌∷◌, ◌&&◌, All, length, arith, refl, sym, ap, ◌∙◌, inl, inr, subst, slice_index_or, Option, Some, None}
 use Rattle.std.specs.Prelude.{is_some}
 use Rattle.std.proofs.lemmas.Bool.{cases_eq}
 use Rattle.std.proofs.lemmas.List.Elements.{All-head, All-tail}

@@ -1,18 +1,16 @@
 -- What a look at a clause leaves to do.
-use Rattle.std.proofs.Common.{◌≡◌, ℕ, zero, suc, ◌<◌, ◌==◌, Bool, true, false, List, [], ◌∷◌, ◌||◌, ℤ, length, arith, refl, ap, subst, slice_set}
+use Rattle.std.proofs.Common.{◌≡◌, ℕ, zero, suc, ◌<◌, ◌==◌, true, false, List, [], ◌∷◌, ℤ, length, arith, refl, ap, subst, slice_set}
 use Rattle.std.specs.List.{All}
 use Rattle.signed_clause.specs.SetAlgebra.{is_disjoint, is_within}
 use Rattle.signed_clause.specs.Clauses.{Boxes, Literals, box_of, set_of, has_var, IsClause}
 use Rattle.clause_watches.specs.declared.rest.Rest.{Rest}
 use Rattle.clause_watches.specs.declared.rest.Rest.TheVariants.{Listed, Half, On, Held}
-use Rattle.clause_watches.specs.declared.watch.Link.{Link}
 use Rattle.clause_watches.specs.declared.watch.Watch.{Watch}
-use Rattle.clause_watches.specs.Watching.{acts, clause_of, rest_of, is_listed, Meets, IsKnown}
-use Rattle.clause_watches.specs.Rows.{names, has_watch}
+use Rattle.clause_watches.specs.Watching.{acts, rest_of, is_listed, Meets, IsKnown}
+use Rattle.clause_watches.specs.Rows.{has_watch}
 use Rattle.clause_watches.specs.Sound.{row_of}
-use Rattle.clause_watches.specs.Looking.{IsOut, IsLink, linked, AreKnownNow, left_of, left_in}
+use Rattle.clause_watches.specs.Looking.{IsOut, linked, left_of, left_in}
 use Rattle.clause_watches.proofs.ActLaws.{none_acts, one_acts}
-use Rattle.clause_watches.proofs.LinkLaws.{rest_cases}
 use Rattle.clause_watches.proofs.TestLaws.{or_false}
 
 left_set : (rests : List Rest) (i : ℕ) (r : Rest) → i < length rests →
@@ -40,45 +38,6 @@ pub left_held : (rests : List Rest) (i x : ℕ) → i < length rests → rest_of
 left_held rests i x h e =
     left_set rests i (Held x) h (let one : left_of (rest_of rests i) ≡ 1 = ap left_of e in
     omega arith)
-
-known_linked : (boxes : Boxes) (c : Literals) (x : ℕ) (r : Rest) → names r x ≡ false →
-    Meets boxes c x → IsKnown boxes c r → IsKnown boxes c (linked x r)
-known_linked boxes c x Listed n m k = m
-known_linked boxes c x (Half a) n m k =
-    record {
-      differ = λ e. let yes : (a == x) ≡ true = grind arith in absurd (cc);
-      one = k;
-      other =
-          m;
-    }
-known_linked boxes c x (On a b) n m k = k
-known_linked boxes c x (Held a) n m k = k
-
-pub known_more : (boxes : Boxes) (added : List (ℕ × Literals)) (leasts : List ℤ) (rests : List Rest)
-    (i : ℕ) (l : Link) → i < length rests →
-    IsLink boxes added leasts i (rest_of rests i) l → AreKnownNow boxes added rests →
-    AreKnownNow boxes added (slice_set rests i (linked l.variable (rest_of rests i)))
-known_more boxes added leasts rests i l h link known =
-    rest_cases rests i (linked l.variable (rest_of rests i))
-    (λ j q. IsKnown boxes (clause_of added j) q) h
-    (known_linked boxes (clause_of added i) l.variable (rest_of rests i) link.unnamed link.meets
-    (known i)) known
-
-half_known : (boxes : Boxes) (c : Literals) (x : ℕ) (r : Rest) → r ≡ Half x → IsKnown boxes c r →
-    Meets boxes c x
-half_known boxes c x r e k = subst (λ (q : Rest). IsKnown boxes c q) e k
-
-pub known_held : (boxes : Boxes) (added : List (ℕ × Literals)) (rests : List Rest) (i x : ℕ) →
-    i < length rests → rest_of rests i ≡ Half x →
-    is_within (box_of boxes x) (set_of (clause_of added i) x) ≡ true →
-    AreKnownNow boxes added rests → AreKnownNow boxes added (slice_set rests i (Held x))
-known_held boxes added rests i x h e w known =
-    rest_cases rests i (Held x) (λ j q. IsKnown boxes (clause_of added j) q) h
-    (record {
-      meets = half_known boxes (clause_of added i) x (rest_of rests i) e (known i);
-      within =
-          w;
-    }) known
 
 -- nothing else was found, so the clause is false or unit
 pub acts_left : (boxes : Boxes) (c : Literals) (r : Rest) → IsClause c → is_listed r ≡ true →

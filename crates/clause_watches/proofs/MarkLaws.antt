@@ -138,14 +138,6 @@ kept_popped ms front k kept =
           let more = count_clear ms k h (kept_last ms front k kept) in omega arith;
     }
 
-one_or_none : (m : Bool) → ◌≡◌ {A = ℕ} 0 (cond m 1 0) → m ≡ false
-one_or_none true e = absurd (omega arith)
-one_or_none false e = refl
-
--- nothing is marked where the list is empty
-pub kept_none : (ms : List Bool) (k : ℕ) → IsKept ms [] → is_marked ms k ≡ false
-kept_none ms k kept = one_or_none (is_marked ms k) (kept.stands k)
-
 -- nothing waits where there are no marks
 pub nothing_kept : IsKept [] []
 nothing_kept = record { stands = λ k. refl; count = refl }

@@ -1,5 +1,5 @@
 -- Masks and single values that show a common value of two sets.
-use Rattle.std.proofs.Common.{◌≡◌, ◌≢◌, ℕ, ◌<◌, Bool, true, false, ℤ, pos, ◌+ℤ◌, arith, sym, ap, ◌∙◌, bit_and, min, ◌+◌, ◌⊎◌, inl, inr, zero, suc, refl, ◌≤◌, ◌-◌, ◌*◌, ◌/◌, ◌%◌, ◌^◌, bit_or, max, [], ◌∷◌, ◌||◌, length, slice_index_or, subst}
+use Rattle.std.proofs.Common.{◌≡◌, ◌≢◌, ℕ, ◌<◌, Bool, true, false, ℤ, pos, ◌+ℤ◌, arith, sym, ap, ◌∙◌, bit_and, min, ◌+◌, ◌⊎◌, inl, inr, zero, suc, refl, ◌≤◌, ◌-◌, ◌*◌, ◌/◌, ◌%◌, ◌^◌, bit_or, max, [], ◌∷◌, length, slice_index_or, subst}
 use Rattle.std.proofs.lemmas.Bool.{false_from_ne_true}
 use Rattle.std.proofs.lemmas.Nat.Bits.{bit_at_and, bit_at_or, bit_at-lt, bit_at-zero, same_from_bits, ones_shl, ones_shr, bit_at_mask_below, bit_at_ones_above}
 use Rattle.std.specs.Int.{bit_at}

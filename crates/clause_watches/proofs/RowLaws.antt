@@ -1,6 +1,6 @@
 -- Watches that come and go.
-use Rattle.std.proofs.Common.{◌≡◌, ◌≢◌, ℕ, zero, suc, ◌<◌, List, [], ◌∷◌, length, arith, sym, subst, slice_index_or, slice_set}
-use Rattle.std.proofs.lemmas.List.{get_or-set_same, get_or-set_other}
+use Rattle.std.proofs.Common.{◌≡◌, ℕ, zero, suc, ◌<◌, List, [], ◌∷◌, length, arith, sym, subst, slice_index_or, slice_set}
+use Rattle.std.proofs.lemmas.List.{get_or-set_same}
 use Rattle.std.specs.List.{swap_remove}
 use Rattle.std.specs.List.Sorted.{IsPermutation}
 use Rattle.std.proofs.lemmas.List.Sorted.{IsPermutation-swap_remove}
@@ -18,10 +18,6 @@ removed_others ws row xs k w e h at new =
 pub row_set_same : (rows : List (List Watch)) (x : ℕ) (row : List Watch) → x < length rows →
     row_of (slice_set rows x row) x ≡ row
 row_set_same rows x row h = get_or-set_same rows x row [] h
-
-pub row_set_other : (rows : List (List Watch)) (x y : ℕ) (row : List Watch) → y ≢ x →
-    row_of (slice_set rows x row) y ≡ row_of rows y
-row_set_other rows x y row n = get_or-set_other rows x y row [] n
 
 -- the default doesn't matter below the length
 pub row_read : (rows : List (List Watch)) (x : ℕ) (row d : List Watch) → x < length rows →

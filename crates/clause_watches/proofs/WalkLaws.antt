@@ -1,5 +1,5 @@
 -- A walk along a row, watch by watch.
-use Rattle.std.proofs.Common.{◌≡◌, ◌≢◌, ℕ, ◌<◌, ◌+◌, ◌==◌, Bool, true, false, List, ◌∷◌, inl, inr, length, take, arith, sym, ap, ◌∙◌, subst, slice_set, slice_index_or, ◌||◌}
+use Rattle.std.proofs.Common.{◌≡◌, ◌≢◌, ℕ, ◌<◌, ◌+◌, ◌==◌, true, false, List, ◌∷◌, inl, inr, length, take, arith, sym, ap, ◌∙◌, subst, slice_set, slice_index_or}
 use Rattle.std.specs.List.{All}
 use Rattle.std.specs.List.Sorted.{IsPermutation}
 use Rattle.std.proofs.lemmas.Bool.{cases_eq, false_from_ne_true}

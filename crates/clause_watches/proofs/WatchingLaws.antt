@@ -187,10 +187,6 @@ pub known_fits : (boxes : Boxes) (t : Table) → Fits boxes (watching_of t) →
 known_fits boxes t fits i = known_seen boxes (clause_of t.added.items i) t.rests t.changed i
     (fits i)
 
-none_half : (a : ℕ) (m : Bool) → m ≡ false → cond m Listed (Half a) ≡ Half a
-none_half a true e = absurd (cc)
-none_half a false e = refl
-
 seen_none : (changed : List Bool) (r : Rest) → ((x : ℕ) → is_marked changed x ≡ false) →
     seen changed r ≡ r
 seen_none changed Listed h = refl

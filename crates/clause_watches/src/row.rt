@@ -138,7 +138,6 @@ fn raise(rests: &mut Rests, i: u32, site: Site)
 }
 
 /// Whether a witness shows that the literal meets the box, whose values the mask has as bits.
-#[tactic(auto, using(crate::proofs::MaskLaws::masks_meet, crate::proofs::MaskLaws::value_meets))]
 fn is_met(witness: Witness, at: &IntSet, mask: u64) -> bool
     ensures { result ≡ true → (least : ℤ) (set : Ranges) → IsMaskOf least at.now mask
         → IsTrueOf least set witness → IsValid set → IsValid at.now

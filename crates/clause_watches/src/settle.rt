@@ -79,7 +79,6 @@ fn site_of(table: &Table, at: &IntSet, x: u32) -> Site
 }
 
 /// Walks the row of a variable that may have changed and isn't noted any longer.
-#[tactic(auto, using(crate::proofs::SettleLaws::walk_begins, crate::proofs::SettleLaws::linked_after, crate::proofs::SettleLaws::known_after))]
 fn settle(table: &mut Table, boxes: &[IntSet], x: u32)
     requires sound { IsSound table.old }
     requires there { x < length table.old.rows.items }

@@ -56,7 +56,7 @@ impl WorkList {
     }
 
     /// Lets the number wait, if it doesn't yet. It takes no memory.
-    #[tactic(auto, using(crate::proofs::MarkLaws::kept_pushed, crate::proofs::MarkLaws::count_room, crate::proofs::MarkLaws::marked_set))]
+    #[tactic(auto, using(crate::proofs::MarkLaws::count_room, crate::proofs::MarkLaws::marked_set))]
     pub(crate) fn add(&mut self, k: u32)
         requires { k < length self.old }
         ensures size { length self.new ≡ length self.old }
