@@ -19,7 +19,8 @@ pub struct Chooser {
 
 impl Chooser {
     /// The chooser of this order and function: one that may be called on whatever `choose` asks
-    /// for, and answers by the order. It takes no memory.
+    /// for, and answers by the order. In another crate the three functions of the orders are handed
+    /// in by a closure that calls them and has their two clauses. It takes no memory.
     pub fn new(order: Order, pick: Pick) -> Chooser
         requires callable { MayBeAsked (Pick.pre pick) }
         requires picks { PicksBy order (Pick.post pick) }

@@ -118,7 +118,8 @@ kept_pushed ms news order more k kept h n e occur long =
       count = let two = kept.count in let one = count_set ms k h n in omega arith;
     })
 
-pub kept_queued : (ms news : List Bool) (w new : Waiting) (u : Urgency) (k : ℕ) → IsKept ms (order_of w) →
+pub kept_queued : (ms news : List Bool) (w new : Waiting) (u : Urgency) (k : ℕ) →
+    IsKept ms (order_of w) →
     k < length ms → is_marked ms k ≡ false → news ≡ slice_set ms k true → new ≡ queued u k w →
     IsKept news (order_of new)
 kept_queued ms news w new u k kept h n e is =

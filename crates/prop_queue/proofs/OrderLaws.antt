@@ -35,7 +35,8 @@ last (x ∷ a) k j = count_cases (x == j) (k == j) (occurs j a) (occurs j (a ++ 
 
 -- ---- one more number
 
-pub queued_more : (u : Urgency) (k : ℕ) (w : Waiting) → HasMore k (order_of (queued u k w)) (order_of w)
+pub queued_more : (u : Urgency) (k : ℕ) (w : Waiting) →
+    HasMore k (order_of (queued u k w)) (order_of w)
 queued_more urgency.Cheap k w = before w.cheap (w.sums ++ w.packings) k
 queued_more urgency.Sum k w =
     behind w.cheap ((w.sums ++ k ∷ []) ++ w.packings) (w.sums ++ w.packings) k

@@ -22,7 +22,8 @@ impl Model for Lists {
 
     ghost Value = { Waiting };
 
-    ghost view = { λ l. waiting l.cheap.items l.sums.items l.packings.items (deque_capacity l.cheap) };
+    ghost view = { λ l. waiting l.cheap.items l.sums.items l.packings.items
+        (deque_capacity l.cheap) };
 
     ghost invariant = { λ l. (deque_capacity l.cheap ≤ deque_capacity l.sums)
         × (deque_capacity l.cheap ≤ deque_capacity l.packings) };

@@ -21,7 +21,8 @@ invariant_of-self c =
     let w = c.push.new.self in
     let there : c.args.k < length q.marks.items = search rules in
     let off : is_marked q.marks.items c.args.k ≡ false = search rules in
-    let kept = kept_queued q.marks.items c.set_mark.new.marks.items q.lists w u c.args.k h.0 there off
-    c.set_mark.ensures c.push.ensures in
+    let news = c.set_mark.new.marks.items in
+    let kept = kept_queued q.marks.items news q.lists w u c.args.k h.0 there off c.set_mark.ensures
+    c.push.ensures in
     let room = queued_room u c.args.k q.lists w c.push.ensures in
     (kept, search rules, search rules, search rules)
