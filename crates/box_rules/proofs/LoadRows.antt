@@ -1,5 +1,5 @@
 -- A row of the items whose bins are fixed tells the loads of all items.
-use Rattle.std.proofs.Common.{◌≡◌, ℕ, zero, suc, ◌+◌, ◌<◌, ◌≤◌, Bool, true, false, not, ◌&&◌, ◌||◌, cond, List, [], ◌∷◌, ◌++◌, ℤ, pos, ◌+ℤ◌, length, take, drop, get_or, slice_set, add-one, append_assoc, append-nil, refl, arith, subst, sym, ap, ◌∙◌}
+use Rattle.std.proofs.Common.{◌≡◌, ℕ, ◌+◌, ◌<◌, Bool, true, false, not, ◌&&◌, ◌||◌, cond, List, [], ◌∷◌, ◌++◌, ℤ, pos, ◌+ℤ◌, length, take, drop, get_or, slice_set, add-one, append_assoc, append-nil, refl, arith, subst, sym, ap, ◌∙◌}
 use Rattle.std.specs.Prelude.{int_lt}
 use Rattle.std.specs.Ordering.{int_eq}
 use Rattle.std.proofs.Math.Seq.{take-suc-set}
@@ -9,7 +9,7 @@ use Rattle.signed_clause.specs.Ranges.{Ranges, is_nil}
 use Rattle.signed_clause.specs.Clauses.{Boxes, box_of}
 use Rattle.signed_clause.proofs.RangeSteps.{left_at}
 use Rattle.ground_form.specs.Bounds.{low_of, high_of}
-use Rattle.box_rules.specs.Refuted.{fixed_at, fixed_load, overfull, some_overfull}
+use Rattle.box_rules.specs.Refuted.{fixed_at, fixed_load, some_overfull}
 use Rattle.box_rules.specs.FixedItems.{read_of, is_put, fixed_of, load_of, some_over}
 
 -- ---- what is in the row
