@@ -15,3 +15,4 @@ pub mod QuietFrom
 pub mod QuietAgree
 pub mod VarWalks
 pub mod CrowdCounts
+pub mod LoadRows

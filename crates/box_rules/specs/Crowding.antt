@@ -12,8 +12,8 @@ ends_of (x ∷ xs) boxes = (low_of (box_of boxes x), high_of (box_of boxes x)) �
 -- none of them ends before it begins
 abbrev pub AreInOrder : List ℕ → Boxes → Type 0
 AreInOrder [] boxes = Unit {0}
-AreInOrder (x ∷ xs) boxes = (low_of (box_of boxes x) ≤ℤ high_of (box_of boxes x)) × AreInOrder xs
-    boxes
+AreInOrder (x ∷ xs) boxes =
+    (low_of (box_of boxes x) ≤ℤ high_of (box_of boxes x)) × AreInOrder xs boxes
 
 -- how many of the ends lie within a..b
 abbrev pub count_ends : ℤ → ℤ → List (ℤ × ℤ) → ℕ

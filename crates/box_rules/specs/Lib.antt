@@ -4,3 +4,4 @@ pub mod Quiet
 pub mod Points
 pub mod Named
 pub mod Crowding
+pub mod FixedItems

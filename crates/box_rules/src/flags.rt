@@ -34,7 +34,7 @@ pub fn is_fixed_at<V: View>(view: &V, x: u32, at: Number) -> bool
     ensures { result ≡ fixed_at (box_of (V.boxes view.now) x) at.value }
 {
     let ends = view.ends(x);
-    !view.is_empty(x) && (ends.0 == at.value && ends.1 == at.value)
+    ends.0 == at.value && ends.1 == at.value && !view.is_empty(x)
 }
 
 /// Whether the part can't be as it wants.

@@ -8,7 +8,8 @@
 //!
 //! - `emptiness`: whether a variable of a constraint has an empty box.
 //! - `flags`, `linear`, `all_different`, `packing`: the rule of each kind. `sums`: what the linear
-//!   ones add up. `crowding`: values that differ among at most 64 boxes, by counters.
+//!   ones add up. `crowding`: values that differ among at most 64 boxes, by counters. `fixed_items`:
+//!   loads of at most 64 items, by a row. `total`: sums of many numbers.
 //! - `exclude`: the rule of a constraint, whatever its kind.
 //! - `refute`: when boxes refute a constraint. `justify`: when it justifies a clause.
 //! - `fixpoint`: when it is quiet, and the values that are probed for that.
@@ -19,6 +20,7 @@ mod all_different;
 mod crowding;
 mod emptiness;
 mod exclude;
+mod fixed_items;
 mod fixpoint;
 mod flags;
 mod justify;
@@ -27,6 +29,7 @@ mod packing;
 mod refute;
 mod soundness;
 mod sums;
+mod total;
 
 pub use fixpoint::{are_all_quiet, first_at, quiet};
 pub use justify::justified;

@@ -3,8 +3,7 @@
 //! Two loads are compared with room: at a place where items are fixed, and over all places. The
 //! room of all places is added up from value to value, from where the first place's box begins to
 //! where the last one's ends. Values that no bin may be are passed over: a walk over the items is
-//! made for each value that some bin may be, and two for each gap between such values. Sums are of
-//! 128 bits, which as many values of 64 bits as a list can have don't fill.
+//! made for each value that some bin may be, and two for each gap between such values.
 ghost use Rattle.std.specs.Prelude.{◌≡◌, ◌<◌, ◌≤◌, ◌≤ℤ◌, ◌<ℤ◌, ◌^◌, ◌-◌, ◌&&◌, ◌||◌, ◌+ℤ◌, ℤ, false, cond, pos, int_lt, length};
 ghost use Rattle.std.specs.Int.{int_max, int_min};
 ghost use Rattle.std.specs.List.{All};
@@ -14,44 +13,11 @@ ghost use Rattle.ground_form.specs.Bounds.{low_of, high_of};
 ghost use Rattle.box_rules.specs.Refuted.{fixed_at, fixed_load, overfull, some_overfull, least_sizes, best_room, rooms_from, first_place, last_place, width, all_room};
 ghost use Rattle.box_rules.specs.Named.{AreItemsNamed, IsItemNamed};
 
+use crate::fixed_items::are_few_overfull;
 use crate::flags::{greatest, is_fixed_at, least};
+use crate::total::Total;
 use box_view::{View, greater, is_below, next, smaller};
 use ground_form::Number;
-
-/// A sum of many numbers.
-#[derive(Clone, Copy)]
-struct Total {
-    value: i128,
-}
-
-impl Total {
-    /// The sum with one more number.
-    fn plus(self, n: Number) -> Total
-        requires low { pos 0 ≤ℤ (self.value +ℤ pos (2 ^ 127 - 2 ^ 63)) }
-        requires high { self.value ≤ℤ pos (2 ^ 127 - 2 ^ 63) }
-        ensures sum { result.value ≡ self.value +ℤ n.value }
-        ensures low { self.value ≤ℤ (result.value +ℤ pos (2 ^ 63)) }
-        ensures high { result.value ≤ℤ (self.value +ℤ pos (2 ^ 63 - 1)) }
-    {
-        Total {
-            value: self.value + i128::from(n.value),
-        }
-    }
-
-    /// Whether the number is below the sum.
-    fn is_above(self, n: Number) -> bool
-        ensures { result ≡ int_lt n.value self.value }
-    {
-        i128::from(n.value) < self.value
-    }
-
-    /// Whether the other sum is below this one.
-    fn is_more_than(self, o: Total) -> bool
-        ensures { result ≡ int_lt o.value self.value }
-    {
-        o.value < self.value
-    }
-}
 
 /// The load with the item's least size, where its place is fixed at the value.
 fn with_load<V: View>(load: Total, i: (u32, u32, u32), view: &V, at: Number) -> Total
@@ -104,6 +70,19 @@ fn is_some_overfull<V: View>(view: &V, items: &[(u32, u32, u32)]) -> bool
     false
 }
 
+/// Whether the bin of some item is overfull. Of at most 64 items those whose bins are fixed are kept
+/// in a row.
+fn has_overfull<V: View>(view: &V, items: &[(u32, u32, u32)]) -> bool
+    requires { AreItemsNamed items.now (V.boxes view.now) }
+    ensures { result ≡ some_overfull items.now items.now (V.boxes view.now) }
+{
+    if items.len() <= 64 {
+        are_few_overfull(view, items)
+    } else {
+        is_some_overfull(view, items)
+    }
+}
+
 /// All least sizes, added up.
 fn least_sizes<V: View>(view: &V, items: &[(u32, u32, u32)]) -> Total
     requires { AreItemsNamed items.now (V.boxes view.now) }
@@ -129,8 +108,9 @@ fn with_room<V: View>(best: Number, i: (u32, u32, u32), view: &V, at: Number) ->
     requires item { IsItemNamed i (V.boxes view.now) }
     ensures { result.value ≡ cond (has (box_of (V.boxes view.now) i.0) at.value) (int_max best.value (high_of (box_of (V.boxes view.now) i.2))) best.value }
 {
-    if may_be_at(view, i.0, at) {
-        greater(best, greatest(view, i.2))
+    let room = greatest(view, i.2);
+    if is_below(best, room) && may_be_at(view, i.0, at) {
+        room
     } else {
         best
     }
@@ -268,5 +248,5 @@ pub fn excludes_packing<V: View>(view: &V, items: &[(u32, u32, u32)]) -> bool
     requires { AreItemsNamed items.now (V.boxes view.now) }
     ensures { result ≡ (some_overfull items.now items.now (V.boxes view.now) || int_lt (all_room items.now (V.boxes view.now)) (least_sizes items.now (V.boxes view.now))) }
 {
-    is_some_overfull(view, items) || least_sizes(view, items).is_more_than(all_room(view, items))
+    has_overfull(view, items) || least_sizes(view, items).is_more_than(all_room(view, items))
 }

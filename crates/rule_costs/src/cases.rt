@@ -127,12 +127,13 @@ pub(crate) fn nth_case(alloc: Global, row: u32) -> Result<Case, AllocError> {
         1 => different(alloc, 16),
         2 => different(alloc, 32),
         3 => different(alloc, 64),
-        4 => packed(alloc, 16),
-        5 => packed(alloc, 64),
-        6 => packed(alloc, 200),
+        4 => different(alloc, 65),
+        5 => packed(alloc, 16),
+        6 => packed(alloc, 64),
+        7 => packed(alloc, 200),
         _ => far(alloc, 64),
     }
 }
 
 /// How many rows there are.
-pub(crate) const ROWS: u32 = 8;
+pub(crate) const ROWS: u32 = 9;

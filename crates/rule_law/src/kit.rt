@@ -147,7 +147,11 @@ fn number_of(kind: Kind) -> usize
 }
 
 /// Which member is the first that handles each kind, by the kind's number; 0 where none does.
-fn first_members(list: &[Box<dyn Propagator>]) -> [usize; 11] {
+fn first_members(list: &[Box<dyn Propagator>]) -> [usize; 11]
+    ensures { (kind : Kind) → covers (map (λ p. handled p) list.now) kind ≡ true
+        → (d : _) → handled (slice_index_or list.now (slice_index_or result (rank kind) 0) d) kind
+        ≡ true }
+{
     let mut members = [0; 11];
     for n in 0..members.len() {
         if let Some(i) = first_for(list, nth_kind(n)) {
