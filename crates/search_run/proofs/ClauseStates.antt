@@ -107,12 +107,12 @@ learned_state g m s c new h old =
     (elim (is_nil c) as (λ b. is_nil c ≡ b → (b || is_some (back_to c s.levels)) ≡ true →
     P (cond b closed (react k c (jumped c s)))) [
       | true ↦ λ e h. record {
-          within = more_within g m c old.within new.within;
-          stack = stack_more m.clauses (c ∷ []) g.domains s.levels old.stack;
-          mode_holds = empty_one m.clauses c new.open_so_far ∙ e;
-          learnt_made = learnt;
-          bounds_made = made_more m.clauses (c ∷ []) s.bounds old.bounds_made;
-        }
+        within = more_within g m c old.within new.within;
+        stack = stack_more m.clauses (c ∷ []) g.domains s.levels old.stack;
+        mode_holds = empty_one m.clauses c new.open_so_far ∙ e;
+        learnt_made = learnt;
+        bounds_made = made_more m.clauses (c ∷ []) s.bounds old.bounds_made;
+      }
       | false ↦ λ e h. (elim (back_to c s.levels) as (λ o. back_to c s.levels ≡ o →
           is_some o ≡ true →
           P (react k c (record s { levels = jumped_to o s.levels; learnt = c ∷ s.learnt }))) [

@@ -29,7 +29,7 @@ use Rattle.search_run.proofs.LineSteps.{bounded_less, decision_parts, line_step,
 
 -- ---- counting
 
-decisions-cons : (l : Line) (ls : List Line) →
+pub decisions-cons : (l : Line) (ls : List Line) →
     decisions (l ∷ ls) ≡ decisions (l ∷ []) + decisions ls
 decisions-cons (Axiom k c) ls = omega arith
 decisions-cons (Chain chain c) ls = omega arith

@@ -142,8 +142,7 @@ from_more : (cs ds : List Literals) (boxes : Boxes) (es : List Entry) → AreFro
     AreFrom (cs ++ ds) boxes es
 from_more cs ds boxes [] h = tt
 from_more cs ds boxes (e ∷ es) h =
-    let before = slice_set boxes e.var e.before in
-    (
+    let before = slice_set boxes e.var e.before in (
       is_from_more e.from cs ds before e.var (box_of boxes e.var) h.0,
       from_more cs ds before es h.1,
     )

@@ -84,8 +84,7 @@ pub decided_stack : (clauses : List Literals) (domains : Boxes) (x : ℕ) (half 
     x < length s.top.now → IsPart (box_of s.top.now x) half → IsStack clauses domains s →
     IsStack clauses domains (moved None x half s)
 decided_stack clauses domains x half s lt p a =
-    let boxes = stack_boxes clauses domains s a in
-    (
+    let boxes = stack_boxes clauses domains s a in (
       record {
         came = (tt, tt);
         led = put_back s.top.now x half;

@@ -12,3 +12,4 @@ pub mod ClauseStates
 pub mod States
 pub mod Fronts
 pub mod RunLaws
+pub mod Depths

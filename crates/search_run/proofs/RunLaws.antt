@@ -22,6 +22,7 @@ use Rattle.search_run.proofs.LevelFacts.{AreBoxesIn, stack_came, stack_domains, 
 use Rattle.search_run.proofs.StateSteps.{AreMade, HoldsIn}
 use Rattle.search_run.proofs.ClauseStates.{IsState}
 use Rattle.search_run.proofs.States.{run_state}
+use Rattle.search_run.proofs.Depths.{run_depth}
 
 within_all : (domains : Boxes) (cs : List Literals) →
     ((j : ℕ) → IsWithinDomains domains (clause_at cs j)) →
@@ -141,3 +142,7 @@ run_settled g ls r h =
     and_from (none_acts boxes (state_of g ls).learnt) (none_acts boxes (state_of g ls).bounds)
     (none_of boxes clauses (state_of g ls).learnt h state.learnt_made)
     (none_of boxes clauses (state_of g ls).bounds h state.bounds_made)
+
+pub ruleset laws_of_levels = (run_came, run_domains, run_within, run_boxes)
+
+pub ruleset laws_of_modes = (run_conflict, run_closed, run_settled, run_depth)

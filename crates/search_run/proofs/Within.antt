@@ -45,8 +45,7 @@ pub sets_within : (domains : Boxes) (c : Literals) (n : ℕ) → AreValid domain
 sets_within domains [] n a f h = tt
 sets_within domains (l ∷ c) n a f h =
     let box = box_of domains l.0 in
-    let p = and_parts (is_within l.1 box) (are_sets_within domains c) h in
-    (
+    let p = and_parts (is_within l.1 box) (are_sets_within domains c) h in (
       (within_law l.1 box f.2 (a l.0)).0 p.0,
       sets_within domains c (suc l.0) a f.3 p.1,
     )
@@ -153,8 +152,7 @@ bounds_within domains b (goal ∷ next ∷ goals) earlier a p w f e =
     let lt : goal.var < length domains = w 0 goal (omega arith) in
     let better = better_set domains b goal a p lt in
     let good = as_good_set domains b goal a p lt in
-    let form = with_form 0 goal.var _ earlier (omega arith) better.valid f in
-    (
+    let form = with_form 0 goal.var _ earlier (omega arith) better.valid f in (
       within_each domains _ (with_bound domains goal.var _ earlier good f e),
       bounds_within domains b (next ∷ goals) _ a p (λ k d less. w (suc k) d (omega arith)) form
           (with_bound domains goal.var _ earlier better f e),
