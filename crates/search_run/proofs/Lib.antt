@@ -13,3 +13,4 @@ pub mod States
 pub mod Fronts
 pub mod RunLaws
 pub mod Depths
+pub mod Orders

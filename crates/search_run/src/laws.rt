@@ -13,9 +13,12 @@ ghost use Rattle.log_form.specs.Acceptance.{may_come, after, has_empty, accepted
 ghost use Rattle.learn_clauses.specs.Walk.{domains_of, CameFrom, IsWithinDomains};
 ghost use Rattle.search_run.specs.Replay.{Conflict, Closed, top_boxes, none_acts, is_settled, may_stand, next, is_run, state_of};
 ghost use Rattle.search_run.specs.Conflicts.{IsConflict};
+ghost use Rattle.branch_choice.specs.declared.split.Order.TheVariants as orders;
+ghost use Rattle.search_run.specs.Ordered.{IsLineBy, IsOrdered};
 ghost use Rattle.search_run.specs.Decisions.{decisions, MayDecide};
 
 use crate::known::know_lines;
+use branch_choice::Order;
 use ground_form::Ground;
 use log_form::Line;
 
@@ -38,6 +41,22 @@ pub fn line_more(g: &Ground, lines: &[Line], line: &Line)
         ≡ after g.now (made g.now lines.now) line.now }
     ensures state { state_of g.now (lines.now ++ line.now ∷ [])
         ≡ next g.now (made g.now lines.now) (state_of g.now lines.now) line.now }
+{}
+
+/// Lines with a line more decide by an order exactly where they do and the new line, if it decides,
+/// does so by the order in the boxes that they leave. By the order Own all lines do.
+#[tactic(auto, using(crate::proofs::Orders::ordered_more, crate::proofs::Orders::own_ordered))]
+pub fn ordered_line_more(
+    g: &Ground,
+    order: Order,
+    hints: &[Option<i64>],
+    lines: &[Line],
+    line: &Line,
+)
+    ensures more { IsOrdered g.now order hints.now (lines.now ++ line.now ∷ [])
+        ↔ (IsOrdered g.now order hints.now lines.now
+        × IsLineBy g.now order hints.now (state_of g.now lines.now) line.now) }
+    ensures own { order ≡ orders.Own → IsOrdered g.now order hints.now lines.now }
 {}
 
 /// What every run leaves. Each pruning came from a clause that was made, level 0 began with the

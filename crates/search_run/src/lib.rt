@@ -11,4 +11,6 @@
 mod known;
 mod laws;
 
-pub use laws::{front_is_run, line_more, run_decides_less, run_leaves, run_reaches};
+pub use laws::{
+    front_is_run, line_more, ordered_line_more, run_decides_less, run_leaves, run_reaches,
+};

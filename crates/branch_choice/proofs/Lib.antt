@@ -1,0 +1,2 @@
+pub mod SetSplits
+pub mod Walking
