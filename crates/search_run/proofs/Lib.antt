@@ -14,3 +14,4 @@ pub mod Fronts
 pub mod RunLaws
 pub mod Depths
 pub mod Orders
+pub mod SmallRuns
