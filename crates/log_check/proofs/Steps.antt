@@ -54,7 +54,7 @@ same_literal-equal (x, s) (y, t) h =
 pub same_clause-equal : (c d : Literals) → same_clause c d ≡ true → c ≡ d
 same_clause-equal c d h = all_same-equal _ c d same_literal-equal h
 
-all_same-self : {X : Type 0} (same : X → X → Bool) (xs : List X) → ((x : X) → same x x ≡ true) → all_same same xs xs ≡ true
+pub all_same-self : {X : Type 0} (same : X → X → Bool) (xs : List X) → ((x : X) → same x x ≡ true) → all_same same xs xs ≡ true
 all_same-self same [] e = refl
 all_same-self same (x ∷ xs) e = rw (e x, all_same-self same xs e) refl
 

@@ -15,3 +15,4 @@ pub mod RunLaws
 pub mod Depths
 pub mod Orders
 pub mod SmallRuns
+pub mod WalkLines

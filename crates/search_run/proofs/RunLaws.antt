@@ -93,7 +93,7 @@ pub record IsRunOf (g : Ground) (ls : List Line) : Type 0 where
   pub sets : All (λ l. HasSets l) ls
   pub run : is_run g ls ≡ true
 
-state_is : (g : Ground) (ls : List Line) → IsRunOf g ls → IsState g (made g ls) (state_of g ls)
+pub state_is : (g : Ground) (ls : List Line) → IsRunOf g ls → IsState g (made g ls) (state_of g ls)
 state_is g ls r = run_state g ls r.well_made r.sets r.run
 
 pub run_came : (g : Ground) (ls : List Line) → IsRunOf g ls →
