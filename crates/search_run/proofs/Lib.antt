@@ -16,3 +16,5 @@ pub mod Depths
 pub mod Orders
 pub mod SmallRuns
 pub mod WalkLines
+pub mod BoundTruths
+pub mod FoundLines

@@ -18,7 +18,7 @@ pub none_some : {X : Type 0} (x : X) → None ≡ Some x → ⊥
 none_some x e = cc
 
 -- a box that a set meets exists
-exists_from_meets : (boxes : Boxes) (x : ℕ) (s : Ranges) → is_disjoint s (box_of boxes x) ≡ false →
+pub exists_from_meets : (boxes : Boxes) (x : ℕ) (s : Ranges) → is_disjoint s (box_of boxes x) ≡ false →
     x < length boxes
 exists_from_meets [] x s h = let none : is_nil (meet s []) ≡ true = ap is_nil (meet-none s) in
     absurd (grind arith)

@@ -3,13 +3,16 @@ use Rattle.std.proofs.Common.{◌≡◌, ℕ, ◌<◌, true, false, not, ◌&&�
 use Rattle.std.proofs.lemmas.Bool.{and_parts, and_from, lt-ltb, eq-eqb}
 use Rattle.signed_clause.specs.Clauses.{Boxes, Literals, box_of, has_var, false_in, resolvent}
 use Rattle.ground_form.specs.declared.ground.Ground.{Ground}
+use Rattle.numbered_clauses.specs.declared.chain.Chain as chains
 use Rattle.log_form.specs.declared.line.Line.{Line}
 use Rattle.log_form.specs.declared.line.Line.TheVariants.{Chain}
 use Rattle.log_form.specs.Acceptance.{Made, clause_at, has_empty, chain_holds, chain_end, all_same, same_clause, accepts, may_come, made}
+use Rattle.log_form.specs.Acceptance as acceptance
 use Rattle.log_check.proofs.Steps.{all_same-self, same_clause-self}
 use Rattle.fd_store.specs.Levels.{Entry, Stack}
 use Rattle.learn_clauses.specs.Walk.{IsFrom, AreFrom, CameFrom, Walk, with_step, walk_at, walk, walk_from, trail_of}
 use Rattle.search_run.specs.Replay.{State, Mode, Going, Conflict, AtFound, Closed, are_same_steps, is_walk, leads_back, may_explain, may_stand, is_run, state_of}
+use Rattle.search_run.specs.Replay as replay
 use Rattle.search_run.proofs.Units.{some_same, none_some}
 use Rattle.search_run.proofs.StateSteps.{HoldsIn}
 use Rattle.search_run.proofs.ClauseStates.{IsState}
@@ -105,3 +108,39 @@ walk_stands m s n steps c w =
     ∙ and_from (n == n) (is_walk (walk_from s.levels m.clauses n) steps c && leads_back s.levels c)
     (eq-eqb n n refl) (and_from (is_walk (walk_from s.levels m.clauses n) steps c)
     (leads_back s.levels c) is w.leads)
+
+-- a conflict means that the empty clause wasn't made, and that its own was
+in_conflict : (m : Made) (boxes : Boxes) (mode : Mode) (n : ℕ) → mode ≡ Conflict n →
+    HoldsIn m boxes mode → (has_empty m.clauses ≡ false) × (n < length m.clauses)
+in_conflict m boxes mode n e h =
+    let here : HoldsIn m boxes (Conflict n) = subst (HoldsIn m boxes) e h in (here.0, here.1)
+
+-- where the lines are in conflict, the walk's line may follow
+pub walk_follows : (g : Ground) (ls : List Line) (chain : chains.Chain) (c : Literals) →
+    IsRunOf g ls → IsWalkLine (made g ls) (state_of g ls) chain.first chain.steps c →
+    is_run g (ls ++ Chain chain c ∷ []) ≡ true
+unfolding acceptance.accepts replay.may_stand
+walk_follows g ls chain c r w =
+    let m = made g ls in
+    let s = state_of g ls in
+    let n = chain.first in
+    let steps = chain.steps in
+    let d = clause_at m.clauses n in
+    let state = state_is g ls r in
+    let open_so_far = in_conflict m s.levels.top.now s.mode n w.conflict state.mode_holds in
+    let came = stack_came m.clauses g.domains s.levels state.stack in
+    let derived = walk_derived (trail_of s.levels) s.levels.top.now m.clauses d
+    (record { steps = steps; clause = c }) came w.walked in
+    let same : same_clause (chain_end m.clauses d steps) c ≡ true =
+    ap (λ (z : Literals). same_clause z c) derived.ends ∙ same_clause-self c in
+    let takes : accepts g m (Chain chain c) ≡ true =
+    and_from (nat_lt n (length m.clauses))
+    (chain_holds m.clauses d steps && same_clause (chain_end m.clauses d steps) c)
+    (lt-ltb n (length m.clauses) open_so_far.1)
+    (and_from (chain_holds m.clauses d steps) (same_clause (chain_end m.clauses d steps) c)
+    derived.holds same) in
+    let comes : may_come g m (Chain chain c) ≡ true = rw (open_so_far.0, takes) refl in
+    run_more g ls (Chain chain c)
+    ∙ and_from (is_run g ls) (may_come g m (Chain chain c) && may_stand g m s (Chain chain c)) r.run
+    (and_from (may_come g m (Chain chain c)) (may_stand g m s (Chain chain c)) comes
+    (walk_stands m s n steps c w))

@@ -111,7 +111,7 @@ meet_within a b f g v h =
     (and_parts (has a v) (has b v) (sym (has-meet_valid a b f g v) ∙ h)).0
 
 -- what is known of a bound at a goal
-record IsBoundSet (domains : Boxes) (x : ℕ) (s : Ranges) : Type 0 where
+pub record IsBoundSet (domains : Boxes) (x : ℕ) (s : Ranges) : Type 0 where
   pub valid : IsValid s
   pub within : IsSubset s (box_of domains x)
 
@@ -122,14 +122,14 @@ bound_set domains x s a lt v =
     let valid : IsValid box = a x [] lt in
     record { valid = IsValid-meet box s valid v; within = meet_within box s valid v }
 
-better_set : (domains : Boxes) (b : List ℤ) (goal : GroundGoal) → All (λ s. IsValid s) domains →
+pub better_set : (domains : Boxes) (b : List ℤ) (goal : GroundGoal) → All (λ s. IsValid s) domains →
     IsPoint domains b → goal.var < length domains →
     IsBoundSet domains goal.var (better_values domains b goal)
 better_set domains b goal a p lt =
     bound_set domains goal.var _ a lt
     (better_than_valid goal.max (value_of b goal.var) (fits_at domains b goal.var a p lt))
 
-as_good_set : (domains : Boxes) (b : List ℤ) (goal : GroundGoal) → All (λ s. IsValid s) domains →
+pub as_good_set : (domains : Boxes) (b : List ℤ) (goal : GroundGoal) → All (λ s. IsValid s) domains →
     IsPoint domains b → goal.var < length domains →
     IsBoundSet domains goal.var (as_good_values domains b goal)
 as_good_set domains b goal a p lt =
