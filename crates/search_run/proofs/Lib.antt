@@ -17,4 +17,5 @@ pub mod Orders
 pub mod SmallRuns
 pub mod WalkLines
 pub mod BoundTruths
+pub mod Waiting
 pub mod FoundLines
