@@ -1,13 +1,13 @@
 -- Where the clauses of a Bound line are true, the values are better than those found last.
-use Rattle.std.proofs.Common.{◌≡◌, ◌↔◌, ℕ, zero, suc, ◌<◌, ◌≤◌, ◌⊎◌, inl, inr, Bool, true, false, not, ◌&&◌, ◌||◌, cond, List, [], ◌∷◌, ℤ, pos, negsuc, ◌+ℤ◌, ◌-ℤ◌, length, refl, sym, ap, ◌∙◌, arith, subst, int_lt, All, Option, Some, None}
+use Rattle.std.proofs.Common.{◌≡◌, ℕ, suc, ◌<◌, ◌⊎◌, inl, inr, Bool, true, false, ◌||◌, List, [], ◌∷◌, ℤ, pos, negsuc, ◌+ℤ◌, ◌-ℤ◌, length, refl, sym, ◌∙◌, arith, All, Option, Some, None}
 use Rattle.std.specs.Ordering.{int_eq}
 use Rattle.std.specs.List.{AllByRecursion}
 use Rattle.std.proofs.lemmas.Int.{ints}
 use Rattle.std.proofs.lemmas.Bool.{and_parts}
 use Rattle.std.proofs.lemmas.Bool.Decides.{Decides-int_eq}
-use Rattle.signed_clause.specs.Ranges.{Ranges, has, is_nil, IsValid}
-use Rattle.signed_clause.specs.SetAlgebra.{is_disjoint, meet}
-use Rattle.signed_clause.specs.Clauses.{Boxes, Literals, box_of, false_in, clause_true, IsClause, IsClauseFrom}
+use Rattle.signed_clause.specs.Ranges.{Ranges, has, IsValid}
+use Rattle.signed_clause.specs.SetAlgebra.{meet}
+use Rattle.signed_clause.specs.Clauses.{Boxes, Literals, box_of, clause_true, IsClause}
 use Rattle.signed_clause.proofs.RangeLaws.{has-piece}
 use Rattle.signed_clause.proofs.RangeSteps.{has-meet_valid}
 use Rattle.ground_form.specs.declared.ground.Ground.{Ground}
@@ -17,7 +17,7 @@ use Rattle.ground_form.specs.Solutions.{IsPoint, better}
 use Rattle.ground_form.specs.WellMade.{IsWellMade}
 use Rattle.log_form.specs.Acceptance.{beats, better_than, as_good_as, with_literal, better_values, as_good_values, bounds, bounds_from, bounds_of}
 use Rattle.log_check.specs.Soundness.{FoundSolves}
-use Rattle.log_check.proofs.Bounds.{Fits, fits_at, beats_value, with_true, with_form, better_than_valid, as_good_as_valid}
+use Rattle.log_check.proofs.Bounds.{fits_at, beats_value, with_true, with_form, better_than_valid, as_good_as_valid}
 use Rattle.log_check.proofs.Steps.{here_better, later_better}
 use Rattle.search_run.proofs.Within.{IsBoundSet, better_set, as_good_set}
 

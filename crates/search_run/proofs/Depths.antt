@@ -1,6 +1,6 @@
 -- A run has at most as many levels above level 0 as it has decided.
-use Rattle.std.proofs.Common.{◌≡◌, ℕ, suc, ◌+◌, ◌<◌, ◌≤◌, true, false, not, ◌&&◌, cond, List, [], ◌∷◌, length, refl, sym, ap, ◌∙◌, arith, subst, Option, Some, None}
-use Rattle.signed_clause.specs.Ranges.{Ranges, is_nil}
+use Rattle.std.proofs.Common.{◌≡◌, ℕ, suc, ◌+◌, ◌≤◌, true, false, not, ◌&&◌, cond, List, [], ◌∷◌, length, refl, arith, subst, Some, None}
+use Rattle.signed_clause.specs.Ranges.{is_nil}
 use Rattle.signed_clause.specs.Clauses.{Literals, false_in, unit_of}
 use Rattle.ground_form.specs.declared.ground.Ground.{Ground}
 use Rattle.log_form.specs.declared.line.Line.{Line}
@@ -9,7 +9,7 @@ use Rattle.log_form.specs.Acceptance.{Made, clause_at, after}
 use Rattle.log_form.specs.Acceptance as acceptance
 use Rattle.fd_store.specs.Levels.{Level, Stack, reacted, pruned_by}
 use Rattle.learn_clauses.specs.Walk.{back_from, back_to}
-use Rattle.search_run.specs.Replay.{State, Closed, start, jumped, jumped_to, react, learned, changed, next, state_from, state_of}
+use Rattle.search_run.specs.Replay.{State, Closed, start, led_back, back_or, react, learned, changed, next, state_from, state_of}
 use Rattle.search_run.specs.Decisions.{decisions}
 use Rattle.search_run.proofs.Units.{some_same, none_some}
 use Rattle.search_run.proofs.FewDecisions.{decisions-cons}
@@ -47,11 +47,11 @@ learned-depth : (k : ℕ) (c : Literals) (s : State) →
 learned-depth k c s =
     let n = depth_of s.levels in
     elim (is_nil c) as (λ b. depth_of
-    (cond b (record s { mode = Closed; learnt = c ∷ s.learnt }) (react k c (jumped c s))).levels
+    (cond b (record s { mode = Closed; learnt = c ∷ s.learnt }) (react k c (led_back c s))).levels
     ≤ n) [
       | true ↦ omega arith
       | false ↦ (elim (back_to c s.levels) as (λ o. back_to c s.levels ≡ o →
-          depth_of (reacted k c (jumped_to o s.levels)) ≤ n) [
+          depth_of (reacted k c (back_or o s.levels)) ≤ n) [
             | None ↦ λ e. let same = reacted-depth k c s.levels in omega (arith, same)
             | Some lower ↦ λ e.
                 let same = reacted-depth k c lower in

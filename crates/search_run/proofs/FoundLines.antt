@@ -1,12 +1,11 @@
 -- A solution that the present boxes are is a line that may follow.
-use Rattle.std.proofs.Common.{◌≡◌, ℕ, zero, suc, ◌+◌, ◌<◌, ◌≤◌, true, false, not, ◌&&◌, ◌||◌, cond, List, [], ◌∷◌, ◌++◌, ℤ, pos, Bool, length, refl, sym, ap, ◌∙◌, arith, subst, slice_get, slice_index_or, All, Option, Some, None, is_some}
-use Rattle.std.specs.Ordering.{int_eq}
+use Rattle.std.proofs.Common.{◌≡◌, ℕ, zero, suc, ◌≤◌, true, false, not, ◌&&◌, ◌||◌, List, [], ◌∷◌, ◌++◌, ℤ, Bool, length, refl, sym, ap, ◌∙◌, arith, subst, slice_get, slice_index_or, All, Some, is_some}
 use Rattle.std.specs.List.{AllByRecursion}
 use Rattle.std.proofs.lemmas.Int.{ints}
 use Rattle.std.proofs.lemmas.List.{get_or_default}
-use Rattle.std.proofs.lemmas.Bool.{and_parts, and_from, not-true, false_from_ne_true}
+use Rattle.std.proofs.lemmas.Bool.{and_parts, and_from, false_from_ne_true}
 use Rattle.std.proofs.lemmas.Bool.Decides.{Decides-int_eq}
-use Rattle.signed_clause.specs.Ranges.{Ranges, has, is_nil, IsValid}
+use Rattle.signed_clause.specs.Ranges.{Ranges, has, IsValid}
 use Rattle.signed_clause.specs.SetAlgebra.{is_disjoint}
 use Rattle.signed_clause.specs.Clauses.{Boxes, Literals, box_of, false_in, unit_of, clause_true, IsClauseFrom, IsClause}
 use Rattle.signed_clause.specs.Running.{AreValid}
@@ -141,8 +140,7 @@ clauses_true : (cs : List Literals) (boxes : Boxes) (a : List ℤ) → AreValid 
 clauses_true [] boxes a v e f h = tt
 clauses_true (c ∷ cs) boxes a v e f h =
     let p = and_parts (not (acts boxes c)) (none_acts boxes cs) h in
-    let form : IsClause c = f 0 c (omega arith) in
-    (
+    let form : IsClause c = f 0 c (omega arith) in (
       single_true c 0 boxes a v form e (no_conflict boxes c p.0),
       clauses_true cs boxes a v e (λ k d lt. f (suc k) d (omega arith)) p.1,
     )

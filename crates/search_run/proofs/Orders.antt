@@ -1,5 +1,5 @@
 -- Runs that decide by an order, and a line more.
-use Rattle.std.proofs.Common.{◌≡◌, ◌↔◌, List, [], ◌∷◌, ◌++◌}
+use Rattle.std.proofs.Common.{◌↔◌, List, [], ◌∷◌, ◌++◌}
 use Rattle.ground_form.specs.declared.ground.Ground.{Ground}
 use Rattle.branch_choice.specs.declared.split.Order.{Order}
 use Rattle.branch_choice.specs.declared.split.Order.TheVariants.{Own}

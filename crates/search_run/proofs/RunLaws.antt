@@ -1,11 +1,10 @@
 -- What every run leaves, in the words of the laws.
-use Rattle.std.proofs.Common.{◌≡◌, ◌↔◌, ℕ, zero, suc, ◌<◌, true, false, not, ◌&&◌, List, [], ◌∷◌, length, refl, sym, ap, ◌∙◌, arith, subst, All, slice_index_or}
+use Rattle.std.proofs.Common.{◌≡◌, ◌↔◌, ℕ, zero, suc, ◌<◌, true, false, not, List, [], ◌∷◌, length, refl, sym, ap, ◌∙◌, arith, subst, All, slice_index_or}
 use Rattle.std.specs.List.{Contains}
 use Rattle.std.proofs.lemmas.Bool.{and_parts, and_from, not-true}
 use Rattle.std.proofs.lemmas.List.{get_or_default}
-use Rattle.signed_clause.specs.Ranges.{Ranges, is_nil, IsValid}
-use Rattle.signed_clause.specs.SetAlgebra.{is_within}
-use Rattle.signed_clause.specs.Clauses.{Boxes, Literals, box_of, false_in}
+use Rattle.signed_clause.specs.Ranges.{is_nil, IsValid}
+use Rattle.signed_clause.specs.Clauses.{Boxes, Literals, box_of}
 use Rattle.signed_clause.specs.Running.{AreValid}
 use Rattle.signed_clause.proofs.SetFacts.{within_law}
 use Rattle.ground_form.specs.declared.ground.Ground.{Ground}
@@ -15,7 +14,7 @@ use Rattle.log_form.specs.declared.line.Line.{Line}
 use Rattle.log_form.specs.Acceptance.{Made, clause_at, has_empty, made}
 use Rattle.learn_clauses.specs.Walk.{domains_of, CameFrom, IsWithinDomains}
 use Rattle.learn_clauses.proofs.WithinLaws.{valid_boxes}
-use Rattle.search_run.specs.Replay.{State, Mode, Going, Conflict, AtFound, Closed, top_boxes, acts, none_acts, is_settled, is_run, state_of}
+use Rattle.search_run.specs.Replay.{Mode, Going, Conflict, AtFound, Closed, top_boxes, acts, none_acts, is_settled, is_run, state_of}
 use Rattle.search_run.specs.Lines.{HasSets}
 use Rattle.search_run.specs.Conflicts.{IsConflict}
 use Rattle.search_run.proofs.LevelFacts.{AreBoxesIn, stack_came, stack_domains, stack_boxes}

@@ -7,7 +7,7 @@ use Rattle.ground_form.specs.declared.con.Con.TheVariants.{ClauseCon}
 use Rattle.ground_form.specs.declared.ground.Ground.{Ground}
 use Rattle.box_rules.specs.Quiet as quiets
 use Rattle.log_form.specs.declared.line.Line.{Line}
-use Rattle.log_form.specs.declared.line.Line.TheVariants.{Axiom, Chain, Bound, Use, Found, Decide, Empty}
+use Rattle.log_form.specs.declared.line.Line.TheVariants.{Axiom, Chain, Bound, Use, Found, Decide}
 use Rattle.log_form.specs.Acceptance as acceptance
 use Rattle.search_run.specs.Replay as replay
 use Rattle.search_run.specs.Replay.{is_run}
@@ -35,7 +35,8 @@ no_pair = record {
 
 abbrev to_conflict : List Line
 to_conflict =
-    Decide 0 (one (pos 0)) ∷ Axiom 2 (either (pos 1) (pos 0)) ∷ Axiom 3 (either (pos 1) (pos 1)) ∷ []
+    Decide 0 (one (pos 0)) ∷ Axiom 2 (either (pos 1) (pos 0))
+    ∷ Axiom 3 (either (pos 1) (pos 1)) ∷ []
 
 abbrev to_end : List Line
 to_end =

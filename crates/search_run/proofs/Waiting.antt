@@ -1,5 +1,5 @@
 -- The bounds that a run waits for are those of what it found last.
-use Rattle.std.proofs.Common.{◌≡◌, ℕ, true, false, not, ◌&&◌, ◌||◌, cond, List, [], ◌∷◌, ℤ, length, nat_lt, refl, sym, ap, ◌∙◌, subst, All, Option, Some, None, ◌==◌}
+use Rattle.std.proofs.Common.{◌≡◌, ℕ, true, false, ◌&&◌, cond, List, [], ◌∷◌, ℤ, length, nat_lt, refl, ◌∙◌, All, Option}
 use Rattle.std.proofs.lemmas.Bool.{and_parts}
 use Rattle.signed_clause.specs.Ranges.{is_nil}
 use Rattle.signed_clause.specs.Clauses.{Literals, box_of}
@@ -11,8 +11,7 @@ use Rattle.log_form.specs.Acceptance.{Made, clause_at, bounds, after, made_from,
 use Rattle.log_form.specs.Acceptance as acceptance
 use Rattle.log_check.specs.Soundness.{IsSound}
 use Rattle.log_check.proofs.Steps.{sound_step, sound_start}
-use Rattle.learn_clauses.specs.Walk.{walk_from}
-use Rattle.search_run.specs.Replay.{State, Mode, Going, Conflict, AtFound, Closed, start, top_boxes, is_going, acts, are_sets_within, is_settled, are_quiet, none_empty, are_fixed, is_walk, leads_back, may_explain, mode_by, mode_by_bounds, jumped, react, learned, is_split, may_stand, changed, next, run_from, is_run, state_from, state_of}
+use Rattle.search_run.specs.Replay.{State, Mode, Going, Conflict, AtFound, Closed, start, top_boxes, is_going, acts, are_sets_within, is_settled, are_quiet, none_empty, may_explain, mode_by, mode_by_bounds, led_back, react, learned, is_split, may_stand, changed, next, run_from, is_run, state_from, state_of}
 use Rattle.search_run.specs.Lines.{HasSets}
 use Rattle.search_run.proofs.LineSets.{has_clause, first_has, rest_has}
 use Rattle.search_run.proofs.FewDecisions.{run_line}
@@ -42,7 +41,7 @@ in_going g found Closed cs e h = absurd cc
 learned-bounds : (k : ℕ) (c : Literals) (s : State) → (learned k c s).bounds ≡ s.bounds
 learned-bounds k c s =
     elim (is_nil c) as (λ b. (cond b (record s { mode = Closed; learnt = c ∷ s.learnt })
-    (react k c (jumped c s))).bounds ≡ s.bounds) [ true ↦ refl | false ↦ refl ]
+    (react k c (led_back c s))).bounds ≡ s.bounds) [ true ↦ refl | false ↦ refl ]
 
 explained : (g : Ground) (m : Made) (s : State) (n k : ℕ) (steps : List (ℕ × ℕ)) (c : Literals)
     (mode : Mode) → may_explain m s n steps c mode ≡ true → IsWaiting g m.found mode s.bounds →

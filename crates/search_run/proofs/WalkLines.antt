@@ -1,5 +1,5 @@
 -- The walk back from a conflict is a line that may follow.
-use Rattle.std.proofs.Common.{◌≡◌, ℕ, ◌<◌, true, false, not, ◌&&◌, ◌||◌, cond, List, [], ◌∷◌, ◌++◌, ℤ, length, refl, sym, ap, ◌∙◌, arith, subst, slice_set, nat_lt, ◌==◌, Option, Some, None}
+use Rattle.std.proofs.Common.{◌≡◌, ℕ, ◌<◌, true, false, ◌&&◌, cond, List, [], ◌∷◌, ◌++◌, ℤ, length, refl, ap, ◌∙◌, subst, slice_set, nat_lt, ◌==◌, Option, Some, None}
 use Rattle.std.proofs.lemmas.Bool.{and_parts, and_from, lt-ltb, eq-eqb}
 use Rattle.signed_clause.specs.Clauses.{Boxes, Literals, box_of, has_var, false_in, resolvent}
 use Rattle.ground_form.specs.declared.ground.Ground.{Ground}
@@ -9,13 +9,12 @@ use Rattle.log_form.specs.declared.line.Line.TheVariants.{Chain}
 use Rattle.log_form.specs.Acceptance.{Made, clause_at, has_empty, chain_holds, chain_end, all_same, same_clause, accepts, may_come, made}
 use Rattle.log_form.specs.Acceptance as acceptance
 use Rattle.log_check.proofs.Steps.{all_same-self, same_clause-self}
-use Rattle.fd_store.specs.Levels.{Entry, Stack}
-use Rattle.learn_clauses.specs.Walk.{IsFrom, AreFrom, CameFrom, Walk, with_step, walk_at, walk, walk_from, trail_of}
+use Rattle.fd_store.specs.Levels.{Entry}
+use Rattle.learn_clauses.specs.Walk.{IsFrom, AreFrom, Walk, with_step, walk_at, walk, walk_from, trail_of}
 use Rattle.search_run.specs.Replay.{State, Mode, Going, Conflict, AtFound, Closed, are_same_steps, is_walk, leads_back, may_explain, may_stand, is_run, state_of}
 use Rattle.search_run.specs.Replay as replay
 use Rattle.search_run.proofs.Units.{some_same, none_some}
 use Rattle.search_run.proofs.StateSteps.{HoldsIn}
-use Rattle.search_run.proofs.ClauseStates.{IsState}
 use Rattle.search_run.proofs.LevelFacts.{stack_came}
 use Rattle.search_run.proofs.RunLaws.{IsRunOf, state_is}
 use Rattle.search_run.proofs.Fronts.{run_more}

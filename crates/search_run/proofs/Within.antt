@@ -1,10 +1,10 @@
 -- The clauses of a run name values of the domains alone.
-use Rattle.std.proofs.Common.{◌≡◌, ℕ, zero, suc, ◌+◌, ◌<◌, ◌≤◌, ◌⊎◌, inl, inr, true, false, ◌&&◌, ◌||◌, cond, Bool, List, [], ◌∷◌, ◌++◌, ℤ, length, refl, sym, ap, ◌∙◌, arith, subst, nat_lt, ◌==◌, All, Option, Some, None}
+use Rattle.std.proofs.Common.{◌≡◌, ℕ, suc, ◌<◌, inl, inr, true, false, ◌&&◌, ◌||◌, cond, List, [], ◌∷◌, ℤ, length, refl, sym, ap, ◌∙◌, arith, subst, nat_lt, ◌==◌, All, Option, Some, None}
 use Rattle.std.specs.List.{AllByRecursion}
-use Rattle.std.proofs.lemmas.Bool.{and_parts, cases_eq, eqb-true, ltb-true, ltb-false}
+use Rattle.std.proofs.lemmas.Bool.{and_parts, cases_eq, eqb-true}
 use Rattle.signed_clause.specs.Ranges.{Ranges, has, is_nil, IsValid, IsSubset}
 use Rattle.signed_clause.specs.SetAlgebra.{is_within, join, meet}
-use Rattle.signed_clause.specs.Clauses.{Boxes, Literals, box_of, set_of, has_var, resolvent, IsClause, IsClauseFrom}
+use Rattle.signed_clause.specs.Clauses.{Boxes, Literals, box_of, has_var, resolvent, IsClause, IsClauseFrom}
 use Rattle.signed_clause.specs.Running.{AreValid}
 use Rattle.signed_clause.proofs.SetFacts.{within_law}
 use Rattle.signed_clause.proofs.RangeSteps.{has-meet_valid, has-join_valid, IsValid-meet}
@@ -15,11 +15,11 @@ use Rattle.ground_form.specs.declared.ground.GroundGoal.{GroundGoal}
 use Rattle.ground_form.specs.Meaning.{value_of}
 use Rattle.ground_form.specs.Solutions.{IsPoint}
 use Rattle.ground_form.specs.WellMade.{IsWellMade}
-use Rattle.log_form.specs.Acceptance.{clause_at, chain_holds, chain_end, with_literal, better_than, as_good_as, better_values, as_good_values, bounds, bounds_from, bounds_of}
+use Rattle.log_form.specs.Acceptance.{clause_at, chain_holds, chain_end, with_literal, better_values, as_good_values, bounds, bounds_from, bounds_of}
 use Rattle.log_check.specs.Soundness.{FoundSolves}
 use Rattle.log_check.proofs.Bounds.{with_form, fits_at, better_than_valid, as_good_as_valid}
 use Rattle.learn_clauses.specs.Walk.{IsWithinDomains}
-use Rattle.learn_clauses.proofs.WithinLaws.{within-resolvent, valid_boxes}
+use Rattle.learn_clauses.proofs.WithinLaws.{within-resolvent}
 use Rattle.search_run.specs.Replay.{are_sets_within}
 
 -- ---- literal by literal
@@ -129,8 +129,8 @@ better_set domains b goal a p lt =
     bound_set domains goal.var _ a lt
     (better_than_valid goal.max (value_of b goal.var) (fits_at domains b goal.var a p lt))
 
-pub as_good_set : (domains : Boxes) (b : List ℤ) (goal : GroundGoal) → All (λ s. IsValid s) domains →
-    IsPoint domains b → goal.var < length domains →
+pub as_good_set : (domains : Boxes) (b : List ℤ) (goal : GroundGoal) →
+    All (λ s. IsValid s) domains → IsPoint domains b → goal.var < length domains →
     IsBoundSet domains goal.var (as_good_values domains b goal)
 as_good_set domains b goal a p lt =
     bound_set domains goal.var _ a lt

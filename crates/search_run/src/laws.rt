@@ -32,7 +32,7 @@ pub fn front_is_run(g: &Ground, lines: &[Line])
 
 /// A run with a line more is a run exactly where the line may come and may stand behind what the
 /// run leaves; and then that line is all that changes what is left.
-#[tactic(auto, using(crate::proofs::Fronts::run_more, crate::proofs::Fronts::made_more, crate::proofs::Fronts::state_more))]
+#[tactic(auto, using(crate::proofs::Fronts::laws_of_more))]
 pub fn line_more(g: &Ground, lines: &[Line], line: &Line)
     ensures run { is_run g.now (lines.now ++ line.now ∷ [])
         ≡ (is_run g.now lines.now && (may_come g.now (made g.now lines.now) line.now
@@ -86,8 +86,8 @@ pub fn run_reaches(g: &Ground, lines: &[Line])
         → IsConflict (made g.now lines.now).clauses (top_boxes (state_of g.now lines.now)) n }
     ensures closed { ((state_of g.now lines.now).mode ≡ Closed)
         ↔ (has_empty (made g.now lines.now).clauses ≡ true) }
-    ensures settled { none_acts (top_boxes (state_of g.now lines.now)) (made g.now lines.now).clauses
-        ≡ true → is_settled (state_of g.now lines.now) ≡ true }
+    ensures settled { none_acts (top_boxes (state_of g.now lines.now))
+        (made g.now lines.now).clauses ≡ true → is_settled (state_of g.now lines.now) ≡ true }
     ensures levels { length (state_of g.now lines.now).levels.below ≤ decisions lines.now }
 {
     know_lines(lines);
@@ -95,7 +95,7 @@ pub fn run_reaches(g: &Ground, lines: &[Line])
 
 /// A run over a problem that has a point decides fewer times than it has points; and where a
 /// further decision may stand, fewer times by two.
-#[tactic(auto, using(crate::proofs::FewDecisions::decides_less, crate::proofs::FewDecisions::decides_less_by_two))]
+#[tactic(auto, using(crate::proofs::FewDecisions::laws_of_decisions))]
 pub fn run_decides_less(g: &Ground, lines: &[Line])
     requires well_made { IsWellMade g.now }
     requires run { is_run g.now lines.now ≡ true }
