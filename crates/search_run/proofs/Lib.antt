@@ -19,3 +19,4 @@ pub mod WalkLines
 pub mod BoundTruths
 pub mod Waiting
 pub mod FoundLines
+pub mod LevelBack

@@ -192,6 +192,7 @@ start_state g w = record {
         within = λ x v h. h;
         some = λ x h. h;
       };
+      keeps = λ c f k. k;
     },
     refl,
   );

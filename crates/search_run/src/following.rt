@@ -1,6 +1,7 @@
-//! Lines that may follow a run where more than the line's own rule stands behind it. Like the laws,
-//! these are contracts of functions that do nothing but look at the lines once.
-ghost use Rattle.std.specs.Prelude.{◌≡◌, ◌++◌, ◌∷◌, [], true, ℕ, Some, slice_get};
+//! What may follow a run, where more than the line's own rule stands behind it, and which levels a
+//! learnt clause leaves. Like the laws, these are contracts of functions that do nothing but look at
+//! the lines once.
+ghost use Rattle.std.specs.Prelude.{◌≡◌, ◌↔◌, ◌-◌, false, ◌++◌, ◌∷◌, [], true, ℕ, Some, slice_get};
 ghost use Rattle.ground_form.specs.declared.con.Con.{Con};
 ghost use Rattle.ground_form.specs.Bounds.{singles};
 ghost use Rattle.ground_form.specs.Solutions.{IsSolution};
@@ -8,7 +9,10 @@ ghost use Rattle.ground_form.specs.WellMade.{IsWellMade};
 ghost use Rattle.box_rules.specs.Quiet.{quiet};
 ghost use Rattle.log_form.specs.declared.line.Line.TheVariants as kinds;
 ghost use Rattle.log_form.specs.Acceptance.{made};
-ghost use Rattle.learn_clauses.specs.Walk.{walk_from};
+ghost use Rattle.signed_clause.specs.Ranges.{is_nil};
+ghost use Rattle.fd_store.specs.Levels.{dropped};
+ghost use Rattle.learn_clauses.specs.Walk.{walk_from, back_to};
+ghost use Rattle.search_run.specs.Conflicts.{LeadsFrom};
 ghost use Rattle.search_run.specs.Replay.{Going, Conflict, top_boxes, is_settled, leads_back, is_run, state_of};
 
 use crate::known::know_lines;
@@ -29,6 +33,23 @@ pub fn walk_may_follow(g: &Ground, lines: &[Line], chain: &Chain, clause: &Claus
     ensures { is_run g.now (lines.now ++ kinds.Chain chain.now clause.now ∷ []) ≡ true }
 {
     know_lines(lines);
+}
+
+/// From which level of a run a clause with literals leads back: there is at most one level in whose
+/// first boxes it is false while it isn't in the present boxes of the level below, and what is left
+/// where it leads back are the levels below that one.
+pub fn one_level_leads_back(g: &Ground, lines: &[Line], clause: &Clause)
+    requires well_made { IsWellMade g.now }
+    requires run { is_run g.now lines.now ≡ true }
+    requires some { is_nil clause.now ≡ false }
+    ensures leads { (leads_back (state_of g.now lines.now).levels clause.now ≡ true)
+        ↔ ((k : ℕ) × LeadsFrom clause.now (state_of g.now lines.now).levels k) }
+    ensures level { (k : ℕ) → LeadsFrom clause.now (state_of g.now lines.now).levels k
+        → back_to clause.now (state_of g.now lines.now).levels
+        ≡ Some (dropped (k - 1) (state_of g.now lines.now).levels) }
+{
+    know_lines(lines);
+    clause.literals();
 }
 
 /// Where a run has nothing left to say and its present boxes are single values that are a solution,
