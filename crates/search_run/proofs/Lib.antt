@@ -20,3 +20,4 @@ pub mod BoundTruths
 pub mod Waiting
 pub mod FoundLines
 pub mod LevelBack
+pub mod Below

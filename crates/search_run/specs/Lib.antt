@@ -3,3 +3,4 @@ pub mod Decisions
 pub mod Lines
 pub mod Conflicts
 pub mod Ordered
+pub mod Fixpoints

@@ -1,6 +1,6 @@
-//! What may follow a run, where more than the line's own rule stands behind it, and which levels a
-//! learnt clause leaves. Like the laws, these are contracts of functions that do nothing but look at
-//! the lines once.
+//! What may follow a run, where more than the line's own rule stands behind it, and which levels
+//! a learnt clause leaves. Like the laws, these are contracts of functions that do nothing but look
+//! at the lines once.
 ghost use Rattle.std.specs.Prelude.{◌≡◌, ◌↔◌, ◌-◌, false, ◌++◌, ◌∷◌, [], true, ℕ, Some, slice_get};
 ghost use Rattle.ground_form.specs.declared.con.Con.{Con};
 ghost use Rattle.ground_form.specs.Bounds.{singles};
