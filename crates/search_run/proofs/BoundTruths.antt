@@ -48,7 +48,7 @@ good_from up v w h =
 -- ---- goal by goal
 
 -- the values at which the bounds are, and those found last
-record AreFound (domains : Boxes) (b : List ℤ) : Type 0 where
+pub record AreFound (domains : Boxes) (b : List ℤ) : Type 0 where
   pub sets : All (λ s. IsValid s) domains
   pub point : IsPoint domains b
 
@@ -57,7 +57,7 @@ second_of : (box s : Ranges) (v : ℤ) → IsValid box → IsValid s → has (me
 second_of box s v f g h =
     (and_parts (has box v) (has s v) (sym (has-meet_valid box s f g v) ∙ h)).1
 
-beats_here : (domains : Boxes) (b : List ℤ) (goal : GroundGoal) (v : ℤ) → AreFound domains b →
+pub beats_here : (domains : Boxes) (b : List ℤ) (goal : GroundGoal) (v : ℤ) → AreFound domains b →
     goal.var < length domains → has (better_values domains b goal) v ≡ true →
     beats_value goal.max v (value_of b goal.var) ≡ true
 beats_here domains b goal v f lt h =

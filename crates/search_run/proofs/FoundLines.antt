@@ -43,7 +43,7 @@ or_true true = refl
 or_true false = refl
 
 -- the one value of a single set
-alone : (v w : ℤ) → has ((v, v) ∷ []) w ≡ true → w ≡ v
+pub alone : (v w : ℤ) → has ((v, v) ∷ []) w ≡ true → w ≡ v
 alone v w h = grind (arith, ints)
 
 met_alone : (s : Ranges) (v : ℤ) → IsValid s → IsValid ((v, v) ∷ []) →

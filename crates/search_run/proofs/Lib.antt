@@ -21,3 +21,4 @@ pub mod Waiting
 pub mod FoundLines
 pub mod LevelBack
 pub mod Below
+pub mod BoundLines

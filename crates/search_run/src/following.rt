@@ -8,12 +8,13 @@ ghost use Rattle.ground_form.specs.Solutions.{IsSolution};
 ghost use Rattle.ground_form.specs.WellMade.{IsWellMade};
 ghost use Rattle.box_rules.specs.Quiet.{quiet};
 ghost use Rattle.log_form.specs.declared.line.Line.TheVariants as kinds;
-ghost use Rattle.log_form.specs.Acceptance.{made};
+ghost use Rattle.log_form.specs.Acceptance.{made, states};
 ghost use Rattle.signed_clause.specs.Ranges.{is_nil};
 ghost use Rattle.fd_store.specs.Levels.{dropped};
 ghost use Rattle.learn_clauses.specs.Walk.{walk_from, back_to};
 ghost use Rattle.search_run.specs.Conflicts.{LeadsFrom};
-ghost use Rattle.search_run.specs.Replay.{Going, Conflict, top_boxes, is_settled, leads_back, is_run, state_of};
+ghost use Rattle.search_run.specs.Fixpoints.{is_ended};
+ghost use Rattle.search_run.specs.Replay.{Going, Conflict, AtFound, top_boxes, is_settled, leads_back, is_run, state_of};
 
 use crate::known::know_lines;
 use ground_form::Ground;
@@ -65,6 +66,22 @@ pub fn found_may_follow(g: &Ground, lines: &[Line], values: &Values)
     requires single { top_boxes (state_of g.now lines.now) ≡ singles values.now }
     requires solution { IsSolution g.now values.now }
     ensures { is_run g.now (lines.now ++ kinds.Found values.now ∷ []) ≡ true }
+{
+    know_lines(lines);
+}
+
+/// Where a run has just told a solution, the Bound line of its goals' values may follow; and where
+/// the present boxes are that solution alone, it ends the level: one of its clauses is false there,
+/// so a conflict is to be explained, or it is the empty one.
+pub fn bound_may_follow(g: &Ground, lines: &[Line], found: &Values, values: &Values)
+    requires well_made { IsWellMade g.now }
+    requires run { is_run g.now lines.now ≡ true }
+    requires at_found { (state_of g.now lines.now).mode ≡ AtFound }
+    requires found { (made g.now lines.now).found ≡ Some found.now }
+    requires values { states g.now.goals found.now values.now ≡ true }
+    ensures run { is_run g.now (lines.now ++ kinds.Bound values.now ∷ []) ≡ true }
+    ensures ends { top_boxes (state_of g.now lines.now) ≡ singles found.now
+        → is_ended (state_of g.now (lines.now ++ kinds.Bound values.now ∷ [])).mode ≡ true }
 {
     know_lines(lines);
 }

@@ -13,6 +13,7 @@ ghost use Rattle.log_form.specs.Acceptance.{may_come, after, has_empty, accepted
 ghost use Rattle.learn_clauses.specs.Walk.{domains_of, CameFrom, IsWithinDomains};
 ghost use Rattle.search_run.specs.Replay.{Conflict, Closed, top_boxes, none_acts, is_settled, may_stand, next, is_run, state_of};
 ghost use Rattle.search_run.specs.Conflicts.{IsConflict};
+ghost use Rattle.search_run.specs.Fixpoints.{IsFixpoint};
 ghost use Rattle.branch_choice.specs.declared.split.Order.TheVariants as orders;
 ghost use Rattle.search_run.specs.Ordered.{IsLineBy, IsOrdered};
 ghost use Rattle.search_run.specs.Decisions.{decisions, MayDecide};
@@ -60,8 +61,8 @@ pub fn ordered_line_more(
 {}
 
 /// What every run leaves. Each pruning came from a clause that was made, level 0 began with the
-/// domains, the clauses name values of the domains alone, and the present boxes lie within the
-/// domains, with values where all domains have some.
+/// domains, the clauses name values of the domains alone, the present boxes lie within the domains,
+/// with values where all domains have some, and each level below stands at a fixpoint.
 #[tactic(auto, using(crate::proofs::RunLaws::laws_of_levels))]
 pub fn run_leaves(g: &Ground, lines: &[Line])
     requires well_made { IsWellMade g.now }
@@ -71,6 +72,8 @@ pub fn run_leaves(g: &Ground, lines: &[Line])
     ensures within { All (λ c. IsWithinDomains g.now.domains c) (made g.now lines.now).clauses }
     ensures boxes { All (λ s. is_nil s ≡ false) g.now.domains
         → AreBoxesWithin g.now.domains (top_boxes (state_of g.now lines.now)) }
+    ensures below { All (λ l. IsFixpoint g.now.cons l.now)
+        (state_of g.now lines.now).levels.below }
 {
     know_lines(lines);
 }
