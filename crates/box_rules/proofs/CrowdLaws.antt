@@ -11,6 +11,7 @@ use Rattle.signed_clause.specs.Clauses.{Boxes, box_of}
 use Rattle.ground_form.specs.Bounds.{low_of, high_of}
 use Rattle.box_rules.specs.Refuted.{lies_in, count_in, crowded, crowded_from, some_crowded}
 use Rattle.box_rules.specs.Points.{IsCrowdedSomewhere}
+use Rattle.box_rules.specs.Crowding.{AreInOrder}
 use Rattle.box_view.proofs.EndLaws.{AreSets, are_sets, ends_in_order}
 
 right_or : (x y : Bool) → y ≡ true → (x || y) ≡ true
@@ -113,12 +114,12 @@ start_keeps v a b (x ∷ xs) boxes s =
 -- ---- ends
 
 -- boxes within a..b end at v or before
-abbrev Ends : ℤ → ℤ → ℤ → List ℕ → Boxes → Type 0
+abbrev pub Ends : ℤ → ℤ → ℤ → List ℕ → Boxes → Type 0
 Ends v a b [] boxes = Unit {0}
 Ends v a b (x ∷ xs) boxes = (lies_in a b (box_of boxes x) ≡ true → high_of (box_of boxes x) ≤ℤ v) × Ends v a b xs boxes
 
 -- some box ends at v
-abbrev is_end : ℤ → List ℕ → Boxes → Bool
+abbrev pub is_end : ℤ → List ℕ → Boxes → Bool
 is_end v [] boxes = false
 is_end v (x ∷ xs) boxes = int_eq (high_of (box_of boxes x)) v || is_end v xs boxes
 
@@ -134,17 +135,17 @@ ends_on : (w v a b : ℤ) (xs : List ℕ) (boxes : Boxes) → v ≤ℤ w → End
 ends_on w v a b [] boxes h s = tt
 ends_on w v a b (x ∷ xs) boxes h s = ((λ e. let k = s.0 e in omega (arith, ints)), ends_on w v a b xs boxes h s.1)
 
-record End (a b : ℤ) (xs : List ℕ) (boxes : Boxes) : Type 0 where
-  value : ℤ
-  from : a ≤ℤ value
-  upto : value ≤ℤ b
-  there : is_end value xs boxes ≡ true
-  keeps : Ends value a b xs boxes
+pub record End (a b : ℤ) (xs : List ℕ) (boxes : Boxes) : Type 0 where
+  pub value : ℤ
+  pub from : a ≤ℤ value
+  pub upto : value ≤ℤ b
+  pub there : is_end value xs boxes ≡ true
+  pub keeps : Ends value a b xs boxes
 
 -- the first box is the one, or another is
-end_here : (a b : ℤ) (x : ℕ) (xs : List ℕ) (boxes : Boxes) → AreSets boxes → lies_in a b (box_of boxes x) ≡ true → Ends (high_of (box_of boxes x)) a b xs boxes → End a b (x ∷ xs) boxes
-end_here a b x xs boxes s h k =
-    let parts = in_parts a b (box_of boxes x) h in let order = ends_in_order (box_of boxes x) (s x) in
+end_here : (a b : ℤ) (x : ℕ) (xs : List ℕ) (boxes : Boxes) → low_of (box_of boxes x) ≤ℤ high_of (box_of boxes x) → lies_in a b (box_of boxes x) ≡ true → Ends (high_of (box_of boxes x)) a b xs boxes → End a b (x ∷ xs) boxes
+end_here a b x xs boxes order h k =
+    let parts = in_parts a b (box_of boxes x) h in
     let low = parts.0 in let high = parts.1 in
     record {
       value = high_of (box_of boxes x);
@@ -158,24 +159,24 @@ end_later : (a b : ℤ) (x : ℕ) (xs : List ℕ) (boxes : Boxes) (t : End a b x
 end_later a b x xs boxes t h =
     record { value = t.value; from = t.from; upto = t.upto; there = right_or _ _ t.there; keeps = (h, t.keeps) }
 
-find_end : (a b : ℤ) (xs : List ℕ) (boxes : Boxes) → AreSets boxes → 1 ≤ count_in a b xs boxes → End a b xs boxes
+pub find_end : (a b : ℤ) (xs : List ℕ) (boxes : Boxes) → AreInOrder xs boxes → 1 ≤ count_in a b xs boxes → End a b xs boxes
 find_end a b [] boxes s h = absurd (omega arith)
 find_end a b (x ∷ xs) boxes s h =
     let box = box_of boxes x in
     let P : Bool → Type 0 = λ t. lies_in a b box ≡ t → 1 ≤ cond t (suc (count_in a b xs boxes)) (count_in a b xs boxes) → End a b (x ∷ xs) boxes in
     (elim (lies_in a b box) as P [
       | true ↦ λ e k. elim (cases_lt 0 (count_in a b xs boxes)) [
-        | inl more ↦ let t = find_end a b xs boxes s (omega arith) in elim (order_cases t.value (high_of box)) [
-          | inl here ↦ end_here a b x xs boxes s e (ends_on (high_of box) t.value a b xs boxes here t.keeps)
+        | inl more ↦ let t = find_end a b xs boxes s.1 (omega arith) in elim (order_cases t.value (high_of box)) [
+          | inl here ↦ end_here a b x xs boxes s.0 e (ends_on (high_of box) t.value a b xs boxes here t.keeps)
           | inr there ↦ end_later a b x xs boxes t (λ q. there)
         ]
-        | inr none ↦ end_here a b x xs boxes s e (none_ends (high_of box) a b xs boxes none)
+        | inr none ↦ end_here a b x xs boxes s.0 e (none_ends (high_of box) a b xs boxes none)
       ]
-      | false ↦ λ e k. end_later a b x xs boxes (find_end a b xs boxes s k) (λ q. absurd cc)
+      | false ↦ λ e k. end_later a b x xs boxes (find_end a b xs boxes s.1 k) (λ q. absurd cc)
     ]) refl h
 
 -- so as many boxes lie within
-end_keeps : (v a b : ℤ) (xs : List ℕ) (boxes : Boxes) → Ends v a b xs boxes → count_in a b xs boxes ≤ count_in a v xs boxes
+pub end_keeps : (v a b : ℤ) (xs : List ℕ) (boxes : Boxes) → Ends v a b xs boxes → count_in a b xs boxes ≤ count_in a v xs boxes
 end_keeps v a b [] boxes s = omega arith
 end_keeps v a b (x ∷ xs) boxes s =
     let more = end_keeps v a b xs boxes s.1 in
@@ -184,7 +185,11 @@ end_keeps v a b (x ∷ xs) boxes s =
 
 -- ---- the law
 
-from_end : (a v : ℤ) (ys xs : List ℕ) (boxes : Boxes) → is_end v ys boxes ≡ true → crowded a v xs boxes ≡ true → crowded_from a ys xs boxes ≡ true
+in_order : (xs : List ℕ) (boxes : Boxes) → AreSets boxes → AreInOrder xs boxes
+in_order [] boxes s = tt
+in_order (x ∷ xs) boxes s = (ends_in_order (box_of boxes x) (s x), in_order xs boxes s)
+
+pub from_end : (a v : ℤ) (ys xs : List ℕ) (boxes : Boxes) → is_end v ys boxes ≡ true → crowded a v xs boxes ≡ true → crowded_from a ys xs boxes ≡ true
 from_end a v [] xs boxes h c = absurd cc
 from_end a v (y ∷ ys) xs boxes h c =
     elim (or_cases (int_eq (high_of (box_of boxes y)) v) (is_end v ys boxes) h) [
@@ -218,7 +223,7 @@ crowded_anywhere a b xs boxes s c =
     let v = start.value in
     let many = start_keeps v a b xs boxes start.keeps in
     let some = some_within a b (count_in a b xs boxes) c in
-    let end = find_end v b xs boxes s (omega arith) in
+    let end = find_end v b xs boxes (in_order xs boxes s) (omega arith) in
     let more = end_keeps end.value v b xs boxes end.keeps in
     let narrow : crowded v end.value xs boxes ≡ true = narrowed a b v end.value _ _ _ start.from end.from end.upto many more c in
     from_start v xs xs boxes start.there (from_end v end.value xs xs boxes end.there narrow)

@@ -14,3 +14,4 @@ pub mod Agreeing
 pub mod QuietFrom
 pub mod QuietAgree
 pub mod VarWalks
+pub mod CrowdCounts

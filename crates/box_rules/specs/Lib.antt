@@ -3,3 +3,4 @@ pub mod Justified
 pub mod Quiet
 pub mod Points
 pub mod Named
+pub mod Crowding

@@ -3,13 +3,15 @@
 //! Places that differ can't be crowded: no interval has fewer numbers than places whose boxes lie
 //! within it. It is enough to look at intervals from where some box begins to where some box ends.
 //!
-//! An interval with as many numbers as there are variables can't be crowded and isn't counted, so a
-//! test of wide domains looks at pairs of ends alone.
+//! Of at most 64 boxes that is counted by slots (`crowding`). Of more, each pair of ends is looked at
+//! by itself; an interval with as many numbers as there are variables can't be crowded and isn't
+//! counted.
 ghost use Rattle.std.specs.Prelude.{◌≡◌, ◌<◌, ◌≤◌, ◌&&◌, ◌+ℤ◌, ◌-ℤ◌, pos, int_le, int_lt, length};
 ghost use Rattle.std.specs.List.{All};
 ghost use Rattle.signed_clause.specs.Clauses.{box_of};
 ghost use Rattle.box_rules.specs.Refuted.{lies_in, count_in, crowded, crowded_from, some_crowded};
 
+use crate::crowding::are_few_crowded;
 use crate::flags::{greatest, least};
 use box_view::View;
 use ground_form::Number;
@@ -67,8 +69,8 @@ fn is_crowded_from<V: View>(view: &V, vars: &[u32], a: Number) -> bool
     false
 }
 
-/// The rule of values that differ.
-pub fn excludes_differing<V: View>(view: &V, vars: &[u32]) -> bool
+/// Whether that is so from where some box begins.
+fn are_many_crowded<V: View>(view: &V, vars: &[u32]) -> bool
     requires { All (λ x. x < length (V.boxes view.now)) vars.now }
     ensures { result ≡ some_crowded vars.now vars.now (V.boxes view.now) }
 {
@@ -78,4 +80,16 @@ pub fn excludes_differing<V: View>(view: &V, vars: &[u32]) -> bool
         }
     }
     false
+}
+
+/// The rule of values that differ.
+pub fn excludes_differing<V: View>(view: &V, vars: &[u32]) -> bool
+    requires { All (λ x. x < length (V.boxes view.now)) vars.now }
+    ensures { result ≡ some_crowded vars.now vars.now (V.boxes view.now) }
+{
+    if vars.len() <= 64 {
+        are_few_crowded(view, vars)
+    } else {
+        are_many_crowded(view, vars)
+    }
 }

@@ -8,7 +8,7 @@
 //!
 //! - `emptiness`: whether a variable of a constraint has an empty box.
 //! - `flags`, `linear`, `all_different`, `packing`: the rule of each kind. `sums`: what the linear
-//!   ones add up.
+//!   ones add up. `crowding`: values that differ among at most 64 boxes, by counters.
 //! - `exclude`: the rule of a constraint, whatever its kind.
 //! - `refute`: when boxes refute a constraint. `justify`: when it justifies a clause.
 //! - `fixpoint`: when it is quiet, and the values that are probed for that.
@@ -16,6 +16,7 @@
 #![tactic(auto)]
 
 mod all_different;
+mod crowding;
 mod emptiness;
 mod exclude;
 mod fixpoint;

@@ -1,10 +1,11 @@
 //! Items to be packed, over a view of boxes.
 //!
 //! Two loads are compared with room: at a place where items are fixed, and over all places. The
-//! room of all places is added up value by value, from where the first place's box begins to where
-//! the last one's ends. Sums are of 128 bits, which as many values of 64 bits as a list can have
-//! don't fill.
-ghost use Rattle.std.specs.Prelude.{◌≡◌, ◌<◌, ◌≤◌, ◌≤ℤ◌, ◌<ℤ◌, ◌^◌, ◌-◌, ◌&&◌, ◌||◌, ◌+ℤ◌, cond, pos, int_lt, length};
+//! room of all places is added up from value to value, from where the first place's box begins to
+//! where the last one's ends. Values that no bin may be are passed over: a walk over the items is
+//! made for each value that some bin may be, and two for each gap between such values. Sums are of
+//! 128 bits, which as many values of 64 bits as a list can have don't fill.
+ghost use Rattle.std.specs.Prelude.{◌≡◌, ◌<◌, ◌≤◌, ◌≤ℤ◌, ◌<ℤ◌, ◌^◌, ◌-◌, ◌&&◌, ◌||◌, ◌+ℤ◌, ℤ, false, cond, pos, int_lt, length};
 ghost use Rattle.std.specs.Int.{int_max, int_min};
 ghost use Rattle.std.specs.List.{All};
 ghost use Rattle.signed_clause.specs.Ranges.{has};
@@ -173,17 +174,75 @@ fn last_place<V: View>(view: &V, items: &[(u32, u32, u32)], from: Number) -> Num
     last
 }
 
-/// The best rooms of the values from `first` to `last`, added up.
+/// The smaller of the number and the first value from `from` on that the item's bin may be.
+fn with_bin<V: View>(next: Number, i: (u32, u32, u32), view: &V, from: Number) -> Number
+    requires item { IsItemNamed i (V.boxes view.now) }
+    requires order { from.value ≤ℤ next.value }
+    ensures from { from.value ≤ℤ result.value }
+    ensures upto { result.value ≤ℤ next.value }
+    ensures none_before { (u : ℤ) → from.value ≤ℤ u → u <ℤ result.value
+        → has (box_of (V.boxes view.now) i.0) u ≡ false }
+{
+    match view.first_from(i.0, from) {
+        Some(first) => smaller(next, first),
+        None => next,
+    }
+}
+
+/// The first value from `from` on that some bin may be, or `last` where that is less.
+fn next_bin<V: View>(view: &V, items: &[(u32, u32, u32)], from: Number, last: Number) -> Number
+    requires items { AreItemsNamed items.now (V.boxes view.now) }
+    requires order { from.value ≤ℤ last.value }
+    ensures from { from.value ≤ℤ result.value }
+    ensures upto { result.value ≤ℤ last.value }
+    ensures none_before { (u : ℤ) → from.value ≤ℤ u → u <ℤ result.value
+        → best_room u items.now (V.boxes view.now) ≡ pos 0 }
+{
+    let mut next = last;
+    for i in items {
+        next = with_bin(next, *i, view, from);
+    }
+    next
+}
+
+/// The value behind `at` that is looked at next. Where there is no room at `at`, it may be that no
+/// bin can be the values behind it either, and those are passed over.
+fn bin_behind<V: View>(
+    view: &V,
+    items: &[(u32, u32, u32)],
+    at: Number,
+    room: Number,
+    last: Number,
+) -> Number
+    requires items { AreItemsNamed items.now (V.boxes view.now) }
+    requires order { at.value <ℤ last.value }
+    ensures behind { at.value <ℤ result.value }
+    ensures upto { result.value ≤ℤ last.value }
+    ensures none_before { (u : ℤ) → at.value <ℤ u → u <ℤ result.value
+        → best_room u items.now (V.boxes view.now) ≡ pos 0 }
+{
+    let from = next(at, last);
+    if room.value == 0 {
+        next_bin(view, items, from, last)
+    } else {
+        from
+    }
+}
+
+/// The best rooms of the values from `first` to `last`, added up. Values that no bin may be have no
+/// room, and one step passes over all of them up to the next that some bin may be.
 fn rooms_between<V: View>(view: &V, items: &[(u32, u32, u32)], first: Number, last: Number) -> Total
     requires items { AreItemsNamed items.now (V.boxes view.now) }
     requires order { first.value ≤ℤ last.value }
     ensures { result.value ≡ rooms_from (width first.value last.value) first.value items.now (V.boxes view.now) }
 {
     let mut at = first;
-    let mut sum = Total { value: 0 }.plus(best_room(view, items, at));
+    let mut room = best_room(view, items, at);
+    let mut sum = Total { value: 0 }.plus(room);
     while is_below(at, last) {
-        at = next(at, last);
-        sum = sum.plus(best_room(view, items, at));
+        at = bin_behind(view, items, at, room, last);
+        room = best_room(view, items, at);
+        sum = sum.plus(room);
     }
     sum
 }

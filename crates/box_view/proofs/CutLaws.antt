@@ -121,6 +121,18 @@ nil_is (r ∷ rs) f n =
     let here = has_low (r ∷ rs) f refl in
     let no = n r.0 (low_within _ _ (r ∷ rs) r.0 f here) (top_within _ _ (r ∷ rs) r.0 f here) in absurd (grind arith)
 
+pub rest_first : (d s : Ranges) (v w : ℤ) → IsValid d → IsValid s → IsFirst (λ u. has d u && not (has s u)) v w →
+    IsFirst (λ u. has (less d s) u) v w
+rest_first d s v w f g i = record {
+  passes = sym (has_rest d s w f g) ∙ i.passes;
+  from = i.from;
+  none_before = λ u l k. sym (has_rest d s u f g) ∙ i.none_before u l k;
+}
+
+pub rest_none_from : (d s : Ranges) (v : ℤ) → IsValid d → IsValid s → HasNoneFrom (λ u. has d u && not (has s u)) v →
+    HasNoneFrom (λ u. has (less d s) u) v
+rest_none_from d s v f g n u l k = sym (has_rest d s u f g) ∙ n u l k
+
 pub rest_low : (d s : Ranges) (w : ℤ) → IsValid d → IsValid s → IsFirst (λ u. has d u && not (has s u)) (negsuc 9223372036854775807) w → low_of (less d s) ≡ w
 rest_low d s w f g i =
     low_is (less d s) w (IsValid-less d s f g) (sym (has_rest d s w f g) ∙ i.passes) (λ u l k. sym (has_rest d s u f g) ∙ i.none_before u l k)

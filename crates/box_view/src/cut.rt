@@ -11,9 +11,9 @@ ghost use Rattle.ground_form.specs.Bounds.{low_of, high_of, reach_of};
 ghost use Rattle.signed_clause.specs.Clauses.{box_of};
 ghost use Rattle.box_view.specs.Views.{cut};
 ghost use Rattle.box_view.specs.Left.{left_of};
-ghost use Rattle.box_view.specs.Firsts.{HasNoneFrom};
+ghost use Rattle.box_view.specs.Firsts.{IsFirst, HasNoneFrom};
 
-use crate::values::{InBoth, InSet, NumberSet, OutOfSet};
+use crate::values::{InBoth, InSet, NumberSet, OutOfSet, first_in};
 use crate::view::{View, are_sets_disjoint, ends_in_order};
 use ground_form::Number;
 use signed_clause::{Clause, IntSet};
@@ -79,6 +79,13 @@ impl<'a> View for Cut<'a> {
         match self.left(x) {
             Left::Whole(domain) => domain.contains(v),
             Left::Rest(domain, out) => is_left(domain, out, v),
+        }
+    }
+
+    fn first_from(&self, x: u32, from: Number) -> Option<Number> {
+        match self.left(x) {
+            Left::Whole(domain) => first_in(domain, from),
+            Left::Rest(domain, out) => rest_first(domain, out, from),
         }
     }
 
@@ -176,6 +183,22 @@ fn is_left(domain: &IntSet, out: &IntSet, v: i64) -> bool
     domain.ranges();
     out.ranges();
     domain.contains(v) && !out.contains(v)
+}
+
+/// The first value of the domain from the number on that `out` lacks.
+#[tactic(auto, using(crate::proofs::CutLaws::rest_first, crate::proofs::CutLaws::rest_none_from))]
+fn rest_first(domain: &IntSet, out: &IntSet, from: Number) -> Option<Number>
+    ensures some { IfSome result (λ w.
+        IsFirst (λ u. has (less domain.now out.now) u) from.value w.value) }
+    ensures none { IfNone result (HasNoneFrom (λ u. has (less domain.now out.now) u) from.value) }
+{
+    domain.ranges();
+    out.ranges();
+    let left = InBoth {
+        a: InSet { set: domain },
+        b: OutOfSet { set: out },
+    };
+    left.next(from)
 }
 
 /// The least value of the domain that `out` lacks, 0 where there is none.

@@ -238,11 +238,19 @@ fn last_lacking(ranges: &[(i64, i64)], from: Number) -> Option<Number>
     }
 }
 
+/// The first value of the set from the number on.
+pub fn first_in(set: &IntSet, from: Number) -> Option<Number>
+    ensures some { IfSome result (λ w. IsFirst (λ u. has set.now u) from.value w.value) }
+    ensures none { IfNone result (HasNoneFrom (λ u. has set.now u) from.value) }
+{
+    first_of(set.ranges(), from)
+}
+
 impl<'a> NumberSet for InSet<'a> {
     ghost holds = { λ s u. has s.set.now u };
 
     fn next(&self, from: Number) -> Option<Number> {
-        first_of(self.set.ranges(), from)
+        first_in(self.set, from)
     }
 
     fn previous(&self, from: Number) -> Option<Number> {

@@ -1,16 +1,18 @@
 //! Views of boxes that needn't be built.
 //!
-//! The rules of the constraints ask little of boxes: their ends, whether they have a value, and how
-//! they lie to a set or to one another. `View` is that face. Behind it stand boxes as they are
+//! The rules of the constraints ask little of boxes: their ends, whether they have a value, which is
+//! the first from a number on, and how they lie to a set or to one another. `View` is that face. Behind it stand boxes as they are
 //! (`Plain`), boxes of which one is replaced by a single value (`Fixing`), and domains less the
 //! sets of a clause (`Cut`). So a rule is written once, and takes no memory.
-ghost use Rattle.std.specs.Prelude.{◌≡◌, ◌<◌, ◌≤◌, ◌≤ℤ◌, [], ◌∷◌, length};
+ghost use Rattle.std.specs.Prelude.{◌≡◌, ◌<◌, ◌≤◌, ◌≤ℤ◌, [], ◌∷◌, IfSome, IfNone, length};
 ghost use Rattle.signed_clause.specs.Ranges.{has, is_nil};
 ghost use Rattle.signed_clause.specs.SetAlgebra.{is_disjoint, is_within};
 ghost use Rattle.signed_clause.specs.Clauses.{Boxes, box_of};
 ghost use Rattle.ground_form.specs.Bounds.{low_of, high_of, reach_of};
+ghost use Rattle.box_view.specs.Firsts.{IsFirst, HasNoneFrom};
 ghost use Rattle.box_view.specs.Views.{fixing};
 
+use crate::values::first_in;
 use ground_form::{Number, ends_of};
 use signed_clause::IntSet;
 
@@ -37,6 +39,13 @@ pub trait View {
     fn has(&self, x: u32, v: i64) -> bool
         requires { x < length (boxes self.now) }
         ensures { result ≡ has (box_of (boxes self.now) x) v };
+
+    /// The first value of the box of `x` from the number on.
+    fn first_from(&self, x: u32, from: Number) -> Option<Number>
+        requires { x < length (boxes self.now) }
+        ensures some { IfSome result (λ w.
+            IsFirst (λ u. has (box_of (boxes self.now) x) u) from.value w.value) }
+        ensures none { IfNone result (HasNoneFrom (λ u. has (box_of (boxes self.now) x) u) from.value) };
 
     /// Whether no value of the box of `x` is in the set.
     fn is_disjoint(&self, x: u32, set: &IntSet) -> bool
@@ -80,6 +89,10 @@ impl<'a> View for Plain<'a> {
         self.boxes[x as usize].contains(v)
     }
 
+    fn first_from(&self, x: u32, from: Number) -> Option<Number> {
+        first_in(&self.boxes[x as usize], from)
+    }
+
     fn is_disjoint(&self, x: u32, set: &IntSet) -> bool {
         are_sets_disjoint(&self.boxes[x as usize], set)
     }
@@ -112,6 +125,19 @@ pub fn are_sets_disjoint(a: &IntSet, b: &IntSet) -> bool
     a.ranges();
     b.ranges();
     a.disjoint(b)
+}
+
+/// The value, where it isn't before the number.
+fn first_alone(value: Number, from: Number) -> Option<Number>
+    ensures some { IfSome result (λ w.
+        IsFirst (λ u. has ((value.value, value.value) ∷ []) u) from.value w.value) }
+    ensures none { IfNone result (HasNoneFrom (λ u. has ((value.value, value.value) ∷ []) u) from.value) }
+{
+    if from.value <= value.value {
+        Some(value)
+    } else {
+        None
+    }
 }
 
 /// Whether the set lacks the value.
@@ -166,6 +192,14 @@ impl<'a> View for Fixing<'a> {
             self.value.value == v
         } else {
             self.boxes[x as usize].contains(v)
+        }
+    }
+
+    fn first_from(&self, x: u32, from: Number) -> Option<Number> {
+        if x == self.var {
+            first_alone(self.value, from)
+        } else {
+            first_in(&self.boxes[x as usize], from)
         }
     }
 

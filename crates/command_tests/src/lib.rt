@@ -4,11 +4,7 @@
 #![tactic(auto)]
 
 #[cfg(test)]
-mod answered_models;
-#[cfg(test)]
 mod given_files;
-#[cfg(test)]
-mod refused_meanings;
 #[cfg(test)]
 mod refused_runs;
 #[cfg(test)]

@@ -1,5 +1,5 @@
 -- The levels of a trail, with an entry more and with an entry less.
-use Rattle.std.proofs.Common.{◌≡◌, not, ◌&&◌, ℕ, suc, ◌+◌, ◌<◌, ◌≤◌, Bool, true, false, cond, List, [], ◌∷◌, ℤ, length, refl, sym, ap, ◌∙◌, arith, subst, slice_set, Option, Some, None, set-set, length-set, reverse, ◌++◌, IfSome}
+use Rattle.std.proofs.Common.{◌≡◌, not, ◌&&◌, ℕ, suc, ◌<◌, ◌≤◌, true, false, cond, List, [], ◌∷◌, length, refl, sym, ap, ◌∙◌, arith, subst, slice_set, Option, Some, None, set-set, length-set, reverse, ◌++◌, IfSome}
 use Rattle.std.proofs.lemmas.List.{set-get_or, get_or-set_same, reverse-append}
 use Rattle.std.proofs.lemmas.List.Elements.{All-set, All-get_or}
 use Rattle.std.proofs.lemmas.Bool.{lt-ltb, le-ltb, and_parts}
@@ -10,8 +10,8 @@ use Rattle.signed_clause.specs.Clauses.{Boxes, Literals, box_of, false_in, unit_
 use Rattle.signed_clause.proofs.RangeSteps.{IsValid-meet, has-meet_valid}
 use Rattle.signed_clause.proofs.CountLaws.{within_from_has}
 use Rattle.fd_store.specs.declared.trail.Moved.{Moved}
-use Rattle.fd_store.specs.Levels.{Entry, Level, Stack, bottom, with_entry, moved, dropped_from, dropped}
-use Rattle.fd_store.specs.Trails.{entry_of, stack_of, level_of, level_after, IsEntry, IsTrail, IsStore, IsNarrowing, undone, older}
+use Rattle.fd_store.specs.Levels.{Entry, Level, Stack, with_entry, moved, dropped_from, dropped}
+use Rattle.fd_store.specs.Trails.{entry_of, stack_of, level_of, level_after, IsTrail, IsStore, IsNarrowing, undone, older}
 
 -- ---- what the levels show of the trail
 

@@ -1,7 +1,7 @@
 -- Boxes in levels, as decisions open them. What a reader believes after this file: which levels a
 -- decision, a pruning and a clause make of those that stand, and which are left where levels are
 -- dropped.
-use Rattle.std.specs.Prelude.{ℕ, suc, cond, List, [], ◌∷◌, ℤ, Option, Some, None, length, slice_set, nat_lt}
+use Rattle.std.specs.Prelude.{ℕ, suc, cond, List, [], ◌∷◌, Option, Some, None, length, slice_set, nat_lt}
 use Rattle.signed_clause.specs.Ranges.{Ranges}
 use Rattle.signed_clause.specs.Clauses.{Boxes, Literals, box_of, false_in, unit_of}
 use Rattle.fd_store.specs.declared.store.Applied.{Applied}

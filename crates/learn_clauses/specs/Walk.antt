@@ -1,14 +1,11 @@
 -- What a conflict shows: the walk back along the trail. What a reader believes after this file:
 -- when prunings came from clauses, which clause the walk from a conflict ends with and by which
 -- chain, and to which level a clause leads back.
-use Rattle.std.specs.Prelude.{◌≡◌, ◌↔◌, ℕ, ◌<◌, ◌≤◌, ◌-◌, true, false, not, ◌&&◌, cond, List, [], ◌∷◌, ◌++◌, Option, Some, None, length, slice_set, slice_index_or}
+use Rattle.std.specs.Prelude.{◌≡◌, ◌↔◌, ℕ, ◌<◌, ◌≤◌, ◌-◌, true, false, not, ◌&&◌, cond, List, [], ◌∷◌, ◌++◌, Option, Some, None, length, slice_set}
 use Rattle.signed_clause.specs.Ranges.{Ranges, IsSubset}
 use Rattle.signed_clause.specs.Clauses.{Boxes, Literals, box_of, set_of, has_var, false_in, unit_of, resolvent, IsClause}
+pub use Rattle.numbered_clauses.specs.Numbered.{clause_at}
 use Rattle.fd_store.specs.Levels.{Entry, Level, Stack, dropped}
-
--- the clause of a number
-abbrev pub clause_at : List Literals → ℕ → Literals
-clause_at clauses j = slice_index_or clauses j []
 
 -- ---- what the levels have
 

@@ -2,6 +2,7 @@ pub mod Justified
 pub mod Bounds
 pub mod Steps
 pub mod ChainSteps
+pub mod Within
 pub mod BoundSteps
 pub mod Points
 pub mod Fronts

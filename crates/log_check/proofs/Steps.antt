@@ -69,9 +69,9 @@ same_clause-self c = all_same-self _ c same_literal-self
 
 -- ---- more clauses
 
-nil_form : (j : ℕ) → IsClause (clause_at [] j)
-nil_form zero = tt
-nil_form (suc j) = tt
+none_at : (P : Literals → Type 0) → P [] → (j : ℕ) → P (clause_at [] j)
+none_at P none zero = none
+none_at P none (suc j) = none
 
 at_append : (P : Literals → Type 0) (cs ds : List Literals) (j : ℕ) → ((i : ℕ) → i < length cs → P (clause_at cs i)) → AllByRecursion P ds → j < length (cs ++ ds) → P (clause_at (cs ++ ds) j)
 at_append P [] [] j old new h = absurd (omega arith)
@@ -80,19 +80,22 @@ at_append P [] (d ∷ ds) (suc j) old new h = at_append P [] ds j (λ i lt. absu
 at_append P (c ∷ cs) ds zero old new h = old 0 (omega arith)
 at_append P (c ∷ cs) ds (suc j) old new h = at_append P cs ds j (λ i lt. old (suc i) (omega arith)) new (omega arith)
 
-forms_append : (cs ds : List Literals) (j : ℕ) → ((i : ℕ) → IsClause (clause_at cs i)) → AllByRecursion (λ c. IsClause c) ds → IsClause (clause_at (cs ++ ds) j)
-forms_append [] [] zero old new = tt
-forms_append [] [] (suc j) old new = tt
-forms_append [] (d ∷ ds) zero old new = new.0
-forms_append [] (d ∷ ds) (suc j) old new = forms_append [] ds j (λ i. nil_form i) new.1
-forms_append (c ∷ cs) ds zero old new = old 0
-forms_append (c ∷ cs) ds (suc j) old new = forms_append cs ds j (λ i. old (suc i)) new
+-- what holds of each clause, and of the empty one past the end
+pub all_append : (P : Literals → Type 0) → P [] → (cs ds : List Literals) (j : ℕ) →
+    ((i : ℕ) → P (clause_at cs i)) → AllByRecursion P ds → P (clause_at (cs ++ ds) j)
+all_append P none [] [] zero old new = none
+all_append P none [] [] (suc j) old new = none
+all_append P none [] (d ∷ ds) zero old new = new.0
+all_append P none [] (d ∷ ds) (suc j) old new =
+    all_append P none [] ds j (λ i. none_at P none i) new.1
+all_append P none (c ∷ cs) ds zero old new = old 0
+all_append P none (c ∷ cs) ds (suc j) old new = all_append P none cs ds j (λ i. old (suc i)) new
 
 with_clauses : (g : Ground) (m : Made) (ds : List Literals) → IsSound g m → AllByRecursion (λ c. IsClause c) ds →
     ((a : List ℤ) → IsSolution g a → beats g.goals m.found a ≡ true → AllByRecursion (λ c. clause_true c a ≡ true) ds) →
     IsSound g (record { clauses = m.clauses ++ ds; found = m.found })
 with_clauses g m ds s f h = record {
-  forms = λ j. forms_append m.clauses ds j s.forms f;
+  forms = λ j. all_append (λ c. IsClause c) tt m.clauses ds j s.forms f;
   truths = λ a sol b j lt. at_append (λ d. clause_true d a ≡ true) m.clauses ds j (λ i less. s.truths a sol b i less) (h a sol b) lt;
   solved = s.solved;
 }
@@ -241,7 +244,11 @@ sound_step g m (Empty x) w f s h =
 -- ---- all lines
 
 pub sound_start : (g : Ground) → IsSound g start
-sound_start g = record { forms = λ j. nil_form j; truths = λ a sol b j lt. absurd (omega arith); solved = tt }
+sound_start g = record {
+  forms = λ j. none_at (λ c. IsClause c) tt j;
+  truths = λ a sol b j lt. absurd (omega arith);
+  solved = tt;
+}
 
 empty_at : (cs : List Literals) (P : Literals → Type 0) → has_empty cs ≡ true → ((j : ℕ) → j < length cs → P (clause_at cs j)) → P []
 empty_at [] P h k = absurd (cc)

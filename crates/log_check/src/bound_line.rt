@@ -127,18 +127,18 @@ pub fn push_bounds(
 {
     let mut earlier = empty_clause(alloc);
     if goals.is_empty() {
-        return derived.push(earlier);
+        return derived.push_own(alloc, earlier);
     }
     for (k, goal) in goals.iter().enumerate() {
         let better = better_values(alloc, domains, *goal, values)?;
         let saying_better = with_literal(alloc, goal.var, better, &earlier)?;
         if k + 1 == goals.len() {
-            derived.push(saying_better)?;
+            derived.push_own(alloc, saying_better)?;
             return Ok(());
         }
         let as_good = as_good_values(alloc, domains, *goal, values)?;
         let clause = with_literal(alloc, goal.var, as_good, &earlier)?;
-        derived.push(clause)?;
+        derived.push_own(alloc, clause)?;
         earlier = saying_better;
     }
     Ok(())

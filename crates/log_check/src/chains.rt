@@ -1,91 +1,95 @@
 //! Chains of resolution.
 //!
-//! A chain is replayed: its clause is resolved, step by step, with clauses that were made before,
-//! and the result must be the stated clause. A clause is looked up by its number in constant time,
-//! and a step is one walk over two clauses.
-ghost use Rattle.std.specs.Prelude.{◌≡◌, ◌&&◌, true, false, IfOk, IfSome, IfNone, length, nat_lt, IsTrue};
-ghost use Rattle.signed_clause.specs.Clauses.{has_var, resolvent, IsClause};
+//! A chain is replayed in a table of sets by variable, which is made once for all chains: its first
+//! clause is loaded, each step takes in a clause that was made before, and what is left must be the
+//! stated clause. A clause is looked up by its number in constant time, and a step costs the
+//! literals of that clause alone. A chain without steps is a comparison of two clauses.
+ghost use Rattle.std.specs.Prelude.{◌≡◌, ◌&&◌, true, IfOk, length, nat_lt};
+ghost use Rattle.signed_clause.specs.Clauses.{resolvent, IsWithinBoxes};
+ghost use Rattle.signed_clause.specs.Running.{listed};
 ghost use Rattle.log_form.specs.Acceptance.{clause_at, chain_holds, chain_end, same_clause};
-ghost use Rattle.log_check.specs.Chains.{step_holds, chain_makes};
+ghost use Rattle.log_check.specs.Chains.{step_holds, AreBelow};
 
 use numbered_clauses::{Chain, Clauses};
-use signed_clause::{Clause, resolve};
+use signed_clause::{Clause, RunningClause};
 use std::alloc::{AllocError, Global};
 
 /// Whether the chain is one of clauses that were made before, and ends with `stated`.
-#[tactic(auto, using(crate::proofs::ChainSteps::makes))]
+#[tactic(auto, using(crate::proofs::Within::within_boxes))]
 pub fn derives(
     alloc: Global,
+    running: &mut RunningClause,
     clauses: &Clauses,
     chain: &Chain,
     stated: &Clause,
 ) -> Result<bool, AllocError>
-    ensures { IfOk result (λ b. b ≡ (nat_lt chain.now.first (length clauses.now)
+    requires { AreBelow (length running.old) clauses.now }
+    ensures exact { IfOk result (λ b. b ≡ (nat_lt chain.now.first (length clauses.now)
         && (chain_holds clauses.now (clause_at clauses.now chain.now.first) chain.now.steps
-        && same_clause (chain_end clauses.now (clause_at clauses.now chain.now.first) chain.now.steps) stated.now))) }
+        && same_clause
+        (chain_end clauses.now (clause_at clauses.now chain.now.first) chain.now.steps)
+        stated.now))) }
+    ensures len { length running.new ≡ length running.old }
 {
     let Some(first) = clauses.get(chain.first) else {
         return Ok(false);
     };
-    makes(alloc, clauses, first, chain.steps.items(), stated)
-}
-
-/// Whether steps lead from a clause, which isn't copied, to the stated one.
-fn makes(
-    alloc: Global,
-    clauses: &Clauses,
-    from: &Clause,
-    steps: &[(u32, u64)],
-    stated: &Clause,
-) -> Result<bool, AllocError>
-    ensures { IfOk result (λ b. b ≡ chain_makes clauses.now from.now steps.now stated.now) }
-{
+    let steps = chain.steps.items();
     if steps.is_empty() {
-        return Ok(is_same(from, stated));
+        return Ok(is_same(first, stated));
     }
-    match step_from(alloc, clauses, from, steps[0])? {
-        Some(next) => leads_to(alloc, clauses, next, &steps[1..], stated),
-        None => Ok(false),
+    running.load(first)?;
+    if !replays(running, clauses, steps)? {
+        return Ok(false);
     }
+    let last = running.take(alloc)?;
+    Ok(is_same(&last, stated))
 }
 
-/// Whether the steps lead from a clause to the stated one.
-fn leads_to(
-    alloc: Global,
+/// Whether the steps hold from the running clause on. Where they do, it is what they end with.
+fn replays(
+    running: &mut RunningClause,
     clauses: &Clauses,
-    from: Clause,
     steps: &[(u32, u64)],
-    stated: &Clause,
 ) -> Result<bool, AllocError>
-    ensures { IfOk result (λ b. b ≡ chain_makes clauses.now from steps.now stated.now) }
+    requires { AreBelow (length running.old) clauses.now }
+    ensures holds { IfOk result (λ b. b
+        ≡ chain_holds clauses.now (listed 0 running.old) steps.now) }
+    ensures end { IfOk result (λ b. b ≡ true
+        → listed 0 running.new ≡ chain_end clauses.now (listed 0 running.old) steps.now) }
+    ensures len { length running.new ≡ length running.old }
 {
-    let mut at = from;
     for step in steps {
-        match step_from(alloc, clauses, &at, *step)? {
-            Some(next) => at = next,
-            None => return Ok(false),
+        if !takes_step(running, clauses, *step)? {
+            return Ok(false);
         }
     }
-    Ok(is_same(&at, stated))
+    Ok(true)
 }
 
-/// The clause that a step makes, where its clause was made before and both have its variable.
-fn step_from(
-    alloc: Global,
+/// Whether the step's clause was made before, and both clauses have its variable. Where that is so,
+/// the running clause becomes their resolvent.
+#[tactic(auto, using(crate::proofs::Within::within_boxes))]
+fn takes_step(
+    running: &mut RunningClause,
     clauses: &Clauses,
-    c: &Clause,
     step: (u32, u64),
-) -> Result<Option<Clause>, AllocError>
-    ensures none { IfOk result (λ o. IfNone o (step_holds clauses.now c.now step ≡ false)) }
-    ensures some { IfOk result (λ o. IfSome o (λ d. (step_holds clauses.now c.now step ≡ true) × (d ≡ resolvent step.0 c.now (clause_at clauses.now step.1)))) }
+) -> Result<bool, AllocError>
+    requires { AreBelow (length running.old) clauses.now }
+    ensures holds { IfOk result (λ b. b ≡ step_holds clauses.now (listed 0 running.old) step) }
+    ensures list { IfOk result (λ b. b ≡ true
+        → listed 0 running.new
+        ≡ resolvent step.0 (listed 0 running.old) (clause_at clauses.now step.1)) }
+    ensures len { length running.new ≡ length running.old }
 {
     let Some(other) = clauses.get(step.1) else {
-        return Ok(None);
+        return Ok(false);
     };
-    if c.set_of(step.0).is_none() || other.set_of(step.0).is_none() {
-        return Ok(None);
+    if !running.has(step.0) || other.set_of(step.0).is_none() {
+        return Ok(false);
     }
-    Ok(Some(resolve(alloc, c, other, step.0)?))
+    running.resolve(other, step.0)?;
+    Ok(true)
 }
 
 /// Whether the two clauses are the same.

@@ -14,7 +14,7 @@ use crate::intake::Intake;
 use crate::lines::CheckError;
 use crate::verdict::Verdict;
 use ground_form::Ground;
-use std::alloc::Global;
+use std::alloc::{AllocError, Global};
 use std::marker::Model;
 
 /// A checker that is fed a log.
@@ -38,21 +38,23 @@ impl<'g> Model for Checker<'g> {
 }
 
 impl<'g> Checker<'g> {
-    /// A checker of logs against the ground problem. It was fed nothing.
-    pub fn new(alloc: Global, g: &'g Ground) -> Checker<'g>
+    /// A checker of logs against the ground problem. It was fed nothing. It takes memory for each
+    /// variable of the problem.
+    pub fn new(alloc: Global, g: &'g Ground) -> Result<Checker<'g>, AllocError>
         requires { IsWellMade g.now }
-        ensures ground { result.ground ≡ g.now }
-        ensures fed { result.fed ≡ 0 }
-        ensures refusal { result.refusal ≡ None }
-        ensures taken { HasTaken g.now [] result.left }
+        ensures ground { IfOk result (λ c. c.ground ≡ g.now) }
+        ensures fed { IfOk result (λ c. c.fed ≡ 0) }
+        ensures refusal { IfOk result (λ c. c.refusal ≡ None) }
+        ensures taken { IfOk result (λ c. HasTaken g.now [] c.left) }
     {
-        Checker {
+        let intake = Intake::new(alloc, g)?;
+        Ok(Checker {
             alloc,
             ground: g,
-            intake: Intake::new(alloc, g),
+            intake,
             fed: 0,
             refusal: None,
-        }
+        })
     }
 
     /// Takes in further bytes. Each line is checked as soon as it ends. Bytes that come behind a

@@ -34,7 +34,7 @@ fn adds_empty(alloc: Global, g: &Ground, lines: &[Line], line: &Line) -> Result<
     ensures { IfOk result (λ b. b ≡ has_empty (added g.now (last_values lines.now) line.now)) }
 {
     match line {
-        Line::Axiom(_, clause) | Line::Chain(_, clause) => Ok(clause.is_empty()),
+        Line::Axiom(_, clause) | Line::Chain(_, clause) => Ok(clause.clause().is_empty()),
         Line::Bound(_) => bounds_add_empty(alloc, g, lines),
         Line::Empty(_) => Ok(true),
         Line::Use(_) | Line::Found(_) | Line::Decide(..) => Ok(false),

@@ -3,7 +3,7 @@ ghost use Rattle.std.specs.Prelude.{◌≡◌, ◌++◌, [], ◌∷◌, false, O
 ghost use Rattle.log_form.specs.Acceptance.{has_empty};
 
 use numbered_clauses::Clauses;
-use signed_clause::Clause;
+use signed_clause::{Clause, ClauseHandle};
 use std::alloc::{AllocError, Global};
 
 /// The clauses that were made.
@@ -27,16 +27,28 @@ impl Derived {
         }
     }
 
-    /// Adds a clause.
+    /// Adds a clause that others may own too.
     #[tactic(auto, using(crate::proofs::BoundSteps::has_empty_more))]
-    pub fn push(&mut self, c: Clause) -> Result<(), AllocError>
+    pub fn push(&mut self, c: ClauseHandle) -> Result<(), AllocError>
         requires { self.old.closed ≡ has_empty self.old.clauses }
         ensures clauses { OnOk result (self.new.clauses ≡ self.old.clauses ++ c ∷ []) }
         ensures closed { OnOk result (self.new.closed ≡ has_empty self.new.clauses) }
     {
-        let empty = c.is_empty();
+        let empty = c.clause().is_empty();
         self.clauses.push(c)?;
         self.closed = self.closed || empty;
         Ok(())
+    }
+
+    /// Adds a clause that nobody else owns.
+    pub fn push_own(&mut self, alloc: Global, c: Clause) -> Result<(), AllocError>
+        requires { self.old.closed ≡ has_empty self.old.clauses }
+        ensures clauses { OnOk result (self.new.clauses ≡ self.old.clauses ++ c ∷ []) }
+        ensures closed { OnOk result (self.new.closed ≡ has_empty self.new.clauses) }
+    {
+        match ClauseHandle::of(alloc, c) {
+            Ok(c) => self.push(c),
+            Err(_) => Err(AllocError),
+        }
     }
 }

@@ -3,7 +3,8 @@
 //! The intake keeps the bytes behind the last LF, and of the lines before them what they left. A
 //! line is read and checked as soon as it ends, where it stands: only one that began in an earlier
 //! piece is copied.
-ghost use Rattle.std.specs.Prelude.{◌≡◌, ◌+◌, ◌<◌, ◌≤◌, ◌^◌, ◌++◌, [], ◌∷◌, ℕ, List, true, IfErr, OnOk, length};
+ghost use Rattle.std.specs.Prelude.{◌≡◌, ◌+◌, ◌<◌, ◌≤◌, ◌^◌, ◌++◌, [], ◌∷◌, ℕ, List, true, length};
+ghost use Rattle.std.specs.Prelude.{IfOk, IfErr, OnOk};
 ghost use Rattle.ground_form.specs.WellMade.{IsWellMade};
 ghost use Rattle.proof_log.specs.Parts.{lacks};
 ghost use Rattle.log_check.specs.Progress.{IsRight};
@@ -13,7 +14,7 @@ use crate::lines::CheckError;
 use crate::progress::Progress;
 use ground_form::Ground;
 use proof_log::{LineError, ended_line, read_line};
-use std::alloc::Global;
+use std::alloc::{AllocError, Global};
 use std::mem;
 
 /// What the bytes so far left.
@@ -28,19 +29,21 @@ pub struct Intake {
 }
 
 impl Intake {
-    /// Before the first byte.
+    /// Before the first byte. It takes memory for each variable of the problem.
     #[tactic(auto, using(crate::proofs::Feeding::fed_nothing))]
-    pub fn new(alloc: Global, g: &Ground) -> Self
-        ensures taken { HasTaken g.now [] (left_of result) }
-        ensures right { IsRight g.now result.progress }
-        ensures rest { result.rest.items ≡ [] }
-        ensures count { result.count ≡ 0 }
+    pub fn new(alloc: Global, g: &Ground) -> Result<Self, AllocError>
+        requires { IsWellMade g.now }
+        ensures taken { IfOk result (λ i. HasTaken g.now [] (left_of i)) }
+        ensures right { IfOk result (λ i. IsRight g.now i.progress) }
+        ensures rest { IfOk result (λ i. i.rest.items ≡ []) }
+        ensures count { IfOk result (λ i. i.count ≡ 0) }
     {
-        Intake {
-            progress: Progress::new(alloc, g),
+        let progress = Progress::new(alloc, g)?;
+        Ok(Intake {
+            progress,
             rest: Vec::new(alloc),
             count: 0,
-        }
+        })
     }
 
     /// Takes in further bytes.

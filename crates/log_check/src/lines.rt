@@ -54,7 +54,7 @@ pub fn check(alloc: Global, g: &Ground, lines: &[Line]) -> Result<Verdict, Check
     ensures found { IfOk result (λ v. FoundSolves g.now v.found) }
     ensures refused { IfErr result (λ e. IsRefusedAs g.now lines.now e) }
 {
-    let mut progress = Progress::new(alloc, g);
+    let mut progress = Progress::new(alloc, g)?;
     for (k, line) in lines.iter().enumerate() {
         if !progress.step(alloc, g, line)? {
             return Err(CheckError::Rejected(k as u64 + 1));

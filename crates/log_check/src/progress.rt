@@ -2,7 +2,7 @@
 //!
 //! `step` asks whether a line may come next and, where it may, takes it in. Each line costs in
 //! proportion to its own length, to the constraint that it names, and to the clauses that its chain
-//! names.
+//! names. A clause of a line is not copied, but gets one more owner.
 ghost use Rattle.std.specs.Prelude.{◌≡◌, ◌<◌, ◌&&◌, ◌++◌, true, false, IfOk, OnOk, length, nat_lt, Option, List, ℤ};
 ghost use Rattle.std.specs.List.{All};
 ghost use Rattle.signed_clause.specs.Ranges.{is_nil};
@@ -24,7 +24,7 @@ use crate::verdict::Verdict;
 use box_rules::justified;
 use ground_form::Ground;
 use log_form::{Line, Values};
-use signed_clause::Clause;
+use signed_clause::{Clause, RunningClause};
 use std::alloc::{AllocError, Global};
 
 /// What the lines so far leave.
@@ -34,30 +34,37 @@ pub struct Progress {
     pub derived: Derived,
     /// The values that they found last.
     pub found: Option<Values>,
+    /// The table in which chains are replayed.
+    pub running: RunningClause,
 }
 
 impl Progress {
-    /// Before the first line.
-    #[tactic(auto, using(crate::proofs::Steps::sound_start))]
-    pub fn new(alloc: Global, g: &Ground) -> Self
-        ensures made { made_of result ≡ start }
-        ensures right { IsRight g.now result }
+    /// Before the first line. It takes memory for each variable of the problem.
+    #[tactic(auto, using(crate::proofs::Within::right_start))]
+    pub fn new(alloc: Global, g: &Ground) -> Result<Self, AllocError>
+        requires { IsWellMade g.now }
+        ensures made { IfOk result (λ p. made_of p ≡ start) }
+        ensures right { IfOk result (λ p. IsRight g.now p) }
     {
-        Progress {
+        let running = RunningClause::new(alloc, g.domains.items().len() as u32)?;
+        Ok(Progress {
             derived: Derived::new(alloc),
             found: None,
-        }
+            running,
+        })
     }
 
     /// Whether the line may come next; where it may, it is taken in.
     pub fn step(&mut self, alloc: Global, g: &Ground, line: &Line) -> Result<bool, AllocError>
         requires made { IsWellMade g.now }
         requires right { IsRight g.now self.old }
-        ensures asked { IfOk result (λ b. b ≡ acceptance.may_come g.now (made_of self.old) line.now) }
-        ensures made { IfOk result (λ b. b ≡ true → made_of self.new ≡ after g.now (made_of self.old) line.now) }
+        ensures asked { IfOk result (λ b. b
+            ≡ acceptance.may_come g.now (made_of self.old) line.now) }
+        ensures made { IfOk result (λ b. b ≡ true
+            → made_of self.new ≡ after g.now (made_of self.old) line.now) }
         ensures right { IfOk result (λ b. b ≡ true → IsRight g.now self.new) }
     {
-        if !may_come(alloc, g, self, line)? {
+        if !self.may_come(alloc, g, line)? {
             return Ok(false);
         }
         know_clause(line);
@@ -70,15 +77,60 @@ impl Progress {
         requires made { IsWellMade g.now }
         requires right { IsRight g.now self.old }
         ensures asked { IfOk result (λ b. b ≡ acceptance.may_come g.now (made_of self.old) line) }
-        ensures made { IfOk result (λ b. b ≡ true → made_of self.new ≡ after g.now (made_of self.old) line) }
+        ensures made { IfOk result (λ b. b ≡ true
+            → made_of self.new ≡ after g.now (made_of self.old) line) }
         ensures right { IfOk result (λ b. b ≡ true → IsRight g.now self.new) }
     {
-        if !may_come(alloc, g, self, &line)? {
+        if !self.may_come(alloc, g, &line)? {
             return Ok(false);
         }
         know_clause(&line);
         self.advance_with(alloc, g, line)?;
         Ok(true)
+    }
+
+    /// Whether the line may come next. Nothing changes but what the table of chains holds.
+    fn may_come(&mut self, alloc: Global, g: &Ground, line: &Line) -> Result<bool, AllocError>
+        requires made { IsWellMade g.now }
+        requires right { IsRight g.now self.old }
+        ensures asked { IfOk result (λ b. b
+            ≡ acceptance.may_come g.now (made_of self.old) line.now) }
+        ensures kept { made_of self.new ≡ made_of self.old }
+        ensures right { IsRight g.now self.new }
+    {
+        if self.derived.closed {
+            Ok(false)
+        } else {
+            self.accepts(alloc, g, line)
+        }
+    }
+
+    /// Whether the line meets what it has to, but for one thing: that no line before made the empty
+    /// clause. Nothing changes but what the table of chains holds.
+    #[tactic(auto, unfolding(log_form::specs::Acceptance::accepts), using(crate::proofs::Within::right_with))]
+    fn accepts(&mut self, alloc: Global, g: &Ground, line: &Line) -> Result<bool, AllocError>
+        requires made { IsWellMade g.now }
+        requires right { IsRight g.now self.old }
+        ensures asked { IfOk result (λ b. b
+            ≡ acceptance.accepts g.now (made_of self.old) line.now) }
+        ensures kept { made_of self.new ≡ made_of self.old }
+        ensures right { IsRight g.now self.new }
+    {
+        match line {
+            Line::Axiom(k, clause) => Ok(is_axiom(g, *k, clause.clause())),
+            Line::Chain(chain, clause) => derives(
+                alloc,
+                &mut self.running,
+                &self.derived.clauses,
+                chain,
+                clause.clause(),
+            ),
+            Line::Bound(values) => Ok(states_bound(g, &self.found, values.items())),
+            Line::Use(i) => Ok(*i < self.derived.clauses.count()),
+            Line::Found(values) => Ok(is_improvement(g, &self.found, values.items())),
+            Line::Decide(x, _) => Ok((*x as usize) < g.domains.items().len()),
+            Line::Empty(x) => Ok(has_empty_domain(g, *x)),
+        }
     }
 
     /// Takes in a line that may come next.
@@ -88,7 +140,9 @@ impl Progress {
         requires right { IsRight g.now self.old }
         requires accepted { accepts g.now (made_of self.old) line.now ≡ true }
         ensures made { OnOk result (made_of self.new ≡ after g.now (made_of self.old) line.now) }
-        ensures closed { OnOk result (self.new.derived.closed ≡ has_empty self.new.derived.clauses) }
+        ensures closed { OnOk result (self.new.derived.closed
+            ≡ has_empty self.new.derived.clauses) }
+        ensures table { self.new.running ≡ self.old.running }
     {
         match line {
             Line::Axiom(_, clause) | Line::Chain(_, clause) => self.derived.push(clause.copy()?),
@@ -97,7 +151,7 @@ impl Progress {
                 self.found = Some(values.copy()?);
                 Ok(())
             }
-            Line::Empty(_) => self.derived.push(empty_clause(alloc)),
+            Line::Empty(_) => self.derived.push_own(alloc, empty_clause(alloc)),
             Line::Use(_) | Line::Decide(..) => Ok(()),
         }
     }
@@ -110,7 +164,9 @@ impl Progress {
         requires right { IsRight g.now self.old }
         requires accepted { accepts g.now (made_of self.old) line ≡ true }
         ensures made { OnOk result (made_of self.new ≡ after g.now (made_of self.old) line) }
-        ensures closed { OnOk result (self.new.derived.closed ≡ has_empty self.new.derived.clauses) }
+        ensures closed { OnOk result (self.new.derived.closed
+            ≡ has_empty self.new.derived.clauses) }
+        ensures table { self.new.running ≡ self.old.running }
     {
         match line {
             Line::Axiom(_, clause) => self.derived.push(clause),
@@ -120,7 +176,7 @@ impl Progress {
                 self.found = Some(values);
                 Ok(())
             }
-            Line::Empty(_) => self.derived.push(empty_clause(alloc)),
+            Line::Empty(_) => self.derived.push_own(alloc, empty_clause(alloc)),
             Line::Use(_) => Ok(()),
             Line::Decide(_, _set) => Ok(()),
         }
@@ -132,7 +188,9 @@ impl Progress {
         requires right { IsRight g.now self.old }
         ensures clauses { OnOk result (self.new.derived.clauses ≡ self.old.derived.clauses ++ bounds g.now self.old.found) }
         ensures found { OnOk result (self.new.found ≡ self.old.found) }
-        ensures closed { OnOk result (self.new.derived.closed ≡ has_empty self.new.derived.clauses) }
+        ensures closed { OnOk result (self.new.derived.closed
+            ≡ has_empty self.new.derived.clauses) }
+        ensures table { self.new.running ≡ self.old.running }
     {
         match &self.found {
             Some(values) => push_bounds(
@@ -160,41 +218,9 @@ fn know_clause(line: &Line)
 {
     match line {
         Line::Axiom(_, clause) | Line::Chain(_, clause) => {
-            clause.literals();
+            clause.clause().literals();
         }
         _ => {}
-    }
-}
-
-/// Whether the line may come next.
-fn may_come(alloc: Global, g: &Ground, p: &Progress, line: &Line) -> Result<bool, AllocError>
-    requires made { IsWellMade g.now }
-    requires right { IsRight g.now p.now }
-    ensures { IfOk result (λ b. b ≡ acceptance.may_come g.now (made_of p.now) line.now) }
-{
-    if p.derived.closed {
-        Ok(false)
-    } else {
-        accepts(alloc, g, p, line)
-    }
-}
-
-/// Whether the line meets what it has to, but for one thing: that no line before made the empty
-/// clause.
-#[tactic(auto, unfolding(log_form::specs::Acceptance::accepts))]
-fn accepts(alloc: Global, g: &Ground, p: &Progress, line: &Line) -> Result<bool, AllocError>
-    requires made { IsWellMade g.now }
-    requires right { IsRight g.now p.now }
-    ensures { IfOk result (λ b. b ≡ acceptance.accepts g.now (made_of p.now) line.now) }
-{
-    match line {
-        Line::Axiom(k, clause) => Ok(is_axiom(g, *k, clause)),
-        Line::Chain(chain, clause) => derives(alloc, &p.derived.clauses, chain, clause),
-        Line::Bound(values) => Ok(states_bound(g, &p.found, values.items())),
-        Line::Use(i) => Ok(*i < p.derived.clauses.count()),
-        Line::Found(values) => Ok(is_improvement(g, &p.found, values.items())),
-        Line::Decide(x, _) => Ok((*x as usize) < g.domains.items().len()),
-        Line::Empty(x) => Ok(has_empty_domain(g, *x)),
     }
 }
 

@@ -13,6 +13,7 @@ use Rattle.ground_form.specs.declared.ground.GroundGoal.{GroundGoal}
 use Rattle.ground_form.specs.Meaning.{value_of, con_true, clause_vars}
 use Rattle.ground_form.specs.Solutions.{better}
 use Rattle.box_rules.specs.Justified.{justified}
+pub use Rattle.numbered_clauses.specs.Numbered.{clause_at}
 use Rattle.log_form.specs.declared.line.Line.{Line}
 use Rattle.log_form.specs.declared.line.Line.TheVariants.{Axiom, Chain, Bound, Use, Found, Decide, Empty}
 
@@ -25,10 +26,6 @@ pub record Made : Type 0 where
 -- before the first line
 abbrev pub start : Made
 start = record { clauses = []; found = None }
-
--- the clause of a number
-abbrev pub clause_at : List Literals → ℕ → Literals
-clause_at cs j = slice_index_or cs j []
 
 -- the empty clause was made
 abbrev pub has_empty : List Literals → Bool

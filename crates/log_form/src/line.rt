@@ -3,17 +3,17 @@ ghost use Rattle.std.specs.Prelude.{◌≡◌, IfOk};
 
 use crate::lists::Values;
 use numbered_clauses::Chain;
-use signed_clause::{Clause, IntSet};
+use signed_clause::{ClauseHandle, IntSet};
 use std::alloc::AllocError;
 
 /// A line of a log. The clauses that lines make are numbered from 0, in the order in which they are
-/// made.
+/// made. A line has its clause by a handle, so whoever keeps the clause too copies no literal.
 #[derive(Drop)]
 pub enum Line {
     /// A clause that the constraint of this number justifies.
-    Axiom(u32, Clause),
+    Axiom(u32, ClauseHandle),
     /// A clause, and the chain of earlier clauses that it is derived by.
-    Chain(Chain, Clause),
+    Chain(Chain, ClauseHandle),
     /// The goals' values at the solution found last. It makes a clause for each goal; together they
     /// ask for a better one.
     Bound(Values),
@@ -28,7 +28,7 @@ pub enum Line {
 }
 
 impl Line {
-    /// The same line again.
+    /// The same line again. Its clause is not copied, but gets one more owner.
     pub fn copy(&self) -> Result<Self, AllocError>
         ensures { IfOk result (λ l. l ≡ self.now) }
     {

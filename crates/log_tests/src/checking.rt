@@ -77,7 +77,7 @@ fn ends_of(values: Option<&[i64]>) -> Option<(i64, i64)> {
 
 /// What the checker says of lines: the kind of verdict and the first and the last value, or the
 /// line that is refused.
-fn answer_to(
+pub(crate) fn answer_to(
     alloc: Global,
     g: &Ground,
     text: &str,
@@ -248,7 +248,7 @@ fn answer_in_two(
     requires well_made { IsWellMade g.now }
     requires few { length first.now + length second.now < 1000 }
 {
-    let mut checker = Checker::new(alloc, g);
+    let mut checker = Checker::new(alloc, g)?;
     checker.feed(first)?;
     checker.feed(second)?;
     let verdict = checker.finish()?;
@@ -260,7 +260,7 @@ fn answer_by_bytes(alloc: Global, g: &Ground, text: &[u8]) -> Result<VerdictKind
     requires well_made { IsWellMade g.now }
     requires few { length text.now < 1000 }
 {
-    let mut checker = Checker::new(alloc, g);
+    let mut checker = Checker::new(alloc, g)?;
     for k in 0..text.len() {
         checker.feed(&text[k..k + 1])?;
     }
@@ -308,7 +308,9 @@ fn answers_in_two(
     requires well_made { IsWellMade g.now }
     requires few { length first.now + length second.now < 1000 }
 {
-    let mut checker = Checker::new(alloc, g);
+    let Ok(mut checker) = Checker::new(alloc, g) else {
+        return [Err(CheckError::Memory); 3];
+    };
     let one = checker.feed(first);
     let other = checker.feed(second);
     match checker.finish() {

@@ -7,4 +7,6 @@ mod checking;
 #[cfg(test)]
 mod numbering;
 #[cfg(test)]
+mod replaying;
+#[cfg(test)]
 mod spelling;

@@ -21,7 +21,7 @@ use crate::pieces::{literals_of, set_of, step_of, values_of};
 use crate::words::{Word, word_of};
 use log_form::{Line, Values};
 use numbered_clauses::{Chain, ChainSteps};
-use signed_clause::Clause;
+use signed_clause::{Clause, ClauseHandle};
 use std::alloc::Global;
 
 /// The line that the bytes spell, without the LF that ends it.
@@ -145,8 +145,8 @@ fn small_first(texts: &[u8]) -> Option<(u32, &[u8])>
     Some((small_number_of(text)?, rest))
 }
 
-/// The clause of texts that are its literals.
-fn clause_of(alloc: Global, texts: &[u8]) -> Result<Clause, LineError>
+/// The clause of texts that are its literals, with one owner.
+fn clause_of(alloc: Global, texts: &[u8]) -> Result<ClauseHandle, LineError>
     requires heads { heads 32 texts.now ≡ true }
     ensures right { IfOk result (λ c. AreLiterals c) }
     ensures ok { IfOk result (λ c. texts.now ≡ behind 32 (map literal_text c)) }
@@ -154,8 +154,19 @@ fn clause_of(alloc: Global, texts: &[u8]) -> Result<Clause, LineError>
 {
     let literals = literals_of(alloc, texts)?;
     match Clause::of(literals) {
-        Ok(clause) => Ok(clause),
+        Ok(clause) => handle_of(alloc, clause),
         Err(_) => Err(LineError::BadLine),
+    }
+}
+
+/// The first owner of a clause.
+fn handle_of(alloc: Global, clause: Clause) -> Result<ClauseHandle, LineError>
+    ensures ok { IfOk result (λ h. h ≡ clause) }
+    ensures bad { IsErrOf result BadLine → ⊥ }
+{
+    match ClauseHandle::of(alloc, clause) {
+        Ok(handle) => Ok(handle),
+        Err(_) => Err(LineError::Memory),
     }
 }
 

@@ -42,13 +42,13 @@ fn push_line(out: &mut Vec<u8>, l: &Line) -> Result<(), AllocError>
         Line::Axiom(k, clause) => {
             out.extend_from_slice(b"axiom")?;
             push_piece(out, *k as u64)?;
-            push_clause(out, clause)
+            push_clause(out, clause.clause())
         }
         Line::Chain(chain, clause) => {
             out.extend_from_slice(b"chain")?;
             push_chain(out, chain)?;
             out.extend_from_slice(b" =")?;
-            push_clause(out, clause)
+            push_clause(out, clause.clause())
         }
         Line::Bound(values) => {
             out.extend_from_slice(b"bound")?;

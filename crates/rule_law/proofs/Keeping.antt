@@ -64,7 +64,7 @@ kept_differ domains leaves (x ∷ xs) h =
     let more = kept_differ domains leaves xs in let none = kept_missing x domains leaves xs in grind arith
 
 -- a property of every literal that is kept
-one_all : (P : Literal → Type 0) (b : Bool) (l : Literal) (rest : Literals) → (b ≡ false → P l) → All P rest → All P (cond b rest (l ∷ rest))
+pub one_all : (P : Literal → Type 0) (b : Bool) (l : Literal) (rest : Literals) → (b ≡ false → P l) → All P rest → All P (cond b rest (l ∷ rest))
 one_all P true l rest h a k d lt = a k d lt
 one_all P false l rest h a zero d lt = h refl
 one_all P false l rest h a (suc k) d lt = a k d (omega arith)
@@ -93,7 +93,7 @@ kept_false domains boxes leaves (x ∷ xs) h =
 
 -- ---- what the literals say of a variable
 
-set_one : (x y : ℕ) (s : Ranges) (rest : Literals) → (y == x) ≡ false → set_of (kept_one y s rest) x ≡ set_of rest x
+pub set_one : (x y : ℕ) (s : Ranges) (rest : Literals) → (y == x) ≡ false → set_of (kept_one y s rest) x ≡ set_of rest x
 set_one x y [] rest h = refl
 set_one x y (r ∷ s) rest h = grind arith
 
@@ -102,7 +102,7 @@ set_missing x domains leaves [] h = refl
 set_missing x domains leaves (y ∷ xs) h =
     set_one x y (less (box_of domains y) (leaves y)) (kept domains leaves xs) (grind arith) ∙ set_missing x domains leaves xs (grind arith)
 
-set_here : (x : ℕ) (s : Ranges) (rest : Literals) → set_of rest x ≡ [] → set_of (kept_one x s rest) x ≡ s
+pub set_here : (x : ℕ) (s : Ranges) (rest : Literals) → set_of rest x ≡ [] → set_of (kept_one x s rest) x ≡ s
 set_here x [] rest h = h
 set_here x (r ∷ s) rest h = grind arith
 

@@ -8,3 +8,4 @@ pub mod FlagPlans
 pub mod Twice
 pub mod UpTo
 pub mod AllVars
+pub mod CutToLaws

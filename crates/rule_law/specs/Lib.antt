@@ -3,3 +3,4 @@ pub mod Cover
 pub mod Reasons
 pub mod Plans
 pub mod Repeats
+pub mod CutTo

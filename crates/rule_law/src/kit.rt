@@ -1,7 +1,9 @@
 //! `Kit`, propagators for every kind of constraint.
 //!
 //! A kit is made of propagators that its caller boxes, and refuses a list that leaves a kind
-//! without one. It asks the first member that handles a constraint's kind.
+//! without one. It asks the first member that handles a constraint's kind, which a table made with
+//! the kit names. No type can keep what a boxed propagator handles, so the member is asked once
+//! whether it handles the kind.
 ghost use Rattle.std.specs.Prelude.{◌≡◌, ◌<◌, ◌↔◌, Bool, true, List, IfOk, IfErr, IfSome, IfNone, IsOk, false, length, map, slice_get, slice_index_or};
 ghost use Rattle.ground_form.specs.declared.kind.Kind.{Kind};
 ghost use Rattle.ground_form.specs.Kinds as kinds;
@@ -124,6 +126,50 @@ fn nth_kind(n: usize) -> Kind
     }
 }
 
+/// The number of the kind.
+fn number_of(kind: Kind) -> usize
+    ensures number { result ≡ rank kind }
+    ensures below { result < 11 }
+{
+    match kind {
+        Kind::LinLe => 0,
+        Kind::LinDef => 1,
+        Kind::ReifLe => 2,
+        Kind::AndDef => 3,
+        Kind::MemberDef => 4,
+        Kind::EqDef => 5,
+        Kind::ElementDef => 6,
+        Kind::CondDef => 7,
+        Kind::ClauseCon => 8,
+        Kind::AllDiff => 9,
+        Kind::Pack => 10,
+    }
+}
+
+/// Which member is the first that handles each kind, by the kind's number; 0 where none does.
+fn first_members(list: &[Box<dyn Propagator>]) -> [usize; 11] {
+    let mut members = [0; 11];
+    for n in 0..members.len() {
+        if let Some(i) = first_for(list, nth_kind(n)) {
+            members[n] = i;
+        }
+    }
+    members
+}
+
+/// Which member handles the kind, where one does: the one that the table names, if it does.
+fn member_for(list: &[Box<dyn Propagator>], members: &[usize; 11], kind: Kind) -> Option<usize>
+    ensures within { IfSome result (λ i. i < length list.now) }
+    ensures handles { IfSome result (λ i. (d : _) → handled (slice_index_or list.now i d) kind ≡ true) }
+    ensures none { IfNone result (covers (map (λ p. handled p) list.now) kind ≡ false) }
+{
+    let i = members[number_of(kind)];
+    if i < list.len() && does_handle(&list[i], kind) {
+        return Some(i);
+    }
+    first_for(list, kind)
+}
+
 /// The least kind that no member handles.
 fn first_missing(list: &[Box<dyn Propagator>]) -> Option<Kind>
     ensures some { IfSome result (λ kind. IsLeastMissing (map (λ p. handled p) list.now) kind) }
@@ -151,6 +197,7 @@ pub struct MissingKind {
 #[derive(Drop)]
 pub struct Kit {
     list: Vec<Box<dyn Propagator>>,
+    members: [usize; 11],
 }
 
 impl Kit {
@@ -167,7 +214,10 @@ impl Kit {
     {
         match first_missing(list.as_slice()) {
             Some(kind) => Err(MissingKind { kind, list }),
-            None => Ok(Kit { list }),
+            None => {
+                let members = first_members(list.as_slice());
+                Ok(Kit { list, members })
+            }
         }
     }
 
@@ -197,7 +247,7 @@ impl Kit {
         ensures same { map (λ p. handled p) self.new.list.items ≡ map (λ p. handled p) self.old.list.items }
     {
         let con = &g.cons.items()[k as usize];
-        match first_for(self.list.as_slice(), kind_of(con)) {
+        match member_for(self.list.as_slice(), &self.members, kind_of(con)) {
             Some(place) => prune_at(self.list.as_mut_slice(), place, g, k, boxes),
             None => probe(con, g.domains.items(), boxes, *self.list.allocator()),
         }

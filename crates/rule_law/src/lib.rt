@@ -8,6 +8,7 @@
 //!   every kind.
 //! - `within`: the test that boxes are such as a propagator asks for.
 //! - `explain`, `plan`: clauses made of reasons, and of plans of what an explanation leaves.
+//! - `narrow`: clauses cut to the domains, and that they say the same.
 //! - `probing`: probing that explains what it finds, for every kind.
 //! - `variables`: the variables of a constraint. `repeats`: whether one stands twice in it, and
 //!   what is kept of that.
@@ -15,6 +16,7 @@
 
 mod explain;
 mod kit;
+mod narrow;
 mod plan;
 mod probing;
 mod propagator;
@@ -28,6 +30,7 @@ pub use box_rules::{
 pub use box_view::is_rest_within;
 pub use explain::{keep_out, pruning};
 pub use kit::{Kit, MissingKind};
+pub use narrow::{cut_says_the_same, cut_to};
 pub use plan::{planned_pruning, truth};
 pub use probing::probe;
 pub use propagator::Propagator;

@@ -4,8 +4,10 @@ use Rattle.box_rules.proofs.packing.rooms_between.Given as goal
 
 abbrev pub invariant-loop-last : goal.invariant-loop-last
 invariant-loop-last g l = record {
-  value : l.sum.value +ℤ rooms_from (unsigned_abs (l.last.value -ℤ l.at.value)) (l.at.value +ℤ pos 1) l.items (g.V.View.boxes l.view)
-      ≡ rooms_from (width l.fn.first.value l.last.value) l.fn.first.value l.items (g.V.View.boxes l.view);
+  value : l.sum.value +ℤ rooms_from (unsigned_abs (l.last.value -ℤ l.at.value))
+      (l.at.value +ℤ pos 1) l.items (g.V.View.boxes l.view)
+      ≡ rooms_from (width l.fn.first.value l.last.value) l.fn.first.value l.items
+      (g.V.View.boxes l.view);
   begun : l.fn.first.value ≤ℤ l.at.value;
   order : l.at.value ≤ℤ l.last.value;
   low : pos 0 ≤ℤ (l.sum.value +ℤ pos (width l.fn.first.value l.at.value * 9223372036854775808));

@@ -1,5 +1,3 @@
-use Rattle.std.proofs.Common.{reverse}
-use Rattle.fd_store.specs.declared.trail.Moved.{Moved}
 use Rattle.fd_store.proofs.StackLaws.{narrowed_stack, narrowed_store}
 use Rattle.fd_store.proofs.trail.narrow.Goals as goal
 

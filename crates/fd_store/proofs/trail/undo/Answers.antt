@@ -1,4 +1,4 @@
-use Rattle.std.proofs.Common.{◌≡◌, ◌<◌, ◌≤◌, reverse, length, sym, ap, ◌∙◌, arith, List}
+use Rattle.std.proofs.Common.{◌≡◌, ◌<◌, ◌≤◌, reverse, sym, ap, ◌∙◌, arith, List}
 use Rattle.fd_store.specs.declared.trail.Moved.{Moved}
 use Rattle.fd_store.specs.Trails.{level_of}
 use Rattle.fd_store.proofs.StackLaws.{undone_levels, undone_store, dropped-none}

@@ -1,4 +1,4 @@
-use Rattle.std.proofs.Common.{reverse, length, ap, arith, subst, sym}
+use Rattle.std.proofs.Common.{reverse, arith}
 use Rattle.fd_store.proofs.StackLaws.{boxes_of, level_is}
 use Rattle.fd_store.proofs.store.Store.prune.Goals as goal
 

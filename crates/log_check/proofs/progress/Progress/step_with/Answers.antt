@@ -1,17 +1,15 @@
-use Rattle.std.proofs.Common.{not, sym, ◌∙◌, subst}
-use Rattle.std.proofs.lemmas.Bool.{and_parts}
-use Rattle.log_form.specs.Acceptance.{Made, has_empty, accepts}
-use Rattle.log_check.specs.Soundness.{IsSound}
-use Rattle.log_check.specs.Progress.{made_of}
-use Rattle.log_check.proofs.Steps.{sound_step}
+use Rattle.std.proofs.Common.{length, sym, ap, ◌∙◌}
+use Rattle.log_form.specs.Acceptance.{Made, may_come}
+use Rattle.log_check.proofs.Within.{right_step}
 use Rattle.log_check.proofs.progress.Progress.step_with.Goals as goal
 
 pub returns-clause-right : goal.returns-clause-right
 returns-clause-right c _ =
     let g = c.args.g.now in
-    let old = made_of c.args.self.now in
-    let came = and_parts (not (has_empty old.clauses)) (accepts g old c.args.line) (sym c.in_ok-may_come.ensures ∙ c.if-not-branch.false) in
-    record {
-      closed = c.in_ok-advance_with.ensures.closed;
-      sound = subst (λ (m : Made). IsSound g m) (sym c.in_ok-advance_with.ensures.made) (sound_step g old c.args.line c.requires.made c.know_clause.ensures c.requires.right.sound came.1);
-    }
+    let line = c.args.line in
+    let asked = c.in_ok-may_come.ensures in
+    let now = c.in_ok-advance_with.ensures in
+    let comes = ap (λ (m : Made). may_come g m line) asked.kept in
+    let came = comes ∙ sym asked.asked ∙ c.if-not-branch.false in
+    right_step g c.may_come.new.self c.advance_with.new.self line c.requires.made c.know_clause.ensures
+    asked.right came now.made now.closed (ap length now.table)

@@ -1,0 +1,4 @@
+pub mod OrderLaws
+pub mod MarkLaws
+pub mod RowLaws
+pub mod FitLaws

@@ -1,0 +1,17 @@
+//! The constraints that a search still has to look at.
+//!
+//! - `queue`: `Queue`, with what contracts see of it.
+//! - `search`: the first listed constraint that has something to say.
+//! - `listing`: which constraints are listed. `lists`: in which order. `urgency`: what costs less
+//!   comes first.
+//! - `rows`: which constraints name each variable.
+#![tactic(auto)]
+
+mod listing;
+mod lists;
+mod queue;
+mod rows;
+mod search;
+mod urgency;
+
+pub use queue::Queue;
