@@ -1,5 +1,5 @@
 -- The levels of a run: where their entries came from, and how their boxes lie in the domains.
-use Rattle.std.proofs.Common.{◌≡◌, ◌≢◌, ℕ, zero, suc, ◌+◌, ◌<◌, ◌≤◌, true, false, not, ◌&&◌, cond, List, [], ◌∷◌, ◌++◌, ℤ, length, refl, sym, ap, ◌∙◌, arith, inl, inr, subst, slice_set, All, Option, Some, None, length-append}
+use Rattle.std.proofs.Common.{◌≡◌, ℕ, ◌<◌, true, false, List, [], ◌∷◌, ◌++◌, length, sym, ap, ◌∙◌, arith, inl, inr, subst, slice_set, Option, Some, None, length-append}
 use Rattle.std.proofs.lemmas.List.{length-set, get_or_append_left}
 use Rattle.std.proofs.lemmas.Bool.{and_parts, cases_eq}
 use Rattle.signed_clause.specs.Ranges.{Ranges, has, is_nil, IsValid, IsSubset}
@@ -7,11 +7,11 @@ use Rattle.signed_clause.specs.SetAlgebra.{meet}
 use Rattle.signed_clause.specs.Clauses.{Boxes, Literals, box_of, false_in, unit_of, IsClause}
 use Rattle.signed_clause.specs.Running.{AreValid}
 use Rattle.signed_clause.proofs.RangeSteps.{has-meet_valid, IsValid-meet}
-use Rattle.fd_store.specs.Levels.{Entry, Level, Stack, moved, reacted, pruned_by}
-use Rattle.fd_store.proofs.StackLaws.{put_back}
+use Rattle.fd_store.specs.Levels.{Entry, Level, Stack}
 use Rattle.log_form.specs.Acceptance.{clause_at}
-use Rattle.learn_clauses.specs.Walk.{IsFrom, AreFrom, CameFrom, trail_from, domains_from, domains_of, back_from, back_to}
-use Rattle.search_run.proofs.Units.{some_same, none_some, box-set_same, box-set_other, AreValid-set, IsUnitBy, unit_is}
+use Rattle.learn_clauses.specs.Walk.{IsFrom, AreFrom, CameFrom, trail_from, domains_from, domains_of}
+use Rattle.learn_clauses.proofs.FalseLaws.{false_in-narrower}
+use Rattle.search_run.proofs.Units.{box-set_same, box-set_other, AreValid-set, IsUnitBy}
 
 -- ---- boxes in the domains
 
@@ -55,6 +55,18 @@ meet_right : (a b : Ranges) → IsValid a → IsValid b → IsSubset (meet a b) 
 meet_right a b f g v h =
     (and_parts (has a v) (has b v) (sym (has-meet_valid a b f g v) ∙ h)).1
 
+-- a box that is narrowed to a part keeps what is false
+pub part_keeps : (boxes : Boxes) (x : ℕ) (s : Ranges) → AreValid boxes → x < length boxes →
+    IsPart (box_of boxes x) s → (c : Literals) → IsClause c → false_in boxes c ≡ true →
+    false_in (slice_set boxes x s) c ≡ true
+part_keeps boxes x s a lt p c f h =
+    let new = slice_set boxes x s in
+    let sub : (y : ℕ) → IsSubset (box_of new y) (box_of boxes y) = λ y.
+    of_box (λ b. IsSubset b (box_of boxes y)) boxes x y s lt
+    (λ e v k. subst (λ (z : ℕ). has (box_of boxes z) v ≡ true) (sym e) (p.within v k))
+    (λ v k. k) in
+    false_in-narrower c new boxes f (AreValid-set boxes x s lt a p.valid) a sub h
+
 pub unit_part : (boxes : Boxes) (u : ℕ × Ranges) (s : Ranges) → AreValid boxes →
     IsUnitBy boxes u s → IsPart (box_of boxes u.0) u.1
 unit_part boxes u s a w =
@@ -73,17 +85,24 @@ abbrev pub undone_by : Boxes → List Entry → Boxes
 undone_by boxes [] = boxes
 undone_by boxes (e ∷ es) = undone_by (slice_set boxes e.var e.before) es
 
+-- what is false in the first boxes is false in the second
+abbrev pub Keeps : Boxes → Boxes → Type 0
+Keeps wide boxes =
+    (c : Literals) → IsClause c → false_in wide c ≡ true → false_in boxes c ≡ true
+
 -- the entries came from the clauses, and led from the boxes before them to the present ones
 pub record IsLevel (clauses : List Literals) (domains before : Boxes) (l : Level) : Type 0 where
   pub came : AreFrom clauses l.now l.entries
   pub led : undone_by l.now l.entries ≡ before
   pub boxes : AreBoxesIn domains l.now
+  pub keeps : Keeps l.first l.now
 
--- each level led from the boxes below, and level 0 from the domains
+-- each level led from the boxes below, and level 0 from the domains; and what is false in boxes
+-- stays so in those above
 abbrev pub AreLevels : List Literals → Boxes → Level → List Level → Type 0
 AreLevels clauses domains top [] = IsLevel clauses domains domains top × (top.first ≡ domains)
 AreLevels clauses domains top (l ∷ ls) =
-    IsLevel clauses domains l.now top × AreLevels clauses domains l ls
+    IsLevel clauses domains l.now top × Keeps l.now top.first × AreLevels clauses domains l ls
 
 abbrev pub IsStack : List Literals → Boxes → Stack → Type 0
 IsStack clauses domains s = AreLevels clauses domains s.top s.below
@@ -101,7 +120,7 @@ levels_came : (clauses : List Literals) (domains : Boxes) (top : Level) (below :
     AreLevels clauses domains top below → AreFrom clauses top.now (trail_from top below)
 levels_came clauses domains top [] a = a.0.came
 levels_came clauses domains top (l ∷ ls) a =
-    let lower = levels_came clauses domains l ls a.1 in
+    let lower = levels_came clauses domains l ls a.2 in
     from_both clauses top.now top.entries (trail_from l ls) a.0.came
     (subst (λ (b : Boxes). AreFrom clauses b (trail_from l ls)) (sym a.0.led) lower)
 
@@ -112,7 +131,7 @@ stack_came clauses domains s a = levels_came clauses domains s.top s.below a
 levels_domains : (clauses : List Literals) (domains : Boxes) (top : Level) (below : List Level) →
     AreLevels clauses domains top below → domains_from top below ≡ domains
 levels_domains clauses domains top [] a = a.1
-levels_domains clauses domains top (l ∷ ls) a = levels_domains clauses domains l ls a.1
+levels_domains clauses domains top (l ∷ ls) a = levels_domains clauses domains l ls a.2
 
 pub stack_domains : (clauses : List Literals) (domains : Boxes) (s : Stack) →
     IsStack clauses domains s → domains_of s ≡ domains
@@ -142,8 +161,7 @@ from_more : (cs ds : List Literals) (boxes : Boxes) (es : List Entry) → AreFro
     AreFrom (cs ++ ds) boxes es
 from_more cs ds boxes [] h = tt
 from_more cs ds boxes (e ∷ es) h =
-    let before = slice_set boxes e.var e.before in
-    (
+    let before = slice_set boxes e.var e.before in (
       is_from_more e.from cs ds before e.var (box_of boxes e.var) h.0,
       from_more cs ds before es h.1,
     )
@@ -151,13 +169,18 @@ from_more cs ds boxes (e ∷ es) h =
 level_more : (cs ds : List Literals) (domains before : Boxes) (l : Level) →
     IsLevel cs domains before l → IsLevel (cs ++ ds) domains before l
 level_more cs ds domains before l h =
-    record { came = from_more cs ds l.now l.entries h.came; led = h.led; boxes = h.boxes }
+    record {
+      came = from_more cs ds l.now l.entries h.came;
+      led = h.led;
+      boxes = h.boxes;
+      keeps = h.keeps;
+    }
 
 levels_more : (cs ds : List Literals) (domains : Boxes) (top : Level) (below : List Level) →
     AreLevels cs domains top below → AreLevels (cs ++ ds) domains top below
 levels_more cs ds domains top [] a = (level_more cs ds domains domains top a.0, a.1)
 levels_more cs ds domains top (l ∷ ls) a =
-    (level_more cs ds domains l.now top a.0, levels_more cs ds domains l ls a.1)
+    (level_more cs ds domains l.now top a.0, a.1, levels_more cs ds domains l ls a.2)
 
 pub stack_more : (cs ds : List Literals) (domains : Boxes) (s : Stack) → IsStack cs domains s →
     IsStack (cs ++ ds) domains s

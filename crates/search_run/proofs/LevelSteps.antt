@@ -1,14 +1,14 @@
 -- What a decision, a clause and a learnt clause leave of the levels of a run.
-use Rattle.std.proofs.Common.{◌≡◌, ℕ, suc, ◌<◌, true, false, not, ◌&&◌, cond, List, [], ◌∷◌, length, refl, sym, ap, ◌∙◌, subst, slice_set, Option, Some, None}
+use Rattle.std.proofs.Common.{◌≡◌, ℕ, ◌<◌, true, false, not, ◌&&◌, cond, List, [], ◌∷◌, length, refl, sym, ap, ◌∙◌, subst, slice_set, Some, None}
 use Rattle.std.proofs.lemmas.Bool.{and_parts, not-true}
 use Rattle.signed_clause.specs.Ranges.{Ranges}
 use Rattle.signed_clause.specs.Clauses.{Boxes, Literals, box_of, false_in, unit_of, IsClause}
-use Rattle.fd_store.specs.Levels.{Entry, Level, Stack, moved, reacted, pruned_by}
+use Rattle.fd_store.specs.Levels.{Level, Stack, moved, reacted, pruned_by}
 use Rattle.fd_store.proofs.StackLaws.{put_back}
 use Rattle.log_form.specs.Acceptance.{clause_at}
 use Rattle.learn_clauses.specs.Walk.{IsFrom, AreFrom, back_from, back_to}
-use Rattle.search_run.proofs.Units.{some_same, none_some, box-set_same, IsUnitBy, unit_is}
-use Rattle.search_run.proofs.LevelFacts.{AreBoxesIn, IsPart, part_in, unit_part, undone_by, IsLevel, AreLevels, IsStack, stack_boxes}
+use Rattle.search_run.proofs.Units.{some_same, none_some, box-set_same, unit_is}
+use Rattle.search_run.proofs.LevelFacts.{IsPart, part_in, part_keeps, unit_part, undone_by, IsLevel, AreLevels, IsStack, stack_boxes}
 
 -- ---- a pruning
 
@@ -44,6 +44,7 @@ pruned_level clauses domains before k u l w h =
       came = subst P (sym back) (came, h.came);
       led = ap (λ (b : Boxes). undone_by b l.entries) back ∙ h.led;
       boxes = part_in domains l.now u.0 u.1 h.boxes w.exists w.part;
+      keeps = λ c f k. part_keeps l.now u.0 u.1 h.boxes.sets w.exists w.part c f (h.keeps c f k);
     }
 
 pruned_levels : (clauses : List Literals) (domains : Boxes) (k : ℕ) (u : ℕ × Ranges) (top : Level)
@@ -52,7 +53,7 @@ pruned_levels : (clauses : List Literals) (domains : Boxes) (k : ℕ) (u : ℕ �
 pruned_levels clauses domains k u top [] w a =
     (pruned_level clauses domains domains k u top w a.0, a.1)
 pruned_levels clauses domains k u top (l ∷ ls) w a =
-    (pruned_level clauses domains l.now k u top w a.0, a.1)
+    (pruned_level clauses domains l.now k u top w a.0, a.1, a.2)
 
 -- clause k, which was made, prunes or leaves all as it was
 pub reacted_stack : (clauses : List Literals) (domains : Boxes) (k : ℕ) (c : Literals) (s : Stack) →
@@ -80,17 +81,19 @@ reacted_stack clauses domains k c s lt is f a =
 
 -- ---- a decision
 
-pub decided_stack : (clauses : List Literals) (domains : Boxes) (x : ℕ) (half : Ranges) (s : Stack) →
-    x < length s.top.now → IsPart (box_of s.top.now x) half → IsStack clauses domains s →
+pub decided_stack : (clauses : List Literals) (domains : Boxes) (x : ℕ) (half : Ranges)
+    (s : Stack) → x < length s.top.now → IsPart (box_of s.top.now x) half →
+    IsStack clauses domains s →
     IsStack clauses domains (moved None x half s)
 decided_stack clauses domains x half s lt p a =
-    let boxes = stack_boxes clauses domains s a in
-    (
+    let boxes = stack_boxes clauses domains s a in (
       record {
         came = (tt, tt);
         led = put_back s.top.now x half;
         boxes = part_in domains s.top.now x half boxes lt p;
+        keeps = λ c f k. k;
       },
+      λ c f k. part_keeps s.top.now x half boxes.sets lt p c f k,
       a,
     )
 
@@ -110,9 +113,9 @@ levels_back clauses domains c top (l ∷ ls) lower h a =
           let out = (and_parts (false_in top.first c) (not (false_in l.now c)) b).1 in
           let P : Stack → Type 0 = λ q. IsStack clauses domains q × (false_in q.top.now c ≡ false)
           in
-          let here : P (record { top = l; below = ls }) = (a.1, not-true (false_in l.now c) out) in
+          let here : P (record { top = l; below = ls }) = (a.2, not-true (false_in l.now c) out) in
           subst P (some_same (record { top = l; below = ls }) lower e) here
-      | false ↦ λ b e. levels_back clauses domains c l ls lower e a.1
+      | false ↦ λ b e. levels_back clauses domains c l ls lower e a.2
     ]) refl h
 
 -- those that a clause leads back to are levels still, and it isn't false there

@@ -1,11 +1,10 @@
 -- What every run leaves, in the words of the laws.
-use Rattle.std.proofs.Common.{◌≡◌, ◌↔◌, ℕ, zero, suc, ◌<◌, true, false, not, ◌&&◌, List, [], ◌∷◌, length, refl, sym, ap, ◌∙◌, arith, subst, All, slice_index_or}
+use Rattle.std.proofs.Common.{◌≡◌, ◌↔◌, ℕ, zero, suc, ◌-◌, ◌<◌, Bool, true, false, not, ◌||◌, Option, Some, None, is_some, List, [], ◌∷◌, length, refl, sym, ap, ◌∙◌, arith, subst, All, slice_index_or}
 use Rattle.std.specs.List.{Contains}
 use Rattle.std.proofs.lemmas.Bool.{and_parts, and_from, not-true}
 use Rattle.std.proofs.lemmas.List.{get_or_default}
-use Rattle.signed_clause.specs.Ranges.{Ranges, is_nil, IsValid}
-use Rattle.signed_clause.specs.SetAlgebra.{is_within}
-use Rattle.signed_clause.specs.Clauses.{Boxes, Literals, box_of, false_in}
+use Rattle.signed_clause.specs.Ranges.{is_nil, IsValid}
+use Rattle.signed_clause.specs.Clauses.{Boxes, Literals, box_of, IsClause}
 use Rattle.signed_clause.specs.Running.{AreValid}
 use Rattle.signed_clause.proofs.SetFacts.{within_law}
 use Rattle.ground_form.specs.declared.ground.Ground.{Ground}
@@ -13,15 +12,19 @@ use Rattle.ground_form.specs.WellMade.{IsWellMade}
 use Rattle.rule_law.specs.Answers.{AreBoxesWithin}
 use Rattle.log_form.specs.declared.line.Line.{Line}
 use Rattle.log_form.specs.Acceptance.{Made, clause_at, has_empty, made}
-use Rattle.learn_clauses.specs.Walk.{domains_of, CameFrom, IsWithinDomains}
+use Rattle.learn_clauses.specs.Walk.{domains_of, CameFrom, IsWithinDomains, back_to}
 use Rattle.learn_clauses.proofs.WithinLaws.{valid_boxes}
-use Rattle.search_run.specs.Replay.{State, Mode, Going, Conflict, AtFound, Closed, top_boxes, acts, none_acts, is_settled, is_run, state_of}
+use Rattle.search_run.specs.Replay.{Mode, Going, Conflict, AtFound, Closed, top_boxes, acts, none_acts, is_settled, leads_back, is_run, state_of}
 use Rattle.search_run.specs.Lines.{HasSets}
-use Rattle.search_run.specs.Conflicts.{IsConflict}
+use Rattle.search_run.specs.Conflicts.{IsConflict, LeadsFrom}
+use Rattle.search_run.proofs.Units.{none_some}
+use Rattle.search_run.proofs.LevelBack.{back_from_level, level_of_back}
+use Rattle.fd_store.specs.Levels.{Stack, dropped}
 use Rattle.search_run.proofs.LevelFacts.{AreBoxesIn, stack_came, stack_domains, stack_boxes}
 use Rattle.search_run.proofs.StateSteps.{AreMade, HoldsIn}
 use Rattle.search_run.proofs.ClauseStates.{IsState}
 use Rattle.search_run.proofs.States.{run_state}
+use Rattle.search_run.proofs.Depths.{run_depth}
 
 within_all : (domains : Boxes) (cs : List Literals) →
     ((j : ℕ) → IsWithinDomains domains (clause_at cs j)) →
@@ -84,6 +87,15 @@ none_of boxes made (c ∷ cs) h k =
     let more = none_of boxes made cs h (λ j d lt. k (suc j) d (omega arith)) in
     rw none more
 
+second_true : (a b : Bool) → a ≡ false → (a || b) ≡ true → b ≡ true
+second_true true b e h = absurd cc
+second_true false b e h = h
+
+led : (nil : Bool) (o : Option Stack) (lower : Stack) → o ≡ Some lower → (nil || is_some o) ≡ true
+led true o lower e = refl
+led false None lower e = absurd (none_some lower e)
+led false (Some s) lower e = refl
+
 -- ---- laws
 
 -- a run, and what its lines' types keep
@@ -92,7 +104,7 @@ pub record IsRunOf (g : Ground) (ls : List Line) : Type 0 where
   pub sets : All (λ l. HasSets l) ls
   pub run : is_run g ls ≡ true
 
-state_is : (g : Ground) (ls : List Line) → IsRunOf g ls → IsState g (made g ls) (state_of g ls)
+pub state_is : (g : Ground) (ls : List Line) → IsRunOf g ls → IsState g (made g ls) (state_of g ls)
 state_is g ls r = run_state g ls r.well_made r.sets r.run
 
 pub run_came : (g : Ground) (ls : List Line) → IsRunOf g ls →
@@ -141,3 +153,28 @@ run_settled g ls r h =
     and_from (none_acts boxes (state_of g ls).learnt) (none_acts boxes (state_of g ls).bounds)
     (none_of boxes clauses (state_of g ls).learnt h state.learnt_made)
     (none_of boxes clauses (state_of g ls).bounds h state.bounds_made)
+
+-- ---- the level that a clause leads back from
+
+-- of a clause with literals: there is a level
+pub run_leads : (g : Ground) (ls : List Line) (c : Literals) → IsRunOf g ls → IsClause c →
+    is_nil c ≡ false →
+    (leads_back (state_of g ls).levels c ≡ true) ↔ ((k : ℕ) × LeadsFrom c (state_of g ls).levels k)
+run_leads g ls c r f some =
+    let s = (state_of g ls).levels in (
+      λ h. level_of_back s c (second_true (is_nil c) (is_some (back_to c s)) some h),
+      λ w. led (is_nil c) (back_to c s) (dropped (w.0 - 1) s) (back_from_level
+          (made g ls).clauses g.domains s c w.0 f (state_is g ls r).stack w.1),
+    )
+
+-- and it is the one that is led back from
+pub run_level : (g : Ground) (ls : List Line) (c : Literals) (k : ℕ) → IsRunOf g ls → IsClause c →
+    LeadsFrom c (state_of g ls).levels k →
+    back_to c (state_of g ls).levels ≡ Some (dropped (k - 1) (state_of g ls).levels)
+run_level g ls c k r f w =
+    back_from_level (made g ls).clauses g.domains (state_of g ls).levels c k f
+    (state_is g ls r).stack w
+
+pub ruleset laws_of_levels = (run_came, run_domains, run_within, run_boxes)
+
+pub ruleset laws_of_modes = (run_conflict, run_closed, run_settled, run_depth)
