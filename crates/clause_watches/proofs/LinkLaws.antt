@@ -1,7 +1,8 @@
 -- Watches by literals that are found.
-use Rattle.std.proofs.Common.{◌≡◌, ◌≢◌, ℕ, zero, suc, ◌<◌, ◌==◌, Bool, true, false, not, List, [], ◌∷◌, ◌++◌, ◌||◌, ◌⊎◌, inl, inr, ℤ, length, arith, refl, sym, ap, ◌∙◌, subst, slice_set, slice_index_or}
+use Rattle.std.proofs.Common.{◌≡◌, ◌≢◌, ℕ, zero, suc, ◌<◌, ◌+◌, ◌==◌, Bool, true, false, not, List, [], ◌∷◌, ◌++◌, ◌||◌, ◌⊎◌, inl, inr, ℤ, length, arith, refl, sym, ap, ◌∙◌, subst, slice_set, slice_index_or}
+use Rattle.std.specs.List.{All}
 use Rattle.std.proofs.lemmas.Bool.{cases_eq}
-use Rattle.std.proofs.lemmas.List.{length-set}
+use Rattle.std.proofs.lemmas.List.{length-set, length_push}
 use Rattle.std.proofs.lemmas.List.Elements.{All-push}
 use Rattle.signed_clause.specs.Ranges.{Ranges}
 use Rattle.signed_clause.specs.SetAlgebra.{is_disjoint}
@@ -13,7 +14,7 @@ use Rattle.clause_watches.specs.declared.watch.Watch.{Watch}
 use Rattle.clause_watches.specs.Marks.{is_marked}
 use Rattle.clause_watches.specs.Watching.{clause_of, rest_of, Meets}
 use Rattle.clause_watches.specs.Rows.{names, holds, differ, has_watch, AreBelow, AreRight, IsTrueOf}
-use Rattle.clause_watches.specs.Sound.{row_of, least_at, sets_at, AreLinked}
+use Rattle.clause_watches.specs.Sound.{row_of, least_at, sets_at, AreClauses, AreLinked}
 use Rattle.clause_watches.specs.Looking.{IsMeeting, IsLink, linked}
 use Rattle.clause_watches.proofs.ActLaws.{set_at}
 use Rattle.clause_watches.proofs.RestLaws.{rest_set_same, rest_set_other}
@@ -154,3 +155,50 @@ linked_more added rests rows rows' leasts held l fit there unnamed right others 
           there
           (λ h. fit.held_marked i y (linked_holds x y r h)) (λ k h. fit.held_marked k y h) j;
     }
+
+-- ---- a clause more, of which nothing is known
+
+rest_added : (rests : List Rest) (i : ℕ) → rest_of (rests ++ Listed ∷ []) i ≡ rest_of rests i
+rest_added [] zero = refl
+rest_added [] (suc i) = refl
+rest_added (r ∷ rs) zero = refl
+rest_added (r ∷ rs) (suc i) = rest_added rs i
+
+clause_added : (added : List (ℕ × Literals)) (a : ℕ × Literals) (i : ℕ) → i < length added →
+    clause_of (added ++ a ∷ []) i ≡ clause_of added i
+clause_added [] a i h = absurd (omega arith)
+clause_added (b ∷ bs) a zero h = refl
+clause_added (b ∷ bs) a (suc i) h = clause_added bs a i (omega arith)
+
+right_added : (added : List (ℕ × Literals)) (a : ℕ × Literals) (least : ℤ) (x n : ℕ)
+    (row : List Watch) → n ≡ length added → AreBelow n row → AreRight least (sets_at added x) row →
+    AreRight least (sets_at (added ++ a ∷ []) x) row
+right_added added a least x n row e below right k d h =
+    let w = slice_index_or row k d in
+    let there : w.clause < length added = subst (λ (m : ℕ). w.clause < m) e (below k d h) in
+    subst (λ (c : Literals). IsTrueOf least (set_of c x) w.witness)
+    (sym (clause_added added a w.clause there)) (right k d h)
+
+-- rests, rows and marks still fit together
+pub linked_added : (added : List (ℕ × Literals)) (rests : List Rest) (rows : List (List Watch))
+    (leasts : List ℤ) (held : List Bool) (a : ℕ × Literals) →
+    AreLinked added rests rows leasts held →
+    AreLinked (added ++ a ∷ []) (rests ++ Listed ∷ []) rows leasts held
+linked_added added rests rows leasts held a fit = record {
+  size = length_push rests Listed ∙ ap (λ (n : ℕ). n + 1) fit.size ∙ sym (length_push added a);
+  apart = λ i. subst (λ (r : Rest). differ r ≡ true) (sym (rest_added rests i)) (fit.apart i);
+  linked = λ i x n. fit.linked i x (subst (λ (r : Rest). names r x ≡ true) (rest_added rests i) n);
+  below = λ x k d h. let one = fit.below x k d h in let more = length_push rests Listed in
+      omega arith;
+  right = λ x. right_added added a (least_at leasts x) x (length rests) (row_of rows x) fit.size
+      (fit.below x) (fit.right x);
+  held_marked = λ i x h.
+      fit.held_marked i x (subst (λ (r : Rest). holds r x ≡ true) (rest_added rests i) h);
+}
+
+pub clauses_added : (n : ℕ) (added : List (ℕ × Literals)) (a : ℕ × Literals) → IsClause a.1 →
+    All (λ l. l.0 < n) a.1 → AreClauses n added → AreClauses n (added ++ a ∷ [])
+clauses_added n added a form within all = record {
+  forms = All-push (λ b. IsClause b.1) added a all.forms form;
+  within = All-push (λ b. All (λ l. l.0 < n) b.1) added a all.within within;
+}

@@ -1,13 +1,14 @@
 -- Masks and single values that show a common value of two sets.
-use Rattle.std.proofs.Common.{◌≡◌, ◌≢◌, ℕ, ◌<◌, Bool, true, false, ℤ, pos, ◌+ℤ◌, arith, sym, ap, ◌∙◌, bit_and, min, ◌+◌, ◌⊎◌, inl, inr, zero, suc, refl, ◌≤◌, ◌-◌, ◌*◌, ◌/◌, ◌%◌, ◌^◌, bit_or, max, [], ◌∷◌, length, slice_index_or, subst}
+use Rattle.std.proofs.Common.{◌≡◌, ◌≢◌, ℕ, ◌<◌, Bool, true, false, ℤ, pos, ◌+ℤ◌, ◌≤ℤ◌, int_le, arith, sym, ap, ◌∙◌, bit_and, min, ◌+◌, ◌⊎◌, inl, inr, zero, suc, refl, ◌≤◌, ◌-◌, ◌*◌, ◌/◌, ◌%◌, ◌^◌, bit_or, max, [], ◌∷◌, length, slice_index_or, subst}
 use Rattle.std.proofs.lemmas.Bool.{false_from_ne_true}
+use Rattle.std.proofs.lemmas.Int.{ints}
 use Rattle.std.proofs.lemmas.Nat.Bits.{bit_at_and, bit_at_or, bit_at-lt, bit_at-zero, same_from_bits, ones_shl, ones_shr, bit_at_mask_below, bit_at_ones_above}
 use Rattle.std.specs.Int.{bit_at}
 use Rattle.signed_clause.specs.Ranges.{Ranges, has, in_range, IsValid}
 use Rattle.signed_clause.specs.SetAlgebra.{is_disjoint}
 use Rattle.signed_clause.proofs.ClauseLaws.{has_from_disjoint}
 use Rattle.clause_watches.specs.Rows.{IsMaskOf}
-use Rattle.clause_watches.proofs.TestLaws.{or_right}
+use Rattle.clause_watches.proofs.TestLaws.{or_right, and_true}
 
 -- a common value
 pub common_meets : (a b : Ranges) (v : ℤ) → IsValid a → IsValid b →
@@ -43,7 +44,8 @@ no_bit least a b m n j f g va vb all =
 pub masks_meet : (least : ℤ) (a b : Ranges) (m n : ℕ) → bit_and m n ≢ 0 →
     IsMaskOf least a m → IsMaskOf least b n → IsValid a → IsValid b → is_disjoint a b ≡ false
 masks_meet least a b m n some f g va vb =
-    false_from_ne_true _ (λ all. some (same_from_bits (bit_and m n) 0 (λ j. no_bit least a b m n j f g va vb all)))
+    false_from_ne_true _
+    (λ all. some (same_from_bits (bit_and m n) 0 (λ j. no_bit least a b m n j f g va vb all)))
 
 -- ---- masks of ranges
 
@@ -93,3 +95,10 @@ mask_more least set xs i r d m n is h e old more j t =
       | inr new ↦ subst (λ (s : Ranges). has s (least +ℤ pos j) ≡ true) is
           (has_at xs i r d (least +ℤ pos j) h e (more j new))
     ]
+
+-- a bit from the first to the last stands for a value of the range
+pub bit_in_range : (r : ℤ × ℤ) (least : ℤ) (first last j : ℕ) → r.0 ≤ℤ (least +ℤ pos first) →
+    (least +ℤ pos last) ≤ℤ r.1 → first ≤ j → j ≤ last → in_range r (least +ℤ pos j) ≡ true
+bit_in_range r least first last j low high f l =
+    and_true (int_le r.0 (least +ℤ pos j)) (int_le (least +ℤ pos j) r.1)
+    (grind (arith, ints)) (grind (arith, ints))

@@ -22,18 +22,27 @@ pub(crate) fn mask_of(set: &IntSet, least: i64) -> u64
 }
 
 /// The values of a range from `least` on as bits.
+#[tactic(auto, using(crate::proofs::MaskLaws::bit_in_range))]
 fn range_bits(r: (i64, i64), least: i64) -> u64
     ensures { (j : ℕ) → bit_at result j ≡ 1 → in_range r (least +ℤ pos j) ≡ true }
 {
     if r.1 < least {
         return 0;
     }
-    let first = if r.0 <= least { 0 } else { r.0.abs_diff(least) };
-    let last = r.1.abs_diff(least).min(63);
+    let first = steps_from(least, r.0);
+    let last = steps_from(least, r.1).min(63);
     if first > last {
         return 0;
     }
     bits_between(first as u32, last as u32)
+}
+
+/// How far the value lies above the least one, 0 where it doesn't.
+fn steps_from(least: i64, v: i64) -> u64
+    ensures enough { v ≤ℤ (least +ℤ pos result) }
+    ensures exact { least ≤ℤ v → least +ℤ pos result ≡ v }
+{
+    if v <= least { 0 } else { v.abs_diff(least) }
 }
 
 /// The bits from the first to the last.
