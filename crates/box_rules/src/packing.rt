@@ -1,9 +1,10 @@
 //! Items to be packed, over a view of boxes.
 //!
-//! Two loads are compared with room: at a place where items are fixed, and over all places. The
-//! room of all places is added up from value to value, from where the first place's box begins to
-//! where the last one's ends. Values that no bin may be are passed over: a walk over the items is
-//! made for each value that some bin may be, and two for each gap between such values.
+//! Two loads are compared with room: at a place where items are fixed, and over all places. Of at
+//! most 64 items the first is told by a row on the stack (`fixed_items`). The room of all places is
+//! added up from value to value, from where the first place's box begins to where the last one's
+//! ends. Values that no bin may be are passed over: a walk over the items is made for each value
+//! that some bin may be, and two for each gap between such values.
 ghost use Rattle.std.specs.Prelude.{◌≡◌, ◌<◌, ◌≤◌, ◌≤ℤ◌, ◌<ℤ◌, ◌^◌, ◌-◌, ◌&&◌, ◌||◌, ◌+ℤ◌, ℤ, false, cond, pos, int_lt, length};
 ghost use Rattle.std.specs.Int.{int_max, int_min};
 ghost use Rattle.std.specs.List.{All};
