@@ -1,14 +1,15 @@
 -- A table of sets and the literals that it lists: what becomes of them in each step.
-use Rattle.std.proofs.Common.{◌≡◌, ◌≢◌, ℕ, zero, suc, ◌+◌, ◌-◌, ◌<◌, ◌≤◌, true, false, not, cond, List, [], ◌∷◌, ◌++◌, refl, sym, ap, ◌∙◌, arith, inl, inr, subst, IsTrue, length, get_or, drop, All}
+use Rattle.std.proofs.Common.{◌≡◌, ◌≢◌, ℕ, zero, suc, ◌+◌, ◌-◌, ◌<◌, ◌≤◌, Bool, ◌||◌, true, false, not, cond, List, [], ◌∷◌, ◌++◌, refl, sym, ap, ◌∙◌, arith, inl, inr, subst, IsTrue, length, get_or, drop, All}
 use Rattle.std.specs.List.{Contains}
 use Rattle.std.specs.List.Sorted.{IsNonDecreasing, IsPermutation}
 use Rattle.std.proofs.Math.ListN.{set}
 use Rattle.std.proofs.lemmas.List.{get_or-set_same, get_or-set_other, length-set, append_assoc}
+use Rattle.std.proofs.lemmas.List.{set-get_or}
 use Rattle.std.proofs.lemmas.List.Elements.{All-push, All-cons, All-nil, Contains-append_left}
 use Rattle.std.proofs.lemmas.List.Sorted.{All-permutation, Contains-permutation, IsNonDecreasingBy-drop}
 use Rattle.std.proofs.lemmas.Bool.{cases_order, ne_eqb, eq-eqb, cases_eq}
 use Rattle.std.proofs.lemmas.Int.{ints}
-use Rattle.signed_clause.specs.Ranges.{Ranges, is_nil, IsValid}
+use Rattle.signed_clause.specs.Ranges.{Ranges, is_nil, has, IsValid, IsSubset}
 use Rattle.signed_clause.specs.SetAlgebra.{meet, join}
 use Rattle.signed_clause.specs.Clauses.{Boxes, Literal, Literals, IsClauseFrom, IsClause, IsWithinBoxes, set_of, has_var, resolvent, IsResolvent}
 use Rattle.signed_clause.specs.Running.{listed, literal_of, AreValid, AreEmpty, AreNoted, IsTable, loaded, both_sets, taken_in}
@@ -19,6 +20,21 @@ use Rattle.signed_clause.proofs.ResolventLaws.{set_here, set_later, set_below, v
 
 join-none : (a : Ranges) → IsValid a → join a [] ≡ a
 join-none a s = same_ranges (join a []) a _ _ _ _ (IsValid-join a [] s (omega (arith, ints))) s (λ v. has-join_valid a [] s (omega (arith, ints)) v ∙ grind arith)
+
+or_within : (p q : Bool) → (q ≡ true → p ≡ true) → p ≡ (p || q)
+or_within true q h = refl
+or_within false true h = let wrong = h refl in cc
+or_within false false h = refl
+
+-- the join with a set that lies within is the set itself
+pub join_within : (s t : Ranges) → IsValid s → IsValid t → IsSubset t s → s ≡ join s t
+join_within s t a b h =
+    same_ranges s (join s t) _ _ _ _ a (IsValid-join s t a b)
+    (λ v. or_within (has s v) (has t v) (h v) ∙ sym (has-join_valid s t a b v))
+
+-- the same set put into a table again
+pub set_again : (ss : Boxes) (y : ℕ) (s : Ranges) → get_or ss y [] ≡ s → ss ≡ set ss y s
+set_again ss y s e = sym (set-get_or ss y []) ∙ ap (λ (t : Ranges). set ss y t) e
 
 nil_is : (m : Ranges) → is_nil m ≡ true → m ≡ []
 nil_is [] h = refl

@@ -1,12 +1,14 @@
 //! `RunningClause`, the clause that a chain of resolution steps runs through.
 //!
 //! It is a table of sets by variable, empty where the clause says nothing, so a step costs the
-//! literals of the other clause alone, however long the running clause is. The table is made once
-//! for a number of variables and used again and again: beside it stands a list of the variables
-//! that were used, and `load`, `take` and `clear` walk that list, not the table. A variable whose
-//! set isn't empty always stands in the list; the list may hold others, and may hold one twice.
-//! Contracts see the list of the sets, and the clause is `listed 0` of it.
-ghost use Rattle.std.specs.Prelude.{◌≡◌, ◌<◌, ◌≤◌, ◌+◌, ◌↔◌, ◌++◌, [], IsTrue, IfOk, OnOk, OnErr, cond, length, slice_set};
+//! literals of the other clause alone, however long the running clause is; a literal that says no
+//! more than the running clause makes no set. The table is made once for a number of variables and
+//! used again and again: beside it stands a list of the variables that were used, and `load`,
+//! `take` and `clear` walk that list, not the table. A variable whose set isn't empty always stands
+//! in the list; the list may hold others, and may hold one twice. Contracts see the list of the
+//! sets, and the clause is `listed 0` of it.
+ghost use Rattle.std.specs.Prelude.{◌≡◌, ◌<◌, ◌≤◌, ◌+◌, ◌↔◌, ◌++◌, [], cond, length, slice_set};
+ghost use Rattle.std.specs.Prelude.{IsTrue, IfOk, IfSome, IfNone, OnOk, OnErr};
 ghost use Rattle.std.specs.List.{All, Contains};
 ghost use Rattle.std.specs.List.Sorted.{IsNonDecreasing};
 ghost use Rattle.std.specs.Vec.{vec_capacity, vec_len};
@@ -248,7 +250,9 @@ fn take_literals(
     Ok(())
 }
 
-/// Takes a literal into the table, in a resolution on `x`.
+/// Takes a literal into the table, in a resolution on `x`. Where the table says it already, no set
+/// is made.
+#[tactic(auto, using(crate::proofs::RunningLaws::set_again))]
 fn take_literal(
     sets: &mut Vec<IntSet>,
     used: &mut Vec<u32>,
@@ -261,16 +265,33 @@ fn take_literal(
     ensures err { OnErr result (sets.new.items ≡ sets.old.items) }
     ensures table { IsTable sets.old.items used.old.items → IsTable sets.new.items used.new.items }
 {
-    let set = both(&sets[m.0 as usize], &m.1, m.0 == x)?;
-    put(sets, used, m.0, set)
+    match both(&sets[m.0 as usize], &m.1, m.0 == x)? {
+        Some(set) => put(sets, used, m.0, set),
+        None => Ok(()),
+    }
 }
 
-/// What two sets of a variable leave: of the pivot the meet, of another variable the join.
-fn both(s: &IntSet, t: &IntSet, pivot: bool) -> Result<IntSet, AllocError>
-    ensures list { IfOk result (λ r. r ≡ cond pivot (meet s.now t.now) (join s.now t.now)) }
-    ensures valid { IfOk result (λ r. IsValid r) }
+/// What two sets of a variable leave: of the pivot the meet, of another variable the join. None
+/// where the second set adds nothing to the first, which then is the join.
+#[tactic(auto, using(crate::proofs::RunningLaws::join_within))]
+fn both(s: &IntSet, t: &IntSet, pivot: bool) -> Result<Option<IntSet>, AllocError>
+    ensures some { IfOk result (λ o. IfSome o (λ r.
+        r ≡ cond pivot (meet s.now t.now) (join s.now t.now))) }
+    ensures none { IfOk result (λ o. IfNone o
+        (s.now ≡ cond pivot (meet s.now t.now) (join s.now t.now))) }
+    ensures valid { IfOk result (λ o. IfSome o (λ r. IsValid r)) }
 {
-    if pivot { s.meet(t) } else { s.join(t) }
+    if pivot {
+        return Ok(Some(s.meet(t)?));
+    }
+    // both are valid, as `ranges` says
+    let _first = s.ranges();
+    let _second = t.ranges();
+    if t.within(s) {
+        Ok(None)
+    } else {
+        Ok(Some(s.join(t)?))
+    }
 }
 
 /// Moves the literals out of the table, into a list that has the room.
