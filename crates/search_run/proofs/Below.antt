@@ -1,5 +1,5 @@
 -- The levels below the last one stand at fixpoints, where decisions stood.
-use Rattle.std.proofs.Common.{◌≡◌, ℕ, zero, suc, ◌<◌, true, false, not, ◌&&◌, ◌||◌, cond, List, [], ◌∷◌, length, refl, sym, ap, ◌∙◌, arith, subst, nat_lt, ◌==◌, slice_get, All, Option, Some, None}
+use Rattle.std.proofs.Common.{◌≡◌, ℕ, zero, suc, true, false, not, ◌&&◌, cond, List, [], ◌∷◌, length, refl, sym, arith, subst, nat_lt, slice_get, All, Some, None}
 use Rattle.std.proofs.lemmas.List.Elements.{All-cons}
 use Rattle.std.proofs.lemmas.Bool.{and_parts}
 use Rattle.signed_clause.specs.Ranges.{Ranges, is_nil}
@@ -11,7 +11,7 @@ use Rattle.log_form.specs.declared.line.Line.{Line}
 use Rattle.log_form.specs.declared.line.Line.TheVariants.{Axiom, Chain, Bound, Use, Found, Decide, Empty}
 use Rattle.log_form.specs.Acceptance.{Made, clause_at, after, made_from}
 use Rattle.log_form.specs.Acceptance as acceptance
-use Rattle.fd_store.specs.Levels.{Level, Stack, moved, reacted, pruned_by}
+use Rattle.fd_store.specs.Levels.{Level, Stack, reacted, pruned_by}
 use Rattle.learn_clauses.specs.Walk.{back_from, back_to}
 use Rattle.search_run.specs.Replay.{State, Closed, start, top_boxes, is_going, is_settled, are_quiet, none_empty, led_back, back_or, react, learned, is_split, may_stand, changed, next, run_from, is_run, state_from, state_of}
 use Rattle.search_run.specs.Fixpoints.{IsFixpoint}
@@ -65,7 +65,8 @@ back_fixpoints g c top (l ∷ ls) lower h a =
 learned_fixpoints : (g : Ground) (k : ℕ) (c : Literals) (s : State) →
     AreFixpoints g s.levels.below → AreFixpoints g (learned k c s).levels.below
 learned_fixpoints g k c s a =
-    elim (is_nil c) as (λ b. AreFixpoints g (cond b (record s { mode = Closed; learnt = c ∷ s.learnt })
+    elim (is_nil c) as (λ b. AreFixpoints g
+    (cond b (record s { mode = Closed; learnt = c ∷ s.learnt })
     (react k c (led_back c s))).levels.below) [
       | true ↦ a
       | false ↦ (elim (back_to c s.levels) as (λ o. back_to c s.levels ≡ o →

@@ -1,21 +1,18 @@
 -- Behind a solution a Bound line may follow, and it ends the level: one of its clauses is false.
-use Rattle.std.proofs.Common.{◌≡◌, ℕ, zero, suc, ◌+◌, ◌<◌, ◌≤◌, ◌⊎◌, inl, inr, Bool, true, false, not, ◌&&◌, ◌||◌, cond, List, [], ◌∷◌, ◌++◌, ℤ, pos, negsuc, ◌+ℤ◌, ◌-ℤ◌, length, refl, sym, ap, ◌∙◌, arith, subst, All, Option, Some, None}
+use Rattle.std.proofs.Common.{◌≡◌, ℕ, suc, ◌<◌, ◌⊎◌, inl, inr, Bool, true, false, ◌&&◌, ◌||◌, cond, List, [], ◌∷◌, ◌++◌, ℤ, length, refl, ap, ◌∙◌, arith, subst, All, Option, Some}
 use Rattle.std.proofs.lemmas.Int.{ints}
 use Rattle.std.proofs.lemmas.List.{get_or_past}
-use Rattle.std.proofs.lemmas.Bool.{and_parts, and_from, cases_lt, false_from_ne_true}
+use Rattle.std.proofs.lemmas.Bool.{and_from, cases_lt, false_from_ne_true}
 use Rattle.signed_clause.specs.Ranges.{Ranges, has, is_nil, IsValid}
-use Rattle.signed_clause.specs.SetAlgebra.{is_disjoint, meet}
+use Rattle.signed_clause.specs.SetAlgebra.{is_disjoint}
 use Rattle.signed_clause.specs.Clauses.{Boxes, Literals, box_of, false_in, clause_true, IsClauseFrom, IsClause}
 use Rattle.signed_clause.specs.Running.{AreValid}
-use Rattle.signed_clause.proofs.RangeLaws.{has-piece}
 use Rattle.signed_clause.proofs.RangeSteps.{meet-none}
 use Rattle.signed_clause.proofs.SetFacts.{disjoint_law}
 use Rattle.ground_form.specs.declared.ground.Ground.{Ground}
 use Rattle.ground_form.specs.declared.ground.GroundGoal.{GroundGoal}
 use Rattle.ground_form.specs.Meaning.{value_of}
 use Rattle.ground_form.specs.Bounds.{singles}
-use Rattle.ground_form.specs.Solutions.{IsPoint}
-use Rattle.ground_form.specs.WellMade.{IsWellMade}
 use Rattle.ground_form.proofs.SingleValues.{box_single}
 use Rattle.log_form.specs.declared.line.Line.{Line}
 use Rattle.log_form.specs.declared.line.Line.TheVariants.{Bound}

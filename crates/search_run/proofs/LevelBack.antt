@@ -1,11 +1,11 @@
 -- A clause leads back from at most one level of a run, and that is the one that is found.
-use Rattle.std.proofs.Common.{◌≡◌, ◌↔◌, ℕ, zero, suc, ◌+◌, ◌-◌, ◌<◌, ◌≤◌, ◌⊎◌, inl, inr, Bool, true, false, not, ◌&&◌, cond, List, [], ◌∷◌, length, refl, sym, ap, ◌∙◌, arith, subst, nat_lt, Option, Some, None, is_some}
+use Rattle.std.proofs.Common.{◌≡◌, ℕ, suc, ◌-◌, ◌≤◌, inl, inr, true, false, not, ◌&&◌, cond, List, [], ◌∷◌, length, refl, sym, ap, ◌∙◌, arith, subst, Some, None, is_some}
 use Rattle.std.proofs.lemmas.Bool.{and_parts, cases_lt, lt-ltb, le-ltb, not-true}
 use Rattle.signed_clause.specs.Clauses.{Boxes, Literals, false_in, IsClause}
 use Rattle.fd_store.specs.Levels.{Level, Stack, dropped_from, dropped}
 use Rattle.learn_clauses.specs.Walk.{back_from, back_to}
 use Rattle.search_run.specs.Conflicts.{LeadsFrom}
-use Rattle.search_run.proofs.Units.{some_same, none_some}
+use Rattle.search_run.proofs.Units.{none_some}
 use Rattle.search_run.proofs.LevelFacts.{Keeps, AreLevels, IsStack}
 
 -- ---- the levels up to k

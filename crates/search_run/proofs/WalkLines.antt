@@ -68,8 +68,8 @@ walked_at (Some j) cs before x now c rest w came more h =
       | false ↦ λ e h. absurd (none_some w h)
     ]) refl h
 
-walk_derived : (es : List Entry) (boxes : Boxes) (cs : List Literals) (c : Literals) (w : Walk) →
-    AreFrom cs boxes es → walk boxes es cs c ≡ Some w → IsDerived cs c w
+pub walk_derived : (es : List Entry) (boxes : Boxes) (cs : List Literals) (c : Literals)
+    (w : Walk) → AreFrom cs boxes es → walk boxes es cs c ≡ Some w → IsDerived cs c w
 walk_derived [] boxes cs c w came h = ended cs c w h
 walk_derived (e ∷ es) boxes cs c w came h =
     let before = slice_set boxes e.var e.before in
@@ -109,7 +109,7 @@ walk_stands m s n steps c w =
     (leads_back s.levels c) is w.leads)
 
 -- a conflict means that the empty clause wasn't made, and that its own was
-in_conflict : (m : Made) (boxes : Boxes) (mode : Mode) (n : ℕ) → mode ≡ Conflict n →
+pub in_conflict : (m : Made) (boxes : Boxes) (mode : Mode) (n : ℕ) → mode ≡ Conflict n →
     HoldsIn m boxes mode → (has_empty m.clauses ≡ false) × (n < length m.clauses)
 in_conflict m boxes mode n e h =
     let here : HoldsIn m boxes (Conflict n) = subst (HoldsIn m boxes) e h in (here.0, here.1)
