@@ -16,3 +16,4 @@ pub mod AncestryLaws
 pub mod SoundLaws
 pub mod ClosedLaws
 pub mod DifferLaws
+pub mod WordNames

@@ -9,4 +9,5 @@ pub mod Cycles
 pub mod Graphs
 pub mod Scopes
 pub mod Tables
+pub mod Named
 pub mod Sound

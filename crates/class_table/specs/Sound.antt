@@ -4,6 +4,7 @@ use Rattle.class_table.specs.declared.table.Class.{Class}
 use Rattle.class_table.specs.declared.table.Resolved.{Resolved}
 use Rattle.class_table.specs.declared.table.Resolved.TheVariants.{Span, Truth, Choice, One, Many, Ref, RefSet}
 use Rattle.class_table.specs.declared.table.Variable.{Variable}
+use Rattle.class_table.specs.Named.{IsNamed}
 use Rattle.class_table.specs.Outline.{Outline, attributes}
 use Rattle.class_table.specs.Scopes.{HasParents, HasRanks}
 use Rattle.class_table.specs.Tables.{IsClosed, all_differ, variable_name}
@@ -30,3 +31,4 @@ pub record IsSound (o : Outline) : Type 0 where
   pub nesting : HasNesting o.classes
   pub differ : (c : ℕ) → c < length o.classes → all_differ (map variable_name (attributes o.classes c)) [] ≡ true
   pub closed : IsClosed o
+  pub named : IsNamed o

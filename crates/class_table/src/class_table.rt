@@ -6,7 +6,9 @@ ghost use Rattle.class_table.specs.declared.table.Variable.{Variable as AVariabl
 ghost use Rattle.class_table.specs.declared.table.Class.{Class as AClass};
 ghost use Rattle.class_table.specs.declared.table.Enumeration.{Enumeration as AnEnumeration};
 ghost use Rattle.class_table.specs.Ancestry.{derives};
-ghost use Rattle.conf_syntax.specs.Trees.{program_tokens};
+ghost use Rattle.std.specs.List.{flat_map};
+ghost use Rattle.conf_syntax.specs.Trees.{program_tokens, item_tokens};
+ghost use Rattle.conf_syntax.specs.Words.{AreWords};
 ghost use Rattle.class_table.specs.declared.fault.TableFault.{TableFault as AFault};
 ghost use Rattle.class_table.specs.Faults.{OnFault, Stands, IsSmall, pointed, repeated};
 ghost use Rattle.class_table.specs.Names.{means, space, classes, declared};
@@ -44,6 +46,7 @@ pub struct ClassTable {
 
 impl Model for ClassTable {
     ghost use Rattle.std.specs.Prelude.{All, length, map, ◌≡◌, ◌<◌, ◌^◌};
+    ghost use Rattle.class_table.specs.Named.{IsNamed};
     ghost use Rattle.class_table.specs.Outline.{Outline};
     ghost use Rattle.class_table.specs.Scopes.{HasParents};
     ghost use Rattle.class_table.specs.Sound.{HasNesting};
@@ -53,7 +56,7 @@ impl Model for ClassTable {
 
     ghost view = { λ t. record { names = t.names.entries; classes = t.classes.items; enumerations = t.enumerations.items; roots = t.roots.items } };
 
-    ghost invariant = { λ t. record { table : IsTable t.classes.items t.counts.items t.order.items; classes : length t.classes.items < 2 ^ 32; roots : length t.roots.items < 2 ^ 32; values : All IsFew t.enumerations.items; own_names : t.attribute_names.items ≡ map own_names t.classes.items; nesting : HasNesting t.classes.items; closed : IsClosed (record { names = t.names.entries; classes = t.classes.items; enumerations = t.enumerations.items; roots = t.roots.items }) } };
+    ghost invariant = { λ t. record { table : IsTable t.classes.items t.counts.items t.order.items; classes : length t.classes.items < 2 ^ 32; roots : length t.roots.items < 2 ^ 32; values : All IsFew t.enumerations.items; own_names : t.attribute_names.items ≡ map own_names t.classes.items; nesting : HasNesting t.classes.items; closed : IsClosed (record { names = t.names.entries; classes = t.classes.items; enumerations = t.enumerations.items; roots = t.roots.items }); named : IsNamed (record { names = t.names.entries; classes = t.classes.items; enumerations = t.enumerations.items; roots = t.roots.items }) } };
 }
 
 /// An attribute of a class, or a variable of the top level.
@@ -72,6 +75,7 @@ impl ClassTable {
     /// where one stands, there is no table.
     pub fn build(alloc: Global, program: &Program) -> Result<Self, TableFault>
         requires tokens { length (program_tokens program.now) ≤ 1048576 }
+        requires words { AreWords (program_tokens program.now) }
         ensures table { IfOk result (λ table. table ≡ outline program.now.items) }
         ensures right { OnOk result ((fault : AFault) → Stands program.now.items fault → ⊥) }
         ensures fault { IfErr result (λ fault. OnFault fault (Stands program.now.items)) }
@@ -83,6 +87,7 @@ impl ClassTable {
     /// The table of the items of a model.
     fn of_items(alloc: Global, items: &[Item]) -> Result<Self, TableFault>
         requires small { IsSmall items.now }
+        requires words { AreWords (flat_map item_tokens items.now) }
         ensures table { IfOk result (λ table. table ≡ outline items.now) }
         ensures right { OnOk result ((fault : AFault) → Stands items.now fault → ⊥) }
         ensures fault { IfErr result (λ fault. OnFault fault (Stands items.now)) }
@@ -106,6 +111,7 @@ impl ClassTable {
         requires decls { pointed decls.now ≡ classes items.now }
         requires new { repeated (declared items.now) [] ≡ [] }
         requires small { IsSmall items.now }
+        requires words { AreWords (flat_map item_tokens items.now) }
         ensures table { IfOk result (λ table. table ≡ outline items.now) }
         ensures right { OnOk result ((fault : AFault) → Stands items.now fault → ⊥) }
         ensures fault { IfErr result (λ fault. OnFault fault (Stands items.now)) }
@@ -225,7 +231,8 @@ impl ClassTable {
     }
 
     /// How many classes there are. It also hands on what holds of every table: each class that is named is there, no class
-    /// derives from itself, and no object contains one of its own class.
+    /// derives from itself, no object contains one of its own class, and
+    /// paths can be read back from the names.
     pub fn class_count(&self) -> u32
         ensures count { result ≡ length self.now.classes }
         ensures sound { IsSound self.now }

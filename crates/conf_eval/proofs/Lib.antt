@@ -15,3 +15,4 @@ pub mod FindingLaws
 pub mod EvalLaws
 pub mod PackingLaws
 pub mod CallLaws
+pub mod PublicLaws

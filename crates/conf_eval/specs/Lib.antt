@@ -6,6 +6,8 @@ pub mod Meaning
 pub mod Measures
 pub mod Packing
 pub mod Satisfying
+pub mod TypedValues
+pub mod Best
 pub mod Limits
 pub mod Counting
 pub mod Finding

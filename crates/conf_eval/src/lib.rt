@@ -1,7 +1,7 @@
 //! The meaning of a model: the value of an expression at a configuration, and which configurations satisfy the model.
 //!
 //! `eval` gives the value of an expression, `satisfied` what is broken first, `objectives` the values of the objectives. `limits`
-//! refuses models whose expressions may cost too much or may have numbers that are too large.
+//! refuses models whose expressions may cost too much or may have numbers that are too large. `laws` has what holds of all values.
 #![tactic(auto)]
 
 mod attributes;
@@ -10,6 +10,7 @@ mod calls;
 mod capped;
 mod evaluate;
 mod interval;
+mod laws;
 mod limit;
 mod measure;
 mod measuring;
@@ -21,5 +22,6 @@ mod value;
 
 pub use broken::{BrokenAt, satisfied};
 pub use calls::{Numbers, eval, objectives};
+pub use laws::{full_sets_are_hints, values_keep_to_measures};
 pub use limit::{LimitFault, limits, model_weight};
 pub use value::{Env, Value};

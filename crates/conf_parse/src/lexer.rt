@@ -2,7 +2,9 @@
 //! longest token that begins where it stands.
 ghost use Rattle.std.specs.Prelude.{◌≡◌, ◌<◌, ◌≤◌, ℕ, List, false, length, IfOk, IfErr, MatchOption, MatchResult};
 ghost use Rattle.conf_syntax.specs.declared.token.Placed.{Placed};
+ghost use Rattle.conf_syntax.specs.Places.{bare};
 ghost use Rattle.conf_syntax.specs.Spelling.{Spells, IsStuckAtByte, IsStuckAtNumber, IsReadOneWay, is_blank};
+ghost use Rattle.conf_syntax.specs.Words.{AreWords};
 ghost use Rattle.conf_parse.specs.declared.lexer.LexError.TheVariants.{Memory};
 ghost use Rattle.conf_parse.specs.Refusals.{IsRefusedAs, IsRefusedHere, Refuses};
 ghost use Rattle.conf_parse.specs.Tokens.{IsTokenAt, IsGapAt, has_gap};
@@ -88,6 +90,7 @@ pub fn lex(alloc: Global, text: &[u8]) -> Result<Vec<Placed>, LexError>
     requires size { length text.now ≤ 1048576 }
     ensures tokens { IfOk result (λ tokens. Spells text.now tokens.items) }
     ensures few { IfOk result (λ tokens. length tokens.items ≤ length text.now) }
+    ensures words { IfOk result (λ tokens. AreWords (bare tokens.items)) }
     ensures refusal { IfErr result (IsRefusedAs text.now) }
     // a text that spells tokens is not refused for another reason than memory
     ensures only { (tokens : List Placed) → Spells text.now tokens → MatchResult result (λ found. found.items ≡ tokens) (λ e. e ≡ LexError.Memory) }

@@ -3,3 +3,4 @@ pub mod Declared
 pub mod Fitting
 pub mod Located
 pub mod LocatedItems
+pub mod SpelledWords

@@ -1,5 +1,6 @@
 pub mod Lexis
 pub mod Spelling
+pub mod Words
 pub mod Trees
 pub mod Plain
 pub mod Begun

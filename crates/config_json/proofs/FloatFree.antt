@@ -15,7 +15,8 @@ use Rattle.serde_json.specs.Data.{Data, Items, item, Members, no_members, member
 use Rattle.serde_json.specs.Find.{of_integer, is_float}
 use Rattle.serde_json.specs.Written.{has_float, items_have_float, members_have_float}
 use Rattle.config_json.specs.Keys.{text_of}
-use Rattle.config_json.specs.Tree.{all_data, attribute_data, class_member, config_data, first_data, leaf_data, member_at, object_data, object_within, path_data, with_variables, only_value}
+use Rattle.object_alloc.specs.Members.{member_at}
+use Rattle.config_json.specs.Tree.{all_data, attribute_data, class_member, config_data, first_data, leaf_data, object_data, object_within, path_data, with_variables, only_value}
 
 whole : (v : ℤ) → is_float (of_integer v) ≡ false
 whole (pos n) = refl

@@ -1,5 +1,5 @@
--- A JSON value that gives every leaf a value is a configuration whose reference sets have their sizes.
-use Rattle.std.proofs.Common.{◌≡◌, ℕ, zero, suc, List, [], ◌∷◌, ◌++◌, Option, None, Some, Bool, true, false, cond, length, map, refl, sym, ap, ◌∙◌, subst, append-nil}
+-- A JSON value gives hints in their form; one that gives every leaf a value is a configuration whose reference sets have their sizes.
+use Rattle.std.proofs.Common.{◌≡◌, ℕ, zero, suc, List, [], ◌∷◌, ◌++◌, Option, None, Some, Bool, true, false, cond, length, map, refl, sym, ap, ◌∙◌, subst, append-nil, inl, inr}
 use Rattle.std.specs.Prelude.{ℤ, option_and_then, slice_get, slice_index_or, is_some, replicate}
 use Rattle.std.specs.List.{filter, flat_map}
 use Rattle.std.specs.Option.{option_map_or}
@@ -8,44 +8,21 @@ use Rattle.std.proofs.lemmas.Option.{slice_get-get_or}
 use Rattle.class_table.specs.declared.table.Resolved.TheVariants.{RefSet}
 use Rattle.class_table.specs.Outline.{Outline}
 use Rattle.class_table.specs.Sound.{IsSound}
-use Rattle.object_alloc.specs.declared.object.Cell.{Cell}
 use Rattle.object_alloc.specs.declared.object.Leaf.{Leaf}
-use Rattle.object_alloc.specs.Cells.{cells, leaf_cells}
+use Rattle.object_alloc.specs.Cells.{cells, extent, leaf_cells, member_cells, shape_cells}
 use Rattle.object_alloc.specs.Configurations.{AreValues}
-use Rattle.object_alloc.specs.Groups.{is_cell_of, is_part_of}
-use Rattle.object_alloc.specs.Own.{inside_of}
-use Rattle.object_alloc.specs.Walk.{Met, Made, Passed, leaf, leaves_in, walk}
-use Rattle.object_alloc.proofs.HeldLeaves.{leaf_held}
-use Rattle.object_alloc.proofs.OwnLaws.{met_is}
-use Rattle.object_alloc.proofs.OwnWalk.{is_leaf_of, kept, first_met}
+use Rattle.object_alloc.specs.Groups.{is_cell_of}
+use Rattle.object_alloc.specs.Hints.{AreHints, AreLeavesHinted, IsLeafHinted, ones}
+use Rattle.object_alloc.specs.Members.{HasItsSize}
+use Rattle.object_alloc.specs.Walk.{leaves_in, walk}
+use Rattle.object_alloc.proofs.HintLaws.{sized_by, values_append}
+use Rattle.object_alloc.proofs.OwnWalk.{is_leaf_of}
+use Rattle.object_alloc.proofs.PickedMembers.{any_cell, only_leaf, picked_all, picks, picks_append, picks_ones, picks_same, shape_each}
 use Rattle.serde_json.specs.Data.{Data}
 use Rattle.config_json.specs.Former.{value_in, leaf_place, former, leaf_hints, hints, leaf_path, first_missing, missing}
-use Rattle.config_json.specs.Whole.{HasItsSize, IsWhole}
+use Rattle.config_json.specs.Whole.{IsWhole}
 use Rattle.config_json.proofs.DomainLaws.{values_within}
-use Rattle.config_json.proofs.PickLaws.{picks, any_cell, picked_all, picks_append, picks_same, shape_each, set_size}
-
--- the leaves that are met as an attribute
-kept_leaves : (owner : Option ℕ) (k : ℕ) (ms : List Met) → leaves_in (kept owner k ms) ≡ filter (is_leaf_of owner k) (leaves_in ms)
-kept_leaves owner k [] = refl
-kept_leaves owner k (Made x ∷ ms) = by (is_part_of owner k x) (kept_leaves owner k ms)
-  where
-    by : (b : Bool) → leaves_in (kept owner k ms) ≡ filter (is_leaf_of owner k) (leaves_in ms) → leaves_in (cond b (Made x ∷ kept owner k ms) (kept owner k ms)) ≡ filter (is_leaf_of owner k) (leaves_in ms)
-    by true rest = rest
-    by false rest = rest
-kept_leaves owner k (Passed l ∷ ms) = by (is_leaf_of owner k l) (kept_leaves owner k ms)
-  where
-    by : (b : Bool) → leaves_in (kept owner k ms) ≡ filter (is_leaf_of owner k) (leaves_in ms) → leaves_in (cond b (Passed l ∷ kept owner k ms) (kept owner k ms)) ≡ cond b (l ∷ filter (is_leaf_of owner k) (leaves_in ms)) (filter (is_leaf_of owner k) (leaves_in ms))
-    by true rest = ap (λ ls. l ∷ ls) rest
-    by false rest = rest
-
--- a reference set is the only leaf of its attribute
-only_leaf : (o : Outline) → IsSound o → (i : ℕ) (l : Leaf) (c n : ℕ) → slice_get (leaves_in (walk o)) i ≡ Some l → l.shape ≡ RefSet c n → filter (is_leaf_of l.owner l.attribute) (leaves_in (walk o)) ≡ l ∷ []
-only_leaf o sound i l c n at is =
-    let held = leaf_held o i l at in
-    let shape : held.variable.shape ≡ RefSet c n = held.shape ∙ is in
-    sym (kept_leaves l.owner l.attribute (walk o))
-    ∙ ap leaves_in (met_is o sound l.owner l.attribute held.variable held.owner held.has ∙ ap (first_met (inside_of o l.owner) l.attribute) shape)
-    ∙ ap (λ s. leaf (inside_of o l.owner) l.attribute s ∷ []) (sym is)
+use Rattle.config_json.proofs.PickLaws.{set_size}
 
 module _ (o : Outline) (d : Data) where
   -- the values that the cells of a leaf are given
@@ -87,15 +64,9 @@ module _ (o : Outline) (d : Data) where
       ap (λ xs. xs ++ flat_map (leaf_hints o d) ls) h.hints_are ∙ ap (λ xs. map Some (given l) ++ xs) (hints_given ls hs)
       ∙ sym (map-append Some (given l) (flat_map given ls))
 
-  values_append : (cs ds : List Cell) (vs ws : List ℤ) → AreValues o cs vs → AreValues o ds ws → AreValues o (cs ++ ds) (vs ++ ws)
-  values_append [] ds [] ws a b = b
-  values_append [] ds (v ∷ vs) ws a b = absurd a
-  values_append (c ∷ cs) ds [] ws a b = absurd a
-  values_append (c ∷ cs) ds (v ∷ vs) ws (h, a) b = (h, values_append cs ds vs ws a b)
-
   values_given : (ls : List Leaf) → AreGiven ls → AreValues o (flat_map (leaf_cells o) ls) (flat_map given ls)
   values_given [] h = tt
-  values_given (l ∷ ls) (h, hs) = values_append (leaf_cells o l) (flat_map (leaf_cells o) ls) (given l) (flat_map given ls) (values_within o l l.shape h.place (given l) h.is) (values_given ls hs)
+  values_given (l ∷ ls) (h, hs) = values_append o (leaf_cells o l) (flat_map (leaf_cells o) ls) (given l) (flat_map given ls) (values_within o l l.shape h.place (given l) h.is) (values_given ls hs)
 
   given_at : (ls : List Leaf) (i : ℕ) (l : Leaf) → AreGiven ls → slice_get ls i ≡ Some l → IsGiven l
   given_at [] i l h e = cc
@@ -115,6 +86,26 @@ module _ (o : Outline) (d : Data) where
       by : (b : Bool) → picks (is_cell_of owner k) (leaf_cells o l) (given l) ≡ cond b (picks any_cell (leaf_cells o l) (given l)) [] → picks (is_cell_of owner k) (flat_map (leaf_cells o) ls) (flat_map given ls) ≡ flat_map (λ l. picks any_cell (leaf_cells o l) (given l)) (filter (is_leaf_of owner k) ls) → picks (is_cell_of owner k) (leaf_cells o l) (given l) ++ picks (is_cell_of owner k) (flat_map (leaf_cells o) ls) (flat_map given ls) ≡ flat_map (λ l. picks any_cell (leaf_cells o l) (given l)) (cond b (l ∷ filter (is_leaf_of owner k) ls) (filter (is_leaf_of owner k) ls))
       by true here rest = ap (λ xs. xs ++ picks (is_cell_of owner k) (flat_map (leaf_cells o) ls) (flat_map given ls)) here ∙ ap (λ xs. picks any_cell (leaf_cells o l) (given l) ++ xs) rest
       by false here rest = ap (λ xs. xs ++ picks (is_cell_of owner k) (flat_map (leaf_cells o) ls) (flat_map given ls)) here ∙ rest
+
+  -- the hints have their form, leaf by leaf
+  set_ones : (l : Leaf) → IsGiven l → (c n : ℕ) → l.shape ≡ RefSet c n → ones (given l) ≡ n
+  set_ones l g c n is =
+      let members : leaf_cells o l ≡ member_cells l (extent o c) = ap (shape_cells o l) is in
+      let within = subst (λ cs. AreValues o cs (given l)) members (values_within o l l.shape g.place (given l) g.is) in
+      sym (picks_ones o l (extent o c) (given l) within) ∙ ap (λ cs. length (picks any_cell cs (given l))) (sym members) ∙ set_size o l l.shape c n g.place (given l) is g.is
+
+  leaf_form : (l : Leaf) (r : Option (List ℤ)) → former o d l ≡ r → IsLeafHinted o l (leaf_hints o d l)
+  leaf_form l None is = inl (ap (λ r. option_map_or (map Some) r (replicate (length (leaf_cells o l)) None)) is)
+  leaf_form l (Some vs) is =
+      let g = is_given l (Some vs) is refl in
+      inr (record { values = given l; all = g.hints_are; within = values_within o l l.shape g.place (given l) g.is; size = sized_by l.shape (given l) (set_ones l g) })
+
+  leaves_form : (ls : List Leaf) → AreLeavesHinted o ls (flat_map (leaf_hints o d) ls)
+  leaves_form [] = refl
+  leaves_form (l ∷ ls) = (leaf_hints o d l, flat_map (leaf_hints o d) ls, refl, leaf_form l (former o d l) refl, leaves_form ls)
+
+  pub hints_form : (hs : List (Option ℤ)) → hs ≡ hints o d → AreHints o hs
+  hints_form hs is = subst (AreHints o) (sym is) (leaves_form (leaves_in (walk o)))
 
   abbrev values : List ℤ
   values = flat_map given (leaves_in (walk o))

@@ -1,13 +1,13 @@
 -- A configuration as a JSON value, by containment: what each attribute of each object shows of the objects or the cells that it holds.
-use Rattle.std.specs.Prelude.{ℕ, zero, suc, Bool, ◌&&◌, cond, List, [], ◌∷◌, Option, None, Some, ℤ, pos, int_le, nat_abs, length, slice_get, slice_index_or, filter_map, option_and_then, codes}
+use Rattle.std.specs.Prelude.{ℕ, zero, suc, List, [], ◌∷◌, Option, None, Some, ℤ, pos, nat_abs, length, filter_map, codes}
 use Rattle.class_table.specs.declared.table.Resolved.{Resolved}
 use Rattle.class_table.specs.declared.table.Resolved.TheVariants.{Span, Truth, Choice, One, Many, Ref, RefSet}
 use Rattle.class_table.specs.declared.table.Variable.{Variable}
 use Rattle.class_table.specs.Outline.{Outline}
-use Rattle.object_alloc.specs.declared.object.Cell.{Cell}
 use Rattle.object_alloc.specs.Cells.{cells}
 use Rattle.object_alloc.specs.Groups.{parts_of, own_cells}
 use Rattle.object_alloc.specs.Laid.{variables_of}
+use Rattle.object_alloc.specs.Members.{is_one, member_at, value_at}
 use Rattle.object_alloc.specs.Paths.{path}
 use Rattle.object_alloc.specs.Walk.{objects}
 use Rattle.serde_json.specs.Data.{Data, null, boolean, number, string, array, object, Items, no_items, item, Members, no_members, put}
@@ -17,20 +17,10 @@ use Rattle.config_json.specs.Keys.{text_of, value_name, class_name}
 
 -- Leaves, by the numbers of their cells
 
-abbrev pub is_one : ℤ → Bool
-is_one v = int_le v (pos 1) && int_le (pos 1) v
-
-abbrev pub value_at : List ℤ → ℕ → ℤ
-value_at values i = slice_index_or values i (pos 0)
-
 -- the value of a leaf that has one cell
 abbrev pub only_value : List ℤ → List ℕ → ℤ
 only_value values [] = pos 0
 only_value values (i ∷ is) = value_at values i
-
--- the object that cell i of a reference set stands for, where it is in
-abbrev pub member_at : List Cell → List ℤ → ℕ → Option ℕ
-member_at cs values i = cond (is_one (value_at values i)) (option_and_then (λ (c : Cell). c.element) (slice_get cs i)) None
 
 -- the values of these numbers, in order
 abbrev pub all_data : (ℕ → Data) → List ℕ → Items

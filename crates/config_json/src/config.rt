@@ -11,7 +11,8 @@ ghost use Rattle.serde_json.specs.Data.{string, put, no_members};
 ghost use Rattle.serde_json.specs.View.{view, items_view, members_view};
 ghost use Rattle.config_json.specs.Contained.{AreContained};
 ghost use Rattle.config_json.specs.Keys.{text_of, value_name, class_name};
-ghost use Rattle.config_json.specs.Tree.{all_data, attribute_data, first_data, class_member, config_bytes, config_data, leaf_data, member_at, object_data, only_value, path_data, paths_data, value_at, with_variables};
+ghost use Rattle.object_alloc.specs.Members.{member_at, value_at};
+ghost use Rattle.config_json.specs.Tree.{all_data, attribute_data, first_data, class_member, config_bytes, config_data, leaf_data, object_data, only_value, path_data, paths_data, with_variables};
 
 use crate::leaves::element_at;
 use crate::places::variable_of;

@@ -3,8 +3,8 @@ ghost use Rattle.std.specs.Prelude.{◌≡◌, ◌++◌, ◌<◌, ℕ, List, Boo
 ghost use Rattle.std.specs.Option.{option_map_or};
 ghost use Rattle.class_table.specs.Sound.{IsSound};
 ghost use Rattle.object_alloc.specs.Cells.{cells as all_cells, leaf_cells};
+ghost use Rattle.object_alloc.specs.Hints.{AreHints};
 ghost use Rattle.object_alloc.specs.Leaves.{IsHeldLeaf};
-ghost use Rattle.object_alloc.specs.Named.{IsNamed};
 ghost use Rattle.object_alloc.specs.Paths.{path, owner_path};
 ghost use Rattle.object_alloc.specs.Walk.{objects as all_objects};
 ghost use Rattle.serde_json.specs.View.{view};
@@ -57,7 +57,6 @@ fn former_of(
     leaf: Leaf,
 ) -> Result<Option<FormerValue>, AllocError>
     requires sound { IsSound table.now }
-    requires named { IsNamed table.now }
     requires same { objects.now ≡ table.now }
     requires leaf { IsHeldLeaf table.now leaf }
     requires count { length places.now ≡ length (all_objects table.now) }
@@ -142,17 +141,17 @@ fn push_hints(
     Ok(())
 }
 
-/// For each cell the former value of its leaf: the cells of one leaf have all a value, or none of them has one. Where no leaf
-/// lacks one they are a configuration, in which each reference set has its size.
+/// For each cell the former value of its leaf: the cells of one leaf have all a value, or none of them has one; each value lies in
+/// its cell's domain, and a reference set has its size or no value. Where no leaf lacks one they are a configuration.
 pub fn hints_of(
     alloc: Global,
     former: &Former,
     table: &ClassTable,
     objects: &Objects<'_>,
 ) -> Result<Hints, AllocError>
-    requires named { IsNamed table.now }
     requires same { objects.now ≡ table.now }
     ensures hints { IfOk result (λ found. found ≡ hints table.now (json_of former.now)) }
+    ensures form { IfOk result (λ found. AreHints table.now found) }
     ensures whole { IfOk result (λ found. missing table.now (json_of former.now) ≡ None → IsWhole table.now found) }
 {
     let _classes = table.class_count();
@@ -210,7 +209,6 @@ pub fn missing(
     table: &ClassTable,
     objects: &Objects<'_>,
 ) -> Result<Option<PathText>, AllocError>
-    requires named { IsNamed table.now }
     requires same { objects.now ≡ table.now }
     ensures path { IfOk result (λ path. path ≡ missing table.now (json_of former.now)) }
 {

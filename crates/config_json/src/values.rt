@@ -4,7 +4,6 @@ ghost use Rattle.std.specs.List.{list_any};
 ghost use Rattle.class_table.specs.Sound.{IsSound};
 ghost use Rattle.class_table.specs.Tables.{IsShapeOf};
 ghost use Rattle.object_alloc.specs.Cells.{extent};
-ghost use Rattle.object_alloc.specs.Named.{IsNamed};
 ghost use Rattle.object_alloc.specs.Walk.{objects as all_objects};
 ghost use Rattle.serde_json.specs.Find.{as_str, as_bool, as_array};
 ghost use Rattle.serde_json.specs.View.{view, items_view};
@@ -71,7 +70,6 @@ fn is_of(table: &ClassTable, objects: &Objects<'_>, object: u32, class: u32) -> 
 /// The object of a class's extent that a string names by its path.
 fn object_in(table: &ClassTable, objects: &Objects<'_>, class: u32, value: &Value) -> Option<u32>
     requires sound { IsSound table.now }
-    requires named { IsNamed table.now }
     requires same { objects.now ≡ table.now }
     ensures object { result ≡ object_in table.now class (view value.now) }
     ensures there { IfSome result (λ n. n < length (all_objects table.now)) }
@@ -95,7 +93,6 @@ fn object_number(
     value: &Value,
 ) -> Option<i64>
     requires sound { IsSound table.now }
-    requires named { IsNamed table.now }
     requires same { objects.now ≡ table.now }
     ensures number { result ≡ option_map pos (object_in table.now class (view value.now)) }
 {
@@ -138,7 +135,6 @@ fn members_in(
     items: &[Value],
 ) -> Result<Option<Vec<bool>>, AllocError>
     requires sound { IsSound table.now }
-    requires named { IsNamed table.now }
     requires same { objects.now ≡ table.now }
     ensures members { IfOk result (λ found. option_map (λ flags. marked (extent table.now class) flags.items) found ≡ option_map (marks (extent table.now class)) (members_in table.now class [] (items_view items.now))) }
 {
@@ -165,7 +161,6 @@ fn set_in(
     value: &Value,
 ) -> Result<Option<FormerValue>, AllocError>
     requires sound { IsSound table.now }
-    requires named { IsNamed table.now }
     requires same { objects.now ≡ table.now }
     ensures set { IfOk result (λ found. option_map (numbers_of (extent table.now class)) found ≡ option_and_then (set_in table.now class count) (as_array (view value.now))) }
 {
@@ -200,7 +195,6 @@ pub(crate) fn value_in(
     value: &Value,
 ) -> Result<Option<FormerValue>, AllocError>
     requires sound { IsSound table.now }
-    requires named { IsNamed table.now }
     requires same { objects.now ≡ table.now }
     requires shape { IsShapeOf (length table.now.classes) (length table.now.enumerations) shape }
     ensures value { IfOk result (λ found. option_map (numbers_of (member_extent table.now shape)) found ≡ value_in table.now shape (view value.now)) }

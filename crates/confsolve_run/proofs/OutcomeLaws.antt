@@ -11,24 +11,18 @@ use Rattle.conf_types.specs.Programs.{ResolvedConstraint, ResolvedGoal, constrai
 use Rattle.conf_types.specs.Typing.{IsTypedModel}
 use Rattle.desk_io.specs.Desk.{Files}
 use Rattle.object_alloc.specs.Limits.{IsWithinLimits}
-use Rattle.object_alloc.specs.Named.{IsNamed}
-use Rattle.object_alloc.proofs.SpelledNames.{outline_named}
 use Rattle.confsolve_run.specs.declared.answer.Answer.{Answer}
 use Rattle.confsolve_run.specs.Answer.{IsModelAnswer}
-use Rattle.confsolve_run.specs.Building.{IsDeclared, IsUnallocated, IsUnmeasured}
+use Rattle.confsolve_run.specs.Building.{IsUnallocated, IsUnmeasured}
 use Rattle.confsolve_run.specs.Ending.{Answers, Refuses}
 use Rattle.confsolve_run.specs.Meaning.{IsTyped}
 use Rattle.confsolve_run.specs.Models.{IsWithin, outline_of, constraints_of, goals_of}
-use Rattle.confsolve_run.specs.Request.{Asked, OfAsked, IsOfSomeText}
+use Rattle.confsolve_run.specs.Request.{Asked, OfAsked}
 use Rattle.confsolve_run.specs.Solving.{IsReady, IsUnanswered}
 use Rattle.confsolve_run.specs.Status.{IsAnswered}
 use Rattle.confsolve_run.specs.declared.request.Request.{Request}
 use Rattle.confsolve_run.specs.declared.status.Status.{Status}
 use Rattle.confsolve_run.proofs.RefusingLaws.{unallocated, unmeasured, not_built, unanswered, of_asked_map}
-
--- names of a model that a text spells
-pub named_of : (p : Program) → IsOfSomeText p → IsDeclared p → IsNamed (outline_of p)
-named_of p t declared = outline_named t.0 t.1.0 p t.1.1 t.1.2.tree.tokens_are declared
 
 length_views : (cs : List AConstraint) → length (map constraint_view cs) ≡ length cs
 length_views [] = refl
@@ -56,11 +50,10 @@ module _ (p : Program) (t o : Outline) (cs : List AConstraint) (gs : List AGoal)
       let w = at_model (λ x ks hs. IsWithinMeasures x ks hs) m in
       record { typed = typed; objects = subst IsWithinLimits table_is limits; light = w.weight; narrow = w.narrow }
 
-  pub ready : IsOfSomeText p → IsDeclared p → IsTypedModel t (map constraint_view cs) (map goal_view gs) → IsWithinMeasures o (map constraint_view cs) (map goal_view gs) → length cs ≤ 1048576 → IsReady t o (map constraint_view cs) (map goal_view gs)
-  ready text declared typed m few =
+  pub ready : IsTypedModel t (map constraint_view cs) (map goal_view gs) → IsWithinMeasures o (map constraint_view cs) (map goal_view gs) → length cs ≤ 1048576 → IsReady t o (map constraint_view cs) (map goal_view gs)
+  ready typed m few =
       record {
         one = objects_are;
-        named = subst IsNamed (sym table_is) (named_of p text declared);
         typed = subst (λ (x : Outline). IsTypedModel x (map constraint_view cs) (map goal_view gs)) (sym objects_are) typed;
         narrow = m.narrow;
         few = few_views cs few;

@@ -12,6 +12,7 @@ use Rattle.conf_syntax.specs.declared.tree.Program.{Program}
 use Rattle.conf_syntax.specs.Models.{IsProgramOf}
 use Rattle.conf_syntax.specs.Places.{bare}
 use Rattle.conf_syntax.specs.Trees.{program_tokens}
+use Rattle.conf_syntax.specs.Words.{AreWords}
 use Rattle.confsolve_run.specs.Refusal.{IsSyntaxAt, IsNestingAt}
 use Rattle.confsolve_run.specs.TextErrors.{IsSameOrMemory}
 use Rattle.confsolve_run.specs.declared.model.TextError.{TextError}
@@ -92,3 +93,8 @@ pub few_tokens : (tokens : List Placed) (text : List ℕ) (r : Result Program Te
 few_tokens tokens text (Ok p) few short made =
     subst (λ n. n ≤ 1048576) (sym (length-bare tokens) ∙ ap length made.tree.tokens_are) (omega (arith, few, short))
 few_tokens tokens text (Err e) few short made = tt
+
+-- the words of a model are those of its tokens
+pub model_words : (tokens found : List Placed) (r : Result Program TextError) → found ≡ tokens → AreWords (bare tokens) → IfOk r (λ p. IsProgramOf found p) → IfOk r (λ p. AreWords (program_tokens p))
+model_words tokens found (Ok p) same words made = subst AreWords (ap bare (sym same) ∙ made.tree.tokens_are) words
+model_words tokens found (Err e) same words made = tt

@@ -4,7 +4,8 @@ use native.Mathlib.Omega.{arith}
 use Rattle.std.proofs.lemmas.List.Elements as elements
 use Rattle.std.specs.List.{list_all}
 use Rattle.class_table.specs.Outline.{Outline}
-use Rattle.config_json.specs.Whole.{HasItsSize, IsWhole}
+use Rattle.config_json.specs.Whole.{IsWhole}
+use Rattle.object_alloc.specs.Members.{HasItsSize}
 use Rattle.conf_eval.specs.Meaning.{attribute_value, objects_of}
 use Rattle.conf_eval.specs.Breaking.{IsWrongConstraint, IsWrongSet}
 use Rattle.conf_eval.specs.Satisfying.{IsFull, stated_for}

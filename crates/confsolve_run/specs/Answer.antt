@@ -13,7 +13,7 @@ use Rattle.desk_io.specs.Desk.{with_printed}
 use Rattle.desk_io.specs.Whole.{PrintsFront}
 use Rattle.object_alloc.specs.Configurations.{IsConfiguration}
 use Rattle.serde_json.specs.Data.{Data}
-use Rattle.try_all.specs.Best.{IsBest, HasNone}
+use Rattle.conf_eval.specs.Best.{IsBest, HasNone}
 use Rattle.confsolve_run.specs.Models.{IsWithin, outline_of, constraints_of, goals_of}
 use Rattle.confsolve_run.specs.Request.{Asked, Best, Satisfied, IsShort}
 use Rattle.confsolve_run.specs.declared.status.Status.{Status}

@@ -15,7 +15,8 @@ use Rattle.object_alloc.specs.Limits as objects
 use Rattle.object_alloc.specs.Paths.{path}
 use Rattle.object_alloc.specs.declared.fault.AllocFault.TheVariants as fault
 use Rattle.serde_json.specs.Data.{Data}
-use Rattle.try_all.specs.Choices.{configuration_count, most}
+use Rattle.object_alloc.specs.Counts.{configuration_count}
+use Rattle.try_all.specs.Choices.{most}
 use Rattle.confsolve_run.specs.Answer.{IsConfigOf}
 use Rattle.confsolve_run.specs.Meaning.{IsFaultOf, IsTyped}
 use Rattle.confsolve_run.specs.Models.{IsWithin, outline_of, constraints_of, goals_of, weight_limit}

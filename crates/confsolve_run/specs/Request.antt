@@ -44,10 +44,6 @@ model_file (Verify model config) = model
 abbrev pub IsModelOf : List ℕ → Program → Type 0
 IsModelOf text p = (tokens : List Placed) × Spells text tokens × IsProgramOf tokens p
 
--- the model is that of some text
-abbrev pub IsOfSomeText : Program → Type 0
-IsOfSomeText p = (text : List ℕ) × IsModelOf text p
-
 -- P holds of the text's model
 abbrev pub HasModel : List ℕ → (Program → Type 0) → Type 0
 HasModel text P = (p : Program) × IsModelOf text p × P p

@@ -10,9 +10,9 @@ use Rattle.config_json.specs.declared.former.FormerError.{FormerError}
 use Rattle.config_json.specs.declared.former.FormerError.TheVariants as json
 use Rattle.desk_io.specs.Desk.{Files, OfFile}
 use Rattle.desk_io.specs.Fault.{HasRisen}
-use Rattle.object_alloc.specs.Named.{IsNamed}
 use Rattle.object_alloc.specs.Walk.{walk, leaves_in}
-use Rattle.try_all.specs.Choices.{configuration_count, most}
+use Rattle.object_alloc.specs.Counts.{configuration_count}
+use Rattle.try_all.specs.Choices.{most}
 use Rattle.confsolve_run.specs.Refusal.{IsMissing, IsBroken}
 use Rattle.confsolve_run.specs.Request.{IsShort, config_limit}
 use Rattle.confsolve_run.specs.declared.request.Request.{Request}
@@ -25,7 +25,6 @@ use Rattle.confsolve_run.specs.declared.status.Status.TheVariants as status
 -- the table and the objects are of one model, which is typed and within the limits
 pub record IsReady (table objects : Outline) (ks : List ResolvedConstraint) (gs : List ResolvedGoal) : Type 0 where
   pub one : objects ≡ table
-  pub named : IsNamed table
   pub typed : IsTypedModel objects ks gs
   pub narrow : model_narrow objects ks gs ≡ true
   pub few : length ks < 2 ^ 32

@@ -4,13 +4,14 @@
 ghost use Rattle.std.specs.Prelude.{◌≡◌, ◌≤◌, IsTrue, ℕ, List, Some, length, map, IfOk, IfErr};
 ghost use Rattle.conf_syntax.specs.Spelling.{IsStuckAtNumber};
 ghost use Rattle.conf_syntax.specs.Trees.{program_tokens, nesting};
+ghost use Rattle.conf_syntax.specs.Words.{AreWords};
 ghost use Rattle.conf_types.specs.Programs.{constraint_view, goal_view};
 ghost use Rattle.desk_io.specs.Desk.{OfFile};
 ghost use Rattle.confsolve_run.specs.Answer.{IsSatisfiedAnswer, IsModelAnswer};
 ghost use Rattle.confsolve_run.specs.Ending.{Answers, Refuses, Ends, EndsText, change};
 ghost use Rattle.confsolve_run.specs.Refusal.{IsSyntaxAt, IsNestingAt};
 ghost use Rattle.confsolve_run.specs.Refusing.{refusal_of};
-ghost use Rattle.confsolve_run.specs.Request.{IsConfigFile, IsOfSomeText, IsShort, OfAsked};
+ghost use Rattle.confsolve_run.specs.Request.{IsConfigFile, IsShort, OfAsked};
 ghost use Rattle.confsolve_run.specs.Solving.{IsReady, IsUnverified, IsUnanswered};
 ghost use Rattle.confsolve_run.specs.Status.{IsAnswered, IsUnlessFault};
 
@@ -114,7 +115,7 @@ fn outcome<D: Desk>(
     program: &Program,
     request: &Request,
 ) -> Result<Answer, Status>
-    requires text { IsOfSomeText program.now }
+    requires words { AreWords (program_tokens program.now) }
     requires nested { nesting program.now ≤ 200 }
     requires few { length (program_tokens program.now) ≤ 1048576 }
     requires may_read { (name : List ℕ) → IsConfigFile request.now name → IsTrue (D.may_read desk.old name) }
@@ -150,7 +151,7 @@ fn answer_model<D: Desk>(
     program: &Program,
     request: &Request,
 ) -> Status
-    requires text { IsOfSomeText program.now }
+    requires words { AreWords (program_tokens program.now) }
     requires nested { nesting program.now ≤ 200 }
     requires few { length (program_tokens program.now) ≤ 1048576 }
     requires may_read { (name : List ℕ) → IsConfigFile request.now name → IsTrue (D.may_read desk.old name) }

@@ -1,6 +1,7 @@
 //! From a model's tree to its table, its resolved expressions and its objects, each with its refusals.
 ghost use Rattle.std.specs.Prelude.{◌≡◌, ◌≤◌, [], map, length, IfOk, IfErr, OnOk};
 ghost use Rattle.conf_syntax.specs.Trees.{program_tokens, nesting};
+ghost use Rattle.conf_syntax.specs.Words.{AreWords};
 ghost use Rattle.conf_types.specs.Programs.{constraint_view, goal_view};
 ghost use Rattle.conf_types.specs.Typing.{IsTypedModel};
 ghost use Rattle.conf_eval.specs.Limits.{IsWithinMeasures, IsLimitRefused};
@@ -77,6 +78,7 @@ fn measured(fault: LimitFault) -> Status
 /// The table of a model.
 pub(crate) fn table_of(alloc: Global, program: &Program) -> Result<ClassTable, Status>
     requires tokens { length (program_tokens program.now) ≤ 1048576 }
+    requires words { AreWords (program_tokens program.now) }
     ensures table { IfOk result (λ table. table ≡ outline_of program.now) }
     ensures declared { OnOk result (IsDeclared program.now) }
     ensures refused { IfErr result (λ s. IsRefusedFor s program.now) }

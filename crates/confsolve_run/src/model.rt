@@ -2,9 +2,11 @@
 ghost use Rattle.std.specs.Prelude.{◌≡◌, ◌≤◌, ℕ, List, length, IfOk, IfErr, MatchResult};
 ghost use Rattle.conf_parse.specs.Means.{IsSyntax, IsDeep};
 ghost use Rattle.conf_syntax.specs.Models.{IsProgramOf};
+ghost use Rattle.conf_syntax.specs.Places.{bare};
 ghost use Rattle.conf_syntax.specs.Spelling.{Spells, IsStuckAtByte, IsStuckAtNumber};
 ghost use Rattle.conf_syntax.specs.declared.token.Placed.{Placed};
 ghost use Rattle.conf_syntax.specs.Trees.{program_tokens, nesting};
+ghost use Rattle.conf_syntax.specs.Words.{AreWords};
 ghost use Rattle.confsolve_run.specs.Refusal.{IsSyntaxAt, IsNestingAt};
 ghost use Rattle.confsolve_run.specs.Request.{IsModelOf};
 ghost use Rattle.confsolve_run.specs.TextErrors.{IsTextError, IsTreeError, IsSameOrMemory};
@@ -31,6 +33,7 @@ fn tokens_of(alloc: Global, text: &[u8]) -> Result<Vec<Placed>, TextError>
     requires { length text.now ≤ 1048576 }
     ensures tokens { IfOk result (λ tokens. Spells text.now tokens.items) }
     ensures few { IfOk result (λ tokens. length tokens.items ≤ length text.now) }
+    ensures words { IfOk result (λ tokens. AreWords (bare tokens.items)) }
     ensures refusal { IfErr result (IsTextError text.now) }
     ensures only { (tokens : List Placed) → Spells text.now tokens → MatchResult result (λ found. found.items ≡ tokens) (λ e. e ≡ TextError.Memory) }
     ensures bad_byte { (at : ℕ) → IsStuckAtByte text.now at → MatchResult result (λ _. ⊥) (IsSameOrMemory (TextError.Syntax at)) }
@@ -65,6 +68,7 @@ pub(crate) fn model_of(alloc: Global, text: &[u8]) -> Result<Program, TextError>
     ensures model { IfOk result (λ p. IsModelOf text.now p) }
     ensures nested { IfOk result (λ p. nesting p ≤ 200) }
     ensures few { IfOk result (λ p. length (program_tokens p) ≤ 1048576) }
+    ensures words { IfOk result (λ p. AreWords (program_tokens p)) }
     ensures refusal { IfErr result (IsTextError text.now) }
     ensures syntax { (at : ℕ) → IsSyntaxAt text.now at → MatchResult result (λ _. ⊥) (IsSameOrMemory (TextError.Syntax at)) }
     ensures literal { (at : ℕ) → IsStuckAtNumber text.now at → MatchResult result (λ _. ⊥) (IsSameOrMemory (TextError.Literal at)) }

@@ -6,7 +6,6 @@ ghost use Rattle.conf_types.specs.Programs.{constraint_view, goal_view};
 ghost use Rattle.config_json.specs.Former.{hints, missing};
 ghost use Rattle.config_json.specs.Reading.{json_of};
 ghost use Rattle.object_alloc.specs.Configurations.{IsConfiguration};
-ghost use Rattle.object_alloc.specs.Named.{IsNamed};
 ghost use Rattle.object_alloc.specs.Walk.{objects as all_objects};
 ghost use Rattle.confsolve_run.specs.Answer.{IsConfigOf, IsSatisfiedAnswer};
 ghost use Rattle.confsolve_run.specs.Refusal.{stated_path};
@@ -59,7 +58,6 @@ fn whole_config(
     objects: &Objects<'_>,
 ) -> Result<Config, AllocError>
     requires one { objects.now ≡ table.now }
-    requires named { IsNamed table.now }
     requires whole { missing table.now (json_of former.now) ≡ None }
     ensures values { IfOk result (λ config. hints table.now (json_of former.now) ≡ map Some config) }
     ensures config { IfOk result (λ config. IsConfiguration table.now config) }
@@ -77,7 +75,6 @@ fn config_of(
     objects: &Objects<'_>,
 ) -> Result<Config, Status>
     requires one { objects.now ≡ table.now }
-    requires named { IsNamed table.now }
     ensures config { IfOk result (λ config. IsConfigOf table.now bytes.now config) }
     ensures sets { IfOk result (λ config. HasFullSets table.now config) }
     ensures refused { IfErr result (IsUngiven table.now bytes.now) }

@@ -1,10 +1,9 @@
 //! Models that are given as texts.
 ghost use Rattle.std.specs.Prelude.{◌≡◌, ◌≤◌, length, map, IfSome};
 ghost use Rattle.conf_syntax.specs.Trees.{nesting, program_tokens};
+ghost use Rattle.conf_syntax.specs.Words.{AreWords};
 ghost use Rattle.conf_types.specs.Programs.{constraint_view, goal_view};
 ghost use Rattle.conf_types.specs.Typing.{IsTypedModel};
-ghost use Rattle.given_models.specs.Texts.{IsSpelledBy};
-ghost use Rattle.object_alloc.specs.Named.{IsNamed};
 
 use class_table::ClassTable;
 use conf_parse::{lex, parse};
@@ -23,7 +22,7 @@ pub struct TypedText {
 pub fn model_of(alloc: Global, text: &[u8]) -> Option<Program>
     ensures tokens { IfSome result (λ p. length (program_tokens p) ≤ 1048576) }
     ensures nesting { IfSome result (λ p. nesting p ≤ 200) }
-    ensures spelled { IfSome result (IsSpelledBy text.now) }
+    ensures words { IfSome result (λ p. AreWords (program_tokens p)) }
 {
     if text.len() > 1_000_000 {
         return None;
@@ -38,9 +37,7 @@ pub fn model_of(alloc: Global, text: &[u8]) -> Option<Program>
 }
 
 /// The table of a text; None where the text is no model, or its declarations have a fault.
-pub fn table_of(alloc: Global, text: &[u8]) -> Option<ClassTable>
-    ensures named { IfSome result (λ table. IsNamed table) }
-{
+pub fn table_of(alloc: Global, text: &[u8]) -> Option<ClassTable> {
     let program = model_of(alloc, text)?;
     match ClassTable::build(alloc, &program) {
         Ok(table) => Some(table),

@@ -1,2 +1,1 @@
-pub mod ShortModels
 pub mod TwoNumbers

@@ -11,7 +11,8 @@ use Rattle.class_table.specs.Same.{same_name}
 use Rattle.class_table.specs.Sound.{IsSound}
 use Rattle.object_alloc.specs.declared.object.Object.{Object}
 use Rattle.object_alloc.specs.Laid.{class_in, variables_of}
-use Rattle.object_alloc.specs.Named.{IsNamed, IsStep, first_place, dot, object_named}
+use Rattle.class_table.specs.Named.{IsNamed, dot}
+use Rattle.object_alloc.specs.Named.{IsStep, first_place, object_named}
 use Rattle.object_alloc.specs.Paths.{IsBefore, last_step, owner_path, path_within, path}
 use Rattle.object_alloc.specs.Sums.{variables}
 use Rattle.object_alloc.specs.Walk.{objects}

@@ -24,6 +24,7 @@ pub mod StepLaws
 pub mod ChainLaws
 pub mod PartNames
 pub mod Turns
-pub mod SpelledNames
 pub mod PathsDiffer
 pub mod HeldCells
+pub mod PickedMembers
+pub mod HintLaws

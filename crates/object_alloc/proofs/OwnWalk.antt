@@ -46,7 +46,7 @@ abbrev pub all_first : Inside → ℕ → List Variable → List Met
 all_first w k [] = []
 all_first w k (v ∷ vs) = first_met w k v.shape ++ all_first w (k + 1) vs
 
-same_itself : (w : Option ℕ) → same_owner w w ≡ true
+pub same_itself : (w : Option ℕ) → same_owner w w ≡ true
 same_itself None = refl
 same_itself (Some n) = eq-eqb n n refl
 

@@ -7,7 +7,8 @@ use Rattle.class_table.specs.Outline.{Outline}
 use Rattle.class_table.specs.Sound.{IsSound}
 use Rattle.object_alloc.specs.declared.object.Object.{Object}
 use Rattle.object_alloc.specs.Laid.{variables_of}
-use Rattle.object_alloc.specs.Named.{IsNamed, IsStep, HasName, first_place, bracket}
+use Rattle.class_table.specs.Named.{IsNamed, bracket}
+use Rattle.object_alloc.specs.Named.{IsStep, HasName, first_place}
 use Rattle.object_alloc.specs.Parts.{IsElement, IsPart}
 use Rattle.object_alloc.specs.Paths.{index_text}
 use Rattle.object_alloc.specs.Walk.{objects}

@@ -10,7 +10,8 @@ use Rattle.class_table.specs.Outline.{Outline, attributes}
 use Rattle.class_table.specs.Sound.{IsSound}
 use Rattle.object_alloc.specs.declared.object.Object.{Object}
 use Rattle.object_alloc.specs.Laid.{variables_of}
-use Rattle.object_alloc.specs.Named.{IsNamed, IsStep, HasName, first_place, dot, bracket, object_named}
+use Rattle.class_table.specs.Named.{IsNamed, dot, bracket}
+use Rattle.object_alloc.specs.Named.{IsStep, HasName, first_place, object_named}
 use Rattle.object_alloc.specs.Parts.{IsElement}
 use Rattle.object_alloc.specs.Paths.{IsBefore, index_text, path}
 use Rattle.object_alloc.specs.Walk.{objects}

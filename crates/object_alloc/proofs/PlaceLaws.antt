@@ -2,7 +2,8 @@
 use Rattle.std.proofs.Common.{◌≡◌, ℕ, zero, suc, ◌+◌, ◌-◌, ◌<◌, ◌≤◌, length-append, nat_eq, not, Bool, true, false, cond, List, [], ◌∷◌, ◌++◌, length, take, drop, get_or, refl, ap, sym, ◌∙◌, arith, eq-eqb, length-drop}
 use Rattle.std.proofs.lemmas.Bool.{ne_eqb, eqb-true, not-true, and_parts}
 use Rattle.std.proofs.lemmas.List.{take_all}
-use Rattle.object_alloc.specs.Named.{lacks, first_place}
+use Rattle.class_table.specs.Named.{lacks}
+use Rattle.object_alloc.specs.Named.{first_place}
 
 pub place_within : (b : ℕ) (xs : List ℕ) → first_place b xs ≤ length xs
 place_within b [] = omega arith

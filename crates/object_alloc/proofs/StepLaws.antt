@@ -20,7 +20,8 @@ use Rattle.class_table.specs.Tables.{all_differ, variable_name, root_meant, IsSh
 use Rattle.object_alloc.specs.declared.object.Object.{Object}
 use Rattle.object_alloc.specs.Groups.{numbers_from, is_part_of, parts_of}
 use Rattle.object_alloc.specs.Laid.{class_in, variables_of}
-use Rattle.object_alloc.specs.Named.{IsNamed, IsPlain, IsStep, HasName, lacks, first_place, dot, bracket}
+use Rattle.class_table.specs.Named.{IsNamed, IsPlain, lacks, dot, bracket}
+use Rattle.object_alloc.specs.Named.{IsStep, HasName, first_place}
 use Rattle.object_alloc.specs.Parts.{IsElement, IsPart}
 use Rattle.object_alloc.specs.Paths.{HoldsAt, index_text, step_text}
 use Rattle.object_alloc.specs.Sums.{variables}

@@ -3,7 +3,8 @@ use Rattle.std.proofs.Common.{◌≡◌, ℕ, ◌+◌, ◌<◌, ◌^◌, List, �
 use Rattle.std.proofs.lemmas.List.{take_all, drop-drop}
 use Rattle.class_table.specs.Outline.{Outline}
 use Rattle.class_table.specs.Sound.{IsSound}
-use Rattle.object_alloc.specs.Named.{IsNamed, IsStep, first_place, dot}
+use Rattle.class_table.specs.Named.{IsNamed, dot}
+use Rattle.object_alloc.specs.Named.{IsStep, first_place}
 use Rattle.object_alloc.specs.Paths.{owner_path, path}
 use Rattle.object_alloc.specs.Walk.{objects}
 use Rattle.object_alloc.proofs.ChainLaws.{Leads, IsTurn, turn, step_path, walked}

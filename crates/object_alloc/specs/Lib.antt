@@ -4,6 +4,9 @@ pub mod Groups
 pub mod Grouping
 pub mod Own
 pub mod Configurations
+pub mod Counts
+pub mod Members
+pub mod Hints
 pub mod Limits
 pub mod Sums
 pub mod Laying

@@ -5,7 +5,7 @@ ghost use Rattle.std.specs.Prelude.{◌≡◌, ◌<◌, ◌≤◌, ◌^◌, ◌+
 ghost use Rattle.class_table.specs.declared.table.Variable.{Variable as AVariable};
 ghost use Rattle.class_table.specs.Sound.{IsSound};
 ghost use Rattle.object_alloc.specs.Laid.{variables_of};
-ghost use Rattle.object_alloc.specs.Named.{IsNamed, IsStep, HasName, object_named, first_place};
+ghost use Rattle.object_alloc.specs.Named.{IsStep, HasName, object_named, first_place};
 ghost use Rattle.object_alloc.specs.Parts.{IsElement};
 ghost use Rattle.object_alloc.specs.Paths.{index_text, path};
 ghost use Rattle.object_alloc.specs.Walk.{objects as all_objects};
@@ -18,8 +18,8 @@ impl<'t> Objects<'t> {
     /// The object that has this path. The cost is proportional to the path's length, but for an inherited attribute, which costs
     /// one look-up for each class up to the one that declares it.
     pub fn object_at(&self, text: &[u8]) -> Option<u32>
-        ensures object { IsNamed self.now → result ≡ object_named self.now text.now }
-        ensures own { IsNamed self.now → (n : ℕ) → n < length (all_objects self.now) → path self.now n ≡ text.now → result ≡ Some n }
+        ensures object { result ≡ object_named self.now text.now }
+        ensures own { (n : ℕ) → n < length (all_objects self.now) → path self.now n ≡ text.now → result ≡ Some n }
         ensures there { IfSome result (λ n. n < length (all_objects self.now)) }
         ensures path { IfSome result (λ n. path self.now n ≡ text.now) }
     {
@@ -52,7 +52,7 @@ impl<'t> Objects<'t> {
         requires owner { IfSome owner (λ n. n < length (all_objects self.now)) }
         ensures there { IfSome result (λ n. n < length (all_objects self.now)) }
         ensures step { IfSome result (IsStep self.now owner step.now) }
-        ensures named { IsNamed self.now → (n : ℕ) → IsStep self.now owner step.now n → result ≡ Some n }
+        ensures named { (n : ℕ) → IsStep self.now owner step.now n → result ≡ Some n }
     {
         let _count = self.sound_count();
         let end = first_of(step, b'[');
@@ -65,7 +65,7 @@ impl<'t> Objects<'t> {
     fn variable_named(&self, owner: Option<u32>, name: &[u8]) -> Option<u32>
         requires owner { IfSome owner (λ n. n < length (all_objects self.now)) }
         ensures name { IfSome result (HasName (variables_of self.now owner) name.now) }
-        ensures named { IsNamed self.now → (k : ℕ) → HasName (variables_of self.now owner) name.now k → result ≡ Some k }
+        ensures named { (k : ℕ) → HasName (variables_of self.now owner) name.now k → result ≡ Some k }
     {
         let _count = self.sound_count();
         match owner {

@@ -1,7 +1,8 @@
 //! The objects and the cells of a model, by containment.
 //!
 //! `allocate` is the entry: it lists them from the table of a model's classes, or says which limit the model breaks. `specs`
-//! says which objects and cells a model has: `Walk` for objects, `Cells` for extents and cells, `Limits` for the limits.
+//! says which objects and cells a model has: `Walk` for objects, `Cells` for extents and cells, `Limits` for the limits, `Configurations`
+//! and `Hints` for the values of cells, `Counts` for how many configurations there are.
 #![tactic(auto)]
 
 mod cells;
@@ -9,6 +10,7 @@ mod extents;
 mod fault;
 mod finding;
 mod groups;
+mod hints;
 mod layout;
 mod numbers;
 mod object;
@@ -19,5 +21,6 @@ mod shapes;
 mod spots;
 
 pub use fault::AllocFault;
+pub use hints::{configuration_is_hints, hints_lie_in_domains};
 pub use object::{Cell, Config, Domain, Hints, Leaf, Object, ObjectList};
 pub use objects::{Objects, allocate};

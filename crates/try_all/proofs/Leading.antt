@@ -4,14 +4,14 @@ use Rattle.std.proofs.lemmas.Bool.{cases_lt}
 use Rattle.std.proofs.lemmas.List.Elements.{All-head, All-tail}
 use Rattle.class_table.specs.Outline.{Outline}
 use Rattle.conf_types.specs.Programs.{ResolvedConstraint, ResolvedGoal}
+use Rattle.conf_eval.specs.Best.{IsBest, HasNone}
 use Rattle.conf_eval.specs.Breaking.{IsFirstNot, IsFirstBroken}
 use Rattle.conf_eval.specs.Satisfying.{Satisfies, IsFull, Holds, HoldsFor, stated_for, objectives, better}
 use Rattle.conf_eval.specs.declared.broken.BrokenAt.{BrokenAt}
 use Rattle.conf_eval.specs.declared.broken.BrokenAt.TheVariants.{SetSize, Constraint}
 use Rattle.object_alloc.specs.Configurations.{IsConfiguration}
 use Rattle.try_all.specs.declared.trial.Leader.{Leader}
-use Rattle.try_all.specs.Best.{IsBest, HasNone}
-use Rattle.try_all.specs.Choices.{choices, configuration_count}
+use Rattle.try_all.specs.Choices.{choices, choice_count}
 use Rattle.try_all.specs.Picking.{pick}
 use Rattle.try_all.specs.declared.trial.Trial.{Trial}
 use Rattle.try_all.specs.declared.trial.Trial.TheVariants as trial
@@ -85,7 +85,7 @@ module _ (o : Outline) (ks : List ResolvedConstraint) (gs : List ResolvedGoal) (
   not_through us vs ws false e more less = refl
 
   -- one that is better is the best so far
-  module _ (some : 1 ≤ configuration_count o) (holds : Satisfies o ks (pick (choices o) n)) where
+  module _ (some : 1 ≤ choice_count o) (holds : Satisfies o ks (pick (choices o) n)) where
     abbrev new : Leader
     new = record { config = pick (choices o) n; objectives = objectives o gs (pick (choices o) n) }
 
@@ -114,16 +114,16 @@ module _ (o : Outline) (ks : List ResolvedConstraint) (gs : List ResolvedGoal) (
   abbrev number : (u : List ℤ) → IsConfiguration o u → ℕ
   number u h = rank (choices o) u (configuration_picks o u h)
 
-  number_below : (u : List ℤ) (h : IsConfiguration o u) → configuration_count o ≤ n → number u h < n
+  number_below : (u : List ℤ) (h : IsConfiguration o u) → choice_count o ≤ n → number u h < n
   number_below u h all = omega (arith, all, rank_below (choices o) u (configuration_picks o u h))
 
   number_back : (u : List ℤ) (h : IsConfiguration o u) → pick (choices o) (number u h) ≡ u
   number_back u h = rank_back (choices o) u (configuration_picks o u h)
 
-  pub none_there : configuration_count o ≤ n → NoneBelow o ks n → HasNone o ks
+  pub none_there : choice_count o ≤ n → NoneBelow o ks n → HasNone o ks
   none_there all none u h holds = none (number u h) (number_below u h all) (subst (Satisfies o ks) (sym (number_back u h)) holds)
 
-  pub best_there : (leader : Leader) → configuration_count o ≤ n → IsLeader o ks gs n leader → IsBest o ks gs leader.config
+  pub best_there : (leader : Leader) → choice_count o ≤ n → IsLeader o ks gs n leader → IsBest o ks gs leader.config
   best_there leader all leads u h holds =
       let least = leads.best (number u h) (number_below u h all) (subst (Satisfies o ks) (sym (number_back u h)) holds) in
       sym (ap (λ t. better gs (objectives o gs t) leader.objectives) (number_back u h) ∙ ap (better gs (objectives o gs u)) leads.values) ∙ least
@@ -131,10 +131,10 @@ module _ (o : Outline) (ks : List ResolvedConstraint) (gs : List ResolvedGoal) (
   some_is_none : (t : List ℤ) → trial.Best t ≡ trial.None → ⊥
   some_is_none t same = absurd cc
 
-  pub none_answer : configuration_count o ≤ n → (leader : Option Leader) (t : Trial) → t ≡ answer_of leader → Leads o ks gs n leader → t ≡ trial.None → HasNone o ks
+  pub none_answer : choice_count o ≤ n → (leader : Option Leader) (t : Trial) → t ≡ answer_of leader → Leads o ks gs n leader → t ≡ trial.None → HasNone o ks
   none_answer all None t is leads same = none_there all leads
   none_answer all (Some leader) t is leads same = absurd (some_is_none leader.config (sym is ∙ same))
 
-  pub best_answer : configuration_count o ≤ n → (leader : Option Leader) (t : Trial) → t ≡ answer_of leader → Leads o ks gs n leader → IfBest t (IsBest o ks gs)
+  pub best_answer : choice_count o ≤ n → (leader : Option Leader) (t : Trial) → t ≡ answer_of leader → Leads o ks gs n leader → IfBest t (IsBest o ks gs)
   best_answer all None t is leads = subst (λ a. IfBest a (IsBest o ks gs)) (sym is) tt
   best_answer all (Some leader) t is leads = subst (λ a. IfBest a (IsBest o ks gs)) (sym is) (best_there leader all leads)

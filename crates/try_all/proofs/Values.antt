@@ -8,7 +8,8 @@ use Rattle.object_alloc.specs.declared.object.Domain.{Domain}
 use Rattle.object_alloc.specs.declared.object.Domain.TheVariants.{Span, Extent}
 use Rattle.object_alloc.specs.Cells.{cells, extent}
 use Rattle.object_alloc.specs.Configurations.{IsInDomain, IsOfExtent, AreValues, IsConfiguration}
-use Rattle.try_all.specs.Choices.{run_from, span_size, domain_values, cell_values, values_of_cells, choices, IsPicked}
+use Rattle.object_alloc.specs.Counts.{domain_size, span_size}
+use Rattle.try_all.specs.Choices.{run_from, domain_values, cell_values, values_of_cells, choices, IsPicked}
 
 -- Runs of numbers
 
@@ -52,9 +53,13 @@ module _ (low high v : ℤ) where
   of_span true e has = let r = of_run low v _ has in (r.0, grind (arith, ints, e, r.1))
   of_span false e has = absurd (omega (arith, has.1))
 
--- how many values a span has
+-- how many values a domain has
+pub sizes_are : (o : Outline) (d : Domain) → domain_size o d ≡ length (domain_values o d)
+sizes_are o (Span low high) = sym (length_run low (span_size low high))
+sizes_are o (Extent c) = sym (length-map (extent o c) pos)
+
 pub span_counted : (o : Outline) (d : Domain) (low high : ℤ) → d ≡ Span low high → span_size low high ≡ length (domain_values o d)
-span_counted o d low high is = sym (length_run low (span_size low high)) ∙ ap (λ e. length (domain_values o e)) (sym is)
+span_counted o d low high is = ap (domain_size o) (sym is) ∙ sizes_are o d
 
 in_map : (xs : List ℕ) (n : ℕ) (v : ℤ) → Contains xs n → v ≡ pos n → Contains (map pos xs) v
 in_map xs n v (k, lt, e) is = (k, omega (arith, lt, length-map xs pos), get_or-map pos xs k n v lt ∙ ap pos e ∙ sym is)

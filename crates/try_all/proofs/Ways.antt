@@ -6,8 +6,19 @@ use Rattle.std.proofs.lemmas.Bool.{eqb-true}
 use Rattle.std.proofs.lemmas.List.{at_drop_more}
 use Rattle.class_table.specs.Outline.{Outline}
 use Rattle.object_alloc.specs.declared.object.Cell.{Cell}
-use Rattle.try_all.specs.Choices.{cell_values, values_of_cells, ways, is_empty}
+use Rattle.object_alloc.specs.Cells.{cells}
+use Rattle.object_alloc.specs.Counts.{cell_ways, configuration_count}
+use Rattle.try_all.specs.Choices.{cell_values, choice_count, values_of_cells, ways, is_empty}
 use Rattle.try_all.proofs.Numbers.{some_first, some_second}
+use Rattle.try_all.proofs.Values.{sizes_are}
+
+-- there are as many ways as configurations
+ways_are : (o : Outline) (cs : List Cell) → cell_ways o cs ≡ ways (values_of_cells o cs)
+ways_are o [] = refl
+ways_are o (c ∷ cs) = ap (λ n. n * cell_ways o cs) (sizes_are o c.domain) ∙ ap (λ n. length (cell_values o c) * n) (ways_are o cs)
+
+pub count_is : (o : Outline) → configuration_count o ≡ choice_count o
+count_is o = ways_are o (cells o)
 
 -- an empty list leaves no way, the others some
 empty_step : (vs : List ℤ) (b rest : Bool) (n : ℕ) → is_empty vs ≡ b → (rest ≡ true → n ≡ 0) → (b || rest) ≡ true → length vs * n ≡ 0

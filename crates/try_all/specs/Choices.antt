@@ -1,19 +1,16 @@
 -- The values of each cell, and the lists of values that pick one for each cell.
-use Rattle.std.specs.Prelude.{ℕ, zero, suc, ◌+◌, ◌*◌, cond, List, [], ◌∷◌, map, length, ℤ, pos, ◌+ℤ◌, ◌-ℤ◌, int_le, unsigned_abs, nat_eq, Bool, Contains}
+use Rattle.std.specs.Prelude.{ℕ, zero, suc, ◌+◌, ◌*◌, List, [], ◌∷◌, map, length, ℤ, pos, ◌+ℤ◌, nat_eq, Bool, Contains}
 use Rattle.class_table.specs.Outline.{Outline}
 use Rattle.object_alloc.specs.declared.object.Cell.{Cell}
 use Rattle.object_alloc.specs.declared.object.Domain.{Domain}
 use Rattle.object_alloc.specs.declared.object.Domain.TheVariants.{Span, Extent}
 use Rattle.object_alloc.specs.Cells.{cells, extent}
+use Rattle.object_alloc.specs.Counts.{span_size}
 
 -- so many numbers, one after the other, from this one on
 abbrev pub run_from : ℤ → ℕ → List ℤ
 run_from low zero = []
 run_from low (suc n) = low ∷ run_from (low +ℤ pos 1) n
-
--- how many numbers there are from the least to the greatest
-abbrev pub span_size : ℤ → ℤ → ℕ
-span_size low high = cond (int_le low high) (unsigned_abs (high -ℤ low) + 1) 0
 
 -- the values of a domain, in order
 abbrev pub domain_values : Outline → Domain → List ℤ
@@ -45,8 +42,9 @@ ways (vs ∷ lists) = length vs * ways lists
 abbrev pub is_empty : List ℤ → Bool
 is_empty vs = nat_eq (length vs) 0
 
-abbrev pub configuration_count : Outline → ℕ
-configuration_count o = ways (choices o)
+-- in how many ways a value of each cell of a model is picked: as many as it has configurations
+abbrev pub choice_count : Outline → ℕ
+choice_count o = ways (choices o)
 
 -- a model with more configurations than this isn't tried
 abbrev pub most : ℕ

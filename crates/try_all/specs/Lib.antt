@@ -1,4 +1,3 @@
 pub mod Choices
 pub mod Picking
-pub mod Best
 pub mod Trials

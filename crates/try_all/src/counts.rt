@@ -3,7 +3,8 @@ ghost use Rattle.std.specs.Prelude.{◌≡◌, ◌<◌, ◌≤◌, ◌*◌, fals
 ghost use Rattle.std.specs.List.{list_any};
 ghost use Rattle.object_alloc.specs.declared.object.Cell.{Cell as ACell};
 ghost use Rattle.object_alloc.specs.Cells.{IsDomainOf};
-ghost use Rattle.try_all.specs.Choices.{span_size, domain_values, values_of_cells, ways, is_empty, configuration_count, most};
+ghost use Rattle.object_alloc.specs.Counts.{span_size};
+ghost use Rattle.try_all.specs.Choices.{domain_values, values_of_cells, ways, is_empty, choice_count, most};
 
 use object_alloc::{Cell, Domain, Objects};
 
@@ -101,9 +102,9 @@ fn count_ways(objects: &Objects<'_>, cells: &[Cell]) -> Option<u64>
 
 /// How many configurations a model has, where they aren't too many.
 pub(crate) fn count_configurations(objects: &Objects<'_>) -> Option<u64>
-    ensures count { IfSome result (λ n. n ≡ configuration_count objects.now) }
+    ensures count { IfSome result (λ n. n ≡ choice_count objects.now) }
     ensures few { IfSome result (λ n. n ≤ most) }
-    ensures many { IfNone result (most < configuration_count objects.now) }
+    ensures many { IfNone result (most < choice_count objects.now) }
 {
     let cells = objects.cells();
     if has_empty(objects, cells) {

@@ -1,7 +1,7 @@
 //! The best configuration of a small model, by trying every configuration.
 //!
 //! `best_of` is the entry. `specs` says what it means: `Choices` for the values of each cell and how many configurations there
-//! are, `Picking` for configurations by number, `Best` for the best one.
+//! are, `Picking` for configurations by number; `Best` of `conf_eval` says which configurations are best.
 #![tactic(auto)]
 
 mod choice;

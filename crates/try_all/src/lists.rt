@@ -1,7 +1,8 @@
 //! The values of each cell of a model, listed.
 ghost use Rattle.std.specs.Prelude.{◌≡◌, ◌≤◌, ◌<◌, ◌+ℤ◌, ◌++◌, ◌∷◌, [], length, map, pos, IfOk, OnOk};
 ghost use Rattle.object_alloc.specs.Cells.{IsDomainOf};
-ghost use Rattle.try_all.specs.Choices.{run_from, span_size, domain_values, choices, configuration_count, most};
+ghost use Rattle.object_alloc.specs.Counts.{span_size};
+ghost use Rattle.try_all.specs.Choices.{run_from, domain_values, choices, choice_count, most};
 
 use crate::choice::Choice;
 use object_alloc::{Domain, Objects};
@@ -65,8 +66,8 @@ fn values_of_domain(
 /// The values of each cell of a model that has a configuration, and few enough. They take memory for the cells and, beyond one
 /// for each cell, for at most as many values as there are configurations.
 pub(crate) fn list_choices(alloc: Global, objects: &Objects<'_>) -> Result<Vec<Choice>, AllocError>
-    requires some { 1 ≤ configuration_count objects.now }
-    requires few { configuration_count objects.now ≤ most }
+    requires some { 1 ≤ choice_count objects.now }
+    requires few { choice_count objects.now ≤ most }
     ensures choices { IfOk result (λ lists. lists.items ≡ choices objects.now) }
 {
     let cells = objects.cells();

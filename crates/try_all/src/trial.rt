@@ -1,12 +1,13 @@
 //! The best configuration of a model with few configurations.
 ghost use Rattle.std.specs.Prelude.{◌≡◌, ◌≤◌, ◌<◌, ◌+◌, ◌^◌, ◌↔◌, true, length, map, IfOk};
+ghost use Rattle.conf_eval.specs.Best.{IsBest, HasNone};
 ghost use Rattle.conf_eval.specs.Measures.{model_narrow};
 ghost use Rattle.conf_eval.specs.Satisfying.{Satisfies};
 ghost use Rattle.conf_types.specs.Programs.{constraint_view, goal_view};
 ghost use Rattle.conf_types.specs.Typing.{IsTypedModel};
 ghost use Rattle.object_alloc.specs.Configurations.{IsConfiguration};
-ghost use Rattle.try_all.specs.Best.{IsBest, HasNone};
-ghost use Rattle.try_all.specs.Choices.{choices, configuration_count, most};
+ghost use Rattle.object_alloc.specs.Counts.{configuration_count};
+ghost use Rattle.try_all.specs.Choices.{choices, choice_count, most};
 ghost use Rattle.try_all.specs.Trials.{IfBest, Leads, answer_of, beats};
 ghost use Rattle.try_all.specs.declared.trial.Trial.TheVariants as trial;
 
@@ -61,7 +62,7 @@ fn try_one(
     requires narrow { model_narrow objects.now (map constraint_view m.now.constraints) (map goal_view m.now.goals) ≡ true }
     requires few { length m.now.constraints < 2 ^ 32 }
     requires lists { lists.now ≡ choices objects.now }
-    requires some { 1 ≤ configuration_count objects.now }
+    requires some { 1 ≤ choice_count objects.now }
     requires leads { Leads objects.now (map constraint_view m.now.constraints) (map goal_view m.now.goals) n leader }
     ensures leads { IfOk result (λ now. Leads objects.now (map constraint_view m.now.constraints) (map goal_view m.now.goals) (n + 1) now) }
 {

@@ -1,5 +1,6 @@
 use Rattle.std.proofs.Common.{rules}
 use Rattle.std.proofs.lemmas.Result.{err_from_is_err_and}
+use Rattle.conf_syntax.proofs.SpelledWords.{spelled_words}
 use Rattle.conf_parse.proofs.Reading.{read_token, read_gap, read_all, refused, few}
 use Rattle.conf_parse.proofs.OneReading.{read_one_way}
 use Rattle.conf_parse.proofs.Exact.{only_these, only_memory, not_at_byte, not_at_number, at_byte, at_number}
@@ -19,6 +20,7 @@ returns c =
     record {
       tokens = spells;
       few = few c.args.text.now c.loop-at.tokens.items spells;
+      words = spelled_words c.args.text.now c.loop-at.tokens.items spells;
       refusal = tt;
       only = only_these c.args.text.now c.loop-at.tokens.items spells;
       bad_byte = not_at_byte c.args.text.now c.loop-at.tokens.items spells;
@@ -34,6 +36,7 @@ returns-in_err-token c =
     rw (exit.1, exit.2) (record {
       tokens = tt;
       few = tt;
+      words = tt;
       refusal = stuck;
       only = only_memory c.args.text.now error stuck;
       bad_byte = at_byte c.args.text.now error stuck;

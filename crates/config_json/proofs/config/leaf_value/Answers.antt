@@ -4,7 +4,8 @@ use Rattle.object_alloc.specs.Cells.{cells}
 use Rattle.serde_json.specs.Data.{array}
 use Rattle.serde_json.specs.View.{view}
 use Rattle.serde_json.proofs.Views.{view-Array}
-use Rattle.config_json.specs.Tree.{leaf_data, member_at, only_value, path_data, paths_data}
+use Rattle.object_alloc.specs.Members.{member_at}
+use Rattle.config_json.specs.Tree.{leaf_data, only_value, path_data, paths_data}
 use Rattle.config_json.proofs.config.leaf_value.Goals as goal
 
 pub returns-in_ok-value-in-Ref : goal.returns-in_ok-value-in-Ref

@@ -1,7 +1,7 @@
 use Rattle.std.proofs.Common.{◌≡◌, ◌++◌, drop}
 use Rattle.std.specs.Prelude.{filter_map}
 use Rattle.object_alloc.specs.Cells.{cells}
-use Rattle.config_json.specs.Tree.{member_at}
+use Rattle.object_alloc.specs.Members.{member_at}
 use Rattle.config_json.proofs.config.members_of.Given as goal
 
 -- with the cells that are left they are the members of all

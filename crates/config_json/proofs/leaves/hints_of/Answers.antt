@@ -7,7 +7,7 @@ use Rattle.object_alloc.specs.Walk.{walk, leaves_in}
 use Rattle.serde_json.specs.View.{view}
 use Rattle.config_json.specs.Former.{leaf_hints, hints}
 use Rattle.config_json.proofs.HintLaws.{all_next, all_done, leaf_at, hints_made}
-use Rattle.config_json.proofs.WholeLaws.{whole_found}
+use Rattle.config_json.proofs.WholeLaws.{hints_form, whole_found}
 use Rattle.config_json.proofs.leaves.hints_of.Goals as goal
 
 abbrev some_leaf : Leaf
@@ -39,4 +39,4 @@ returns c =
     c.of.ensures.values
     ∙ all_done f c.leaves-leaf-items.result.now c.loop-leaf.leaf-index c.loop-leaf.hints.items (flat_map f c.leaves-leaf-items.result.now) (omega (arith, c.loop-leaf-test.false, c.loop-leaf.auto)) c.loop-leaf.invariant
     ∙ ap (flat_map f) (c.leaves-leaf-items.ensures.leaves ∙ ap (λ o. leaves_in (walk o)) c.requires.same) in
-    record { hints = found; whole = λ none. whole_found o d c.of.result c.class_count-classes.ensures.sound found none }
+    record { hints = found; form = hints_form o d c.of.result found; whole = λ none. whole_found o d c.of.result c.class_count-classes.ensures.sound found none }

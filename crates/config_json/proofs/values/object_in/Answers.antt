@@ -2,7 +2,7 @@ use Rattle.std.proofs.Common.{rules, ◌≡◌, ◌∙◌, ◌<◌, length, None
 use Rattle.std.specs.Prelude.{option_and_then, IfSome}
 use Rattle.std.specs.List.{list_any}
 use Rattle.object_alloc.specs.Cells.{extent}
-use Rattle.object_alloc.specs.Named.{IsNamed, object_named}
+use Rattle.object_alloc.specs.Named.{object_named}
 use Rattle.object_alloc.specs.Walk.{objects}
 use Rattle.serde_json.specs.Find.{as_str}
 use Rattle.serde_json.specs.View.{view}
@@ -15,7 +15,7 @@ returns-in_default-clause-object c =
     let o = c.args.table.now in
     let text : as_str (view c.args.value.now) ≡ Some c.in_ok-text.text.now = search rules in
     let none : c.object_at.result ≡ None = search rules in
-    let at : c.object_at.result ≡ object_named c.args.objects.now c.in_ok-text.text.now = c.object_at.ensures.object (subst IsNamed (sym c.requires.same) c.requires.named) ∙ ap (object_named c.args.objects.now) c.as_bytes.ensures.value in
+    let at : c.object_at.result ≡ object_named c.args.objects.now c.in_ok-text.text.now = c.object_at.ensures.object ∙ ap (object_named c.args.objects.now) c.as_bytes.ensures.value in
     sym (object_read o c.args.objects.now c.args.class (view c.args.value.now) c.in_ok-text.text.now c.object_at.result c.requires.same text at ∙ ap (option_and_then (of_extent o c.args.class)) none)
 
 pub is_of-requires-clause-object : goal.is_of-requires-clause-object
@@ -27,7 +27,7 @@ returns-then-is_of-clause-object c =
     let o = c.args.table.now in
     let text : as_str (view c.args.value.now) ≡ Some c.in_ok-text.text.now = search rules in
     let is : list_any (nat_eq c.in-Some.object) (extent o c.args.class) ≡ true = search rules in
-    let at : c.object_at.result ≡ object_named c.args.objects.now c.in_ok-text.text.now = c.object_at.ensures.object (subst IsNamed (sym c.requires.same) c.requires.named) ∙ ap (object_named c.args.objects.now) c.as_bytes.ensures.value in
+    let at : c.object_at.result ≡ object_named c.args.objects.now c.in_ok-text.text.now = c.object_at.ensures.object ∙ ap (object_named c.args.objects.now) c.as_bytes.ensures.value in
     sym (object_read o c.args.objects.now c.args.class (view c.args.value.now) c.in_ok-text.text.now c.object_at.result c.requires.same text at ∙ ap (option_and_then (of_extent o c.args.class)) c.in-Some.is ∙ ap (λ b. cond b (Some c.in-Some.object) None) is)
 
 pub returns-then-is_of-clause-there : goal.returns-then-is_of-clause-there
@@ -39,5 +39,5 @@ returns-else-is_of-clause-object c =
     let o = c.args.table.now in
     let text : as_str (view c.args.value.now) ≡ Some c.in_ok-text.text.now = search rules in
     let is : list_any (nat_eq c.in-Some.object) (extent o c.args.class) ≡ false = search rules in
-    let at : c.object_at.result ≡ object_named c.args.objects.now c.in_ok-text.text.now = c.object_at.ensures.object (subst IsNamed (sym c.requires.same) c.requires.named) ∙ ap (object_named c.args.objects.now) c.as_bytes.ensures.value in
+    let at : c.object_at.result ≡ object_named c.args.objects.now c.in_ok-text.text.now = c.object_at.ensures.object ∙ ap (object_named c.args.objects.now) c.as_bytes.ensures.value in
     sym (object_read o c.args.objects.now c.args.class (view c.args.value.now) c.in_ok-text.text.now c.object_at.result c.requires.same text at ∙ ap (option_and_then (of_extent o c.args.class)) c.in-Some.is ∙ ap (λ b. cond b (Some c.in-Some.object) None) is)

@@ -9,7 +9,7 @@ pub asked-requires-clause-ready : goal.asked-requires-clause-ready
 asked-requires-clause-ready g c =
     ready c.args.program.now c.in-Ok.table c.in-Ok-objects_of.objects c.in-Ok-typed_model.model.constraints c.in-Ok-typed_model.model.goals
     c.in-Ok.ensures.table c.in-Ok-objects_of.ensures.objects c.in-Ok-typed_model.ensures.constraints c.in-Ok-typed_model.ensures.goals
-    c.requires.text c.in-Ok.ensures.declared c.in-Ok-typed_model.ensures.typed c.in-Ok-within.ensures.within c.in-Ok-typed_model.ensures.few
+    c.in-Ok-typed_model.ensures.typed c.in-Ok-within.ensures.within c.in-Ok-typed_model.ensures.few
 
 pub returns-in-Ok-within-clause-answer : goal.returns-in-Ok-within-clause-answer
 returns-in-Ok-within-clause-answer g c =

@@ -1,5 +1,5 @@
 use Rattle.std.proofs.Common.{◌≤◌, ◌∙◌, sym, subst, length}
-use Rattle.confsolve_run.proofs.TextLaws.{syntax_without, nesting_without, syntax_with, nesting_with, few_tokens}
+use Rattle.confsolve_run.proofs.TextLaws.{syntax_without, nesting_without, syntax_with, nesting_with, few_tokens, model_words}
 use Rattle.confsolve_run.proofs.model.model_of.Goals as goal
 
 pub returns-in-Err-clause-syntax : goal.returns-in-Err-clause-syntax
@@ -22,3 +22,6 @@ returns-clause-nesting c =
 pub returns-clause-few : goal.returns-clause-few
 returns-clause-few c =
     few_tokens c.deref.result.now c.args.text.now c.tree_of.result (subst (λ tokens. length tokens ≤ length c.args.text.now) (sym c.deref.ensures.value) c.in-Ok.ensures.few) c.requires c.tree_of.ensures.tree
+
+pub returns-clause-words : goal.returns-clause-words
+returns-clause-words c = model_words c.in-Ok.tokens.items c.deref.result.now c.tree_of.result c.deref.ensures.value c.in-Ok.ensures.words c.tree_of.ensures.tree

@@ -1,5 +1,6 @@
 use Rattle.std.proofs.Common.{length, subst, arith}
 use Rattle.conf_syntax.specs.Models.{IsProgramOf}
+use Rattle.conf_syntax.specs.Words.{AreWords}
 use Rattle.given_models.proofs.TextLaws.{few_tokens}
 use Rattle.given_models.proofs.texts.model_of.Goals as goal
 
@@ -9,5 +10,5 @@ returns-in-Ok-parse c =
     record {
       tokens = few_tokens c.in-Ok.tokens.items c.in-Ok-parse.program (length c.args.text.now) is c.in-Ok.ensures.few (omega (arith, c.if-text-gt1000000.false));
       nesting = is.tree.nested;
-      spelled = record { tokens = c.in-Ok.tokens.items; spelled = c.in-Ok.ensures.tokens; same = is.tree.tokens_are };
+      words = subst AreWords is.tree.tokens_are c.in-Ok.ensures.words;
     }

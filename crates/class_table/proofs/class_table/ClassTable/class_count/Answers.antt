@@ -12,4 +12,5 @@ returns-clause-sound c =
       nesting = c.self.invariant.nesting;
       differ = t.differ;
       closed = c.self.invariant.closed;
+      named = c.self.invariant.named;
     })

@@ -8,6 +8,7 @@ use Rattle.std.proofs.Common.{map}
 use Rattle.class_table.specs.Sound.{HasNesting}
 use Rattle.class_table.proofs.BuildLaws.{numbered, items_stand, made_few, roots_few, values_few, no_stand}
 use Rattle.class_table.proofs.ClosedLaws.{closed_parts}
+use Rattle.class_table.proofs.WordNames.{table_named}
 use Rattle.class_table.proofs.class_table.ClassTable.of_names.Goals as goal
 
 pub resolve_items-requires : goal.resolve_items-requires
@@ -28,6 +29,7 @@ invariant_of-result c =
       values = values_few items c.in-Ok.parts.enumerations.items c.in-Ok.ensures.enumerations c.requires.small;
       own_names = search rules;
       closed = closed_parts items c.args.names.entries c.in-Ok.parts.classes.items c.in-Ok.parts.enumerations.items c.in-Ok.parts.roots.items c.requires.names classes_are c.in-Ok.ensures.enumerations (c.in-Ok.ensures.roots ∙ ap (λ n. map (variable_of n) (roots items)) c.requires.names);
+      named = table_named items c.args.names.entries c.in-Ok.parts.classes.items c.in-Ok.parts.enumerations.items c.in-Ok.parts.roots.items c.requires.names classes_are (c.in-Ok.ensures.roots ∙ ap (λ n. map (variable_of n) (roots items)) c.requires.names) c.requires.words c.requires.new;
       nesting = subst HasNesting c.deref.ensures.value c.in-Ok-check_classes.ensures.nesting;
     }
 

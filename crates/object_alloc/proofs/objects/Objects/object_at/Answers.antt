@@ -1,6 +1,6 @@
 use Rattle.std.proofs.Common.{◌≡◌, ◌<◌, ◌-◌, ℕ, Some, None, length, take, drop, refl, ap, sym, ◌∙◌, subst, arith, length-drop}
 use Rattle.std.specs.Prelude.{IfSome}
-use Rattle.object_alloc.specs.Named.{IsNamed, object_named}
+use Rattle.object_alloc.specs.Named.{object_named}
 use Rattle.object_alloc.specs.Paths.{path}
 use Rattle.object_alloc.specs.Walk.{objects}
 use Rattle.object_alloc.proofs.ChainLaws.{path_leads, object_found}
@@ -20,7 +20,7 @@ loop-object-init c =
       within = omega arith;
       owner = tt;
       whole = refl;
-      left = λ named n low e. path_leads c.args.self.now n c.args.text.now low e;
+      left = λ n low e. path_leads c.args.self.now n c.args.text.now low e;
     }
 
 pub loop-object-preserved : goal.loop-object-preserved
@@ -40,7 +40,7 @@ loop-object-preserved c =
       within = omega (arith, lt, size, c.loop-object.invariant.within);
       owner = found.there;
       whole = path_goes o f.sound f.few text from end c.loop-object.owner rest is c.first_of-end.ensures.place object found.step lt c.loop-object.invariant.whole;
-      left = λ named n low e. object_goes o f.sound f.few text from end c.loop-object.owner rest is c.first_of-end.ensures.place object found.step named n lt (c.loop-object.invariant.left named n low e) (λ m s. some_is (found.named named m s));
+      left = λ n low e. object_goes o f.sound f.few text from end c.loop-object.owner rest is c.first_of-end.ensures.place object found.step f.sound.named n lt (c.loop-object.invariant.left n low e) (λ m s. some_is (found.named m s));
     }
 
 pub loop-object-smaller : goal.loop-object-smaller
@@ -58,11 +58,11 @@ returns-in_err-object c =
     let from = c.loop-object.from in
     let rest = take (length text - from) (drop from text) in
     let f = c.sound_count-count.ensures in
-    let never = λ (named : IsNamed o) (n : ℕ) (low : n < length (objects o)) (e : path o n ≡ text). no_object o f.sound f.few text from c.first_of-end.result c.loop-object.owner rest (rest_is from text) c.first_of-end.ensures.place named n (c.loop-object.invariant.left named n low e) (λ m s. none_is (c.in_err-object.ensures.named named m s)) in
-    subst (λ r. record { object : IsNamed o → r ≡ object_named o text; own : IsNamed o → (n : ℕ) → n < length (objects o) → path o n ≡ text → r ≡ Some n; there : IfSome r (λ n. n < length (objects o)); path : IfSome r (λ n. path o n ≡ text) }) (sym c.from_residual.ensures)
+    let never = λ (n : ℕ) (low : n < length (objects o)) (e : path o n ≡ text). no_object o f.sound f.few text from c.first_of-end.result c.loop-object.owner rest (rest_is from text) c.first_of-end.ensures.place f.sound.named n (c.loop-object.invariant.left n low e) (λ m s. none_is (c.in_err-object.ensures.named m s)) in
+    subst (λ r. record { object : r ≡ object_named o text; own : (n : ℕ) → n < length (objects o) → path o n ≡ text → r ≡ Some n; there : IfSome r (λ n. n < length (objects o)); path : IfSome r (λ n. path o n ≡ text) }) (sym c.from_residual.ensures)
     (record {
-      object = λ named. object_found o text None tt tt (λ n low e. absurd (never named n low e));
-      own = λ named n low e. absurd (never named n low e);
+      object = object_found o text None tt tt (λ n low e. absurd (never n low e));
+      own = λ n low e. absurd (never n low e);
       there = tt;
       path = tt;
     })
@@ -79,9 +79,9 @@ returns-then-end-rest c =
     let f = c.sound_count-count.ensures in
     let found = c.in_ok-object.ensures in
     let there = path_ends o f.sound f.few text from end c.loop-object.owner rest is c.first_of-end.ensures.place object found.step c.if-end-rest.true c.loop-object.invariant.whole in
-    let own = λ (named : IsNamed o) (n : ℕ) (low : n < length (objects o)) (e : path o n ≡ text). ap Some (object_ends o f.sound f.few text from end c.loop-object.owner rest is c.first_of-end.ensures.place object found.step named n c.if-end-rest.true (c.loop-object.invariant.left named n low e) (λ m s. some_is (found.named named m s))) in
+    let own = λ (n : ℕ) (low : n < length (objects o)) (e : path o n ≡ text). ap Some (object_ends o f.sound f.few text from end c.loop-object.owner rest is c.first_of-end.ensures.place object found.step f.sound.named n c.if-end-rest.true (c.loop-object.invariant.left n low e) (λ m s. some_is (found.named m s))) in
     record {
-      object = λ named. object_found o text (Some object) found.there there (own named);
+      object = object_found o text (Some object) found.there there own;
       own = own;
       there = found.there;
       path = there;

@@ -1,6 +1,5 @@
 use Rattle.std.proofs.Common.{◌≡◌, ◌++◌, ◌-◌, ◌<◌, ◌≤◌, ℕ, length, drop}
 use Rattle.std.specs.Prelude.{IfSome}
-use Rattle.object_alloc.specs.Named.{IsNamed}
 use Rattle.object_alloc.specs.Paths.{owner_path, path}
 use Rattle.object_alloc.specs.Walk.{objects}
 use Rattle.object_alloc.proofs.ChainLaws.{Leads}
@@ -13,7 +12,7 @@ invariant-loop-object l =
       within : l.from ≤ length l.text;
       owner : IfSome l.owner (λ n. n < length (objects l.self));
       whole : l.text ≡ owner_path (path l.self) l.owner ++ drop l.from l.text;
-      left : IsNamed l.self → (n : ℕ) → n < length (objects l.self) → path l.self n ≡ l.text → Leads l.self l.owner (drop l.from l.text) n;
+      left : (n : ℕ) → n < length (objects l.self) → path l.self n ≡ l.text → Leads l.self l.owner (drop l.from l.text) n;
     }
 
 abbrev pub decreases-loop-object : goal.decreases-loop-object

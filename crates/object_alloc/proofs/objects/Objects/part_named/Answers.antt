@@ -22,19 +22,21 @@ part-requires c =
     }
 
 pub returns-in_err-k-clause-named : goal.returns-in_err-k-clause-named
-returns-in_err-k-clause-named c named n step =
+returns-in_err-k-clause-named c n step =
     let f = c.sound_count-count.ensures in
+    let named = f.sound.named in
     let r = named_by c.args.self.now f.sound f.few c.args.owner c.args.step.now c.first_of-end.result named c.first_of-end.ensures.place n step in
-    let wrong : None ≡ Some r.k = c.in_err-k.ensures.named named r.k r.name in
+    let wrong : None ≡ Some r.k = c.in_err-k.ensures.named r.k r.name in
     absurd cc
 
 pub returns-in_err-element-clause-named : goal.returns-in_err-element-clause-named
-returns-in_err-element-clause-named c named n step =
+returns-in_err-element-clause-named c n step =
     let f = c.sound_count-count.ensures in
+    let named = f.sound.named in
     let o = c.args.self.now in
     let end = c.first_of-end.result in
     let r = named_by o f.sound f.few c.args.owner c.args.step.now end named c.first_of-end.ensures.place n step in
-    let same = some_is (c.in_ok-k.ensures.named named r.k r.name) in
+    let same = some_is (c.in_ok-k.ensures.named r.k r.name) in
     let read = λ (d : Variable). c.shape.ensures.shape d ∙ ap (λ j. (slice_index_or (variables_of o c.args.owner) j d).shape) same in
     let wrong : None ≡ Some r.i = c.in_err-element.ensures.named r.i r.small (r.element c.shape.result read) (r.index c.shape.result read ∙ sym (rest_is end c.args.step.now)) in
     absurd cc
@@ -47,9 +49,10 @@ returns c =
     record {
       there = c.part.ensures.there;
       step = part_step o f.sound f.few c.args.owner c.args.step.now end c.in_ok-k.k c.in_ok-element.element c.part.result c.shape.result c.in_ok-k.ensures.name c.shape.ensures.shape (c.in_ok-element.ensures.text ∙ rest_is end c.args.step.now) c.part.ensures.there c.part.ensures.part;
-      named = λ named n step.
+      named = λ n step.
+          let named = f.sound.named in
           let r = named_by o f.sound f.few c.args.owner c.args.step.now end named c.first_of-end.ensures.place n step in
-          let same = some_is (c.in_ok-k.ensures.named named r.k r.name) in
+          let same = some_is (c.in_ok-k.ensures.named r.k r.name) in
           let read = λ (d : Variable). c.shape.ensures.shape d ∙ ap (λ j. (slice_index_or (variables_of o c.args.owner) j d).shape) same in
           let element = some_is (c.in_ok-element.ensures.named r.i r.small (r.element c.shape.result read) (r.index c.shape.result read ∙ sym (rest_is end c.args.step.now))) in
           ap Some (same_found o f.sound f.few c.args.owner c.args.step.now end c.in_ok-k.k c.in_ok-element.element n c.part.result r same element c.part.ensures.there c.part.ensures.part);

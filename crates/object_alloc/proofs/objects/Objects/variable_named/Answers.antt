@@ -27,7 +27,7 @@ returns-in-Some-clause-name c =
     subst (λ us. IfSome c.attribute_spelled.result (HasName us c.args.name.now)) (sym same) (name_found vs c.args.name.now c.attribute_spelled.result number)
 
 pub returns-in-Some-clause-named : goal.returns-in-Some-clause-named
-returns-in-Some-clause-named c named k h =
+returns-in-Some-clause-named c k h =
     let o = c.args.self.now in
     let there = subst (λ w. IfSome w (λ n. n < length (objects o))) c.in-Some.is c.requires.owner in
     let vs = attributes o.classes c.class.result in
@@ -46,11 +46,11 @@ returns-then-eq-clause-name c =
     (name_read o.roots root c.root.result.name.now c.args.name.now low (λ d. c.root.ensures.name d ∙ ap (λ (t : Outline). (slice_index_or t.roots root d).name) c.table-in-None-2.ensures.table) same)
 
 pub returns-else-eq-clause-named : goal.returns-else-eq-clause-named
-returns-else-eq-clause-named c named k h =
+returns-else-eq-clause-named c k h =
     let o = c.args.self.now in
     let root = c.in_ok-root-in-None.root in
     let has : HasName o.roots c.args.name.now k = subst (λ us. HasName us c.args.name.now k) (ap (variables_of o) c.in-None.is) h in
-    let found : Some root ≡ Some k = c.in_ok-root-in-None.ensures.root ∙ ap (λ (t : Outline). root_meant (means t.names c.args.name.now)) c.table-in-None.ensures.table ∙ root_found o c.args.name.now k named has in
+    let found : Some root ≡ Some k = c.in_ok-root-in-None.ensures.root ∙ ap (λ (t : Outline). root_meant (means t.names c.args.name.now)) c.table-in-None.ensures.table ∙ root_found o c.args.name.now k c.sound_count-count.ensures.sound.named has in
     let at : root ≡ k = cc in
     let read : c.root.result.name.now ≡ c.args.name.now = name_is_read o.roots root c.root.result.name.now c.args.name.now (λ d. c.root.ensures.name d ∙ ap (λ (t : Outline). (slice_index_or t.roots root d).name) c.table-in-None-2.ensures.table) (subst (HasName o.roots c.args.name.now) (sym at) has) in
     absurd (false≢true (c.if-eq.ensures ∙ (bytes_decides c.as_bytes.result.now c.args.name.now).1 (c.as_bytes.ensures.bytes ∙ read)))

@@ -1,14 +1,14 @@
--- The names of a model that a text spells, and in which no name is declared twice, are names that paths can be read back from.
+-- Where the words of a model are words and no name is declared twice, its names are such that paths can be read back from them.
 use Rattle.std.proofs.Common.{◌≡◌, ℕ, zero, suc, ◌+◌, nat_eq, Bool, true, false, ◌&&◌, cond, List, [], ◌∷◌, ◌++◌, Option, None, Some, length, map, refl, ap, sym, ◌∙◌, subst, arith}
-use Rattle.std.specs.Prelude.{Contains, slice_get}
+use Rattle.std.specs.Prelude.{All, slice_get}
 use Rattle.std.specs.Cmp.Lexicographic.{bytes_decides}
 use Rattle.std.specs.List.{AllByRecursion, flat_map, list_all, list_any}
 use Rattle.std.specs.Option.{option_map_or}
 use Rattle.std.proofs.lemmas.Bool.{ne_eqb, and_parts, or_parts, false≢true}
 use Rattle.std.proofs.lemmas.List.Elements.{All-from_recursion}
+use Rattle.std.proofs.lemmas.List.Folds.{list_all-append}
 use Rattle.conf_syntax.specs.declared.token.Key.TheVariants as key
 use Rattle.conf_syntax.specs.declared.token.Mark.TheVariants as mark
-use Rattle.conf_syntax.specs.declared.token.Placed.{Placed}
 use Rattle.conf_syntax.specs.declared.token.Token.{Token}
 use Rattle.conf_syntax.specs.declared.token.Token.TheVariants as token
 use Rattle.conf_syntax.specs.declared.tree.ClassDecl.{ClassDecl}
@@ -16,21 +16,20 @@ use Rattle.conf_syntax.specs.declared.tree.Item.{Item}
 use Rattle.conf_syntax.specs.declared.tree.Item.TheVariants as item
 use Rattle.conf_syntax.specs.declared.tree.Member.{Member}
 use Rattle.conf_syntax.specs.declared.tree.Member.TheVariants as member
-use Rattle.conf_syntax.specs.declared.tree.Program.{Program}
 use Rattle.conf_syntax.specs.declared.tree.VarDecl.{VarDecl}
-use Rattle.conf_syntax.specs.Places.{bare}
-use Rattle.conf_syntax.specs.Spelling.{Piece, Blank, Comment, Spelled, IsRow, IsSpelling, Spells, is_letter, is_word, goes_on, piece_bytes, tokens_from}
-use Rattle.conf_syntax.specs.Trees.{program_tokens, item_tokens, member_tokens, var_tokens, abstract_tokens, parent_tokens}
-use Rattle.class_table.specs.declared.fault.TableFault.{TableFault}
-use Rattle.class_table.specs.declared.fault.TableFault.TheVariants.{Duplicate}
+use Rattle.conf_syntax.specs.Spelling.{is_letter, is_word, goes_on}
+use Rattle.conf_syntax.specs.Trees.{item_tokens, member_tokens, var_tokens, shape_tokens, abstract_tokens, parent_tokens}
+use Rattle.conf_syntax.specs.Words.{is_worded, AreWords}
 use Rattle.class_table.specs.declared.names.Meaning.TheVariants as meaning
+use Rattle.class_table.specs.declared.table.Class.{Class}
+use Rattle.class_table.specs.declared.table.Enumeration.{Enumeration}
 use Rattle.class_table.specs.declared.table.Variable.{Variable}
 use Rattle.class_table.specs.Ancestry.{attributes_within, derives_from_itself}
-use Rattle.class_table.specs.Faults.{Stands, name_repeated, repeated, again}
+use Rattle.class_table.specs.Faults.{repeated, again}
+use Rattle.class_table.specs.Named.{IsNamed, IsPlain, lacks, dot, bracket}
 use Rattle.class_table.specs.Names.{Space, space, space_from, means, classes, roots, own, declared, item_class, item_root, member_variable}
-use Rattle.class_table.specs.Outline.{outline, variable_of, class_of, own_in, attributes, parent_in}
+use Rattle.class_table.specs.Outline.{variable_of, class_of, own_in, attributes, parent_in}
 use Rattle.class_table.specs.Same.{same_name}
-use Rattle.object_alloc.specs.Named.{IsNamed, IsPlain, lacks, dot, bracket}
 
 -- Words have no dot and no bracket
 
@@ -55,64 +54,48 @@ plain_word stop (b ∷ bs) h e =
 both_plain : (w : List ℕ) → is_word w ≡ true → (lacks dot w && lacks bracket w) ≡ true
 both_plain w e = rw (plain_word dot w refl e, plain_word bracket w refl e) refl
 
--- The words of a text
+-- The words of parts of a model
 
-abbrev pub IsWorded : Token → Type 0
-IsWorded (token.Word w) = is_word w ≡ true
-IsWorded (token.Number n) = Unit {0}
-IsWorded (token.Key k) = Unit {0}
-IsWorded (token.Mark m) = Unit {0}
+left : (xs ys : List Token) → AreWords (xs ++ ys) → AreWords xs
+left xs ys a = (and_parts (list_all is_worded xs) (list_all is_worded ys) (sym (list_all-append is_worded xs ys) ∙ a)).0
 
-worded : (t : Token) (bytes : List ℕ) → IsSpelling t bytes → IsWorded t
-worded (token.Word w) bytes s = ap is_word (sym s.0) ∙ s.1
-worded (token.Number n) bytes s = tt
-worded (token.Key k) bytes s = tt
-worded (token.Mark m) bytes s = tt
-
-row_worded : (at : ℕ) (text : List ℕ) (pieces : List Piece) (rest : List ℕ) → IsRow text pieces rest → AllByRecursion IsWorded (bare (tokens_from at pieces))
-row_worded at text [] rest r = tt
-row_worded at text (Blank b ∷ ps) rest (behind, e, p, r) = row_worded (at + length (piece_bytes (Blank b))) behind ps rest r
-row_worded at text (Comment bs ∷ ps) rest (behind, e, p, r) = row_worded (at + length (piece_bytes (Comment bs))) behind ps rest r
-row_worded at text (Spelled t bs ∷ ps) rest (behind, e, p, r) = (worded t bs p.0, row_worded (at + length bs) behind ps rest r)
-
-left : (xs ys : List Token) → AllByRecursion IsWorded (xs ++ ys) → AllByRecursion IsWorded xs
-left [] ys a = tt
-left (x ∷ xs) ys (h, a) = (h, left xs ys a)
-
-right : (xs ys : List Token) → AllByRecursion IsWorded (xs ++ ys) → AllByRecursion IsWorded ys
-right [] ys a = a
-right (x ∷ xs) ys (h, a) = right xs ys a
+right : (xs ys : List Token) → AreWords (xs ++ ys) → AreWords ys
+right xs ys a = (and_parts (list_all is_worded xs) (list_all is_worded ys) (sym (list_all-append is_worded xs ys) ∙ a)).1
 
 -- The names of variables and attributes
 
 abbrev pub IsWordNamed : VarDecl → Type 0
 IsWordNamed v = is_word v.name.name ≡ true
 
-members_named : (ms : List Member) → AllByRecursion IsWorded (flat_map member_tokens ms) → AllByRecursion IsWordNamed (flat_map member_variable ms)
+variable_named : (v : VarDecl) (more : List Token) → AreWords (var_tokens v ++ more) → IsWordNamed v
+variable_named v more a = (and_parts (is_word v.name.name) (list_all is_worded (token.Key key.As ∷ (shape_tokens v.shape ++ token.Mark mark.Semicolon ∷ []))) (left (var_tokens v) more a)).0
+
+members_named : (ms : List Member) → AreWords (flat_map member_tokens ms) → AllByRecursion IsWordNamed (flat_map member_variable ms)
 members_named [] a = tt
-members_named (member.Var v ∷ ms) a = ((left (var_tokens v) (flat_map member_tokens ms) a).1.0, members_named ms (right (var_tokens v) (flat_map member_tokens ms) a))
+members_named (member.Var v ∷ ms) a = (variable_named v (flat_map member_tokens ms) a, members_named ms (right (var_tokens v) (flat_map member_tokens ms) a))
 members_named (member.Where w ∷ ms) a = members_named ms (right (member_tokens (member.Where w)) (flat_map member_tokens ms) a)
 
 abbrev pub AreOwnNamed : ClassDecl → Type 0
 AreOwnNamed d = AllByRecursion IsWordNamed (own d)
 
-class_named : (d : ClassDecl) → AllByRecursion IsWorded (item_tokens (item.Class d)) → AreOwnNamed d
+class_named : (d : ClassDecl) → AreWords (item_tokens (item.Class d)) → AreOwnNamed d
 class_named d a =
     let body = flat_map member_tokens d.members in
     let opened : List Token = token.Mark mark.OpenBrace ∷ (body ++ token.Mark mark.CloseBrace ∷ []) in
-    let words = right (abstract_tokens d.is_abstract) (token.Key key.Class ∷ token.Word d.name.name ∷ (parent_tokens d.parent ++ opened)) a in
-    let inner = right (parent_tokens d.parent) opened words.1.1 in
-    members_named d.members (left body (token.Mark mark.CloseBrace ∷ []) inner.1)
+    let named : List Token = token.Key key.Class ∷ token.Word d.name.name ∷ (parent_tokens d.parent ++ opened) in
+    let words = and_parts (is_word d.name.name) (list_all is_worded (parent_tokens d.parent ++ opened)) (right (abstract_tokens d.is_abstract) named a) in
+    let inner = right (parent_tokens d.parent) opened words.1 in
+    members_named d.members (left body (token.Mark mark.CloseBrace ∷ []) inner)
 
-roots_named : (is : List Item) → AllByRecursion IsWorded (flat_map item_tokens is) → AllByRecursion IsWordNamed (flat_map item_root is)
+roots_named : (is : List Item) → AreWords (flat_map item_tokens is) → AllByRecursion IsWordNamed (flat_map item_root is)
 roots_named [] a = tt
-roots_named (item.Var v ∷ is) a = ((left (var_tokens v) (flat_map item_tokens is) a).1.0, roots_named is (right (var_tokens v) (flat_map item_tokens is) a))
+roots_named (item.Var v ∷ is) a = (variable_named v (flat_map item_tokens is) a, roots_named is (right (var_tokens v) (flat_map item_tokens is) a))
 roots_named (item.Class d ∷ is) a = roots_named is (right (item_tokens (item.Class d)) (flat_map item_tokens is) a)
 roots_named (item.Enum d ∷ is) a = roots_named is (right (item_tokens (item.Enum d)) (flat_map item_tokens is) a)
 roots_named (item.Where w ∷ is) a = roots_named is (right (item_tokens (item.Where w)) (flat_map item_tokens is) a)
 roots_named (item.Goal g ∷ is) a = roots_named is (right (item_tokens (item.Goal g)) (flat_map item_tokens is) a)
 
-classes_named : (is : List Item) → AllByRecursion IsWorded (flat_map item_tokens is) → AllByRecursion AreOwnNamed (flat_map item_class is)
+classes_named : (is : List Item) → AreWords (flat_map item_tokens is) → AllByRecursion AreOwnNamed (flat_map item_class is)
 classes_named [] a = tt
 classes_named (item.Class d ∷ is) a = (class_named d (left (item_tokens (item.Class d)) (flat_map item_tokens is) a), classes_named is (right (item_tokens (item.Class d)) (flat_map item_tokens is) a))
 classes_named (item.Var v ∷ is) a = classes_named is (right (item_tokens (item.Var v)) (flat_map item_tokens is) a)
@@ -204,22 +187,17 @@ declared_at names [] k v g = cc
 declared_at names (d ∷ ds) zero v g = record { decl = d; has = refl; name_is = ap (λ (x : Option Variable). option_map_or (λ (y : Variable). y.name) x []) g }
 declared_at names (d ∷ ds) (suc k) v g = let r = declared_at names ds k v g in record { decl = r.decl; has = r.has; name_is = r.name_is }
 
-none_in : (xs : List ℕ) → ((at : ℕ) → Contains xs at → ⊥) → xs ≡ []
-none_in [] h = refl
-none_in (x ∷ xs) h = absurd (h x (0, omega arith, refl))
-
--- names that a text spells, in a model where no fault stands
-pub outline_named : (text : List ℕ) (tokens : List Placed) (p : Program) → Spells text tokens → bare tokens ≡ program_tokens p → ((fault : TableFault) → Stands p.items fault → ⊥) → IsNamed (outline p.items)
-outline_named text tokens p s same no_fault =
-    let names = space p.items in
-    let words : AllByRecursion IsWorded (flat_map item_tokens p.items) = subst (AllByRecursion IsWorded) (ap bare (sym s.2) ∙ same) (row_worded 0 text s.0 [] s.1) in
-    let cs = map (class_of names) (classes p.items) in
-    let once : repeated (declared p.items) [] ≡ [] = none_in (repeated (declared p.items) []) (λ at h. no_fault (Duplicate at) (name_repeated h)) in
+-- the names of a table whose items have words for words, none of which is declared twice
+pub table_named : (items : List Item) (names : Space) (cs : List Class) (es : List Enumeration) (vs : List Variable) → names ≡ space items → cs ≡ map (class_of (space items)) (classes items) → vs ≡ map (variable_of (space items)) (roots items) → AreWords (flat_map item_tokens items) → repeated (declared items) [] ≡ [] → IsNamed (record { names = names; classes = cs; enumerations = es; roots = vs })
+table_named items names cs es vs names_are classes_are roots_are words once =
+    let made = map (class_of (space items)) (classes items) in
+    let of_roots = All-from_recursion IsPlain (map (variable_of (space items)) (roots items)) (variables_plain (space items) (roots items) (roots_named items words)) in
+    let of_classes = λ (c : ℕ). All-from_recursion IsPlain (attributes made c) (within_plain (parent_in made) (own_in made) (length made) (λ d. own_plain (space items) (classes items) d (classes_named items words)) (length made) c) in
     record {
-      roots = All-from_recursion IsPlain (map (variable_of names) (roots p.items)) (variables_plain names (roots p.items) (roots_named p.items words));
-      attributes = λ c. All-from_recursion IsPlain (attributes cs c) (within_plain (parent_in cs) (own_in cs) (length cs) (λ d. own_plain names (classes p.items) d (classes_named p.items words)) (length cs) c);
+      roots = subst (All IsPlain) (sym roots_are) of_roots;
+      attributes = λ c. subst (λ xs. All IsPlain (attributes xs c)) (sym classes_are) (of_classes c);
       meant = λ k v g.
-          let d = declared_at names (roots p.items) k v g in
+          let d = declared_at (space items) (roots items) k v (ap (λ xs. slice_get xs k) (sym roots_are) ∙ g) in
           let at : 0 + k ≡ k = omega arith in
-          ap (means names) (sym d.name_is) ∙ root_means p.items [] 0 0 0 k d.decl once d.has ∙ ap (λ n. Some (meaning.Variable n)) at;
+          ap (λ n. means n v.name) names_are ∙ ap (means (space items)) (sym d.name_is) ∙ root_means items [] 0 0 0 k d.decl once d.has ∙ ap (λ n. Some (meaning.Variable n)) at;
     }

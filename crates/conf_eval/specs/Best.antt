@@ -1,9 +1,9 @@
--- The best configuration of a model, and what a trial of all configurations answers.
-use Rattle.std.specs.Prelude.{◌≡◌, ℕ, ◌<◌, false, List, ℤ, Option, None, Some}
+-- The best configurations of a model, and that it has none that satisfies its constraints.
+use Rattle.std.specs.Prelude.{◌≡◌, false, List, ℤ}
 use Rattle.class_table.specs.Outline.{Outline}
 use Rattle.conf_types.specs.Programs.{ResolvedConstraint, ResolvedGoal}
-use Rattle.conf_eval.specs.Satisfying.{Satisfies, objectives, better}
 use Rattle.object_alloc.specs.Configurations.{IsConfiguration}
+use Rattle.conf_eval.specs.Satisfying.{Satisfies, objectives, better}
 
 -- no configuration that satisfies the constraints is better
 abbrev pub IsBest : Outline → List ResolvedConstraint → List ResolvedGoal → List ℤ → Type 0
