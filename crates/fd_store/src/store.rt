@@ -1,10 +1,10 @@
 //! `Store`, the boxes of a search in levels.
 //!
 //! Level 0 begins with the domains of a ground problem. A decision opens a level, prunings stay in
-//! the last one, and `undo_to` goes back to a lower level as it was left. Between boxes and domains
-//! stands nothing else: of each variable there is one box, and of each change an entry of the
-//! trail that owns the box before, so a change costs one entry and going back costs the entries
-//! that are taken back. Contracts see the levels (`specs/Levels`).
+//! the last one, and `undo_to` goes back to a lower level as it was left. A store has one box for
+//! each variable, and for each change an entry of the trail, which owns the box before. So a change
+//! costs one entry, and going back costs the entries that are taken back, whatever the number of
+//! variables. Contracts see the levels (`specs/Levels`).
 ghost use Rattle.std.specs.Prelude.{◌≡◌, ◌<◌, ◌≤◌, true, false, reverse, length, IfOk, IfSome, OnOk, OnErr};
 ghost use Rattle.std.specs.List.{All};
 ghost use Rattle.signed_clause.specs.Ranges.{is_nil, IsValid};

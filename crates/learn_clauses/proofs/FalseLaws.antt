@@ -71,8 +71,7 @@ false_in-unseen (l ∷ c) boxes x b h =
           rw (at, more) refl
     ]
 
--- where a clause is false, it stays so with another box of x exactly where what it says of x misses
--- that box
+-- a false clause stays so with another box of x exactly where its set of x is disjoint from that box
 pub false_in-set : (c : Literals) (n : ℕ) (boxes : Boxes) (x : ℕ) (b : Ranges) → IsClauseFrom n c →
     x < length boxes → false_in boxes c ≡ true →
     false_in (slice_set boxes x b) c ≡ is_disjoint (set_of c x) b
@@ -96,7 +95,7 @@ false_in-set (l ∷ c) n boxes x b f lt h =
           rw (at, more, is) refl
     ]
 
--- what meets a box isn't said without a literal
+-- where a clause's set of x has a value of some box, there is a literal of x
 pub has_var-met : (c : Literals) (x : ℕ) (b : Ranges) → is_disjoint (set_of c x) b ≡ false →
     has_var c x ≡ true
 has_var-met [] x b h = absurd (cc)

@@ -3,4 +3,4 @@ pub mod EntryLaws
 pub mod WithinLaws
 pub mod BackLaws
 pub mod Walking
-pub mod WalkPlaces
+pub mod WalkByIndex

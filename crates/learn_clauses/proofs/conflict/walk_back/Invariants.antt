@@ -1,6 +1,6 @@
 use Rattle.std.proofs.Common.{◌≡◌, ◌≤◌, length}
 use Rattle.signed_clause.specs.Running.{listed}
-use Rattle.learn_clauses.proofs.WalkPlaces.{WalkingAt}
+use Rattle.learn_clauses.proofs.WalkByIndex.{WalkingAt}
 use Rattle.learn_clauses.proofs.conflict.walk_back.Given as goal
 
 abbrev pub invariant-loop-left : goal.invariant-loop-left
