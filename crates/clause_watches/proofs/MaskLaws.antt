@@ -1,5 +1,5 @@
 -- Masks and single values that show a common value of two sets.
-use Rattle.std.proofs.Common.{◌≡◌, ◌≢◌, ℕ, ◌<◌, Bool, true, false, ℤ, pos, ◌+ℤ◌, ◌≤ℤ◌, int_le, arith, sym, ap, ◌∙◌, bit_and, min, ◌+◌, ◌⊎◌, inl, inr, zero, suc, refl, ◌≤◌, ◌-◌, ◌*◌, ◌/◌, ◌%◌, ◌^◌, bit_or, max, [], ◌∷◌, length, slice_index_or, subst}
+use Rattle.std.proofs.Common.{◌≡◌, ◌≢◌, ℕ, ◌<◌, ◌&&◌, Bool, true, false, ℤ, pos, ◌+ℤ◌, ◌≤ℤ◌, int_le, arith, sym, ap, ◌∙◌, bit_and, min, ◌+◌, ◌⊎◌, inl, inr, zero, suc, refl, ◌≤◌, ◌-◌, ◌*◌, ◌/◌, ◌%◌, ◌^◌, bit_or, max, [], ◌∷◌, length, slice_index_or, subst}
 use Rattle.std.proofs.lemmas.Bool.{false_from_ne_true}
 use Rattle.std.proofs.lemmas.Int.{ints}
 use Rattle.std.proofs.lemmas.Nat.Bits.{bit_at_and, bit_at_or, bit_at-lt, bit_at-zero, same_from_bits, ones_shl, ones_shr, bit_at_mask_below, bit_at_ones_above}
@@ -8,7 +8,7 @@ use Rattle.signed_clause.specs.Ranges.{Ranges, has, in_range, IsValid}
 use Rattle.signed_clause.specs.SetAlgebra.{is_disjoint}
 use Rattle.signed_clause.proofs.ClauseLaws.{has_from_disjoint}
 use Rattle.clause_watches.specs.Rows.{IsMaskOf}
-use Rattle.clause_watches.proofs.TestLaws.{or_right, and_true}
+use Rattle.clause_watches.proofs.TestLaws.{or_right}
 
 -- a common value
 pub common_meets : (a b : Ranges) (v : ℤ) → IsValid a → IsValid b →
@@ -97,8 +97,20 @@ mask_more least set xs i r d m n is h e old more j t =
     ]
 
 -- a bit from the first to the last stands for a value of the range
-pub bit_in_range : (r : ℤ × ℤ) (least : ℤ) (first last j : ℕ) → r.0 ≤ℤ (least +ℤ pos first) →
-    (least +ℤ pos last) ≤ℤ r.1 → first ≤ j → j ≤ last → in_range r (least +ℤ pos j) ≡ true
-bit_in_range r least first last j low high f l =
-    and_true (int_le r.0 (least +ℤ pos j)) (int_le (least +ℤ pos j) r.1)
-    (grind (arith, ints)) (grind (arith, ints))
+in_between : (low high v : ℤ) → low ≤ℤ v → v ≤ℤ high → (int_le low v && int_le v high) ≡ true
+in_between low high v f l = grind (arith, ints)
+
+pub bit_in_range : (r : ℤ × ℤ) (least lo hi l : ℤ) (first far last j : ℕ) → l ≡ least → lo ≡ r.0 →
+    hi ≡ r.1 → lo ≤ℤ (l +ℤ pos first) → (l ≤ℤ hi → l +ℤ pos far ≡ hi) → least ≤ℤ r.1 →
+    last ≡ min far 63 → first ≤ j → j ≤ last → in_range r (least +ℤ pos j) ≡ true
+bit_in_range r least lo hi l first far last j el e0 e1 low high h cut f le =
+    let start : r.0 ≤ℤ (least +ℤ pos first) =
+    subst (λ (a : ℤ). a ≤ℤ (least +ℤ pos first)) e0
+    (subst (λ (b : ℤ). lo ≤ℤ (b +ℤ pos first)) el low) in
+    let there : l ≤ℤ hi =
+    subst (λ (a : ℤ). a ≤ℤ hi) (sym el) (subst (λ (b : ℤ). least ≤ℤ b) (sym e1) h) in
+    let end : least +ℤ pos far ≡ r.1 = subst (λ (a : ℤ). a +ℤ pos far ≡ r.1) el (high there ∙ e1) in
+    let near : j ≤ far = omega arith in
+    in_between r.0 r.1 (least +ℤ pos j)
+    (omega (arith, ints, start))
+    (omega (arith, ints, end))

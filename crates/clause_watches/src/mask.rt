@@ -22,7 +22,6 @@ pub(crate) fn mask_of(set: &IntSet, least: i64) -> u64
 }
 
 /// The values of a range from `least` on as bits.
-#[tactic(auto, using(crate::proofs::MaskLaws::bit_in_range))]
 fn range_bits(r: (i64, i64), least: i64) -> u64
     ensures { (j : ℕ) → bit_at result j ≡ 1 → in_range r (least +ℤ pos j) ≡ true }
 {

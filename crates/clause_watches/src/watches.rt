@@ -52,8 +52,8 @@ impl Watches {
         Ok(Watches { table })
     }
 
-    /// Adds a clause with its number, to be looked at. It makes the room that noting and listing the
-    /// clause will ever need; a copy of a handle is enough, the clause isn't copied.
+    /// Adds a clause with its number, to be looked at. It makes the room that listing the clause
+    /// will ever need. The watches own a handle: the clause itself isn't copied.
     ///
     /// # Errors
     /// Want of memory, or more clauses than 32 bits number; the watches are as before.

@@ -10,11 +10,10 @@ unmark-requires c =
 
 pub invariant_of-self-2 : goal.invariant_of-self-2
 invariant_of-self-2 c =
-    let t = taken _ _ c.pop.new.self.items c.in_ok-k.k c.self.invariant.0 c.in_ok-k.ensures.items in (
-      subst (λ (m : List Bool). IsKept m c.pop.new.self.items) (sym c.unmark.ensures) t.kept,
-      search
-          rules,
-    )
+    let t = taken _ _ c.pop.new.self.items c.in_ok-k.k c.self.invariant.0 c.in_ok-k.ensures.items in
+    let list = c.pop.new.self.items in
+    let kept = subst (λ (m : List Bool). IsKept m list) (sym c.unmark.ensures) t.kept in
+    (kept, search rules)
 
 pub returns-clause-waited : goal.returns-clause-waited
 returns-clause-waited c =
