@@ -15,7 +15,7 @@ const VARIABLES: u32 = 30;
 const CLAUSES: u32 = 100;
 
 /// How many kinds of logs there are.
-pub(crate) const KINDS: u32 = 6;
+pub(crate) const KINDS: u32 = 7;
 
 /// A log.
 #[derive(Drop)]
@@ -26,12 +26,20 @@ pub(crate) struct Log {
     pub text: Vec<u8>,
 }
 
-/// A kind of log: how many literals its clauses have, how many steps its chains, 0 where it is one
-/// of axioms, and by how much its lines are many.
+/// What clauses are like: how many literals they have, and whether each literal of a clause says
+/// less than that of the clause before.
+#[derive(Clone, Copy)]
+struct Shape {
+    literals: u32,
+    grows: bool,
+}
+
+/// A kind of log: how many steps its chains have, 0 where it is one of axioms, and by how much its
+/// lines are many.
 #[derive(Clone, Copy)]
 struct Kind {
     name: &'static str,
-    literals: u32,
+    shape: Shape,
     steps: u32,
     lines: u32,
 }
@@ -44,22 +52,25 @@ fn nth_kind(kind: u32) -> Kind {
         2 => ("chains of 3 steps, 1 literal", 1, 3, 100),
         3 => ("chains of 10 steps, 30 literals", 30, 10, 10),
         4 => ("chains of 30 steps, 30 literals", 30, 30, 4),
-        _ => ("chains of 100 steps, 30 literals", 30, 100, 2),
+        5 => ("chains of 100 steps, 30 literals", 30, 100, 2),
+        _ => ("chains of 30 steps, 30 literals that grow", 30, 30, 4),
     };
+    let grows = kind == 6;
     Kind {
         name,
-        literals,
+        shape: Shape { literals, grows },
         steps,
         lines,
     }
 }
 
 /// The greatest value that a clause of a number gives a variable; without a number 4.
-fn most_of(x: u32, number: Option<u32>) -> i64
+fn most_of(x: u32, number: Option<u32>, grows: bool) -> i64
     ensures { pos 0 ≤ℤ result }
 {
     match number {
         None => 4,
+        Some(number) if grows => i64::from(number).saturating_add(4).max(0),
         Some(number) => match x.wrapping_add(number) % 3 {
             0 => 4,
             1 => 5,
@@ -69,26 +80,35 @@ fn most_of(x: u32, number: Option<u32>) -> i64
 }
 
 /// The clause that some of the first variables has a small value.
-fn clause_of(alloc: Global, literals: u32, number: Option<u32>) -> Result<Clause, AllocError> {
+fn clause_of(alloc: Global, shape: Shape, number: Option<u32>) -> Result<Clause, AllocError> {
     let mut out = Vec::new(alloc);
-    for x in 0..literals {
-        let most = most_of(x, number);
+    for x in 0..shape.literals {
+        let most = most_of(x, number, shape.grows);
         out.push((x, IntSet::range(alloc, 0, most)))?;
     }
     Clause::of(out).map_err(|_| AllocError)
 }
 
-/// Variables of 0..9, and two clauses: of all of them, and of the first.
+/// The clause that some of the first variables is at most 4.
+fn plain_clause(alloc: Global, literals: u32) -> Result<Clause, AllocError> {
+    let shape = Shape {
+        literals,
+        grows: false,
+    };
+    clause_of(alloc, shape, None)
+}
+
+/// Variables of 0..199, and two clauses: of all of them, and of the first.
 pub(crate) fn problem(alloc: Global) -> Result<Ground, AllocError> {
     let mut domains = Vec::new(alloc);
     for _ in 0..VARIABLES {
-        domains.push(IntSet::range(alloc, 0, 9))?;
+        domains.push(IntSet::range(alloc, 0, 199))?;
     }
     let all = Con::ClauseCon {
-        clause: clause_of(alloc, VARIABLES, None)?,
+        clause: plain_clause(alloc, VARIABLES)?,
     };
     let first = Con::ClauseCon {
-        clause: clause_of(alloc, 1, None)?,
+        clause: plain_clause(alloc, 1)?,
     };
     Ok(Ground {
         domains: Domains::of(domains),
@@ -110,9 +130,9 @@ fn text_of(alloc: Global, line: Line) -> Result<Vec<u8>, AllocError> {
 }
 
 /// The text of an axiom, the clause of a number.
-fn axiom(alloc: Global, literals: u32, number: u32) -> Result<Vec<u8>, AllocError> {
-    let con = if literals == 1 { 1 } else { 0 };
-    let clause = clause_of(alloc, literals, Some(number))?;
+fn axiom(alloc: Global, shape: Shape, number: u32) -> Result<Vec<u8>, AllocError> {
+    let con = if shape.literals == 1 { 1 } else { 0 };
+    let clause = clause_of(alloc, shape, Some(number))?;
     text_of(alloc, Line::Axiom(con, owned(alloc, clause)?))
 }
 
@@ -125,13 +145,13 @@ fn resolvent(alloc: Global, a: &Clause, b: &Clause, x: u32) -> Result<Clause, Al
 }
 
 /// The text of a chain, from clause 0 on, on one variable after the other.
-fn chain(alloc: Global, literals: u32, steps: u32) -> Result<Vec<u8>, AllocError> {
-    let mut last = clause_of(alloc, literals, Some(0))?;
+fn chain(alloc: Global, shape: Shape, steps: u32) -> Result<Vec<u8>, AllocError> {
+    let mut last = clause_of(alloc, shape, Some(0))?;
     let mut items = Vec::new(alloc);
     for step in 0..steps {
         let number = step % CLAUSES;
-        let x = step % literals.max(1);
-        let other = clause_of(alloc, literals, Some(number))?;
+        let x = step % shape.literals.max(1);
+        let other = clause_of(alloc, shape, Some(number))?;
         last = resolvent(alloc, &last, &other, x)?;
         items.push((x, u64::from(number)))?;
     }
@@ -143,10 +163,10 @@ fn chain(alloc: Global, literals: u32, steps: u32) -> Result<Vec<u8>, AllocError
 }
 
 /// The clauses that chains name, and then the line, so many times.
-fn repeated(alloc: Global, literals: u32, line: &[u8], times: u32) -> Result<Vec<u8>, AllocError> {
+fn repeated(alloc: Global, shape: Shape, line: &[u8], times: u32) -> Result<Vec<u8>, AllocError> {
     let mut text = Vec::new(alloc);
     for number in 0..CLAUSES {
-        text.extend_from_slice(axiom(alloc, literals, number)?.as_slice())?;
+        text.extend_from_slice(axiom(alloc, shape, number)?.as_slice())?;
     }
     for _ in 0..times {
         text.extend_from_slice(line)?;
@@ -158,13 +178,13 @@ fn repeated(alloc: Global, literals: u32, line: &[u8], times: u32) -> Result<Vec
 pub(crate) fn nth_log(alloc: Global, number: u32, times: u32) -> Result<Log, AllocError> {
     let kind = nth_kind(number);
     let line = if kind.steps == 0 {
-        axiom(alloc, kind.literals, 0)?
+        axiom(alloc, kind.shape, 0)?
     } else {
-        chain(alloc, kind.literals, kind.steps)?
+        chain(alloc, kind.shape, kind.steps)?
     };
     let times = kind.lines.saturating_mul(times);
     Ok(Log {
         name: kind.name,
-        text: repeated(alloc, kind.literals, line.as_slice(), times)?,
+        text: repeated(alloc, kind.shape, line.as_slice(), times)?,
     })
 }
