@@ -13,18 +13,24 @@ ghost use Rattle.conf_eval.specs.TypedValues.{HasType};
 
 use object_alloc::{Config, Objects, configuration_is_hints};
 
-/// The value of a typed expression is of its type and in its interval, and lists at most as many objects as the expression
-/// reaches.
+/// The value of a typed expression is of its type and in its interval, and lists at most as many
+/// objects as the expression reaches.
 pub fn values_keep_to_measures(objects: &Objects<'_>, config: &Config)
     requires config { IsConfiguration objects.now config.now }
-    ensures typed { (t : Tree) (s : Setting) (ty : AnExprType) → HasType objects.now config.now t s ty → IsValueOf objects.now ty (value t s) }
-    ensures within { (t : Tree) (s : Setting) (ty : AnExprType) → HasType objects.now config.now t s ty → IsWithin (interval objects.now t) (int_of (value t s)) }
-    ensures reached { (t : Tree) (s : Setting) (ty : AnExprType) → HasType objects.now config.now t s ty → IsReached (reach objects.now t) ty (value t s) }
+    ensures typed { (t : Tree) (s : Setting) (ty : AnExprType)
+        → HasType objects.now config.now t s ty → IsValueOf objects.now ty (value t s) }
+    ensures within { (t : Tree) (s : Setting) (ty : AnExprType)
+        → HasType objects.now config.now t s ty
+        → IsWithin (interval objects.now t) (int_of (value t s)) }
+    ensures reached { (t : Tree) (s : Setting) (ty : AnExprType)
+        → HasType objects.now config.now t s ty
+        → IsReached (reach objects.now t) ty (value t s) }
 {
     let _count = objects.count();
 }
 
-/// The values of a configuration in which each reference set has as many members as its shape says are hints.
+/// The values of a configuration in which each reference set has as many members as its shape says
+/// are hints.
 pub fn full_sets_are_hints(objects: &Objects<'_>, config: &Config)
     requires config { IsConfiguration objects.now config.now }
     requires sets { All (IsFull objects.now config.now) (leaves_in (walk objects.now)) }

@@ -1,5 +1,6 @@
--- Hints: for each cell the value that it had before, if it had one. The cells of a leaf have all a hint, or none of them has one; each
--- hint lies in its cell's domain; and a reference set that has hints has as many members in them as its shape says.
+-- Hints: for each cell the value that it had before, if it had one. The cells of a leaf have all a
+-- hint, or none of them has one; each hint lies in its cell's domain; and a reference set that has
+-- hints has as many members in them as its shape says.
 use Rattle.std.specs.Prelude.{◌≡◌, ◌++◌, ◌⊎◌, ℕ, suc, cond, List, [], ◌∷◌, Option, None, Some, ℤ, length, map, replicate}
 use Rattle.class_table.specs.declared.table.Resolved.{Resolved}
 use Rattle.class_table.specs.declared.table.Resolved.TheVariants.{Span, Truth, Choice, One, Many, Ref, RefSet}

@@ -11,7 +11,8 @@ use crate::objects::Objects;
 use std::alloc::{AllocError, Global};
 
 impl Hints {
-    /// The values of a configuration, each as the hint for its cell. The cost is the number of cells.
+    /// The values of a configuration, each as the hint for its cell. The cost is the number of
+    /// cells.
     pub fn of_config(alloc: Global, config: &Config) -> Result<Self, AllocError>
         ensures values { IfOk result (λ hints. hints ≡ map Some config.now) }
     {
@@ -23,8 +24,8 @@ impl Hints {
     }
 }
 
-/// It does nothing; its contract is the law. The values of a configuration in which each reference set has its size are
-/// hints.
+/// It does nothing; its contract is the law. The values of a configuration in which each reference
+/// set has its size are hints.
 #[tactic(auto, using(crate::proofs::HintLaws::configuration_hints))]
 pub fn configuration_is_hints(objects: &Objects<'_>, config: &Config)
     requires config { IsConfiguration objects.now config.now }
@@ -34,7 +35,8 @@ pub fn configuration_is_hints(objects: &Objects<'_>, config: &Config)
     let _count = objects.count();
 }
 
-/// It does nothing; its contract is the law. There are as many hints as cells, and each hint lies in its cell's domain.
+/// It does nothing; its contract is the law. There are as many hints as cells, and each hint lies in
+/// its cell's domain.
 pub fn hints_lie_in_domains(objects: &Objects<'_>, hints: &Hints)
     requires hints { AreHints objects.now hints.now }
     ensures cells { AreCellHints objects.now (cells objects.now) hints.now }
