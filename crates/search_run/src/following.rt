@@ -1,7 +1,7 @@
 //! What may follow a run, where more than the line's own rule stands behind it, and which levels
 //! a learnt clause leaves. Like the laws, these are contracts of functions that do nothing but look
 //! at the lines once.
-ghost use Rattle.std.specs.Prelude.{◌≡◌, ◌↔◌, ◌-◌, false, ◌++◌, ◌∷◌, [], true, ℕ, Some, slice_get};
+ghost use Rattle.std.specs.Prelude.{◌≡◌, ◌↔◌, ◌-◌, false, ◌++◌, ◌∷◌, [], true, ℕ, Some, is_some, slice_get};
 ghost use Rattle.ground_form.specs.declared.con.Con.{Con};
 ghost use Rattle.ground_form.specs.Bounds.{singles};
 ghost use Rattle.ground_form.specs.Solutions.{IsSolution};
@@ -10,6 +10,7 @@ ghost use Rattle.box_rules.specs.Quiet.{quiet};
 ghost use Rattle.log_form.specs.declared.line.Line.TheVariants as kinds;
 ghost use Rattle.log_form.specs.Acceptance.{made, states};
 ghost use Rattle.signed_clause.specs.Ranges.{is_nil};
+ghost use Rattle.signed_clause.specs.Clauses.{unit_of};
 ghost use Rattle.fd_store.specs.Levels.{dropped};
 ghost use Rattle.learn_clauses.specs.Walk.{walk_from, back_to};
 ghost use Rattle.search_run.specs.Conflicts.{LeadsFrom};
@@ -37,8 +38,8 @@ pub fn walk_may_follow(g: &Ground, lines: &[Line], chain: &Chain, clause: &Claus
 }
 
 /// From which level of a run a clause with literals leads back: there is at most one level in whose
-/// first boxes it is false while it isn't in the present boxes of the level below, and what is left
-/// where it leads back are the levels below that one.
+/// first boxes it is false while it isn't in the present boxes of the level below. What is left
+/// where it leads back are the levels below that one, and there it is unit.
 pub fn one_level_leads_back(g: &Ground, lines: &[Line], clause: &Clause)
     requires well_made { IsWellMade g.now }
     requires run { is_run g.now lines.now ≡ true }
@@ -48,6 +49,9 @@ pub fn one_level_leads_back(g: &Ground, lines: &[Line], clause: &Clause)
     ensures level { (k : ℕ) → LeadsFrom clause.now (state_of g.now lines.now).levels k
         → back_to clause.now (state_of g.now lines.now).levels
         ≡ Some (dropped (k - 1) (state_of g.now lines.now).levels) }
+    ensures unit { (k : ℕ) → LeadsFrom clause.now (state_of g.now lines.now).levels k
+        → is_some (unit_of (dropped (k - 1) (state_of g.now lines.now).levels).top.now clause.now)
+        ≡ true }
 {
     know_lines(lines);
     clause.literals();
