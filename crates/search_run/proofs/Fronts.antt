@@ -1,7 +1,8 @@
 -- Fronts of runs, and a line more.
-use Rattle.std.proofs.Common.{◌≡◌, ℕ, zero, suc, true, ◌&&◌, List, [], ◌∷◌, ◌++◌, take, refl, sym, ap, ◌∙◌}
+use Rattle.std.proofs.Common.{◌≡◌, ℕ, zero, suc, true, false, ◌&&◌, List, [], ◌∷◌, ◌++◌, take, refl, sym, ap, ◌∙◌}
 use Rattle.std.proofs.Math.Bool.{and-true, and_assoc}
 use Rattle.std.proofs.lemmas.Bool.{and_parts, and_from}
+use Rattle.signed_clause.specs.Ranges.{is_nil}
 use Rattle.ground_form.specs.declared.ground.Ground.{Ground}
 use Rattle.log_form.specs.declared.line.Line.{Line}
 use Rattle.log_form.specs.Acceptance.{Made, may_come, after, accepted_from, accepted, made_from, made}
@@ -81,5 +82,17 @@ pub run_more : (g : Ground) (ls : List Line) (l : Line) →
     is_run g (ls ++ l ∷ [])
     ≡ (is_run g ls && (may_come g (made g ls) l && may_stand g (made g ls) (state_of g ls) l))
 run_more g ls l = run_behind g acceptance.start (start g) ls l
+
+-- ---- the first line
+
+stale : (g : Ground) (m : Made) (s : State) (ls : List Line) → s.fresh ≡ false →
+    (state_from g m s ls).fresh ≡ false
+stale g m s [] h = h
+stale g m s (l ∷ ls) h = stale g (after g m l) (next g m s l) ls refl
+
+pub run_fresh : (g : Ground) (ls : List Line) → (state_of g ls).fresh ≡ is_nil ls
+run_fresh g [] = refl
+run_fresh g (l ∷ ls) =
+    stale g (after g acceptance.start l) (next g acceptance.start (start g) l) ls refl
 
 pub ruleset laws_of_more = (run_more, made_more, state_more)

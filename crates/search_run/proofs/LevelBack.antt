@@ -1,12 +1,12 @@
 -- A clause leads back from at most one level of a run, and that is the one that is found.
-use Rattle.std.proofs.Common.{◌≡◌, ℕ, suc, ◌-◌, ◌≤◌, inl, inr, true, false, not, ◌&&◌, cond, List, [], ◌∷◌, length, refl, sym, ap, ◌∙◌, arith, subst, Some, None, is_some}
+use Rattle.std.proofs.Common.{◌≡◌, ℕ, suc, ◌-◌, ◌≤◌, inl, inr, true, false, not, ◌&&◌, cond, List, [], ◌∷◌, length, refl, sym, ap, ◌∙◌, arith, subst, slice_set, Some, None, is_some}
 use Rattle.std.proofs.lemmas.Bool.{and_parts, cases_lt, lt-ltb, le-ltb, not-true}
-use Rattle.signed_clause.specs.Clauses.{Boxes, Literals, false_in, IsClause}
+use Rattle.signed_clause.specs.Clauses.{Boxes, Literals, false_in, IsClause, unit_of}
 use Rattle.fd_store.specs.Levels.{Level, Stack, dropped_from, dropped}
 use Rattle.learn_clauses.specs.Walk.{back_from, back_to}
 use Rattle.search_run.specs.Conflicts.{LeadsFrom}
-use Rattle.search_run.proofs.Units.{none_some}
-use Rattle.search_run.proofs.LevelFacts.{Keeps, AreLevels, IsStack}
+use Rattle.search_run.proofs.Units.{some_same, none_some, unit_before}
+use Rattle.search_run.proofs.LevelFacts.{Keeps, AreLevels, IsStack, levels_boxes, opened_keeps}
 
 -- ---- the levels up to k
 
@@ -43,7 +43,8 @@ false_now clauses domains top (l ∷ ls) c k f a h e =
           lower_left l ls top k part in
           let lower : false_in l.now c ≡ true = false_now clauses domains l ls c k f a.2 part
           (subst (λ (s : Stack). false_in s.top.first c ≡ true) at e) in
-          a.0.keeps c f (a.1 c f lower)
+          let boxes = levels_boxes clauses domains l ls a.2 in
+          a.0.keeps c f (opened_keeps l.now top.first boxes.sets a.1 c f lower)
     ]
 
 -- ---- the level that is found
@@ -147,7 +148,38 @@ found_leads c top (l ∷ ls) lower h =
           let more = found_leads c l ls lower e in (more.0, leads_lower c top l ls more.0 more.1)
     ]) refl h
 
+-- a clause is unit in the present boxes of the level below the one that it leads back from
+unit_back : (clauses : List Literals) (domains : Boxes) (c : Literals) (top : Level)
+    (below : List Level) (lower : Stack) → IsClause c → AreLevels clauses domains top below →
+    back_from c top below ≡ Some lower → is_some (unit_of lower.top.now c) ≡ true
+unit_back clauses domains c top [] lower f a h = absurd (none_some lower h)
+unit_back clauses domains c top (l ∷ ls) lower f a h =
+    (elim (false_in top.first c && not (false_in l.now c)) as (λ b.
+    (false_in top.first c && not (false_in l.now c)) ≡ b →
+    cond b (Some (here l ls)) (back_from c l ls) ≡ Some lower →
+    is_some (unit_of lower.top.now c) ≡ true) [
+      | true ↦ λ b e.
+          let parts = and_parts (false_in top.first c) (not (false_in l.now c)) b in
+          let boxes = levels_boxes clauses domains l ls a.2 in
+          let o = a.1 in
+          let first : false_in (slice_set l.now o.var o.half) c ≡ true =
+          subst (λ (b : Boxes). false_in b c ≡ true) o.is parts.0 in
+          let unit = unit_before c 0 l.now o.var o.half f boxes.sets o.is_half first
+          (not-true (false_in l.now c) parts.1) in
+          let some : is_some (unit_of l.now c) ≡ true = rw unit.1.unit refl in
+          subst (λ (s : Stack). is_some (unit_of s.top.now c) ≡ true)
+          (some_same (here l ls) lower e) some
+      | false ↦ λ b e. unit_back clauses domains c l ls lower f a.2 e
+    ]) refl h
+
 -- ---- of a whole stack
+
+pub level_unit : (clauses : List Literals) (domains : Boxes) (s : Stack) (c : Literals) (k : ℕ) →
+    IsClause c → IsStack clauses domains s → LeadsFrom c s k →
+    is_some (unit_of (dropped (k - 1) s).top.now c) ≡ true
+level_unit clauses domains s c k f a w =
+    unit_back clauses domains c s.top s.below (dropped (k - 1) s) f a
+    (back_is clauses domains s.top s.below c k f a w)
 
 pub back_from_level : (clauses : List Literals) (domains : Boxes) (s : Stack) (c : Literals)
     (k : ℕ) → IsClause c → IsStack clauses domains s → LeadsFrom c s k →

@@ -6,12 +6,13 @@ use Rattle.signed_clause.specs.Ranges.{Ranges, has, is_nil, IsValid, IsSubset}
 use Rattle.signed_clause.specs.SetAlgebra.{meet}
 use Rattle.signed_clause.specs.Clauses.{Boxes, Literals, box_of, false_in, unit_of, IsClause}
 use Rattle.signed_clause.specs.Running.{AreValid}
+use Rattle.signed_clause.proofs.SetFacts.{within_law}
 use Rattle.signed_clause.proofs.RangeSteps.{has-meet_valid, IsValid-meet}
 use Rattle.fd_store.specs.Levels.{Entry, Level, Stack}
 use Rattle.log_form.specs.Acceptance.{clause_at}
 use Rattle.learn_clauses.specs.Walk.{IsFrom, AreFrom, CameFrom, trail_from, domains_from, domains_of}
 use Rattle.learn_clauses.proofs.FalseLaws.{false_in-narrower}
-use Rattle.search_run.proofs.Units.{box-set_same, box-set_other, AreValid-set, IsUnitBy}
+use Rattle.search_run.proofs.Units.{box-set_same, box-set_other, AreValid-set, IsUnitBy, IsHalf}
 
 -- ---- boxes in the domains
 
@@ -67,6 +68,15 @@ part_keeps boxes x s a lt p c f h =
     (λ v k. k) in
     false_in-narrower c new boxes f (AreValid-set boxes x s lt a p.valid) a sub h
 
+-- the half of a decision is a part
+pub half_part : (boxes : Boxes) (x : ℕ) (half : Ranges) → AreValid boxes → IsHalf boxes x half →
+    IsPart (box_of boxes x) half
+half_part boxes x half a w = record {
+  valid = w.valid;
+  within = (within_law half (box_of boxes x) w.valid (a x)).0 w.part;
+  some = w.some;
+}
+
 pub unit_part : (boxes : Boxes) (u : ℕ × Ranges) (s : Ranges) → AreValid boxes →
     IsUnitBy boxes u s → IsPart (box_of boxes u.0) u.1
 unit_part boxes u s a w =
@@ -97,12 +107,25 @@ pub record IsLevel (clauses : List Literals) (domains before : Boxes) (l : Level
   pub boxes : AreBoxesIn domains l.now
   pub keeps : Keeps l.first l.now
 
--- each level led from the boxes below, and level 0 from the domains; and what is false in boxes
--- stays so in those above
+-- the first boxes are those below with a half for one of them
+pub record IsOpened (below first : Boxes) : Type 0 where
+  pub var : ℕ
+  pub half : Ranges
+  pub is_half : IsHalf below var half
+  pub is : first ≡ slice_set below var half
+
+pub opened_keeps : (below first : Boxes) → AreValid below → IsOpened below first →
+    Keeps below first
+opened_keeps below first a o c f h =
+    let part = half_part below o.var o.half a o.is_half in
+    let kept = part_keeps below o.var o.half a o.is_half.exists part c f h in
+    subst (λ (b : Boxes). false_in b c ≡ true) (sym o.is) kept
+
+-- each level led from the boxes below, by a decision there, and level 0 from the domains
 abbrev pub AreLevels : List Literals → Boxes → Level → List Level → Type 0
 AreLevels clauses domains top [] = IsLevel clauses domains domains top × (top.first ≡ domains)
 AreLevels clauses domains top (l ∷ ls) =
-    IsLevel clauses domains l.now top × Keeps l.now top.first × AreLevels clauses domains l ls
+    IsLevel clauses domains l.now top × IsOpened l.now top.first × AreLevels clauses domains l ls
 
 abbrev pub IsStack : List Literals → Boxes → Stack → Type 0
 IsStack clauses domains s = AreLevels clauses domains s.top s.below
@@ -137,7 +160,7 @@ pub stack_domains : (clauses : List Literals) (domains : Boxes) (s : Stack) →
     IsStack clauses domains s → domains_of s ≡ domains
 stack_domains clauses domains s a = levels_domains clauses domains s.top s.below a
 
-levels_boxes : (clauses : List Literals) (domains : Boxes) (top : Level) (below : List Level) →
+pub levels_boxes : (clauses : List Literals) (domains : Boxes) (top : Level) (below : List Level) →
     AreLevels clauses domains top below → AreBoxesIn domains top.now
 levels_boxes clauses domains top [] a = a.0.boxes
 levels_boxes clauses domains top (l ∷ ls) a = a.0.boxes

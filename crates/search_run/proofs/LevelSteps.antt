@@ -7,8 +7,8 @@ use Rattle.fd_store.specs.Levels.{Level, Stack, moved, reacted, pruned_by}
 use Rattle.fd_store.proofs.StackLaws.{put_back}
 use Rattle.log_form.specs.Acceptance.{clause_at}
 use Rattle.learn_clauses.specs.Walk.{IsFrom, AreFrom, back_from, back_to}
-use Rattle.search_run.proofs.Units.{some_same, none_some, box-set_same, unit_is}
-use Rattle.search_run.proofs.LevelFacts.{IsPart, part_in, part_keeps, unit_part, undone_by, IsLevel, AreLevels, IsStack, stack_boxes}
+use Rattle.search_run.proofs.Units.{some_same, none_some, box-set_same, unit_is, IsHalf}
+use Rattle.search_run.proofs.LevelFacts.{IsPart, part_in, part_keeps, half_part, unit_part, undone_by, IsLevel, AreLevels, IsStack, stack_boxes}
 
 -- ---- a pruning
 
@@ -82,18 +82,18 @@ reacted_stack clauses domains k c s lt is f a =
 -- ---- a decision
 
 pub decided_stack : (clauses : List Literals) (domains : Boxes) (x : ℕ) (half : Ranges)
-    (s : Stack) → x < length s.top.now → IsPart (box_of s.top.now x) half →
-    IsStack clauses domains s →
+    (s : Stack) → IsHalf s.top.now x half → IsStack clauses domains s →
     IsStack clauses domains (moved None x half s)
-decided_stack clauses domains x half s lt p a =
-    let boxes = stack_boxes clauses domains s a in (
+decided_stack clauses domains x half s w a =
+    let boxes = stack_boxes clauses domains s a in
+    let part = half_part s.top.now x half boxes.sets w in (
       record {
         came = (tt, tt);
         led = put_back s.top.now x half;
-        boxes = part_in domains s.top.now x half boxes lt p;
+        boxes = part_in domains s.top.now x half boxes w.exists part;
         keeps = λ c f k. k;
       },
-      λ c f k. part_keeps s.top.now x half boxes.sets lt p c f k,
+      record { var = x; half = half; is_half = w; is = refl },
       a,
     )
 

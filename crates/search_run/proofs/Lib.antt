@@ -22,3 +22,4 @@ pub mod FoundLines
 pub mod LevelBack
 pub mod Below
 pub mod BoundLines
+pub mod Picked

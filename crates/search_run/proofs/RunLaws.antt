@@ -4,7 +4,7 @@ use Rattle.std.specs.List.{Contains}
 use Rattle.std.proofs.lemmas.Bool.{and_parts, and_from, not-true}
 use Rattle.std.proofs.lemmas.List.{get_or_default}
 use Rattle.signed_clause.specs.Ranges.{is_nil, IsValid}
-use Rattle.signed_clause.specs.Clauses.{Boxes, Literals, box_of, IsClause}
+use Rattle.signed_clause.specs.Clauses.{Boxes, Literals, box_of, unit_of, IsClause}
 use Rattle.signed_clause.specs.Running.{AreValid}
 use Rattle.signed_clause.proofs.SetFacts.{within_law}
 use Rattle.ground_form.specs.declared.ground.Ground.{Ground}
@@ -18,13 +18,14 @@ use Rattle.search_run.specs.Replay.{Mode, Going, Conflict, AtFound, Closed, top_
 use Rattle.search_run.specs.Lines.{HasSets}
 use Rattle.search_run.specs.Conflicts.{IsConflict, LeadsFrom}
 use Rattle.search_run.proofs.Units.{none_some}
-use Rattle.search_run.proofs.LevelBack.{back_from_level, level_of_back}
+use Rattle.search_run.proofs.LevelBack.{back_from_level, level_of_back, level_unit}
 use Rattle.fd_store.specs.Levels.{Stack, dropped}
 use Rattle.search_run.proofs.LevelFacts.{AreBoxesIn, stack_came, stack_domains, stack_boxes}
 use Rattle.search_run.proofs.StateSteps.{AreMade, HoldsIn}
 use Rattle.search_run.proofs.ClauseStates.{IsState}
 use Rattle.search_run.proofs.States.{run_state}
 use Rattle.search_run.proofs.Depths.{run_depth}
+use Rattle.search_run.proofs.Fronts.{run_fresh}
 
 within_all : (domains : Boxes) (cs : List Literals) →
     ((j : ℕ) → IsWithinDomains domains (clause_at cs j)) →
@@ -175,6 +176,14 @@ run_level g ls c k r f w =
     back_from_level (made g ls).clauses g.domains (state_of g ls).levels c k f
     (state_is g ls r).stack w
 
+-- where it is unit in what is left
+pub run_unit : (g : Ground) (ls : List Line) (c : Literals) (k : ℕ) → IsRunOf g ls → IsClause c →
+    LeadsFrom c (state_of g ls).levels k →
+    is_some (unit_of (dropped (k - 1) (state_of g ls).levels).top.now c) ≡ true
+run_unit g ls c k r f w =
+    level_unit (made g ls).clauses g.domains (state_of g ls).levels c k f
+    (state_is g ls r).stack w
+
 pub ruleset laws_of_levels = (run_came, run_domains, run_within, run_boxes)
 
-pub ruleset laws_of_modes = (run_conflict, run_closed, run_settled, run_depth)
+pub ruleset laws_of_modes = (run_conflict, run_closed, run_settled, run_depth, run_fresh)

@@ -2,8 +2,7 @@
 use Rattle.std.proofs.Common.{◌≡◌, ℕ, zero, suc, ◌<◌, true, false, not, ◌&&◌, List, [], ◌∷◌, ◌++◌, ℤ, length, refl, sym, ◌∙◌, arith, subst, nat_lt, All}
 use Rattle.std.proofs.lemmas.Bool.{and_parts, ltb-true, not-true}
 use Rattle.signed_clause.specs.Ranges.{Ranges}
-use Rattle.signed_clause.specs.Clauses.{Literals, box_of, IsClause}
-use Rattle.signed_clause.proofs.SetFacts.{within_law}
+use Rattle.signed_clause.specs.Clauses.{Literals, IsClause}
 use Rattle.ground_form.specs.declared.ground.Ground.{Ground}
 use Rattle.ground_form.specs.WellMade.{IsWellMade}
 use Rattle.log_form.specs.declared.line.Line.{Line}
@@ -20,7 +19,7 @@ use Rattle.search_run.proofs.LineSets.{has_clause, first_has, rest_has}
 use Rattle.search_run.proofs.LineSteps.{decision_parts}
 use Rattle.search_run.proofs.FewDecisions.{run_line}
 use Rattle.search_run.proofs.Within.{within_each, sets_within, chain_within, bound_within}
-use Rattle.search_run.proofs.LevelFacts.{IsPart, stack_boxes, stack_more}
+use Rattle.search_run.proofs.LevelFacts.{stack_more}
 use Rattle.search_run.proofs.LevelSteps.{reacted_stack, decided_stack}
 use Rattle.search_run.proofs.StateSteps.{at_append, empty_one, some_at, made_more, made_new, reacted_mode, bounds_mode}
 use Rattle.search_run.proofs.ClauseStates.{IsState, aged, nothing_within, IsMore, plus, more_within, reacts, explained_state}
@@ -72,16 +71,9 @@ decide_state : (g : Ground) (m : Made) (s : State) (x : ℕ) (half : Ranges) →
 unfolding changed after
 decide_state g m s x half h old =
     let d = decision_parts g m s x half h.sets h.stands in
-    let w = d.half_is in
-    let boxes = stack_boxes m.clauses g.domains s.levels old.stack in
-    let part : IsPart (box_of (top_boxes s) x) half = record {
-      valid = w.valid;
-      within = (within_law half (box_of (top_boxes s) x) w.valid (boxes.sets x)).0 w.part;
-      some = w.some;
-    } in
     record {
       within = old.within;
-      stack = decided_stack m.clauses g.domains x half s.levels w.exists part old.stack;
+      stack = decided_stack m.clauses g.domains x half s.levels d.half_is old.stack;
       mode_holds = h.open_so_far;
       learnt_made = old.learnt_made;
       bounds_made = old.bounds_made;

@@ -1,7 +1,7 @@
 //! What may follow a run, where more than the line's own rule stands behind it, and which levels
 //! a learnt clause leaves. Like the laws, these are contracts of functions that do nothing but look
 //! at the lines once.
-ghost use Rattle.std.specs.Prelude.{◌≡◌, ◌↔◌, ◌-◌, false, ◌++◌, ◌∷◌, [], true, ℕ, Some, slice_get};
+ghost use Rattle.std.specs.Prelude.{◌≡◌, ◌↔◌, ◌<◌, ◌-◌, false, ◌++◌, ◌∷◌, [], true, ℕ, Some, is_some, slice_get};
 ghost use Rattle.ground_form.specs.declared.con.Con.{Con};
 ghost use Rattle.ground_form.specs.Bounds.{singles};
 ghost use Rattle.ground_form.specs.Solutions.{IsSolution};
@@ -9,18 +9,24 @@ ghost use Rattle.ground_form.specs.WellMade.{IsWellMade};
 ghost use Rattle.box_rules.specs.Quiet.{quiet};
 ghost use Rattle.log_form.specs.declared.line.Line.TheVariants as kinds;
 ghost use Rattle.log_form.specs.Acceptance.{made, states};
-ghost use Rattle.signed_clause.specs.Ranges.{is_nil};
+ghost use Rattle.signed_clause.specs.Ranges.{is_nil, IsValid};
+ghost use Rattle.signed_clause.specs.SetAlgebra.{meet};
+ghost use Rattle.signed_clause.specs.Clauses.{box_of, unit_of};
 ghost use Rattle.fd_store.specs.Levels.{dropped};
 ghost use Rattle.learn_clauses.specs.Walk.{walk_from, back_to};
+ghost use Rattle.std.specs.List.{All};
+ghost use Rattle.branch_choice.specs.Picks.{half_of, IsPick};
 ghost use Rattle.search_run.specs.Conflicts.{LeadsFrom};
+ghost use Rattle.search_run.specs.Ordered.{IsDecidedBy};
 ghost use Rattle.search_run.specs.Fixpoints.{is_ended};
-ghost use Rattle.search_run.specs.Replay.{Going, Conflict, AtFound, top_boxes, is_settled, leads_back, is_run, state_of};
+ghost use Rattle.search_run.specs.Replay.{Going, Conflict, AtFound, top_boxes, is_settled, is_split, leads_back, is_run, state_of};
 
 use crate::known::know_lines;
+use branch_choice::{Order, Split};
 use ground_form::Ground;
 use log_form::{Line, Values};
 use numbered_clauses::Chain;
-use signed_clause::Clause;
+use signed_clause::{Clause, IntSet};
 
 /// Where a run is in conflict, the Chain line of the walk back from the clause of the conflict may
 /// follow, if its clause leads back: so the chain of a walk needs no check.
@@ -37,8 +43,8 @@ pub fn walk_may_follow(g: &Ground, lines: &[Line], chain: &Chain, clause: &Claus
 }
 
 /// From which level of a run a clause with literals leads back: there is at most one level in whose
-/// first boxes it is false while it isn't in the present boxes of the level below, and what is left
-/// where it leads back are the levels below that one.
+/// first boxes it is false while it isn't in the present boxes of the level below. What is left
+/// where it leads back are the levels below that one, and there it is unit.
 pub fn one_level_leads_back(g: &Ground, lines: &[Line], clause: &Clause)
     requires well_made { IsWellMade g.now }
     requires run { is_run g.now lines.now ≡ true }
@@ -48,6 +54,9 @@ pub fn one_level_leads_back(g: &Ground, lines: &[Line], clause: &Clause)
     ensures level { (k : ℕ) → LeadsFrom clause.now (state_of g.now lines.now).levels k
         → back_to clause.now (state_of g.now lines.now).levels
         ≡ Some (dropped (k - 1) (state_of g.now lines.now).levels) }
+    ensures unit { (k : ℕ) → LeadsFrom clause.now (state_of g.now lines.now).levels k
+        → is_some (unit_of (dropped (k - 1) (state_of g.now lines.now).levels).top.now clause.now)
+        ≡ true }
 {
     know_lines(lines);
     clause.literals();
@@ -84,4 +93,27 @@ pub fn bound_may_follow(g: &Ground, lines: &[Line], found: &Values, values: &Val
         → is_ended (state_of g.now (lines.now ++ kinds.Bound values.now ∷ [])).mode ≡ true }
 {
     know_lines(lines);
+}
+
+/// What a chooser of an order picks may be decided: what the split takes of its box is a split of
+/// it, of a searched variable, and the decision is by the order. `part` is the set of the values
+/// that the split takes.
+pub fn pick_may_be_decided(
+    order: Order,
+    boxes: &[IntSet],
+    hints: &[Option<i64>],
+    search: u32,
+    split: Split,
+    part: &IntSet,
+)
+    requires sets { All (λ s. IsValid s) boxes.now }
+    requires picked { IsPick order boxes.now hints.now search (Some split) }
+    requires part { part.now ≡ half_of split }
+    ensures searched { split.var < search }
+    ensures splits { is_split (meet part.now (box_of boxes.now split.var))
+        (box_of boxes.now split.var) ≡ true }
+    ensures by_order { IsDecidedBy order boxes.now hints.now search split.var
+        (meet part.now (box_of boxes.now split.var)) }
+{
+    part.ranges();
 }

@@ -80,7 +80,8 @@ pub fn run_leaves(g: &Ground, lines: &[Line])
 
 /// What the mode that a run has reached says: a conflict is with a clause that was made and is
 /// false, and the run is closed exactly where the empty clause was made. Where no clause that was
-/// made has anything to say, the run is settled. It has decided for each level above level 0.
+/// made has anything to say, the run is settled. It has decided for each level above level 0. It is
+/// fresh where it has no line.
 #[tactic(auto, using(crate::proofs::RunLaws::laws_of_modes))]
 pub fn run_reaches(g: &Ground, lines: &[Line])
     requires well_made { IsWellMade g.now }
@@ -92,6 +93,7 @@ pub fn run_reaches(g: &Ground, lines: &[Line])
     ensures settled { none_acts (top_boxes (state_of g.now lines.now))
         (made g.now lines.now).clauses ≡ true → is_settled (state_of g.now lines.now) ≡ true }
     ensures levels { length (state_of g.now lines.now).levels.below ≤ decisions lines.now }
+    ensures fresh { (state_of g.now lines.now).fresh ≡ is_nil lines.now }
 {
     know_lines(lines);
 }

@@ -5,8 +5,8 @@
 //! may come next. The functions here do nothing; their contracts are laws of runs.
 //!
 //! - `laws`: a line more and fronts; what every run leaves; how often a run decides.
-//! - `following`: a walk's chain, a solution and its bound as the next line; from which level a
-//!   clause leads back.
+//! - `following`: what a chooser picks, a walk's chain, a solution and its bound as the next line;
+//!   from which level a clause leads back.
 //! - `known`: what the types of a line's parts keep, which the laws need.
 #![tactic(auto)]
 
@@ -14,7 +14,9 @@ mod following;
 mod known;
 mod laws;
 
-pub use following::{bound_may_follow, found_may_follow, one_level_leads_back, walk_may_follow};
+pub use following::{
+    bound_may_follow, found_may_follow, one_level_leads_back, pick_may_be_decided, walk_may_follow,
+};
 pub use laws::{
     front_is_run, line_more, ordered_line_more, run_decides_less, run_leaves, run_reaches,
 };

@@ -1,4 +1,4 @@
-use Rattle.search_run.proofs.RunLaws.{run_leads, run_level}
+use Rattle.search_run.proofs.RunLaws.{run_leads, run_level, run_unit}
 use Rattle.search_run.proofs.following.one_level_leads_back.Goals as goal
 
 pub returns-clause-leads : goal.returns-clause-leads
@@ -10,5 +10,11 @@ returns-clause-leads c =
 pub returns-clause-level : goal.returns-clause-level
 returns-clause-level c k w =
     run_level c.args.g.now c.args.lines.now c.args.clause.now k
+    (record { well_made = c.requires.well_made; sets = c.know_lines.ensures; run = c.requires.run })
+    c.literals.ensures.form w
+
+pub returns-clause-unit : goal.returns-clause-unit
+returns-clause-unit c k w =
+    run_unit c.args.g.now c.args.lines.now c.args.clause.now k
     (record { well_made = c.requires.well_made; sets = c.know_lines.ensures; run = c.requires.run })
     c.literals.ensures.form w
