@@ -1,4 +1,5 @@
--- Where the words of a model are words and no name is declared twice, its names are such that paths can be read back from them.
+-- Where the words of a model are words and no name is declared twice, its names are such that paths
+-- can be read back from them.
 use Rattle.std.proofs.Common.{◌≡◌, ℕ, zero, suc, ◌+◌, nat_eq, Bool, true, false, ◌&&◌, cond, List, [], ◌∷◌, ◌++◌, Option, None, Some, length, map, refl, ap, sym, ◌∙◌, subst, arith}
 use Rattle.std.specs.Prelude.{All, slice_get}
 use Rattle.std.specs.Cmp.Lexicographic.{bytes_decides}

@@ -1,5 +1,6 @@
--- What a table keeps of its names: that paths can be read back from them. A path puts dots and brackets between names, and no name of
--- a variable or an attribute has one in it; and each top-level variable is found by its name.
+-- What a table keeps of its names: that paths can be read back from them. A path puts dots and
+-- brackets between names, and no name of a variable or an attribute has one in it; and each
+-- top-level variable is found by its name.
 use Rattle.std.specs.Prelude.{◌≡◌, ℕ, Bool, true, not, ◌&&◌, List, [], ◌∷◌, Some, nat_eq, slice_get, All}
 use Rattle.class_table.specs.declared.names.Meaning.TheVariants as meaning
 use Rattle.class_table.specs.declared.table.Variable.{Variable}
@@ -21,7 +22,8 @@ bracket = 91
 abbrev pub IsPlain : Variable → Type 0
 IsPlain v = (lacks dot v.name && lacks bracket v.name) ≡ true
 
--- no name of a variable or an attribute has a dot or a bracket, and the name of each top-level variable means that variable
+-- no name of a variable or an attribute has a dot or a bracket, and the name of each top-level
+-- variable means that variable
 pub record IsNamed (o : Outline) : Type 0 where
   pub roots : All IsPlain o.roots
   pub attributes : (c : ℕ) → All IsPlain (attributes o.classes c)

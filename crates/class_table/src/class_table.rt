@@ -56,7 +56,26 @@ impl Model for ClassTable {
 
     ghost view = { λ t. record { names = t.names.entries; classes = t.classes.items; enumerations = t.enumerations.items; roots = t.roots.items } };
 
-    ghost invariant = { λ t. record { table : IsTable t.classes.items t.counts.items t.order.items; classes : length t.classes.items < 2 ^ 32; roots : length t.roots.items < 2 ^ 32; values : All IsFew t.enumerations.items; own_names : t.attribute_names.items ≡ map own_names t.classes.items; nesting : HasNesting t.classes.items; closed : IsClosed (record { names = t.names.entries; classes = t.classes.items; enumerations = t.enumerations.items; roots = t.roots.items }); named : IsNamed (record { names = t.names.entries; classes = t.classes.items; enumerations = t.enumerations.items; roots = t.roots.items }) } };
+    ghost invariant = { λ t. record {
+      table : IsTable t.classes.items t.counts.items t.order.items;
+      classes : length t.classes.items < 2 ^ 32;
+      roots : length t.roots.items < 2 ^ 32;
+      values : All IsFew t.enumerations.items;
+      own_names : t.attribute_names.items ≡ map own_names t.classes.items;
+      nesting : HasNesting t.classes.items;
+      closed : IsClosed (record {
+        names = t.names.entries;
+        classes = t.classes.items;
+        enumerations = t.enumerations.items;
+        roots = t.roots.items;
+      });
+      named : IsNamed (record {
+        names = t.names.entries;
+        classes = t.classes.items;
+        enumerations = t.enumerations.items;
+        roots = t.roots.items;
+      });
+    } };
 }
 
 /// An attribute of a class, or a variable of the top level.
@@ -67,12 +86,12 @@ pub struct Attribute<'a> {
 }
 
 impl ClassTable {
-    /// The table of a model.
+    /// The table of a model, whose words are words, as those of every text are.
     ///
     /// # Errors
     ///
-    /// A fault that stands in the declarations, at its place; `Memory` where there is none left. No fault is passed over:
-    /// where one stands, there is no table.
+    /// A fault that stands in the declarations, at its place; `Memory` where there is none left. No
+    /// fault is passed over: where one stands, there is no table.
     pub fn build(alloc: Global, program: &Program) -> Result<Self, TableFault>
         requires tokens { length (program_tokens program.now) ≤ 1048576 }
         requires words { AreWords (program_tokens program.now) }
@@ -230,8 +249,8 @@ impl ClassTable {
         }
     }
 
-    /// How many classes there are. It also hands on what holds of every table: each class that is named is there, no class
-    /// derives from itself, no object contains one of its own class, and
+    /// How many classes there are. It also hands on what holds of every table: each class that is
+    /// named is there, no class derives from itself, no object contains one of its own class, and
     /// paths can be read back from the names.
     pub fn class_count(&self) -> u32
         ensures count { result ≡ length self.now.classes }

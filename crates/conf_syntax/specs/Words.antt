@@ -1,5 +1,5 @@
--- That the words of tokens are words: a letter or an underscore, then letters, digits and underscores. So none is empty, and none
--- has a dot or a bracket in it.
+-- That the words of tokens are words: a letter or an underscore, then letters, digits and
+-- underscores. So none is empty, and none has a dot or a bracket in it.
 use Rattle.std.specs.Prelude.{◌≡◌, Bool, true, List}
 use Rattle.std.specs.List.{list_all}
 use Rattle.conf_syntax.specs.declared.token.Token.{Token}
