@@ -1,5 +1,5 @@
 -- A configuration in which each reference set has its size, taken as hints; and what hints are cell by cell.
-use Rattle.std.proofs.Common.{◌≡◌, ◌++◌, ◌<◌, ◌∙◌, ℕ, zero, suc, ◌+◌, Bool, true, false, cond, List, [], ◌∷◌, Option, None, Some, length, map, inl, inr, refl, ap, sym, subst, arith, length-append, append_assoc, append-nil, eq-eqb}
+use Rattle.std.proofs.Common.{◌≡◌, ◌++◌, ◌∙◌, ℕ, suc, ◌+◌, Bool, true, false, cond, List, [], ◌∷◌, Option, None, Some, length, map, inl, inr, refl, ap, sym, subst, arith, length-append, append_assoc, append-nil, eq-eqb}
 use Rattle.std.specs.Prelude.{ℤ, All, filter_map, replicate, slice_get}
 use Rattle.std.specs.List.{filter, flat_map}
 use Rattle.std.proofs.lemmas.Grind.{flat_map-append}
@@ -13,7 +13,7 @@ use Rattle.class_table.specs.Sound.{IsSound}
 use Rattle.object_alloc.specs.declared.object.Cell.{Cell}
 use Rattle.object_alloc.specs.declared.object.Leaf.{Leaf}
 use Rattle.object_alloc.specs.Cells.{cells, extent, leaf_cells, member_cells, shape_cells}
-use Rattle.object_alloc.specs.Configurations.{AreValues, IsConfiguration, IsInDomain}
+use Rattle.object_alloc.specs.Configurations.{AreValues, IsConfiguration}
 use Rattle.object_alloc.specs.Groups.{is_cell_of, own_cells}
 use Rattle.object_alloc.specs.Hints.{AreCellHints, AreHints, AreLeavesHinted, IsLeafGiven, IsLeafHinted, IsSized, ones}
 use Rattle.object_alloc.specs.Members.{HasItsSize, member_at}

@@ -1,12 +1,12 @@
 -- The best of the configurations that were tried, one configuration after the other.
-use Rattle.std.proofs.Common.{◌≡◌, ℕ, zero, suc, ◌+◌, ◌<◌, ◌≤◌, Bool, true, false, true≢false, List, [], ◌∷◌, ◌++◌, Option, None, Some, is_some, IfSome, IfNone, refl, ap, sym, ◌∙◌, subst, inl, inr, arith, ℤ, ◌⊎◌, All}
+use Rattle.std.proofs.Common.{◌≡◌, ℕ, ◌+◌, ◌<◌, ◌≤◌, Bool, true, false, true≢false, List, [], ◌∷◌, ◌++◌, Option, None, Some, is_some, IfSome, IfNone, refl, ap, sym, ◌∙◌, subst, inl, inr, arith, ℤ, All}
 use Rattle.std.proofs.lemmas.Bool.{cases_lt}
 use Rattle.std.proofs.lemmas.List.Elements.{All-head, All-tail}
 use Rattle.class_table.specs.Outline.{Outline}
 use Rattle.conf_types.specs.Programs.{ResolvedConstraint, ResolvedGoal}
 use Rattle.conf_eval.specs.Best.{IsBest, HasNone}
 use Rattle.conf_eval.specs.Breaking.{IsFirstNot, IsFirstBroken}
-use Rattle.conf_eval.specs.Satisfying.{Satisfies, IsFull, Holds, HoldsFor, stated_for, objectives, better}
+use Rattle.conf_eval.specs.Satisfying.{Satisfies, IsFull, Holds, objectives, better}
 use Rattle.conf_eval.specs.declared.broken.BrokenAt.{BrokenAt}
 use Rattle.conf_eval.specs.declared.broken.BrokenAt.TheVariants.{SetSize, Constraint}
 use Rattle.object_alloc.specs.Configurations.{IsConfiguration}

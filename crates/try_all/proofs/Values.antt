@@ -1,5 +1,5 @@
 -- The lists of values are those of the domains: a configuration picks one value of each list.
-use Rattle.std.proofs.Common.{◌≡◌, ℕ, zero, suc, ◌+◌, ◌<◌, ◌≤◌, Bool, true, false, cond, List, [], ◌∷◌, ◌++◌, map, length, get_or, refl, ap, sym, ◌∙◌, subst, arith, ℤ, pos, ◌+ℤ◌, ◌-ℤ◌, ◌≤ℤ◌, ◌<ℤ◌, int_le, unsigned_abs, Contains}
+use Rattle.std.proofs.Common.{◌≡◌, ℕ, zero, suc, ◌+◌, ◌<◌, Bool, true, false, cond, List, [], ◌∷◌, ◌++◌, map, length, get_or, refl, ap, sym, ◌∙◌, arith, ℤ, pos, ◌+ℤ◌, ◌-ℤ◌, ◌≤ℤ◌, ◌<ℤ◌, int_le, unsigned_abs, Contains}
 use Rattle.std.proofs.lemmas.Int.{ints}
 use Rattle.std.proofs.lemmas.List.{get_or-map, get_or_default, length-map}
 use Rattle.class_table.specs.Outline.{Outline}
@@ -7,9 +7,9 @@ use Rattle.object_alloc.specs.declared.object.Cell.{Cell}
 use Rattle.object_alloc.specs.declared.object.Domain.{Domain}
 use Rattle.object_alloc.specs.declared.object.Domain.TheVariants.{Span, Extent}
 use Rattle.object_alloc.specs.Cells.{cells, extent}
-use Rattle.object_alloc.specs.Configurations.{IsInDomain, IsOfExtent, AreValues, IsConfiguration}
+use Rattle.object_alloc.specs.Configurations.{IsInDomain, AreValues, IsConfiguration}
 use Rattle.object_alloc.specs.Counts.{domain_size, span_size}
-use Rattle.try_all.specs.Choices.{run_from, domain_values, cell_values, values_of_cells, choices, IsPicked}
+use Rattle.try_all.specs.Choices.{run_from, domain_values, values_of_cells, choices, IsPicked}
 
 -- Runs of numbers
 

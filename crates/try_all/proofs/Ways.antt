@@ -1,5 +1,5 @@
 -- How many ways there are, list by list.
-use Rattle.std.proofs.Common.{◌≡◌, ℕ, zero, suc, ◌+◌, ◌*◌, ◌<◌, ◌≤◌, Bool, true, false, ◌||◌, nat_eq, drop, List, [], ◌∷◌, map, length, get_or, refl, ap, sym, ◌∙◌, arith, subst, true≢false, ℤ}
+use Rattle.std.proofs.Common.{◌≡◌, ℕ, zero, suc, ◌+◌, ◌*◌, ◌<◌, ◌≤◌, Bool, true, false, ◌||◌, nat_eq, drop, List, [], ◌∷◌, length, get_or, refl, ap, sym, ◌∙◌, arith, subst, true≢false, ℤ}
 use Rattle.std.proofs.Math.Nat.{mul_assoc, mul-le-mul, mul-le-mul_left}
 use Rattle.std.specs.List.{list_any}
 use Rattle.std.proofs.lemmas.Bool.{eqb-true}

@@ -1,5 +1,5 @@
 -- The values of each cell, and the lists of values that pick one for each cell.
-use Rattle.std.specs.Prelude.{ℕ, zero, suc, ◌+◌, ◌*◌, List, [], ◌∷◌, map, length, ℤ, pos, ◌+ℤ◌, nat_eq, Bool, Contains}
+use Rattle.std.specs.Prelude.{ℕ, zero, suc, ◌*◌, List, [], ◌∷◌, map, length, ℤ, pos, ◌+ℤ◌, nat_eq, Bool, Contains}
 use Rattle.class_table.specs.Outline.{Outline}
 use Rattle.object_alloc.specs.declared.object.Cell.{Cell}
 use Rattle.object_alloc.specs.declared.object.Domain.{Domain}

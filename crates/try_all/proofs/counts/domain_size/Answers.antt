@@ -1,6 +1,6 @@
-use Rattle.std.proofs.Common.{rules, ◌≡◌, ◌<◌, sym, ap, ◌∙◌, subst, length, IfSome, IfNone, w64, to_z, of_z}
+use Rattle.std.proofs.Common.{rules, ◌≡◌, ◌<◌, subst, IfSome, IfNone, w64, to_z, of_z}
 use Rattle.object_alloc.specs.declared.object.Domain.TheVariants.{Span}
-use Rattle.try_all.specs.Choices.{domain_values, most}
+use Rattle.try_all.specs.Choices.{most}
 use Rattle.try_all.proofs.Values.{span_counted}
 use Rattle.try_all.proofs.counts.domain_size.Goals as goal
 

@@ -1,6 +1,5 @@
-use Rattle.std.proofs.Common.{rules, ◌≡◌, ◌≤◌, ◌<◌, ◌↔◌, map, List, ℕ, ℤ, Option, None, Some, sym, ap, ◌∙◌, subst, arith}
+use Rattle.std.proofs.Common.{rules, ◌≡◌, ◌≤◌, ◌<◌, ◌↔◌, map, sym, subst, arith}
 use Rattle.conf_types.specs.Programs.{constraint_view, goal_view}
-use Rattle.object_alloc.specs.Counts.{configuration_count}
 use Rattle.try_all.specs.Choices.{choice_count, most}
 use Rattle.try_all.specs.declared.trial.Trial.TheVariants as trial
 use Rattle.try_all.proofs.Leading.{none_there, best_answer, none_answer}
