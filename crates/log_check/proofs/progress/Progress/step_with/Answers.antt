@@ -11,5 +11,6 @@ returns-clause-right c _ =
     let now = c.in_ok-advance_with.ensures in
     let comes = ap (λ (m : Made). may_come g m line) asked.kept in
     let came = comes ∙ sym asked.asked ∙ c.if-not-branch.false in
-    right_step g c.may_come.new.self c.advance_with.new.self line c.requires.made c.know_clause.ensures
+    let next = c.advance_with.new.self in
+    right_step g c.may_come.new.self next line c.requires.made c.know_clause.ensures
     asked.right came now.made now.closed (ap length now.table)
