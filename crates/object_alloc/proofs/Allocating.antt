@@ -4,6 +4,7 @@ use Rattle.std.specs.Prelude.{All, Contains, slice_index}
 use Rattle.std.specs.List.{sum_by}
 use Rattle.std.proofs.lemmas.List.Elements.{All-nil, All-cons}
 use Rattle.std.proofs.lemmas.List.Sums.{sum_by-cons}
+use Rattle.model_limits.specs.Limits.{most_names, most_objects}
 use Rattle.class_table.specs.Outline.{Outline}
 use Rattle.class_table.specs.Sound.{IsSound}
 use Rattle.class_table.specs.Tables.{IsFew}
@@ -43,7 +44,7 @@ module _ (o : Outline) (queue : List Kind) (kinds : (g : Weigh) → sum_by (of_k
   pub objects_count : length (objects o) ≡ length queue
   objects_count = sym (length_is (objects o)) ∙ sym (kinds one) ∙ length_kinds queue
 
-  pub few_objects : length queue ≤ 10000 → HasFewObjects o
+  pub few_objects : length queue ≤ most_objects → HasFewObjects o
   few_objects h = omega (arith, h, objects_count)
 
   pub no_weight : 0 ≡ sum_by (of_kind deep) queue → kinds_weight (weight o deep) (kinds_of 1 o.roots) ≡ 0
@@ -52,24 +53,24 @@ module _ (o : Outline) (queue : List Kind) (kinds : (g : Weigh) → sum_by (of_k
   pub no_deep : 0 ≡ sum_by (of_kind deep) queue → IsShallow o
   no_deep z = each (objects o) (sym (kinds deep) ∙ sym z)
     where
-      shallow : (d : ℕ) (b : Bool) → nat_lt 60 d ≡ b → ◌≡◌ {A = ℕ} (cond b 1 0) 0 → d ≤ 60
+      shallow : (d : ℕ) (b : Bool) → nat_lt most_names d ≡ b → ◌≡◌ {A = ℕ} (cond b 1 0) 0 → d ≤ most_names
       shallow d true e h = absurd (omega (arith, h))
       shallow d false e h = grind (arith, e)
 
-      each : (xs : List Object) → sum_by (of_object deep) xs ≡ 0 → All (λ (x : Object). x.depth ≤ 60) xs
-      each [] h = All-nil (λ (x : Object). x.depth ≤ 60)
+      each : (xs : List Object) → sum_by (of_object deep) xs ≡ 0 → All (λ (x : Object). x.depth ≤ most_names) xs
+      each [] h = All-nil (λ (x : Object). x.depth ≤ most_names)
       each (x ∷ xs) h =
           let s = sum_by-cons (of_object deep) x xs in
-          All-cons (λ (x : Object). x.depth ≤ 60) x xs (shallow x.depth (nat_lt 60 x.depth) refl (omega (arith, s, h))) (each xs (omega (arith, s, h)))
+          All-cons (λ (x : Object). x.depth ≤ most_names) x xs (shallow x.depth (nat_lt most_names x.depth) refl (omega (arith, s, h))) (each xs (omega (arith, s, h)))
 
   pub some_deep : 0 < sum_by (of_kind deep) queue → HasDeepObject o
   some_deep p = let f = find (objects o) (omega (arith, p, kinds deep)) in record { deep = f.0; has = f.1; depth = f.2 }
     where
-      find : (xs : List Object) → 0 < sum_by (of_object deep) xs → (x : Object) × Contains xs x × (60 < x.depth)
+      find : (xs : List Object) → 0 < sum_by (of_object deep) xs → (x : Object) × Contains xs x × (most_names < x.depth)
       find [] h = absurd (omega (arith, h))
-      find (x ∷ xs) h = by (nat_lt 60 x.depth) refl (sum_by-cons (of_object deep) x xs) (λ l. find xs l)
+      find (x ∷ xs) h = by (nat_lt most_names x.depth) refl (sum_by-cons (of_object deep) x xs) (λ l. find xs l)
         where
-          by : (b : Bool) → nat_lt 60 x.depth ≡ b → sum_by (of_object deep) (x ∷ xs) ≡ cond b 1 0 + sum_by (of_object deep) xs → (0 < sum_by (of_object deep) xs → (y : Object) × Contains xs y × (60 < y.depth)) → (y : Object) × Contains (x ∷ xs) y × (60 < y.depth)
+          by : (b : Bool) → nat_lt most_names x.depth ≡ b → sum_by (of_object deep) (x ∷ xs) ≡ cond b 1 0 + sum_by (of_object deep) xs → (0 < sum_by (of_object deep) xs → (y : Object) × Contains xs y × (most_names < y.depth)) → (y : Object) × Contains (x ∷ xs) y × (most_names < y.depth)
           by true e s more = (x, (0, omega arith, refl), grind (arith, e))
           by false e s more = let m = more (omega (arith, s, h)) in (m.0, (suc m.1.0, omega (arith, m.1.1), m.1.2), m.2)
 
@@ -155,7 +156,7 @@ kept_sizes o queue q sizes kinds e count each = sizes_are o queue kinds sizes co
 abbrev pub AreGrouped : {X : Type 0} → (Option ℕ → ℕ → X → Bool) → (Option ℕ → ℕ → List ℕ) → List X → Type 0
 AreGrouped test groups xs = (owner : Option ℕ) → (k : ℕ) → groups owner k ≡ numbers_from (test owner k) 0 xs
 
-pub laid_out : (o : Outline) (queue : List Kind) (before after : Layout) (sizes : List ℕ) (cs : List Cell) (parts own : Option ℕ → ℕ → List ℕ) → ((g : Weigh) → sum_by (of_kind g) queue ≡ sum_by (of_object g) (objects o)) → IsLawful (length o.classes) 1 queue → length queue ≤ 10000 → 0 ≡ sum_by (of_kind deep) queue → IsSound o → All IsFew o.enumerations → AreSizes o sizes → before.leaves.items ≡ [] → before.objects.items ≡ [] → HasLaid o before after (λ n. members (visit o) top 0 o.roots n) → cs ≡ cells_of o after.leaves.items → AreGrouped is_part_of parts after.objects.items → AreGrouped is_cell_of own cs → IsLaidOut o after.objects.items after.leaves.items cs sizes parts own
+pub laid_out : (o : Outline) (queue : List Kind) (before after : Layout) (sizes : List ℕ) (cs : List Cell) (parts own : Option ℕ → ℕ → List ℕ) → ((g : Weigh) → sum_by (of_kind g) queue ≡ sum_by (of_object g) (objects o)) → IsLawful (length o.classes) 1 queue → length queue ≤ most_objects → 0 ≡ sum_by (of_kind deep) queue → IsSound o → All IsFew o.enumerations → AreSizes o sizes → before.leaves.items ≡ [] → before.objects.items ≡ [] → HasLaid o before after (λ n. members (visit o) top 0 o.roots n) → cs ≡ cells_of o after.leaves.items → AreGrouped is_part_of parts after.objects.items → AreGrouped is_cell_of own cs → IsLaidOut o after.objects.items after.leaves.items cs sizes parts own
 laid_out o queue before after sizes cs parts own kinds lawful few none sound few_values are e1 e2 h made by_owner by_place =
     let laid = laid_objects o before after e1 e2 h in
     let cells_are : cs ≡ cells o = made ∙ ap (cells_of o) laid.1 in

@@ -6,6 +6,7 @@ use Rattle.std.specs.Option.{option_map_or}
 use Rattle.std.proofs.lemmas.Bool.{eqb-true}
 use Rattle.std.proofs.lemmas.List.{get_or-set_same, get_or-set_other, take_all, drop_all}
 use Rattle.std.proofs.lemmas.List.Sums.{sum_by-cons}
+use Rattle.model_limits.specs.Limits.{most_objects}
 use Rattle.class_table.specs.declared.table.Class.{Class}
 use Rattle.class_table.specs.Ancestry.{derives}
 use Rattle.class_table.specs.Outline.{Outline, parent_in, is_a}
@@ -84,7 +85,7 @@ module _ (cs : List Class) (ranks : HasRanks cs) where
   pub count_end : (class at m : ℕ) (old now : List ℕ) → m ≡ 0 → Counts class at m old now → (c : ℕ) → c < length cs → slice_index now c ≡ slice_index old c + bit (is_a cs class c)
   count_end class at m old now m_is counts c on = let l = ap (λ k. bit (derives (parent_in cs) k at c)) m_is in omega (arith, counts c on, l)
 
-  pub count_most : (class at m : ℕ) (old now : List ℕ) → Counts class at m old now → ((c : ℕ) → slice_index old c ≤ 10000) → (c : ℕ) → c < length cs → slice_index now c ≤ 10002
+  pub count_most : (class at m : ℕ) (old now : List ℕ) → Counts class at m old now → ((c : ℕ) → slice_index old c ≤ most_objects) → (c : ℕ) → c < length cs → slice_index now c ≤ 10002
   count_most class at m old now counts few c on = omega (arith, counts c on, few c, bit_most (is_a cs class c), bit_most (nat_eq at c))
 
 -- the size of an extent is the number of its class's kin

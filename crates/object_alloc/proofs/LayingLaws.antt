@@ -5,6 +5,7 @@ use Rattle.std.proofs.lemmas.Grind.{flat_map-append}
 use Rattle.std.proofs.lemmas.List.Elements.{Contains-append_cases}
 use Rattle.class_table.proofs.ListLaws.{contains_one}
 use Rattle.std.proofs.lemmas.List.Sums.{sum_by-append, sum_by-cons}
+use Rattle.model_limits.specs.Limits.{most_cells, most_names}
 use Rattle.class_table.specs.declared.table.Resolved.{Resolved}
 use Rattle.class_table.specs.declared.table.Variable.{Variable}
 use Rattle.class_table.specs.Outline.{Outline, attributes}
@@ -179,15 +180,15 @@ pub element_shallow : (v : ℕ → ℕ → ℕ) (c d count i : ℕ) → i < coun
 element_shallow v c d zero i h z = absurd (omega (arith, h))
 element_shallow v c d (suc m) i h z = let one = sum_by-cons (λ (q : Kind). v q.depth q.class) (kind c d) (replicate m (kind c d)) in omega (arith, one, z)
 
-shallow : (c d : ℕ) → deep c d ≡ 0 → d ≤ 60
-shallow c d z = by (nat_lt 60 d) refl z
+shallow : (c d : ℕ) → deep c d ≡ 0 → d ≤ most_names
+shallow c d z = by (nat_lt most_names d) refl z
   where
-    by : (b : Bool) → nat_lt 60 d ≡ b → ◌≡◌ {A = ℕ} (cond b 1 0) 0 → d ≤ 60
+    by : (b : Bool) → nat_lt most_names d ≡ b → ◌≡◌ {A = ℕ} (cond b 1 0) 0 → d ≤ most_names
     by true e h = absurd (omega (arith, h))
     by false e h = grind (arith, e)
 
 module _ (o : Outline) (sound : IsSound o) (d c : ℕ) (there : c < length o.classes) (z : weight o deep d c ≡ 0) where
-  pub object_depth : d ≤ 60
+  pub object_depth : d ≤ most_names
   object_depth = let next = weight_next o sound.nesting deep d c there in shallow c d (omega (arith, next, z))
 
   pub object_shallow : kinds_weight (weight o deep) (kinds_of (d + 1) (attributes o.classes c)) ≡ 0
@@ -211,7 +212,7 @@ module _ (o : Outline) (before mid : Layout) (x : Object) (m : ℕ) (m_is : m �
         sound = r.sound;
         sizes_are = r.sizes_are;
         count = cells_are ∙ r.count ∙ ap (λ ls. length (cells_of o ls)) (sym leaves_are);
-        few_cells = subst (λ i. i ≤ 20000) (sym cells_are) r.few_cells;
+        few_cells = subst (λ i. i ≤ most_cells) (sym cells_are) r.few_cells;
         shapes = subst (AreThere o) (sym leaves_are) r.shapes;
         few =
             let whole : made (visit o (length before.objects.items) x) ≡ suc (made (inside (length before.objects.items + 1))) = ap made next in
@@ -246,7 +247,7 @@ module _ (o : Outline) (before mid : Layout) (x : Object) (m : ℕ) (m_is : m �
       }
 
 -- a leaf behind the others
-pub leaf_laid : (o : Outline) (before after : Layout) (l : Leaf) (n : ℕ) → n ≡ length (leaf_cells o l) → before.cells ≡ length (cells_of o before.leaves.items) → n ≤ 20000 - before.cells → before.cells ≤ 20000 → after.objects.items ≡ before.objects.items → after.leaves.items ≡ before.leaves.items ++ l ∷ [] → after.cells ≡ before.cells + n → AreThere o before.leaves.items → IsShapeOf (length o.classes) (length o.enumerations) l.shape → HasLaid o before after (λ m. Passed l ∷ [])
+pub leaf_laid : (o : Outline) (before after : Layout) (l : Leaf) (n : ℕ) → n ≡ length (leaf_cells o l) → before.cells ≡ length (cells_of o before.leaves.items) → n ≤ most_cells - before.cells → before.cells ≤ most_cells → after.objects.items ≡ before.objects.items → after.leaves.items ≡ before.leaves.items ++ l ∷ [] → after.cells ≡ before.cells + n → AreThere o before.leaves.items → IsShapeOf (length o.classes) (length o.enumerations) l.shape → HasLaid o before after (λ m. Passed l ∷ [])
 leaf_laid o before after l n size count few most objects_are leaves_are cells_are shapes shape =
     let single : cells_of o (l ∷ []) ≡ leaf_cells o l = append-nil (leaf_cells o l) in
     let all : cells_of o after.leaves.items ≡ cells_of o before.leaves.items ++ cells_of o (l ∷ []) = ap (cells_of o) leaves_are ∙ flat_map-append (leaf_cells o) before.leaves.items (l ∷ []) in
@@ -262,6 +263,6 @@ leaf_laid o before after l n size count few most objects_are leaves_are cells_ar
     by x (inl a) = shapes x a
     by x (inr a) = subst (λ (y : Leaf). IsShapeOf (length o.classes) (length o.enumerations) y.shape) (contains_one l x a) shape
 
-pub leaf_refused : (o : Outline) (before : Layout) (l : Leaf) (n : ℕ) → n ≡ length (leaf_cells o l) → before.cells ≡ length (cells_of o before.leaves.items) → before.cells ≤ 20000 → 20000 - before.cells < n → IsRefusedPart o before (λ m. Passed l ∷ []) TooManyCells
+pub leaf_refused : (o : Outline) (before : Layout) (l : Leaf) (n : ℕ) → n ≡ length (leaf_cells o l) → before.cells ≡ length (cells_of o before.leaves.items) → before.cells ≤ most_cells → most_cells - before.cells < n → IsRefusedPart o before (λ m. Passed l ∷ []) TooManyCells
 leaf_refused o before l n size count most h =
     omega (arith, size, count, most, h, ap length (append-nil (leaf_cells o l)))

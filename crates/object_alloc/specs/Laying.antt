@@ -1,6 +1,7 @@
 -- Laying out objects and leaves, part by part.
 use Rattle.std.specs.Prelude.{◌≡◌, ℕ, ◌+◌, ◌<◌, ◌≤◌, List, ◌++◌, length, slice_index, Contains}
 use Rattle.std.specs.List.{flat_map}
+use Rattle.model_limits.specs.Limits.{most_cells, most_objects}
 use Rattle.class_table.specs.Outline.{Outline}
 use Rattle.class_table.specs.Sound.{IsSound}
 use Rattle.class_table.specs.Tables.{IsShapeOf}
@@ -41,16 +42,16 @@ pub record IsReady (o : Outline) (sizes : List ℕ) (before : Layout) (part : Pa
   pub sound : IsSound o
   pub sizes_are : AreSizes o sizes
   pub count : before.cells ≡ length (cells_of o before.leaves.items)
-  pub few_cells : before.cells ≤ 20000
+  pub few_cells : before.cells ≤ most_cells
   pub shapes : AreThere o before.leaves.items
-  pub few : length before.objects.items + made (part (length before.objects.items)) ≤ 10000
+  pub few : length before.objects.items + made (part (length before.objects.items)) ≤ most_objects
 
 -- a part was laid out behind what stood there
 pub record HasLaid (o : Outline) (before after : Layout) (part : Part) : Type 0 where
   pub objects_are : after.objects.items ≡ before.objects.items ++ objects_in (part (length before.objects.items))
   pub leaves_are : after.leaves.items ≡ before.leaves.items ++ leaves_in (part (length before.objects.items))
   pub count : after.cells ≡ length (cells_of o after.leaves.items)
-  pub few_cells : after.cells ≤ 20000
+  pub few_cells : after.cells ≤ most_cells
   pub shapes : AreThere o after.leaves.items
 
 -- with a part that is left it is the whole part
@@ -58,14 +59,14 @@ pub record IsLaying (o : Outline) (before now : Layout) (whole left : Part) : Ty
   pub objects_are : now.objects.items ++ objects_in (left (length now.objects.items)) ≡ before.objects.items ++ objects_in (whole (length before.objects.items))
   pub leaves_are : now.leaves.items ++ leaves_in (left (length now.objects.items)) ≡ before.leaves.items ++ leaves_in (whole (length before.objects.items))
   pub count : now.cells ≡ length (cells_of o now.leaves.items)
-  pub few_cells : now.cells ≤ 20000
+  pub few_cells : now.cells ≤ most_cells
   pub shapes : AreThere o now.leaves.items
 
 -- so many cells are too many
 abbrev pub IsCellExcess : ℕ → AllocFault → Type 0
 IsCellExcess n TooManyObjects = ⊥
 IsCellExcess n TooDeep = ⊥
-IsCellExcess n TooManyCells = 20000 < n
+IsCellExcess n TooManyCells = most_cells < n
 IsCellExcess n Memory = Unit {0}
 
 -- a part gives too many cells

@@ -1,6 +1,7 @@
 -- Objects by their classes and depths alone, for counting.
 use Rattle.std.specs.Prelude.{ℕ, zero, suc, ◌+◌, ◌<◌, ◌≤◌, nat_lt, cond, List, [], ◌∷◌, Option, None, Some, length, replicate}
 use Rattle.std.specs.List.{flat_map, sum_by}
+use Rattle.model_limits.specs.Limits.{most_names, most_objects}
 use Rattle.class_table.specs.declared.table.Resolved.{Resolved}
 use Rattle.class_table.specs.declared.table.Resolved.TheVariants.{Span, Truth, Choice, One, Many, Ref, RefSet}
 use Rattle.class_table.specs.declared.table.Variable.{Variable}
@@ -44,7 +45,7 @@ kinds_of d vs = flat_map (λ (v : Variable). held_kinds d v.shape) vs
 
 -- so many objects are too many
 abbrev pub IsExcess : ℕ → AllocFault → Type 0
-IsExcess n TooManyObjects = 10000 < n
+IsExcess n TooManyObjects = most_objects < n
 IsExcess n TooDeep = ⊥
 IsExcess n TooManyCells = ⊥
 IsExcess n Memory = Unit {0}
@@ -68,7 +69,7 @@ weight o g = weight_to o g (length o.classes)
 
 -- an object that stands too deep counts 1
 abbrev pub deep : Weigh
-deep c d = cond (nat_lt 60 d) 1 0
+deep c d = cond (nat_lt most_names d) 1 0
 
 -- an object of class c, or of one that derives from it, counts 1
 abbrev pub kin : Outline → ℕ → Weigh

@@ -1,5 +1,6 @@
 //! The cells that leaves give.
 ghost use Rattle.std.specs.Prelude.{◌≡◌, ◌++◌, ◌<◌, ◌≤◌, ℕ, length, Contains, IfOk, OnOk};
+ghost use Rattle.model_limits.specs.Limits.{most_objects};
 ghost use Rattle.class_table.specs.Sound.{IsSound};
 ghost use Rattle.class_table.specs.Tables.{IsShapeOf};
 ghost use Rattle.object_alloc.specs.declared.object.Object.{Object as AnObject};
@@ -20,7 +21,7 @@ fn push_members(
     class: u32,
 ) -> Result<(), AllocError>
     requires classes { AreClassed table.now objects.now }
-    requires few { length objects.now ≤ 10000 }
+    requires few { length objects.now ≤ most_objects }
     ensures cells { OnOk result (cells.new.items ≡ cells.old.items ++ member_cells leaf (extent_from table.now.classes class 0 objects.now)) }
 {
     for n in 0..objects.len() {
@@ -59,7 +60,7 @@ fn push_leaf(
 ) -> Result<(), AllocError>
     requires objects { objects.now ≡ all_objects table.now }
     requires classes { AreClassed table.now objects.now }
-    requires few { length objects.now ≤ 10000 }
+    requires few { length objects.now ≤ most_objects }
     requires shape { IsShapeOf (length table.now.classes) (length table.now.enumerations) leaf.shape }
     ensures cells { OnOk result (cells.new.items ≡ cells.old.items ++ leaf_cells table.now leaf) }
 {
@@ -87,7 +88,7 @@ pub(crate) fn cells_of_leaves(
 ) -> Result<Vec<Cell>, AllocError>
     requires objects { objects.now ≡ all_objects table.now }
     requires classes { AreClassed table.now objects.now }
-    requires few { length objects.now ≤ 10000 }
+    requires few { length objects.now ≤ most_objects }
     requires shapes { AreThere table.now leaves.now }
     ensures cells { IfOk result (λ cells. cells.items ≡ cells_of table.now leaves.now) }
 {
@@ -106,7 +107,7 @@ pub(crate) fn extent_of(
     class: u32,
 ) -> Result<ObjectList, AllocError>
     requires classes { AreClassed table.now objects.now }
-    requires few { length objects.now ≤ 10000 }
+    requires few { length objects.now ≤ most_objects }
     ensures extent { IfOk result (λ numbers. numbers ≡ extent_from table.now.classes class 0 objects.now) }
 {
     let mut numbers = Vec::new(alloc);

@@ -1,6 +1,7 @@
 //! The sizes of extents, from the classes of all objects.
 ghost use Rattle.std.specs.Prelude.{◌≡◌, ◌+◌, ◌<◌, ◌≤◌, ℕ, length, slice_index, IfOk};
 ghost use Rattle.std.specs.List.{sum_by};
+ghost use Rattle.model_limits.specs.Limits.{most_objects};
 ghost use Rattle.class_table.specs.Sound.{IsSound};
 ghost use Rattle.object_alloc.specs.Sums.{of_kind, kin, IsLawful};
 
@@ -25,7 +26,7 @@ fn count_kin(table: &ClassTable, sizes: &mut [u32], class: u32)
     requires sound { IsSound table.now }
     requires class { class < length table.now.classes }
     requires count { length sizes.old ≡ length table.now.classes }
-    requires few { (c : ℕ) → slice_index sizes.old c ≤ 10000 }
+    requires few { (c : ℕ) → slice_index sizes.old c ≤ most_objects }
     ensures each { (c : ℕ) → c < length table.now.classes → slice_index sizes.new c ≡ slice_index sizes.old c + kin table.now c class 0 }
 {
     let mut at = class;
@@ -49,7 +50,7 @@ pub(crate) fn extent_sizes(
 ) -> Result<Vec<u32>, AllocError>
     requires sound { IsSound table.now }
     requires lawful { IsLawful (length table.now.classes) 1 queue.now }
-    requires few { length queue.now ≤ 10000 }
+    requires few { length queue.now ≤ most_objects }
     ensures count { IfOk result (λ sizes. length sizes.items ≡ length table.now.classes) }
     ensures each { IfOk result (λ sizes. (c : ℕ) → c < length table.now.classes → slice_index sizes.items c ≡ sum_by (of_kind (kin table.now c)) queue.now) }
 {

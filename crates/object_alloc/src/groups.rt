@@ -1,5 +1,6 @@
 //! Numbers by place: the objects that each attribute holds, and the cells of each attribute.
 ghost use Rattle.std.specs.Prelude.{◌≡◌, ◌++◌, ◌∷◌, [], ◌<◌, ◌≤◌, ◌^◌, ℕ, Option, Bool, cond, length, IfOk, OnOk};
+ghost use Rattle.model_limits.specs.Limits.{most_objects};
 ghost use Rattle.object_alloc.specs.Groups.{numbers_from, is_at_place, is_part_of, is_cell_of};
 ghost use Rattle.object_alloc.specs.Grouping.{group};
 
@@ -50,7 +51,7 @@ fn add(alloc: Global, groups: &mut Groups, place: Place, n: u32) -> Result<(), A
 
 /// The objects that each attribute of an object, and each variable of the top level, holds.
 pub(crate) fn parts_of_objects(alloc: Global, objects: &[Object]) -> Result<Groups, AllocError>
-    requires few { length objects.now ≤ 10000 }
+    requires few { length objects.now ≤ most_objects }
     ensures groups { IfOk result (λ groups. (owner : Option ℕ) → (k : ℕ) → group groups.entries owner k ≡ numbers_from (is_part_of owner k) 0 objects.now) }
 {
     let mut groups = IndexMap::new(alloc);

@@ -4,6 +4,7 @@
 //! deep that the calls would go deep too. A leaf is kept
 //! also where it gives no cell.
 ghost use Rattle.std.specs.Prelude.{◌≡◌, ◌+◌, ◌<◌, ◌≤◌, ℕ, [], ◌∷◌, length, replicate, IfErr, OnOk, IfSome};
+ghost use Rattle.model_limits.specs.Limits.{most_names};
 ghost use Rattle.class_table.specs.Tables.{IsShapeOf};
 ghost use Rattle.object_alloc.specs.declared.object.Leaf.{Leaf as ALeaf};
 ghost use Rattle.object_alloc.specs.Cells.{shape_cells};
@@ -15,9 +16,7 @@ use crate::fault::AllocFault;
 use crate::object::{Inside, Leaf, Object};
 use crate::shapes::{shape_at, variable_count};
 use class_table::{ClassTable, Resolved};
-
-/// How many cells a model may have.
-const MOST_CELLS: u32 = 20_000;
+use model_limits::MOST_CELLS;
 
 /// What was laid out so far, and how many cells its leaves give.
 #[derive(Drop)]
@@ -96,7 +95,7 @@ pub(crate) fn lay_members(
 ) -> Result<(), AllocFault>
     requires ready { IsReady table.now sizes.now layout.old (λ n. members (visit table.now) inside 0 (variables table.now class) n) }
     requires class { IfSome class (λ c. c < length table.now.classes) }
-    requires depth { inside.depth ≤ 60 }
+    requires depth { inside.depth ≤ most_names }
     requires shallow { kinds_weight (weight table.now deep) (kinds_of (inside.depth + 1) (variables table.now class)) ≡ 0 }
     ensures laid { OnOk result (HasLaid table.now layout.old layout.new (λ n. members (visit table.now) inside 0 (variables table.now class) n)) }
     ensures fault { IfErr result (IsRefusedPart table.now layout.old (λ n. members (visit table.now) inside 0 (variables table.now class) n)) }
@@ -122,7 +121,7 @@ fn lay_attribute(
 ) -> Result<(), AllocFault>
     requires ready { IsReady table.now sizes.now layout.old (λ n. attribute (visit table.now) inside k shape n) }
     requires shape { IsShapeOf (length table.now.classes) (length table.now.enumerations) shape }
-    requires depth { inside.depth ≤ 60 }
+    requires depth { inside.depth ≤ most_names }
     requires shallow { kinds_weight (weight table.now deep) (held_kinds (inside.depth + 1) shape) ≡ 0 }
     ensures laid { OnOk result (HasLaid table.now layout.old layout.new (λ n. attribute (visit table.now) inside k shape n)) }
     ensures fault { IfErr result (IsRefusedPart table.now layout.old (λ n. attribute (visit table.now) inside k shape n)) }
@@ -165,7 +164,7 @@ fn lay_elements(
 ) -> Result<(), AllocFault>
     requires ready { IsReady table.now sizes.now layout.old (λ n. elements (visit table.now) inside k class count 0 n) }
     requires class { class < length table.now.classes }
-    requires depth { inside.depth ≤ 60 }
+    requires depth { inside.depth ≤ most_names }
     requires shallow { kinds_weight (weight table.now deep) (replicate count (kind class (inside.depth + 1))) ≡ 0 }
     ensures laid { OnOk result (HasLaid table.now layout.old layout.new (λ n. elements (visit table.now) inside k class count 0 n)) }
     ensures fault { IfErr result (IsRefusedPart table.now layout.old (λ n. elements (visit table.now) inside k class count 0 n)) }

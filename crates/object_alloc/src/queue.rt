@@ -4,6 +4,7 @@
 //! holds. It stops as soon as there are too many, so its work is bounded however many objects a model would have.
 ghost use Rattle.std.specs.Prelude.{◌≡◌, ◌+◌, ◌<◌, ◌≤◌, ◌^◌, ◌++◌, nat_lt, length, replicate, IfOk, IfErr, OnOk, IfSome};
 ghost use Rattle.std.specs.List.{sum_by};
+ghost use Rattle.model_limits.specs.Limits.{most_objects};
 ghost use Rattle.class_table.specs.Sound.{IsSound};
 ghost use Rattle.object_alloc.specs.Sums.{Weigh, of_object, of_kind, variables, held_kinds, kinds_of, deep, IsExcess, IsLawful};
 ghost use Rattle.object_alloc.specs.Walk.{objects};
@@ -11,13 +12,8 @@ ghost use Rattle.object_alloc.specs.Walk.{objects};
 use crate::fault::AllocFault;
 use crate::shapes::{shape_at, variable_count};
 use class_table::{ClassTable, Resolved};
+use model_limits::{MOST_NAMES, MOST_OBJECTS};
 use std::alloc::Global;
-
-/// How many objects a model may have.
-const MOST_OBJECTS: usize = 10_000;
-
-/// How many names an object's path may have.
-const MOST_NAMES: u32 = 60;
 
 /// An object's class and depth.
 #[derive(Clone, Copy, Debug)]
@@ -28,12 +24,12 @@ pub(crate) struct Kind {
 
 /// Adds so many objects of a kind.
 fn push_many(queue: &mut Vec<Kind>, kind: Kind, count: u32) -> Result<(), AllocFault>
-    requires few { length queue.old.items ≤ 10000 }
+    requires few { length queue.old.items ≤ most_objects }
     ensures queue { OnOk result (queue.new.items ≡ queue.old.items ++ replicate count kind) }
-    ensures few { OnOk result (length queue.new.items ≤ 10000) }
+    ensures few { OnOk result (length queue.new.items ≤ most_objects) }
     ensures fault { IfErr result (IsExcess (length queue.old.items + count)) }
 {
-    if count as usize > MOST_OBJECTS - queue.len() {
+    if count as usize > MOST_OBJECTS as usize - queue.len() {
         return Err(AllocFault::TooManyObjects);
     }
     for _ in 0..count {
@@ -44,9 +40,9 @@ fn push_many(queue: &mut Vec<Kind>, kind: Kind, count: u32) -> Result<(), AllocF
 
 /// Adds the objects that a variable of this shape holds.
 fn push_held(queue: &mut Vec<Kind>, shape: Resolved, depth: u32) -> Result<(), AllocFault>
-    requires few { length queue.old.items ≤ 10000 }
+    requires few { length queue.old.items ≤ most_objects }
     ensures queue { OnOk result (queue.new.items ≡ queue.old.items ++ held_kinds depth shape) }
-    ensures few { OnOk result (length queue.new.items ≤ 10000) }
+    ensures few { OnOk result (length queue.new.items ≤ most_objects) }
     ensures fault { IfErr result (IsExcess (length queue.old.items + length (held_kinds depth shape))) }
 {
     match shape {
@@ -64,9 +60,9 @@ fn push_members(
     depth: u32,
 ) -> Result<(), AllocFault>
     requires class { IfSome class (λ c. c < length table.now.classes) }
-    requires few { length queue.old.items ≤ 10000 }
+    requires few { length queue.old.items ≤ most_objects }
     ensures queue { OnOk result (queue.new.items ≡ queue.old.items ++ kinds_of depth (variables table.now class)) }
-    ensures few { OnOk result (length queue.new.items ≤ 10000) }
+    ensures few { OnOk result (length queue.new.items ≤ most_objects) }
     ensures fault { IfErr result (IsExcess (length queue.old.items + length (kinds_of depth (variables table.now class)))) }
 {
     for k in 0..variable_count(table, class) {
@@ -83,7 +79,7 @@ pub(crate) fn queue_all(alloc: Global, table: &ClassTable) -> Result<Vec<Kind>, 
     requires sound { IsSound table.now }
     ensures kinds { IfOk result (λ queue. (g : Weigh) → sum_by (of_kind g) queue.items ≡ sum_by (of_object g) (objects table.now)) }
     ensures lawful { IfOk result (λ queue. IsLawful (length table.now.classes) 1 queue.items) }
-    ensures few { IfOk result (λ queue. length queue.items ≤ 10000) }
+    ensures few { IfOk result (λ queue. length queue.items ≤ most_objects) }
     ensures fault { IfErr result (IsExcess (length (objects table.now))) }
 {
     let mut queue = Vec::new(alloc);

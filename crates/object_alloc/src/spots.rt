@@ -1,5 +1,6 @@
 //! Objects by where they are held.
 ghost use Rattle.std.specs.Prelude.{◌≡◌, ◌<◌, ◌≤◌, IsTrue, false, length, slice_index_or};
+ghost use Rattle.model_limits.specs.Limits.{most_objects};
 ghost use Rattle.object_alloc.specs.declared.object.Object.{Object as AnObject};
 ghost use Rattle.object_alloc.specs.Parts.{IsPart, HasPart};
 
@@ -20,7 +21,7 @@ pub(crate) type Spots = IndexMap<Spot, u32>;
 
 /// The spots of these objects.
 pub(crate) fn spots_of(alloc: Global, objects: &[Object]) -> Result<Spots, AllocError>
-    requires few { length objects.now ≤ 10000 }
+    requires few { length objects.now ≤ most_objects }
 {
     let mut spots = IndexMap::new(alloc);
     for n in 0..objects.len() {
@@ -53,7 +54,7 @@ fn is_at(objects: &[Object], n: u32, spot: Spot) -> bool
 /// The number of the object that has this spot. The look-up gives it at once; it is only tested here.
 pub(crate) fn part_at(objects: &[Object], spots: &Spots, spot: Spot) -> u32
     requires part { HasPart objects.now spot.owner spot.attribute spot.element }
-    requires few { length objects.now ≤ 10000 }
+    requires few { length objects.now ≤ most_objects }
     ensures there { result < length objects.now }
     ensures part { (d : AnObject) → IsPart spot.owner spot.attribute spot.element (slice_index_or objects.now result d) }
 {
@@ -68,7 +69,7 @@ pub(crate) fn part_at(objects: &[Object], spots: &Spots, spot: Spot) -> u32
 /// The number of the object that has this spot, by a look at each.
 fn search(objects: &[Object], spot: Spot) -> u32
     requires part { HasPart objects.now spot.owner spot.attribute spot.element }
-    requires few { length objects.now ≤ 10000 }
+    requires few { length objects.now ≤ most_objects }
     ensures there { result < length objects.now }
     ensures part { (d : AnObject) → IsPart spot.owner spot.attribute spot.element (slice_index_or objects.now result d) }
 {

@@ -1,6 +1,7 @@
 use Rattle.std.proofs.Common.{rules, ◌≡◌, ◌+◌, ◌<◌, ◌++◌, ℕ, length, take, drop, ap, ◌∙◌, arith}
 use Rattle.std.specs.Prelude.{slice_index}
 use Rattle.std.specs.List.{sum_by}
+use Rattle.model_limits.specs.Limits.{most_objects}
 use Rattle.object_alloc.specs.declared.queue.Kind.{Kind}
 use Rattle.object_alloc.specs.Sums.{of_kind, kin}
 use Rattle.object_alloc.proofs.ExtentLaws.{queue_next, lawful_drop, written, kin_most, most_all}
@@ -24,7 +25,7 @@ loop-kind-preserved c =
     omega (arith, next, was, now, from) in
     record {
       count = ap length same ∙ size ∙ c.loop-kind.invariant.count;
-      most = most_all 10000 (take c.loop-kind.sizes.len (new ++ drop (length new) old)) (λ x lt.
+      most = most_all most_objects (take c.loop-kind.sizes.len (new ++ drop (length new) old)) (λ x lt.
           let on : x < length o.classes = omega (arith, lt, ap length same, size, c.loop-kind.invariant.count) in
           let e = each x on in
           let few = kin_most o x c.args.queue.now in

@@ -1,5 +1,6 @@
 use Rattle.std.proofs.Common.{◌≡◌, ◌-◌, ◌≤◌, length}
 use Rattle.std.specs.List.{sum_by}
+use Rattle.model_limits.specs.Limits.{most_objects}
 use Rattle.object_alloc.specs.Sums.{Weigh, of_object, IsLawful}
 use Rattle.object_alloc.specs.Walk.{objects}
 use Rattle.object_alloc.proofs.QueueSteps.{balance}
@@ -11,7 +12,7 @@ invariant-loop-head l =
     record {
       total : (g : Weigh) → balance l.table g l.head l.queue.items ≡ sum_by (of_object g) (objects l.table);
       lawful : IsLawful (length l.table.classes) 1 l.queue.items;
-      few : length l.queue.items ≤ 10000;
+      few : length l.queue.items ≤ most_objects;
       within : l.head ≤ length l.queue.items;
     }
 

@@ -1,0 +1,30 @@
+//! The limits of models, each once: a constant for code, and in `specs/Limits` the same number by
+//! the same name for clauses. A proof that uses both ties them to each other.
+#![tactic(auto)]
+
+/// How many bytes the text of a model may have.
+pub const MODEL_BYTES: u64 = 1_048_576;
+
+/// How many bytes the text of a configuration may have.
+pub const CONFIG_BYTES: u64 = 16_777_216;
+
+/// The greatest number that a text may spell.
+pub const MOST_LITERAL: u32 = 1_000_000_000;
+
+/// How deep expressions may nest.
+pub const MOST_NESTING: u32 = 200;
+
+/// How many objects a model may have.
+pub const MOST_OBJECTS: u32 = 10_000;
+
+/// How many names the path of an object may have.
+pub const MOST_NAMES: u32 = 60;
+
+/// How many cells a model may have.
+pub const MOST_CELLS: u32 = 20_000;
+
+/// How much the expressions of a model may weigh.
+pub const MOST_WEIGHT: u64 = 2_000_000;
+
+/// How far from 0 a number may lie: 2 to the 50th.
+pub const MOST_WIDTH: i64 = 1_125_899_906_842_624;
