@@ -1,5 +1,6 @@
--- The limits of models: how long their texts, how deep their expressions, how many their objects and
--- cells, how heavy their expressions and how large their numbers may be.
+-- The limits of models. What a reader believes after this file: how long their texts, how deep
+-- their expressions, how many their objects and cells, how heavy their expressions and how large
+-- their numbers may be.
 use Rattle.std.specs.Prelude.{ℕ}
 
 -- bytes of a model's text, and of a configuration's
