@@ -1,12 +1,12 @@
 -- A clause whose sets lie within the domains.
-use Rattle.std.proofs.Common.{◌≡◌, ℕ, zero, true, List, [], ◌∷◌, arith, inl, inr, subst}
+use Rattle.std.proofs.Common.{◌≡◌, ℕ, zero, suc, ◌<◌, true, List, [], ◌∷◌, length, arith, inl, inr, subst}
 use Rattle.std.proofs.lemmas.Bool.{cases_eq}
 use Rattle.std.proofs.lemmas.List.Elements.{All-tail}
 use Rattle.std.specs.List.{All}
 use Rattle.signed_clause.specs.Ranges.{Ranges, has, IsSubset}
 use Rattle.signed_clause.specs.Clauses.{Boxes, Literals, box_of, set_of}
 use Rattle.signed_clause.proofs.ResolventLaws.{set_here, set_later}
-use Rattle.learn_clauses.specs.Walk.{IsWithinDomains}
+use Rattle.learn_clauses.specs.Walk.{clause_at, IsWithinDomains}
 
 pub clause_within : (domains : Boxes) (c : Literals) →
     All (λ l. IsSubset l.1 (box_of domains l.0)) c → IsWithinDomains domains c
@@ -23,3 +23,11 @@ clause_within domains (l ∷ c) a x v h =
           subst (λ (s : Ranges). has s v ≡ true) (set_later l c x e) h in
           clause_within domains c (All-tail (λ l. IsSubset l.1 (box_of domains l.0)) l c a) x v there
     ]
+
+pub all_within : (domains : Boxes) (clauses : List Literals) →
+    ((j : ℕ) → j < length clauses → IsWithinDomains domains (clause_at clauses j)) →
+    All (λ c. IsWithinDomains domains c) clauses
+all_within domains [] h k d lt = absurd (omega arith)
+all_within domains (c ∷ cs) h zero d lt = h zero (omega arith)
+all_within domains (c ∷ cs) h (suc k) d lt =
+    all_within domains cs (λ j lt. h (suc j) (omega arith)) k d (omega arith)

@@ -44,5 +44,8 @@ pub fn may_analyse(
     let Some(domains) = domains_behind(alloc, store, clauses)? else {
         return Ok(false);
     };
-    Ok(is_false(clauses, conflict, store.boxes()) && are_clauses_within(clauses, domains.as_slice()))
+    Ok(
+        is_false(clauses, conflict, store.boxes())
+            && are_clauses_within(clauses, domains.as_slice()),
+    )
 }

@@ -63,11 +63,7 @@ fn is_from(
 }
 
 /// Takes an entry back, and whether it came from a clause.
-fn step_back(
-    boxes: &mut Vec<IntSet>,
-    entry: &Moved,
-    clauses: &Clauses,
-) -> Result<bool, AllocError>
+fn step_back(boxes: &mut Vec<IntSet>, entry: &Moved, clauses: &Clauses) -> Result<bool, AllocError>
     ensures { IfOk result (λ b. b ≡ true
         → IsStepBack clauses.now entry.now boxes.old.items boxes.new.items) }
 {
@@ -84,6 +80,7 @@ fn step_back(
 ///
 /// # Errors
 /// Want of memory.
+#[tactic(auto, using(crate::proofs::WalkBack::back_ends, crate::proofs::WalkBack::back_domains))]
 pub(crate) fn domains_behind(
     alloc: Global,
     store: &Store,

@@ -46,6 +46,7 @@ fn is_number_within(clauses: &Clauses, k: u64, domains: &[IntSet]) -> bool
 }
 
 /// Whether each set of each clause lies within its variable's domain.
+#[tactic(auto, using(crate::proofs::WithinDomains::all_within))]
 pub(crate) fn are_clauses_within(clauses: &Clauses, domains: &[IntSet]) -> bool
     ensures { result ≡ true → All (λ c. IsWithinDomains domains.now c) clauses.now }
 {
