@@ -4,8 +4,8 @@ ghost use Rattle.std.specs.List.{All};
 ghost use Rattle.signed_clause.specs.Clauses.{false_in};
 ghost use Rattle.learn_clauses.specs.Walk.{clause_at, domains_of, CameFrom, IsWithinDomains};
 
-use crate::came::{domains_behind, has_boxes};
-use crate::within::are_clauses_within;
+use crate::came::domains_behind;
+use crate::within::{are_clauses_within, has_boxes};
 use fd_store::Store;
 use numbered_clauses::Clauses;
 use signed_clause::IntSet;

@@ -1,28 +1,16 @@
 //! Whether the prunings of a trail came from clauses.
 ghost use Rattle.std.specs.Prelude.{◌≡◌, ◌<◌, true, length, Some, IfOk, IfSome};
-ghost use Rattle.signed_clause.specs.Clauses.{IsWithinBoxes, unit_of};
+ghost use Rattle.signed_clause.specs.Clauses.{unit_of};
 ghost use Rattle.learn_clauses.specs.Walk.{domains_of, CameFrom, IsFrom};
 ghost use Rattle.conflict_check.specs.Backwards.{IsStepBack};
 
+use crate::within::has_boxes;
 use fd_store::{Moved, Store};
 use ground_form::copy_sets;
 use numbered_clauses::Clauses;
 use signed_clause::{Clause, IntSet};
 use std::alloc::{AllocError, Global};
 use std::mem;
-
-/// Whether each variable of the clause has a box.
-pub(crate) fn has_boxes(clause: &Clause, boxes: &[IntSet]) -> bool
-    ensures { result ≡ true → IsWithinBoxes clause.now boxes.now }
-{
-    let literals = clause.literals();
-    for l in literals {
-        if l.0 as usize >= boxes.len() {
-            return false;
-        }
-    }
-    true
-}
 
 /// Whether the variable of a unit clause is `x`, and `now` what it leaves.
 fn is_from_clause(

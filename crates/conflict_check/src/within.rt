@@ -1,12 +1,25 @@
-//! Whether clauses speak of values of the domains alone.
-ghost use Rattle.std.specs.Prelude.{◌≡◌, true};
+//! Whether clauses speak of variables that have boxes, and of values of the domains alone.
+ghost use Rattle.std.specs.Prelude.{◌≡◌, ◌<◌, true, length};
 ghost use Rattle.std.specs.List.{All};
-ghost use Rattle.signed_clause.specs.Clauses.{box_of};
+ghost use Rattle.signed_clause.specs.Clauses.{IsWithinBoxes, box_of};
 ghost use Rattle.signed_clause.specs.Ranges.{IsSubset};
 ghost use Rattle.learn_clauses.specs.Walk.{clause_at, IsWithinDomains};
 
 use numbered_clauses::Clauses;
 use signed_clause::{Clause, IntSet};
+
+/// Whether each variable of the clause has a box.
+pub fn has_boxes(clause: &Clause, boxes: &[IntSet]) -> bool
+    ensures { result ≡ true → IsWithinBoxes clause.now boxes.now }
+{
+    let literals = clause.literals();
+    for l in literals {
+        if l.0 as usize >= boxes.len() {
+            return false;
+        }
+    }
+    true
+}
 
 /// Whether the set lies within the domain of `x`.
 fn is_within_domain(domains: &[IntSet], x: u32, set: &IntSet) -> bool

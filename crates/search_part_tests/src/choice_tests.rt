@@ -80,9 +80,11 @@ fn is_picked(
     choosers: (&Chooser, &Chooser, &Chooser),
     case: &Case,
 ) -> Result<bool, AllocError> {
-    Ok(picked(alloc, choosers.0, case)? == case.first
-        && picked(alloc, choosers.1, case)? == case.small
-        && picked(alloc, choosers.2, case)? == case.former)
+    Ok(
+        picked(alloc, choosers.0, case)? == case.first
+            && picked(alloc, choosers.1, case)? == case.small
+            && picked(alloc, choosers.2, case)? == case.former,
+    )
 }
 
 #[test]

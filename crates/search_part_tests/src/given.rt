@@ -1,7 +1,5 @@
-//! Random numbers, sets, clauses and boxes, and what a call requires of them, asked at run time.
-ghost use Rattle.std.specs.Prelude.{◌≡◌, ◌<◌, true, length, IfOk};
-ghost use Rattle.std.specs.List.{All};
-ghost use Rattle.signed_clause.specs.Clauses.{IsWithinBoxes};
+//! Random numbers, sets, clauses and boxes.
+ghost use Rattle.std.specs.Prelude.{◌<◌};
 
 use ground_form::{Cons, Domains, Goals, Ground};
 use signed_clause::{Clause, IntSet};
@@ -44,11 +42,7 @@ pub(crate) fn set_of_bits(alloc: Global, bits: u32) -> Result<IntSet, AllocError
 }
 
 /// So many boxes of the values from 0 to `last`.
-pub(crate) fn equal_boxes(
-    alloc: Global,
-    count: u32,
-    last: i64,
-) -> Result<Vec<IntSet>, AllocError> {
+pub(crate) fn equal_boxes(alloc: Global, count: u32, last: i64) -> Result<Vec<IntSet>, AllocError> {
     let mut boxes = Vec::new(alloc);
     for _ in 0..count {
         if 0 <= last {
@@ -81,26 +75,6 @@ pub(crate) fn clause_of(alloc: Global, literals: &[(u32, u32)]) -> Result<Clause
         Ok(clause) => Ok(clause),
         Err(_) => Err(AllocError),
     }
-}
-
-/// Whether each variable of the clause is among the first `count`.
-pub(crate) fn are_below(clause: &Clause, count: usize) -> bool
-    ensures { result ≡ true → All (λ l. l.0 < count) clause.now }
-{
-    let literals = clause.literals();
-    for l in literals {
-        if l.0 as usize >= count {
-            return false;
-        }
-    }
-    true
-}
-
-/// Whether each variable of the clause has a box.
-pub(crate) fn has_boxes(clause: &Clause, boxes: &[IntSet]) -> bool
-    ensures { result ≡ true → IsWithinBoxes clause.now boxes.now }
-{
-    are_below(clause, boxes.len())
 }
 
 /// Whether the two lists have the same sets.

@@ -1,8 +1,6 @@
 //! Given decisions and clauses, and what their conflict shows.
-ghost use Rattle.std.specs.Prelude.{◌≡◌, ◌<◌, true};
-
-use crate::given::{are_below, are_same, clause_of, has_boxes, problem_of, set_of_bits};
-use conflict_check::may_analyse;
+use crate::given::{are_same, clause_of, problem_of, set_of_bits};
+use conflict_check::{has_boxes, may_analyse};
 use fd_store::{Applied, Store};
 use learn_clauses::{Clauses, Learnt, analyse};
 use signed_clause::{Clause, ClauseHandle, IntSet, RunningClause};
@@ -110,7 +108,10 @@ fn take(
             Some(Applied::Pruned(y)) => Ok(x == y && has_bits(alloc, store.boxes(), x, bits)?),
             _ => Ok(false),
         },
-        Step::Nothing(number) => Ok(matches!(apply(store, clauses, number)?, Some(Applied::Nothing))),
+        Step::Nothing(number) => Ok(matches!(
+            apply(store, clauses, number)?,
+            Some(Applied::Nothing)
+        )),
     }
 }
 
@@ -139,7 +140,10 @@ fn is_as_said(alloc: Global, row: &Row) -> Result<bool, AllocError> {
             return Ok(false);
         }
     }
-    if !matches!(apply(&mut store, &clauses, row.conflict)?, Some(Applied::Conflict)) {
+    if !matches!(
+        apply(&mut store, &clauses, row.conflict)?,
+        Some(Applied::Conflict)
+    ) {
         return Ok(false);
     }
     let Some(learnt) = learn(alloc, &store, &clauses, row.conflict)? else {
@@ -150,12 +154,14 @@ fn is_as_said(alloc: Global, row: &Row) -> Result<bool, AllocError> {
         return Ok(false);
     }
     store.undo_to(level);
-    Ok(learnt.chain.first == row.conflict
-        && learnt.chain.steps.items() == row.chain
-        && learnt.clause.same(&clause_of(alloc, row.learnt)?)
-        && learnt.level == row.level
-        && store.level() == level
-        && are_same(store.boxes(), &sets_of(alloc, row.boxes)?))
+    Ok(
+        learnt.chain.first == row.conflict
+            && learnt.chain.steps.items() == row.chain
+            && learnt.clause.same(&clause_of(alloc, row.learnt)?)
+            && learnt.level == row.level
+            && store.level() == level
+            && are_same(store.boxes(), &sets_of(alloc, row.boxes)?),
+    )
 }
 
 #[test]
@@ -208,7 +214,11 @@ fn conflicts_show_given_clauses(rt: HostRuntime) -> Result<(), AllocError> {
             boxes: &[0b1, 0b10, 0b11, 0b11],
         },
     ] {
-        assert!(rt; is_as_said(alloc, &row)?, "the conflict of clause {}", row.conflict);
+        assert!(rt;
+            is_as_said(alloc, &row)?,
+            "the conflict of clause {}",
+            row.conflict
+        );
     }
     Ok(())
 }

@@ -3,6 +3,7 @@
 //! - `given`: random numbers, sets, clauses and boxes.
 //! - `store_tests`: boxes in levels, against boxes that are copied whole at each level.
 //! - `given_conflict_tests`: given decisions and clauses, and what their conflict shows.
+//! - `watch_tests`: watched clauses, against a scan of all of them.
 //! - `choice_tests`: which split each order picks.
 #![tactic(auto)]
 
@@ -14,3 +15,5 @@ mod given;
 mod given_conflict_tests;
 #[cfg(test)]
 mod store_tests;
+#[cfg(test)]
+mod watch_tests;

@@ -1,8 +1,7 @@
 //! A store against boxes that are copied whole: after each step the boxes and the level are the
 //! same. The steps are decisions, clauses and undos.
-ghost use Rattle.std.specs.Prelude.{◌≡◌, ◌<◌, true};
-
-use crate::given::{Numbers, are_same, clause_of, equal_boxes, has_boxes, problem_of, set_of_bits};
+use crate::given::{Numbers, are_same, clause_of, equal_boxes, problem_of, set_of_bits};
+use conflict_check::has_boxes;
 use fd_store::{Applied, Store};
 use ground_form::copy_sets;
 use signed_clause::{Clause, IntSet};
@@ -129,7 +128,10 @@ fn stores_agree_with_copied_boxes(rt: HostRuntime) -> Result<(), AllocError> {
             levels: vec![in alloc; copy_sets(alloc, g.domains.items())?]?,
         };
         for k in 0..200u32 {
-            assert!(rt; step(&mut store, &mut copies, &mut numbers, alloc)?, "seed {seed}, step {k}");
+            assert!(rt;
+                step(&mut store, &mut copies, &mut numbers, alloc)?,
+                "seed {seed}, step {k}"
+            );
         }
     }
     Ok(())

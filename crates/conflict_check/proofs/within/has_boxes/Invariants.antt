@@ -1,5 +1,5 @@
 use Rattle.std.proofs.Common.{◌<◌, drop, length, All}
-use Rattle.conflict_check.proofs.came.has_boxes.Given as goal
+use Rattle.conflict_check.proofs.within.has_boxes.Given as goal
 
 abbrev pub invariant-loop-l : goal.invariant-loop-l
 invariant-loop-l l =
