@@ -97,7 +97,11 @@ fn step(bench: &mut Bench, numbers: &mut Numbers, alloc: Global) -> Result<bool,
     match numbers.below(8) {
         0 => {
             let more = (VARIABLES - 1, numbers.below(256));
-            add(bench, &[(x, bits), (x + 1, numbers.below(256)), more], alloc)?;
+            add(
+                bench,
+                &[(x, bits), (x + 1, numbers.below(256)), more],
+                alloc,
+            )?;
         }
         1 | 2 => {
             if !undo(bench) {
@@ -126,7 +130,10 @@ fn watches_find_what_a_scan_finds(rt: HostRuntime) -> Result<(), AllocError> {
             levels: Vec::new(alloc),
         };
         for k in 0..200u32 {
-            assert!(rt; step(&mut bench, &mut numbers, alloc)?, "seed {seed}, step {k}");
+            assert!(rt;
+                step(&mut bench, &mut numbers, alloc)?,
+                "seed {seed}, step {k}"
+            );
         }
     }
     Ok(())
