@@ -1,5 +1,5 @@
 -- Watches with boxes. What a reader believes after this file: when the two belong together.
-use Rattle.std.specs.Prelude.{◌≡◌, ℕ, length}
+use Rattle.std.specs.Prelude.{◌≡◌, length}
 use Rattle.signed_clause.specs.Clauses.{Boxes}
 use Rattle.clause_watches.specs.Watching.{Watching, Fits}
 
