@@ -22,9 +22,9 @@ fn is_false(clauses: &Clauses, number: u64, boxes: &[IntSet]) -> bool
     }
 }
 
-/// Whether the conflict of the clause of a number may be analysed: it is false in the present boxes,
-/// the prunings came from the clauses, and these lie within the domains. It costs a walk over all
-/// entries and all literals.
+/// Whether the conflict of the clause of a number may be analysed: it is false in the present
+/// boxes, the prunings came from the clauses, and these lie within the domains. It costs a walk
+/// over all entries and all literals.
 ///
 /// # Errors
 /// Want of memory.
