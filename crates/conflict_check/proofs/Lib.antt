@@ -1,0 +1,2 @@
+pub mod WithinDomains
+pub mod WalkBack
