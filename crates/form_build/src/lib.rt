@@ -2,8 +2,10 @@
 //! making.
 //!
 //! - `form`: the forms.
+//! - `terms`: lists of terms, scaled and merged.
 #![tactic(auto)]
 
 mod form;
+mod terms;
 
 pub use form::{Linear, Truth};
