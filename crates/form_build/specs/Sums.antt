@@ -1,6 +1,7 @@
 -- Sums within their bounds. What a reader believes after this file: a sum in good order names each
 -- variable once, none that is fixed, and its numbers are bounded.
-use Rattle.std.specs.Prelude.{◌≡◌, ◌≢◌, ℕ, suc, ◌+◌, ◌<◌, ◌≤◌, List, [], ◌∷◌, ℤ, pos, ◌+ℤ◌, ◌<ℤ◌, ◌≤ℤ◌, length, unsigned_abs}
+use Rattle.std.specs.Prelude.{◌≡◌, ◌≢◌, ℕ, suc, ◌+◌, ◌*◌, ◌^◌, ◌<◌, ◌≤◌, List, [], ◌∷◌, ℤ, pos, ◌+ℤ◌, ◌<ℤ◌, ◌≤ℤ◌, length, unsigned_abs}
+use Rattle.std.specs.List.{All}
 use Rattle.signed_clause.specs.Ranges.{Ranges}
 use Rattle.signed_clause.specs.Clauses.{Boxes, box_of}
 use Rattle.ground_form.specs.Bounds.{low_of, high_of, weight_of, least_sum, greatest_sum}
@@ -36,3 +37,13 @@ pub record IsLinear (n : ℕ) (boxes : Boxes) (f : Linear) : Type 0 where
 pub record LiesFrom (low high : ℤ) (boxes : Boxes) (f : Linear) : Type 0 where
   pub low_is : low ≤ℤ least_linear f boxes
   pub high_is : greatest_linear f boxes ≤ℤ high
+
+-- a sum in good order, whose numbers fit, and whose values over the boxes lie from low to high
+pub record IsSum (boxes : Boxes) (low high : ℤ) (f : Linear) : Type 0 where
+  pub linear : IsLinear (2 ^ 58) boxes f
+  pub lies : LiesFrom low high boxes f
+
+-- each number of the sum, times m, is at most n
+pub record AreNumbersWithin (m n : ℕ) (f : Linear) : Type 0 where
+  pub terms : All (λ t. m * unsigned_abs t.0 ≤ n) f.terms
+  pub offset : m * unsigned_abs f.offset ≤ n

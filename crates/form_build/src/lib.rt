@@ -2,10 +2,12 @@
 //! making.
 //!
 //! - `form`: the forms.
+//! - `linear`: sums without a problem: numbers, variables, plus and times.
 //! - `terms`: lists of terms, scaled and merged.
 #![tactic(auto)]
 
 mod form;
+mod linear;
 mod terms;
 
 pub use form::{Linear, Truth};
