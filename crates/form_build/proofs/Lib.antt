@@ -7,3 +7,5 @@ pub mod MergedSums
 pub mod MergedBounds
 pub mod ScaledBounds
 pub mod Linears
+pub mod Singles
+pub mod Fitting

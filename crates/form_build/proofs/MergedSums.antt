@@ -1,5 +1,5 @@
 -- What merged and scaled lists add up to, at values and over boxes.
-use Rattle.std.proofs.Common.{◌≡◌, ◌≢◌, ℕ, zero, suc, ◌+◌, ◌*◌, ◌<◌, ◌≤◌, Bool, true, false, cond, List, [], ◌∷◌, ℤ, pos, negsuc, ◌+ℤ◌, ◌*ℤ◌, ◌≤ℤ◌, unsigned_abs, length, refl, sym, ap, ◌∙◌, subst, arith}
+use Rattle.std.proofs.Common.{◌≡◌, ◌≢◌, ℕ, zero, suc, ◌+◌, ◌*◌, ◌<◌, ◌≤◌, Bool, true, false, cond, All, List, [], ◌∷◌, ℤ, pos, negsuc, ◌+ℤ◌, ◌*ℤ◌, ◌≤ℤ◌, unsigned_abs, length, refl, sym, ap, ◌∙◌, subst, arith}
 use Rattle.std.specs.Prelude.{nat_lt}
 use Rattle.std.specs.Ordering.{int_eq}
 use Rattle.std.specs.Int.{int_max, int_min}
@@ -94,3 +94,12 @@ merged_keeps boxes n (t ∷ ts) h m le b k =
 
 pub merged_terms : (boxes : Boxes) (n : ℕ) (ts us : List (ℤ × ℕ)) → AreTerms boxes n ts → AreTerms boxes n us → AreTerms boxes n (merged ts us)
 merged_terms boxes n ts us h k = merged_keeps boxes n ts h n (omega arith) us k
+
+-- the variables exist
+pub terms_there : (boxes : Boxes) (n : ℕ) (ts : List (ℤ × ℕ)) → AreTerms boxes n ts → All (λ t. t.1 < length boxes) ts
+terms_there boxes n [] h k d lt = absurd (omega (arith, lt))
+terms_there boxes n (t ∷ ts) h zero d lt = h.1
+terms_there boxes n (t ∷ ts) h (suc k) d lt = terms_there boxes (suc t.1) ts h.4 k d (omega (arith, lt))
+
+pub same_there : (boxes : Boxes) (ts us : List (ℤ × ℕ)) → us ≡ ts → AreTerms boxes 0 ts → All (λ t. t.1 < length boxes) us
+same_there boxes ts us e h = subst (λ (z : List (ℤ × ℕ)). All (λ t. t.1 < length boxes) z) (sym e) (terms_there boxes 0 ts h)

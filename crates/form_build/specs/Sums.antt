@@ -47,3 +47,8 @@ pub record IsSum (boxes : Boxes) (low high : ℤ) (f : Linear) : Type 0 where
 pub record AreNumbersWithin (m n : ℕ) (f : Linear) : Type 0 where
   pub terms : All (λ t. m * unsigned_abs t.0 ≤ n) f.terms
   pub offset : m * unsigned_abs f.offset ≤ n
+
+-- the sum is this variable and nothing else
+pub record IsVariable (x : ℕ) (f : Linear) : Type 0 where
+  pub terms : f.terms ≡ (pos 1, x) ∷ []
+  pub offset : f.offset ≡ pos 0

@@ -3,11 +3,14 @@
 //!
 //! - `form`: the forms.
 //! - `linear`: sums without a problem: numbers, variables, plus and times.
+//! - `settle`: sums over a problem: variables, and numbers that fit.
 //! - `terms`: lists of terms, scaled and merged.
 #![tactic(auto)]
 
 mod form;
 mod linear;
+mod settle;
 mod terms;
 
 pub use form::{Linear, Truth};
+pub use settle::{fit, variable};
