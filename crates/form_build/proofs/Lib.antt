@@ -9,3 +9,4 @@ pub mod ScaledBounds
 pub mod Linears
 pub mod Singles
 pub mod Fitting
+pub mod OwnVariables

@@ -1,16 +1,16 @@
 -- What two sums are together, and what one is times a number.
-use Rattle.std.proofs.Common.{◌≡◌, ◌≢◌, ℕ, ◌+◌, ◌*◌, ◌<◌, ◌≤◌, List, [], ℤ, pos, negsuc, ◌+ℤ◌, ◌*ℤ◌, ◌≤ℤ◌, unsigned_abs, length, refl, sym, ap, ◌∙◌, subst, arith}
+use Rattle.std.proofs.Common.{◌≡◌, ◌≢◌, ℕ, zero, suc, ◌+◌, ◌*◌, ◌<◌, ◌≤◌, List, [], ◌∷◌, All, ℤ, pos, negsuc, ◌+ℤ◌, ◌-ℤ◌, ◌*ℤ◌, ◌≤ℤ◌, unsigned_abs, length, refl, sym, ap, ◌∙◌, subst, arith}
 use Rattle.std.specs.Int.{int_max, int_min}
 use Rattle.std.proofs.lemmas.Int.{ints, clamps, unsigned_abs-mul}
-use Rattle.std.proofs.Math.IntN.{zero-*ℤ}
+use Rattle.std.proofs.Math.IntN.{zero-*ℤ, pred_ℤ-*ℤ}
 use Rattle.std.proofs.Math.Nat.{mul-le-mul_left}
 use Rattle.signed_clause.specs.Clauses.{Boxes, box_of}
 use Rattle.ground_form.specs.Meaning.{value_of, sum_at}
-use Rattle.ground_form.specs.Bounds.{weight_of, least_sum, greatest_sum}
+use Rattle.ground_form.specs.Bounds.{low_of, high_of, reach_of, term_weight, weight_of, least_sum, greatest_sum}
 use Rattle.form_build.specs.declared.form.Linear.{Linear}
 use Rattle.form_build.specs.Forms.{linear_at}
 use Rattle.form_build.specs.Merged.{scaled, merged}
-use Rattle.form_build.specs.Sums.{AreTerms, linear_weight, least_linear, greatest_linear, IsLinear, LiesFrom}
+use Rattle.form_build.specs.Sums.{IsOpen, AreTerms, linear_weight, least_linear, greatest_linear, IsLinear, LiesFrom, IsSum, AreNumbersWithin}
 use Rattle.form_build.proofs.Distributing.{spread}
 use Rattle.form_build.proofs.MergedSums.{merged_sum, scaled_sum, merged_terms}
 use Rattle.form_build.proofs.MergedBounds.{merged_weight, merged_greatest, merged_least}
@@ -25,8 +25,8 @@ pub number_linear : (r : Linear) (v : ℤ) (boxes : Boxes) → r.terms ≡ [] �
 number_linear r v boxes e f = record {
   terms = subst (λ (z : List (ℤ × ℕ)). AreTerms boxes 0 z) (sym e) tt;
   bounded =
-    let nil = ap (λ (z : List (ℤ × ℕ)). weight_of z boxes) e in
-    let size = ap unsigned_abs f in omega (arith, nil, size);
+      let nil = ap (λ (z : List (ℤ × ℕ)). weight_of z boxes) e in
+      let size = ap unsigned_abs f in omega (arith, nil, size);
 }
 
 pub number_lies : (r : Linear) (v : ℤ) (boxes : Boxes) → r.terms ≡ [] → r.offset ≡ v → LiesFrom v v boxes r
@@ -54,11 +54,11 @@ pub plus_linear : (f g r : Linear) (boxes : Boxes) (m n : ℕ) → IsPlus f g r 
 plus_linear f g r boxes m n p h k = record {
   terms = subst (λ (z : List (ℤ × ℕ)). AreTerms boxes 0 z) (sym p.terms) (merged_terms boxes 0 f.terms g.terms h.terms k.terms);
   bounded =
-    let is = ap (λ (z : List (ℤ × ℕ)). weight_of z boxes) p.terms in
-    let law = merged_weight boxes f.terms g.terms in
-    let size = ap unsigned_abs p.offset in
-    let both = abs_plus f.offset g.offset in
-    omega (arith, is, law, size, both, h.bounded, k.bounded);
+      let is = ap (λ (z : List (ℤ × ℕ)). weight_of z boxes) p.terms in
+      let law = merged_weight boxes f.terms g.terms in
+      let size = ap unsigned_abs p.offset in
+      let both = abs_plus f.offset g.offset in
+      omega (arith, is, law, size, both, h.bounded, k.bounded);
 }
 
 pub plus_low : (f g r : Linear) (boxes : Boxes) → IsPlus f g r → (least_linear f boxes +ℤ least_linear g boxes) ≤ℤ least_linear r boxes
@@ -90,12 +90,12 @@ pub times_linear : (c : ℤ) (f r : Linear) (boxes : Boxes) (n : ℕ) → c ≢ 
 times_linear c f r boxes n some p h = record {
   terms = subst (λ (z : List (ℤ × ℕ)). AreTerms boxes 0 z) (sym p.terms) (scaled_terms boxes 0 c f.terms some h.terms);
   bounded =
-    let is = ap (λ (z : List (ℤ × ℕ)). weight_of z boxes) p.terms in
-    let law = scaled_weight boxes c f.terms in
-    let size = ap unsigned_abs p.offset in
-    let both = unsigned_abs-mul c f.offset in
-    let m : unsigned_abs c * (weight_of f.terms boxes + unsigned_abs f.offset) ≤ unsigned_abs c * n = mul-le-mul_left (unsigned_abs c) h.bounded in
-    omega (arith, is, law, size, both, m);
+      let is = ap (λ (z : List (ℤ × ℕ)). weight_of z boxes) p.terms in
+      let law = scaled_weight boxes c f.terms in
+      let size = ap unsigned_abs p.offset in
+      let both = unsigned_abs-mul c f.offset in
+      let m : unsigned_abs c * (weight_of f.terms boxes + unsigned_abs f.offset) ≤ unsigned_abs c * n = mul-le-mul_left (unsigned_abs c) h.bounded in
+      omega (arith, is, law, size, both, m);
 }
 
 pub times_low : (c : ℤ) (f r : Linear) (boxes : Boxes) → IsTimes c f r → int_min (c *ℤ least_linear f boxes) (c *ℤ greatest_linear f boxes) ≤ℤ least_linear r boxes
@@ -141,3 +141,55 @@ nothing_high f r boxes h =
     let low = zero_times (least_linear f boxes) in
     let high = zero_times (greatest_linear f boxes) in
     omega (arith, ints, clamps, low, high, h.high_is)
+
+-- ---- bounds
+
+pub linear_more : (m n : ℕ) (boxes : Boxes) (f : Linear) → m ≤ n → IsLinear m boxes f → IsLinear n boxes f
+linear_more m n boxes f h k = record { terms = k.terms; bounded = omega (arith, h, k.bounded) }
+
+coefficient_weight : (t : ℤ × ℕ) (boxes : Boxes) → IsOpen (box_of boxes t.1) → unsigned_abs t.0 ≤ term_weight t boxes
+unfolding term_weight
+coefficient_weight t boxes h =
+    let r = reach_of (box_of boxes t.1) in
+    let some : 1 ≤ r = omega (arith, ints, h) in
+    let m : unsigned_abs t.0 * 1 ≤ unsigned_abs t.0 * r = mul-le-mul_left (unsigned_abs t.0) some in
+    omega (arith, m)
+
+coefficients_within : (boxes : Boxes) (n m : ℕ) (ts : List (ℤ × ℕ)) → AreTerms boxes n ts → weight_of ts boxes ≤ m → All (λ t. 1 * unsigned_abs t.0 ≤ m) ts
+coefficients_within boxes n m [] h w k d lt = absurd (omega (arith, lt))
+coefficients_within boxes n m (t ∷ ts) h w zero d lt = let c = coefficient_weight t boxes h.3 in omega (arith, c, w)
+coefficients_within boxes n m (t ∷ ts) h w (suc k) d lt = coefficients_within boxes (suc t.1) m ts h.4 (omega (arith, w)) k d (omega (arith, lt))
+
+-- each number of a sum is at most what all add up to
+pub numbers_within : (boxes : Boxes) (n m : ℕ) (f : Linear) → n ≤ m → IsLinear n boxes f → AreNumbersWithin 1 m f
+numbers_within boxes n m f h k = record {
+  terms = coefficients_within boxes 0 m f.terms k.terms (omega (arith, h, k.bounded));
+  offset = omega (arith, h, k.bounded);
+}
+
+-- bounds may be wider
+pub sum_wider : (boxes : Boxes) (low high low' high' : ℤ) (f : Linear) → low' ≤ℤ low → high ≤ℤ high' → IsSum boxes low high f → IsSum boxes low' high' f
+sum_wider boxes low high low' high' f h k s = record {
+  linear = s.linear;
+  lies = record { low_is = omega (arith, ints, h, s.lies.low_is); high_is = omega (arith, ints, k, s.lies.high_is) };
+}
+
+-- ---- times -1
+
+pub minus_one : (v : ℤ) → (negsuc 0 *ℤ v) ≡ pos 0 -ℤ v
+minus_one v =
+    let step : (negsuc 0 *ℤ v) ≡ ((pos 0 *ℤ v) -ℤ v) = pred_ℤ-*ℤ (pos 0) v in
+    let nil = zero-*ℤ v in
+    omega (arith, ints, step, nil)
+
+pub less_low : (low high m : ℤ) → low ≤ℤ high → int_min (negsuc 0 *ℤ low) (negsuc 0 *ℤ high) ≤ℤ m → (pos 0 -ℤ high) ≤ℤ m
+less_low low high m h k =
+    let one = minus_one low in
+    let two = minus_one high in
+    omega (arith, ints, clamps, one, two, h, k)
+
+pub less_high : (low high m : ℤ) → low ≤ℤ high → m ≤ℤ int_max (negsuc 0 *ℤ low) (negsuc 0 *ℤ high) → m ≤ℤ (pos 0 -ℤ low)
+less_high low high m h k =
+    let one = minus_one low in
+    let two = minus_one high in
+    omega (arith, ints, clamps, one, two, h, k)

@@ -31,14 +31,14 @@ one_weight : (x : ℕ) (boxes : Boxes) → term_weight (pos 1, x) boxes ≡ reac
 unfolding term_weight
 one_weight x boxes = omega arith
 
-one_least : (x : ℕ) (boxes : Boxes) → low_of (box_of boxes x) ≤ℤ high_of (box_of boxes x) → least_term (pos 1, x) boxes ≡ low_of (box_of boxes x)
+pub one_least : (x : ℕ) (boxes : Boxes) → low_of (box_of boxes x) ≤ℤ high_of (box_of boxes x) → least_term (pos 1, x) boxes ≡ low_of (box_of boxes x)
 unfolding least_term
 one_least x boxes h =
     let low = one_times (low_of (box_of boxes x)) in
     let high = one_times (high_of (box_of boxes x)) in
     omega (arith, ints, clamps, low, high, h)
 
-one_greatest : (x : ℕ) (boxes : Boxes) → low_of (box_of boxes x) ≤ℤ high_of (box_of boxes x) → greatest_term (pos 1, x) boxes ≡ high_of (box_of boxes x)
+pub one_greatest : (x : ℕ) (boxes : Boxes) → low_of (box_of boxes x) ≤ℤ high_of (box_of boxes x) → greatest_term (pos 1, x) boxes ≡ high_of (box_of boxes x)
 unfolding greatest_term
 one_greatest x boxes h =
     let low = one_times (low_of (box_of boxes x)) in
@@ -52,22 +52,22 @@ pub variable_linear : (x : ℕ) (r : Linear) (boxes : Boxes) → IsVariable x r 
 variable_linear x r boxes is there wide = record {
   terms = subst (λ (z : List (ℤ × ℕ)). AreTerms boxes 0 z) (sym is.terms) (omega arith, there, some_one, wide, tt);
   bounded =
-    let terms = ap (λ (z : List (ℤ × ℕ)). weight_of z boxes) is.terms in
-    let unit = one_weight x boxes in
-    let size = ap unsigned_abs is.offset in
-    omega (arith, terms, unit, size);
+      let terms = ap (λ (z : List (ℤ × ℕ)). weight_of z boxes) is.terms in
+      let unit = one_weight x boxes in
+      let size = ap unsigned_abs is.offset in
+      omega (arith, terms, unit, size);
 }
 
 pub variable_lies : (x : ℕ) (r : Linear) (boxes : Boxes) → IsVariable x r → low_of (box_of boxes x) ≤ℤ high_of (box_of boxes x) → LiesFrom (low_of (box_of boxes x)) (high_of (box_of boxes x)) boxes r
 variable_lies x r boxes is h = record {
   low_is =
-    let terms = ap (λ (z : List (ℤ × ℕ)). least_sum z boxes) is.terms in
-    let unit = one_least x boxes h in
-    omega (arith, ints, terms, unit, is.offset);
+      let terms = ap (λ (z : List (ℤ × ℕ)). least_sum z boxes) is.terms in
+      let unit = one_least x boxes h in
+      omega (arith, ints, terms, unit, is.offset);
   high_is =
-    let terms = ap (λ (z : List (ℤ × ℕ)). greatest_sum z boxes) is.terms in
-    let unit = one_greatest x boxes h in
-    omega (arith, ints, terms, unit, is.offset);
+      let terms = ap (λ (z : List (ℤ × ℕ)). greatest_sum z boxes) is.terms in
+      let unit = one_greatest x boxes h in
+      omega (arith, ints, terms, unit, is.offset);
 }
 
 -- ---- boxes of one value

@@ -2,11 +2,11 @@
 //! numbers fit.
 //!
 //! Numbers that get too great are cut short by a new variable, which stands for the whole sum.
-ghost use Rattle.std.specs.Prelude.{◌≡◌, ◌<◌, ◌≤◌, ◌+◌, ◌^◌, ◌*◌, ◌+ℤ◌, ◌*ℤ◌, ◌≤ℤ◌, ◌<ℤ◌, nat_le, ℕ, ℤ, pos, neg_ℤ, List, length, unsigned_abs, IfOk};
+ghost use Rattle.std.specs.Prelude.{◌≡◌, ◌<◌, ◌≤◌, ◌+◌, ◌^◌, ◌*◌, ◌+ℤ◌, ◌*ℤ◌, ◌≤ℤ◌, ◌<ℤ◌, nat_le, ℕ, ℤ, pos, neg_ℤ, List, length, unsigned_abs, IfOk, IfSome};
 ghost use Rattle.std.specs.List.{All};
 ghost use Rattle.signed_clause.specs.Clauses.{Boxes, box_of};
 ghost use Rattle.ground_form.specs.Meaning.{value_of};
-ghost use Rattle.ground_form.specs.Bounds.{low_of, high_of, reach_of, term_weight, weight_of};
+ghost use Rattle.ground_form.specs.Bounds.{low_of, high_of, reach_of, term_weight, weight_of, LiesWithin};
 ghost use Rattle.ground_build.specs.Growing.{HasRoom};
 ghost use Rattle.form_build.specs.Forms.{linear_at};
 ghost use Rattle.form_build.specs.Worlds.{IsInBoxes, IsWorld, Defines, IsFew};
@@ -102,4 +102,40 @@ pub fn fit(b: &mut Builder, alloc: Global, f: Linear) -> Result<Linear, AllocErr
     let x = b.linear(f.terms.items(), f.offset)?;
     let r = alone(alloc, x)?;
     Ok(r)
+}
+
+/// The variable that a sum is, where it is one and nothing else.
+fn only_variable(f: &Linear) -> Option<u32>
+    ensures { IfSome result (λ x. IsVariable x f.now) }
+{
+    match f.terms.items() {
+        [t] => {
+            if t.0 == 1 && f.offset == 0 {
+                Some(t.1)
+            } else {
+                None
+            }
+        }
+        _ => None,
+    }
+}
+
+/// A variable that is the sum: its own, where it is one, or a new one.
+pub fn settled(b: &mut Builder, f: &Linear) -> Result<u32, AllocError>
+    requires room { HasRoom b.old }
+    requires linear { IsLinear (2 ^ 60) b.old.domains f.now }
+    ensures exists { IfOk result (λ x. x < length b.new.domains) }
+    ensures value { IfOk result (λ x. (a : List ℤ)
+        → IsWorld b.new a → value_of a x ≡ linear_at f.now a) }
+    ensures lies { IfOk result (λ x. LiesWithin (least_linear f.now b.old.domains)
+        (greatest_linear f.now b.old.domains) (box_of b.new.domains x)) }
+    ensures adds { IfOk result (λ x. Defines b.old b.new) }
+    ensures few { IfOk result (λ x. IsFew 1 b.old b.new) }
+{
+    let _domains = b.domains();
+    if let Some(x) = only_variable(f) {
+        return Ok(x);
+    }
+    let x = b.linear(f.terms.items(), f.offset)?;
+    Ok(x)
 }
