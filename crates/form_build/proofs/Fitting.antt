@@ -1,5 +1,5 @@
 -- A sum that became a variable.
-use Rattle.std.proofs.Common.{◌≡◌, ℕ, suc, zero, ◌+◌, ◌^◌, ◌<◌, ◌≤◌, max, Bool, true, false, cond, List, [], ◌∷◌, ◌++◌, ℤ, pos, ◌+ℤ◌, ◌≤ℤ◌, ◌<ℤ◌, neg_ℤ, unsigned_abs, length, length-append, refl, sym, ap, ◌∙◌, subst, arith}
+use Rattle.std.proofs.Common.{◌≡◌, ℕ, suc, zero, ◌^◌, ◌<◌, ◌≤◌, max, Bool, false, cond, List, [], ◌∷◌, ◌++◌, ℤ, pos, ◌≤ℤ◌, ◌<ℤ◌, neg_ℤ, unsigned_abs, length, length-append, refl, sym, ap, ◌∙◌, subst, arith}
 use Rattle.std.specs.Prelude.{nat_le}
 use Rattle.std.proofs.lemmas.Int.{ints}
 use Rattle.std.proofs.lemmas.Bool.Decides.{nat_tests}
@@ -7,12 +7,12 @@ use Rattle.signed_clause.specs.Ranges.{Ranges, is_nil}
 use Rattle.signed_clause.specs.Clauses.{Boxes, box_of}
 use Rattle.ground_form.specs.declared.con.Con.TheVariants.{LinDef}
 use Rattle.ground_form.specs.declared.ground.Ground.{Ground}
-use Rattle.ground_form.specs.Bounds.{low_of, high_of, reach_of, weight_of, least_sum, greatest_sum}
-use Rattle.ground_build.specs.Growing.{IsDefined, with_definition}
+use Rattle.ground_form.specs.Bounds.{low_of, high_of, reach_of}
+use Rattle.ground_build.specs.Growing.{IsDefined}
 use Rattle.ground_build.specs.NewDomains.{some_empty, linear_domain}
 use Rattle.ground_build.proofs.Sums.{sums_ordered}
 use Rattle.form_build.specs.declared.form.Linear.{Linear}
-use Rattle.form_build.specs.Sums.{IsOpen, AreTerms, linear_weight, least_linear, greatest_linear, IsLinear, LiesFrom, IsSum, IsVariable}
+use Rattle.form_build.specs.Sums.{IsOpen, AreTerms, linear_weight, least_linear, greatest_linear, LiesFrom, IsSum, IsVariable}
 use Rattle.form_build.proofs.Singles.{variable_linear, variable_lies, heavy_open}
 
 open_some : (box : Ranges) → IsOpen box → is_nil box ≡ false

@@ -1,16 +1,16 @@
 -- What two sums are together, and what one is times a number.
-use Rattle.std.proofs.Common.{◌≡◌, ◌≢◌, ℕ, zero, suc, ◌+◌, ◌*◌, ◌<◌, ◌≤◌, List, [], ◌∷◌, All, ℤ, pos, negsuc, ◌+ℤ◌, ◌-ℤ◌, ◌*ℤ◌, ◌≤ℤ◌, unsigned_abs, length, refl, sym, ap, ◌∙◌, subst, arith}
+use Rattle.std.proofs.Common.{◌≡◌, ◌≢◌, ℕ, zero, suc, ◌+◌, ◌*◌, ◌≤◌, List, [], ◌∷◌, All, ℤ, pos, negsuc, ◌+ℤ◌, ◌-ℤ◌, ◌*ℤ◌, ◌≤ℤ◌, unsigned_abs, sym, ap, ◌∙◌, subst, arith}
 use Rattle.std.specs.Int.{int_max, int_min}
 use Rattle.std.proofs.lemmas.Int.{ints, clamps, unsigned_abs-mul}
 use Rattle.std.proofs.Math.IntN.{zero-*ℤ, pred_ℤ-*ℤ}
 use Rattle.std.proofs.Math.Nat.{mul-le-mul_left}
 use Rattle.signed_clause.specs.Clauses.{Boxes, box_of}
-use Rattle.ground_form.specs.Meaning.{value_of, sum_at}
-use Rattle.ground_form.specs.Bounds.{low_of, high_of, reach_of, term_weight, weight_of, least_sum, greatest_sum}
+use Rattle.ground_form.specs.Meaning.{sum_at}
+use Rattle.ground_form.specs.Bounds.{reach_of, term_weight, weight_of, least_sum, greatest_sum}
 use Rattle.form_build.specs.declared.form.Linear.{Linear}
 use Rattle.form_build.specs.Forms.{linear_at}
 use Rattle.form_build.specs.Merged.{scaled, merged}
-use Rattle.form_build.specs.Sums.{IsOpen, AreTerms, linear_weight, least_linear, greatest_linear, IsLinear, LiesFrom, IsSum, AreNumbersWithin}
+use Rattle.form_build.specs.Sums.{IsOpen, AreTerms, least_linear, greatest_linear, IsLinear, LiesFrom, IsSum, AreNumbersWithin}
 use Rattle.form_build.proofs.Distributing.{spread}
 use Rattle.form_build.proofs.MergedSums.{merged_sum, scaled_sum, merged_terms}
 use Rattle.form_build.proofs.MergedBounds.{merged_weight, merged_greatest, merged_least}

@@ -1,5 +1,5 @@
 -- Sums that are one variable.
-use Rattle.std.proofs.Common.{◌≡◌, ◌≢◌, ℕ, zero, suc, ◌+◌, ◌*◌, ◌^◌, ◌<◌, ◌≤◌, max, true, false, cond, List, [], ◌∷◌, ℤ, pos, negsuc, ◌+ℤ◌, ◌*ℤ◌, ◌≤ℤ◌, ◌<ℤ◌, unsigned_abs, length, All, refl, sym, ap, ◌∙◌, subst, arith}
+use Rattle.std.proofs.Common.{◌≡◌, ◌≢◌, ℕ, zero, suc, ◌+◌, ◌^◌, ◌<◌, ◌≤◌, true, List, [], ◌∷◌, ℤ, pos, negsuc, ◌+ℤ◌, ◌*ℤ◌, ◌≤ℤ◌, ◌<ℤ◌, unsigned_abs, length, All, refl, sym, ap, ◌∙◌, subst, arith}
 use Rattle.std.specs.Int.{int_max, int_min}
 use Rattle.std.proofs.lemmas.Int.{ints, clamps}
 use Rattle.std.proofs.Math.IntN.{one, *ℤ-one, *ℤ_comm}
@@ -12,7 +12,7 @@ use Rattle.ground_form.proofs.Ends.{low_le, le_high}
 use Rattle.ground_form.proofs.Products.{mul_up, mul_down}
 use Rattle.form_build.specs.declared.form.Linear.{Linear}
 use Rattle.form_build.specs.Forms.{linear_at}
-use Rattle.form_build.specs.Sums.{IsOpen, AreTerms, least_linear, greatest_linear, IsLinear, LiesFrom, IsVariable}
+use Rattle.form_build.specs.Sums.{IsOpen, AreTerms, IsLinear, LiesFrom, IsVariable}
 use Rattle.form_build.proofs.Distributing.{spread}
 
 -- ---- one variable

@@ -1,6 +1,6 @@
 -- Lists of terms. What a reader believes after this file: which list two lists of terms make
 -- together, and which one is a list times a number.
-use Rattle.std.specs.Prelude.{ℕ, Bool, cond, List, [], ◌∷◌, ℤ, pos, ◌+ℤ◌, ◌*ℤ◌, nat_lt}
+use Rattle.std.specs.Prelude.{ℕ, cond, List, [], ◌∷◌, ℤ, pos, ◌+ℤ◌, ◌*ℤ◌, nat_lt}
 use Rattle.std.specs.Ordering.{int_eq}
 
 -- the terms times a number

@@ -1,4 +1,4 @@
-use Rattle.std.proofs.Common.{◌∙◌, arith, ◌+◌, ◌*◌, ◌^◌}
+use Rattle.std.proofs.Common.{arith, ◌*◌, ◌^◌}
 use Rattle.std.proofs.lemmas.Int.{ints}
 use Rattle.ground_build.proofs.Sums.{sums_ordered}
 use Rattle.form_build.specs.Forms.{linear_at}

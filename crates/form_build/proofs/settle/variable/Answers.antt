@@ -1,4 +1,4 @@
-use Rattle.std.proofs.Common.{◌≡◌, List, [], ℤ, ℕ, ◌≤ℤ◌, ◌∙◌, ap, arith, subst, to_z, of_z, w64}
+use Rattle.std.proofs.Common.{◌≡◌, [], ◌≤ℤ◌, ◌∙◌, arith, subst, to_z, of_z, w64}
 use Rattle.std.proofs.lemmas.Int.{ints}
 use Rattle.std.proofs.lemmas.Grind.{common_steps}
 use Rattle.signed_clause.specs.Clauses.{Boxes, box_of}

@@ -1,6 +1,5 @@
-use Rattle.std.proofs.Common.{List, ℤ, ℕ, ◌∙◌, ap, arith, of_z, w64}
+use Rattle.std.proofs.Common.{ℤ, ap, arith, of_z, w64}
 use Rattle.std.proofs.lemmas.Grind.{common_steps}
-use Rattle.form_build.specs.Merged.{scaled}
 use Rattle.form_build.proofs.Linears.{IsTimes, times_at, times_linear, times_low, times_high}
 use Rattle.form_build.proofs.form.Linear.times.Goals as goal
 
