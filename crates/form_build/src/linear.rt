@@ -48,8 +48,8 @@ impl Linear {
             → IsLinear m boxes self.now → IsLinear n boxes o.now → IsLinear (m + n) boxes r) }
         ensures low { IfOk result (λ r. (boxes : Boxes)
             → (least_linear self.now boxes +ℤ least_linear o.now boxes) ≤ℤ least_linear r boxes) }
-        ensures high { IfOk result (λ r. (boxes : Boxes)
-            → greatest_linear r boxes ≤ℤ (greatest_linear self.now boxes +ℤ greatest_linear o.now boxes)) }
+        ensures high { IfOk result (λ r. (boxes : Boxes) → greatest_linear r boxes
+            ≤ℤ (greatest_linear self.now boxes +ℤ greatest_linear o.now boxes)) }
     {
         let terms = merged(alloc, self.terms.items(), o.terms.items())?;
         Ok(Linear::of(terms, sum(self.offset, o.offset)))
@@ -58,7 +58,8 @@ impl Linear {
     /// The sum times a number.
     pub fn times(&self, alloc: Global, c: i64) -> Result<Linear, AllocError>
         requires numbers { AreNumbersWithin (unsigned_abs c) (2 ^ 62) self.now }
-        ensures value { IfOk result (λ r. (a : List ℤ) → linear_at r a ≡ c *ℤ linear_at self.now a) }
+        ensures value { IfOk result (λ r. (a : List ℤ)
+            → linear_at r a ≡ c *ℤ linear_at self.now a) }
         ensures linear { IfOk result (λ r. (boxes : Boxes) (n : ℕ)
             → IsLinear n boxes self.now → IsLinear (unsigned_abs c * n) boxes r) }
         ensures low { IfOk result (λ r. (boxes : Boxes) → int_min (c *ℤ least_linear self.now boxes)

@@ -40,7 +40,8 @@ pub fn variable(alloc: Global, b: &Builder, x: u32) -> Result<Linear, AllocError
     requires exists { x < length b.now.domains }
     ensures value { IfOk result (λ r. (a : List ℤ)
         → IsInBoxes b.now.domains a → linear_at r a ≡ value_of a x) }
-    ensures linear { IfOk result (λ r. IsLinear (reach_of (box_of b.now.domains x)) b.now.domains r) }
+    ensures linear { IfOk result (λ r.
+        IsLinear (reach_of (box_of b.now.domains x)) b.now.domains r) }
     ensures lies { IfOk result (λ r. LiesFrom (low_of (box_of b.now.domains x))
         (high_of (box_of b.now.domains x)) b.now.domains r) }
 {
@@ -90,7 +91,8 @@ pub fn fit(b: &mut Builder, alloc: Global, f: Linear) -> Result<Linear, AllocErr
     requires room { HasRoom b.old }
     requires linear { IsLinear (2 ^ 60) b.old.domains f }
     requires narrow { LiesFrom (neg_ℤ (pos (2 ^ 50))) (pos (2 ^ 50)) b.old.domains f }
-    ensures value { IfOk result (λ r. (a : List ℤ) → IsWorld b.new a → linear_at r a ≡ linear_at f a) }
+    ensures value { IfOk result (λ r. (a : List ℤ)
+        → IsWorld b.new a → linear_at r a ≡ linear_at f a) }
     ensures sum { IfOk result (λ r. IsSum b.new.domains (least_linear f b.old.domains)
         (greatest_linear f b.old.domains) r) }
     ensures adds { IfOk result (λ r. Defines b.old b.new) }
