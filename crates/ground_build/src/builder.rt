@@ -78,12 +78,34 @@ impl Builder {
         })
     }
 
+    /// A builder that holds what a ground problem did, without its goals. It takes no memory.
+    pub fn over_owned(g: Ground) -> Builder
+        requires { IsWellMade g }
+        ensures { result ≡ with_goals g [] }
+    {
+        let search = g.search;
+        let domains = g.domains.into_items();
+        let cons = g.cons.into_items();
+        Builder {
+            domains,
+            search,
+            cons,
+        }
+    }
+
     /// The domains of the variables so far.
     pub fn domains(&self) -> &[IntSet]
         ensures items { result.now ≡ self.now.domains }
         ensures well_made { IsWellMade self.now }
     {
         self.domains.as_slice()
+    }
+
+    /// How many variables are searched: the first ones.
+    pub fn search(&self) -> u32
+        ensures { result ≡ self.now.search }
+    {
+        self.search
     }
 
     /// The constraints so far.

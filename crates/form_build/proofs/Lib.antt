@@ -1,0 +1,12 @@
+pub mod Lists
+pub mod Growth
+pub mod Steps
+pub mod Final
+pub mod Distributing
+pub mod MergedSums
+pub mod MergedBounds
+pub mod ScaledBounds
+pub mod Linears
+pub mod Singles
+pub mod Fitting
+pub mod OwnVariables

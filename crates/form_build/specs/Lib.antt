@@ -1,0 +1,4 @@
+pub mod Forms
+pub mod Worlds
+pub mod Merged
+pub mod Sums

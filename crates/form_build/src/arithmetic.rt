@@ -1,0 +1,58 @@
+//! Plus and minus over a problem in the making.
+//!
+//! Each answers a sum in good order, whose numbers fit and whose values lie within what the
+//! operands' values give. Where numbers get too great one new variable stands for the sum.
+ghost use Rattle.std.specs.Prelude.{◌≡◌, ◌≤◌, ◌^◌, ◌+ℤ◌, ◌-ℤ◌, ◌≤ℤ◌, ℤ, pos, neg_ℤ, List, IfOk};
+ghost use Rattle.ground_build.specs.Growing.{HasRoom};
+ghost use Rattle.form_build.specs.Forms.{linear_at};
+ghost use Rattle.form_build.specs.Worlds.{IsWorld, Defines, IsFew};
+ghost use Rattle.form_build.specs.Sums.{least_linear, greatest_linear, IsLinear, IsSum};
+
+use crate::form::Linear;
+use crate::settle::fit;
+use ground_build::Builder;
+use std::alloc::{AllocError, Global};
+
+/// Two sums together.
+pub fn plus(b: &mut Builder, alloc: Global, f: &Linear, g: &Linear) -> Result<Linear, AllocError>
+    requires room { HasRoom b.old }
+    requires left { IsLinear (2 ^ 58) b.old.domains f.now }
+    requires right { IsLinear (2 ^ 58) b.old.domains g.now }
+    requires low { neg_ℤ (pos (2 ^ 50))
+        ≤ℤ (least_linear f.now b.old.domains +ℤ least_linear g.now b.old.domains) }
+    requires high { (greatest_linear f.now b.old.domains +ℤ greatest_linear g.now b.old.domains)
+        ≤ℤ pos (2 ^ 50) }
+    ensures value { IfOk result (λ r. (a : List ℤ) → IsWorld b.new a
+        → linear_at r a ≡ linear_at f.now a +ℤ linear_at g.now a) }
+    ensures sum { IfOk result (λ r. IsSum b.new.domains
+        (least_linear f.now b.old.domains +ℤ least_linear g.now b.old.domains)
+        (greatest_linear f.now b.old.domains +ℤ greatest_linear g.now b.old.domains) r) }
+    ensures adds { IfOk result (λ r. Defines b.old b.new) }
+    ensures few { IfOk result (λ r. IsFew 1 b.old b.new) }
+{
+    let both = f.plus(alloc, g)?;
+    let r = fit(b, alloc, both)?;
+    Ok(r)
+}
+
+/// A sum less another.
+pub fn minus(b: &mut Builder, alloc: Global, f: &Linear, g: &Linear) -> Result<Linear, AllocError>
+    requires room { HasRoom b.old }
+    requires left { IsLinear (2 ^ 58) b.old.domains f.now }
+    requires right { IsLinear (2 ^ 58) b.old.domains g.now }
+    requires low { neg_ℤ (pos (2 ^ 50))
+        ≤ℤ (least_linear f.now b.old.domains -ℤ greatest_linear g.now b.old.domains) }
+    requires high { (greatest_linear f.now b.old.domains -ℤ least_linear g.now b.old.domains)
+        ≤ℤ pos (2 ^ 50) }
+    ensures value { IfOk result (λ r. (a : List ℤ) → IsWorld b.new a
+        → linear_at r a ≡ linear_at f.now a -ℤ linear_at g.now a) }
+    ensures sum { IfOk result (λ r. IsSum b.new.domains
+        (least_linear f.now b.old.domains -ℤ greatest_linear g.now b.old.domains)
+        (greatest_linear f.now b.old.domains -ℤ least_linear g.now b.old.domains) r) }
+    ensures adds { IfOk result (λ r. Defines b.old b.new) }
+    ensures few { IfOk result (λ r. IsFew 1 b.old b.new) }
+{
+    let less = g.times(alloc, -1)?;
+    let r = plus(b, alloc, f, &less)?;
+    Ok(r)
+}
