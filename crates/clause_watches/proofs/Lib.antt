@@ -1,0 +1,11 @@
+pub mod MarkLaws
+pub mod RestLaws
+pub mod RowLaws
+pub mod MaskLaws
+pub mod WalkLaws
+pub mod KnownLaws
+pub mod SettleLaws
+pub mod ActLaws
+pub mod LinkLaws
+pub mod LookLaws
+pub mod WatchingLaws

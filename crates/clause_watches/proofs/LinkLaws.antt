@@ -1,0 +1,129 @@
+-- Watches by literals that are found.
+use Rattle.std.proofs.Common.{◌≡◌, ◌≢◌, ℕ, zero, suc, ◌<◌, ◌≤◌, ◌+◌, ◌==◌, Bool, true, false, not, cond, List, [], ◌∷◌, ◌++◌, ◌||◌, ◌⊎◌, inl, inr, ℤ, length, arith, refl, sym, ap, ◌∙◌, subst, slice_set, slice_index_or}
+use Rattle.std.proofs.lemmas.Bool.{cases_eq}
+use Rattle.std.proofs.lemmas.List.{length-set}
+use Rattle.std.proofs.lemmas.List.Elements.{All-push}
+use Rattle.signed_clause.specs.Ranges.{Ranges}
+use Rattle.signed_clause.specs.SetAlgebra.{is_disjoint}
+use Rattle.signed_clause.specs.Clauses.{Boxes, Literals, box_of, set_of, IsClause}
+use Rattle.clause_watches.specs.declared.rest.Rest.{Rest}
+use Rattle.clause_watches.specs.declared.rest.Rest.TheVariants.{Listed, Half, On, Held}
+use Rattle.clause_watches.specs.declared.watch.Link.{Link}
+use Rattle.clause_watches.specs.declared.watch.Watch.{Watch}
+use Rattle.clause_watches.specs.Marks.{is_marked}
+use Rattle.clause_watches.specs.Watching.{clause_of, rest_of, Meets}
+use Rattle.clause_watches.specs.Rows.{names, holds, differ, has_watch, AreBelow, AreRight, IsTrueOf}
+use Rattle.clause_watches.specs.Sound.{row_of, least_at, sets_at, AreLinked}
+use Rattle.clause_watches.specs.Looking.{IsMeeting, IsLink, linked}
+use Rattle.clause_watches.proofs.ActLaws.{set_at}
+use Rattle.clause_watches.proofs.MarkLaws.{marked_same, marked_other}
+use Rattle.clause_watches.proofs.RestLaws.{rest_set_same, rest_set_other}
+
+pub link_made : (boxes : Boxes) (added : List (ℕ × Literals)) (leasts : List ℤ) (i : ℕ) (rest : Rest) (lits : Literals) (k : ℕ) (l : ℕ × Ranges) (link : Link) (least : ℤ) →
+    lits ≡ clause_of added i → IsClause lits → k < length lits → l ≡ slice_index_or lits k l → IsMeeting boxes rest (slice_index_or lits k l) → l.0 < length boxes →
+    link.variable ≡ l.0 → link.watch.clause ≡ i → least ≡ least_at leasts l.0 → IsTrueOf least l.1 link.watch.witness → IsLink boxes added leasts i rest link
+link_made boxes added leasts i rest lits k l link least is form there at meeting below variable clause low right =
+    let met : IsMeeting boxes rest l = subst (λ p. IsMeeting boxes rest p) (sym at) meeting in
+    let own : set_of (clause_of added i) l.0 ≡ l.1 = subst (λ (c : Literals). set_of c l.0 ≡ l.1) is (set_at 0 lits k l l form there at) in record {
+      clause = clause;
+      there = subst (λ (x : ℕ). x < length boxes) (sym variable) below;
+      unnamed = subst (λ (x : ℕ). names rest x ≡ false) (sym variable) met.unnamed;
+      meets = subst (λ (x : ℕ). Meets boxes (clause_of added i) x) (sym variable)
+          (subst (λ (s : Ranges). is_disjoint s (box_of boxes l.0) ≡ false) (sym own) met.meets);
+      right = subst (λ (x : ℕ). IsTrueOf (least_at leasts x) (sets_at added x i) link.watch.witness) (sym variable)
+          (subst (λ (v : ℤ). IsTrueOf v (sets_at added l.0 i) link.watch.witness) low
+          (subst (λ (s : Ranges). IsTrueOf least s link.watch.witness) (sym own) right));
+    }
+
+-- the default doesn't matter below the length
+pub least_read : (leasts : List ℤ) (x : ℕ) (v d : ℤ) → x < length leasts → v ≡ slice_index_or leasts x d → v ≡ least_at leasts x
+least_read [] x v d h e = absurd (omega arith)
+least_read (l ∷ ls) zero v d h e = e
+least_read (l ∷ ls) (suc x) v d h e = least_read ls x v d (omega arith) e
+
+-- ---- one literal more is known to meet
+
+linked_names : (x y : ℕ) (r : Rest) → names (linked x r) y ≡ true → (names r y ≡ true) ⊎ (y ≡ x)
+linked_names x y Listed h = inr (grind arith)
+linked_names x y (Half a) h = or_cases (a == y) (x == y) h (grind arith)
+  where
+    or_cases : (b d : Bool) → (b || d) ≡ true → (d ≡ true → y ≡ x) → (b ≡ true) ⊎ (y ≡ x)
+    or_cases true d e f = inl refl
+    or_cases false d e f = inr (f e)
+linked_names x y (On a b) h = inl h
+linked_names x y (Held a) h = inl h
+
+linked_holds : (x y : ℕ) (r : Rest) → holds (linked x r) y ≡ true → holds r y ≡ true
+linked_holds x y Listed h = absurd (cc)
+linked_holds x y (Half a) h = absurd (cc)
+linked_holds x y (On a b) h = h
+linked_holds x y (Held a) h = h
+
+linked_apart : (x : ℕ) (r : Rest) → names r x ≡ false → differ r ≡ true → differ (linked x r) ≡ true
+linked_apart x Listed n d = refl
+linked_apart x (Half a) n d = ap (λ (b : Bool). not b) n
+linked_apart x (On a b) n d = d
+linked_apart x (Held a) n d = d
+
+-- in place of one rest another, at a property of all of them
+pub rest_cases : (rests : List Rest) (i : ℕ) (r : Rest) (P : ℕ → Rest → Type 0) → i < length rests → P i r → ((j : ℕ) → P j (rest_of rests j)) → (j : ℕ) → P j (rest_of (slice_set rests i r) j)
+rest_cases rests i r P h p all j = elim (cases_eq j i) [
+  | inl same ↦ subst (λ (k : ℕ). P k (rest_of (slice_set rests i r) k)) (sym same) (subst (λ (q : Rest). P i q) (sym (rest_set_same rests i r h)) p)
+  | inr other ↦ subst (λ (q : Rest). P j q) (sym (rest_set_other rests i j r other)) (all j)
+]
+
+has_own : (row : List Watch) (w : Watch) (i : ℕ) → w.clause ≡ i → has_watch i (row ++ w ∷ []) ≡ true
+has_own [] w i e = let yes : (w.clause == i) ≡ true = grind arith in rw yes refl
+has_own (v ∷ vs) w i e = or_right (v.clause == i) _ (has_own vs w i e)
+  where
+    or_right : (a b : Bool) → b ≡ true → (a || b) ≡ true
+    or_right true b e = refl
+    or_right false b e = e
+
+has_still : (row : List Watch) (w : Watch) (i : ℕ) → has_watch i row ≡ true → has_watch i (row ++ w ∷ []) ≡ true
+has_still [] w i e = absurd (cc)
+has_still (v ∷ vs) w i e = or_more (v.clause == i) (has_watch i vs) _ (λ h. has_still vs w i h) e
+  where
+    or_more : (a b d : Bool) → (b ≡ true → d ≡ true) → (a || b) ≡ true → (a || d) ≡ true
+    or_more true b d f e = refl
+    or_more false b d f e = f e
+
+-- one row has a watch more, and the clause's rest names its variable
+pub linked_more : (added : List (ℕ × Literals)) (rests : List Rest) (rows rows' : List (List Watch)) (leasts : List ℤ) (held : List Bool) (l : Link) →
+    AreLinked added rests rows leasts held → l.watch.clause < length rests → names (rest_of rests l.watch.clause) l.variable ≡ false →
+    IsTrueOf (least_at leasts l.variable) (sets_at added l.variable l.watch.clause) l.watch.witness →
+    ((y : ℕ) → y ≢ l.variable → row_of rows' y ≡ row_of rows y) → row_of rows' l.variable ≡ row_of rows l.variable ++ l.watch ∷ [] →
+    AreLinked added (slice_set rests l.watch.clause (linked l.variable (rest_of rests l.watch.clause))) rows' leasts held
+linked_more added rests rows rows' leasts held l fit there unnamed right others grown =
+    let x = l.variable in
+    let i = l.watch.clause in
+    let r = rest_of rests i in
+    let news = slice_set rests i (linked x r) in
+    let size : length news ≡ length rests = length-set rests i (linked x r) in
+    let still : (j y : ℕ) → has_watch j (row_of rows y) ≡ true → has_watch j (row_of rows' y) ≡ true = λ j y h. elim (cases_eq y x) [
+      | inl same ↦ subst (λ (z : ℕ). has_watch j (row_of rows' z) ≡ true) (sym same)
+          (subst (λ (row : List Watch). has_watch j row ≡ true) (sym grown) (has_still (row_of rows x) l.watch j (subst (λ (z : ℕ). has_watch j (row_of rows z) ≡ true) same h)))
+      | inr other ↦ subst (λ (row : List Watch). has_watch j row ≡ true) (sym (others y other)) h
+    ] in
+    let own : has_watch i (row_of rows' x) ≡ true = subst (λ (row : List Watch). has_watch i row ≡ true) (sym grown) (has_own (row_of rows x) l.watch i refl) in record {
+      size = size ∙ fit.size;
+      apart = rest_cases rests i (linked x r) (λ j q. differ q ≡ true) there (linked_apart x r unnamed (fit.apart i)) fit.apart;
+      linked = λ j y. rest_cases rests i (linked x r) (λ k q. names q y ≡ true → has_watch k (row_of rows' y) ≡ true) there
+          (λ n. elim (linked_names x y r n) [
+            | inl old ↦ still i y (fit.linked i y old)
+            | inr new ↦ subst (λ (z : ℕ). has_watch i (row_of rows' z) ≡ true) (sym new) own
+          ]) (λ k n. still k y (fit.linked k y n)) j;
+      below = λ y. subst (λ (n : ℕ). AreBelow n (row_of rows' y)) (sym size) (elim (cases_eq y x) [
+        | inl same ↦ subst (λ (z : ℕ). AreBelow (length rests) (row_of rows' z)) (sym same)
+            (subst (λ (row : List Watch). AreBelow (length rests) row) (sym grown) (All-push (λ w. w.clause < length rests) (row_of rows x) l.watch (fit.below x) there))
+        | inr other ↦ subst (λ (row : List Watch). AreBelow (length rests) row) (sym (others y other)) (fit.below y)
+      ]);
+      right = λ y. elim (cases_eq y x) [
+        | inl same ↦ subst (λ (z : ℕ). AreRight (least_at leasts z) (sets_at added z) (row_of rows' z)) (sym same)
+            (subst (λ (row : List Watch). AreRight (least_at leasts x) (sets_at added x) row) (sym grown)
+            (All-push (λ w. IsTrueOf (least_at leasts x) (sets_at added x w.clause) w.witness) (row_of rows x) l.watch (fit.right x) right))
+        | inr other ↦ subst (λ (row : List Watch). AreRight (least_at leasts y) (sets_at added y) row) (sym (others y other)) (fit.right y)
+      ];
+      held_marked = λ j y. rest_cases rests i (linked x r) (λ k q. holds q y ≡ true → is_marked held y ≡ true) there
+          (λ h. fit.held_marked i y (linked_holds x y r h)) (λ k h. fit.held_marked k y h) j;
+    }

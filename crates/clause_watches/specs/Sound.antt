@@ -1,0 +1,62 @@
+-- What watches keep. What a reader believes after this file: every clause is a clause over the
+-- variables, every variable that a rest names has the clause in its row, and what a watch says of
+-- its clause is true.
+use Rattle.std.specs.Prelude.{◌≡◌, ℕ, ◌<◌, Bool, true, false, cond, ◌==◌, List, [], ℤ, pos, length, map, slice_index_or}
+use Rattle.std.specs.List.{All}
+use Rattle.signed_clause.specs.Clauses.{Boxes, Literals, set_of, IsClause}
+use Rattle.clause_watches.specs.declared.rest.Rest.{Rest}
+use Rattle.clause_watches.specs.declared.watch.Watch.{Watch}
+use Rattle.clause_watches.specs.declared.table.Table.{Table}
+use Rattle.clause_watches.specs.Watching.{Watching, clause_of, rest_of, IsKnown}
+use Rattle.clause_watches.specs.Marks.{is_marked}
+use Rattle.clause_watches.specs.Rows.{names, holds, differ, seen, has_watch, AreBelow, AreRight}
+
+-- the row of a variable
+abbrev pub row_of : List (List Watch) → ℕ → List Watch
+row_of rows x = slice_index_or rows x []
+
+-- the least value of its domain
+abbrev pub least_at : List ℤ → ℕ → ℤ
+least_at leasts x = slice_index_or leasts x (pos 0)
+
+-- for each clause its set for the variable
+abbrev pub sets_at : List (ℕ × Literals) → ℕ → ℕ → List (ℤ × ℤ)
+sets_at added x i = set_of (clause_of added i) x
+
+-- the clauses are clauses over n variables
+pub record AreClauses (n : ℕ) (added : List (ℕ × Literals)) : Type 0 where
+  pub forms : All (λ a. IsClause a.1) added
+  pub within : All (λ a. All (λ l. l.0 < n) a.1) added
+
+-- rests, rows and marks fit together
+pub record AreLinked (added : List (ℕ × Literals)) (rests : List Rest) (rows : List (List Watch)) (leasts : List ℤ) (held : List Bool) : Type 0 where
+  pub size : length rests ≡ length added
+  pub apart : (i : ℕ) → differ (rest_of rests i) ≡ true
+  pub linked : (i x : ℕ) → names (rest_of rests i) x ≡ true → has_watch i (row_of rows x) ≡ true
+  pub below : (x : ℕ) → AreBelow (length rests) (row_of rows x)
+  pub right : (x : ℕ) → AreRight (least_at leasts x) (sets_at added x) (row_of rows x)
+  pub held_marked : (i x : ℕ) → holds (rest_of rests i) x ≡ true → is_marked held x ≡ true
+
+-- all of it
+pub record IsSound (t : Table) : Type 0 where
+  pub leasts_size : length t.leasts.items ≡ length t.rows.items
+  pub holds_size : length t.holds.items ≡ length t.rows.items
+  pub changed_size : length t.changed ≡ length t.rows.items
+  pub clauses : AreClauses (length t.rows.items) t.added.items
+  pub fit : AreLinked t.added.items t.rests t.rows.items t.leasts.items t.holds.items
+
+-- what is known of each clause is true in the boxes, where the marked variables may have changed
+abbrev pub AreKnown : Boxes → List (ℕ × Literals) → List Rest → List Bool → Type 0
+AreKnown boxes added rests changed = (i : ℕ) → IsKnown boxes (clause_of added i) (seen changed (rest_of rests i))
+
+-- x isn't marked any longer, the others are as before
+abbrev pub IsUnmarked : ℕ → List Bool → List Bool → Type 0
+IsUnmarked x before after = (y : ℕ) → is_marked after y ≡ cond (x == y) false (is_marked before y)
+
+-- what contracts see of it
+abbrev pub watching_of : Table → Watching
+watching_of t = record {
+  variables = length t.rows.items;
+  added = t.added.items;
+  rests = map (seen t.changed) t.rests;
+}

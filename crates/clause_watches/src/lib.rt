@@ -1,0 +1,36 @@
+//! Clauses that are looked at only where they may have become unit or false.
+//!
+//! - `watches`: the clauses, and what callers do with them.
+//! - `table`: all that is kept of them; `build`: how it begins and grows.
+//! - `next`: the search for a clause, in two halves: `settle` walks the rows of changed variables,
+//!   `search` opens listed clauses.
+//! - `look`, `link`: what is found in a clause, and what is written down then.
+//! - `rest`, `steps`: why a clause needs no look, and what becomes of that.
+//! - `rests`: what is known of each added clause, with lists of those that need a look.
+//! - `watch`, `row`: the clauses that a variable watches, and a walk along them.
+//! - `mask`, `witness`: sets as bits, and the values that a watch carries.
+//! - `work_list`: numbers that wait, each once, with room for all of them.
+//! - `counts`: how much has been done.
+#![tactic(auto)]
+
+mod build;
+mod counts;
+mod link;
+mod look;
+mod mask;
+mod next;
+mod rest;
+mod rests;
+mod row;
+mod search;
+mod settle;
+mod steps;
+mod table;
+mod watch;
+mod watches;
+mod witness;
+mod work_list;
+
+pub use counts::Counts;
+pub use rest::Rest;
+pub use watches::Watches;

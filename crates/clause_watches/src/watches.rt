@@ -1,0 +1,117 @@
+//! `Watches`, clauses that are looked at only where they may have become unit or false.
+//!
+//! A clause rests by two literals that meet their boxes, or by one whose box lies within its set;
+//! their variables have it in their rows. When a variable is noted as changed, its row is walked at
+//! the next search: a watch carries values of the literal's set, so most clauses aren't opened. Only
+//! clauses that lose a watch are, and those that were added, answered, or freed by an undo. So a
+//! search costs the watches of changed variables and the clauses that lost one, however many clauses
+//! there are. Contracts see the clauses and why each of them rests (`specs/Watching.antt`).
+ghost use Rattle.std.specs.Prelude.{◌≡◌, ◌<◌, ◌++◌, ◌∷◌, [], ℕ, false, map, length, IfOk, OnOk, OnErr, IfNone, IfSome};
+ghost use Rattle.std.specs.List.{All};
+ghost use Rattle.signed_clause.specs.Clauses.{Boxes};
+ghost use Rattle.clause_watches.specs.Watching.{acts, clause_of, rest_of, is_listed, touched, widened, Fits, DifferAt, AreWider, IsActing};
+
+use crate::build::{add_clause, empty_table};
+use crate::counts::Counts;
+use crate::next::next_acting;
+use crate::rest::Rest;
+use crate::table::Table;
+use signed_clause::{ClauseHandle, IntSet};
+use std::alloc::{AllocError, Global};
+use std::marker::Model;
+
+/// Clauses that are looked at only where they may have become unit or false.
+#[derive(Drop)]
+pub struct Watches {
+    table: Table,
+}
+
+impl Model for Watches {
+    ghost use Rattle.clause_watches.specs.Watching.{Watching};
+    ghost use Rattle.clause_watches.specs.Sound.{IsSound, watching_of};
+
+    ghost Value = { Watching };
+
+    ghost view = { λ w. watching_of w.table };
+
+    ghost invariant = { λ w. IsSound w.table };
+}
+
+impl Watches {
+    /// No clauses yet, over the variables of these domains: one row for each of them.
+    ///
+    /// # Errors
+    /// Want of memory.
+    pub fn new(alloc: Global, domains: &[IntSet]) -> Result<Watches, AllocError>
+        ensures variables { IfOk result (λ w. w.variables ≡ length domains.now) }
+        ensures added { IfOk result (λ w. w.added ≡ []) }
+        ensures rests { IfOk result (λ w. w.rests ≡ []) }
+    {
+        let table = empty_table(alloc, domains)?;
+        Ok(Watches { table })
+    }
+
+    /// Adds a clause with its number, to be looked at. It makes all room that noting and listing the
+    /// clause will ever need.
+    ///
+    /// # Errors
+    /// Want of memory, or more clauses than 32 bits number; the watches are as before.
+    pub fn add(&mut self, number: u64, clause: ClauseHandle) -> Result<(), AllocError>
+        requires { All (λ l. l.0 < self.old.variables) clause }
+        ensures variables { self.new.variables ≡ self.old.variables }
+        ensures added { OnOk result (self.new.added ≡ self.old.added ++ (number, clause) ∷ []) }
+        ensures rests { OnOk result (self.new.rests ≡ self.old.rests ++ Rest.Listed ∷ []) }
+        ensures err { OnErr result (self.new ≡ self.old) }
+    {
+        add_clause(&mut self.table, number, clause)
+    }
+
+    /// Notes that the box of `x` may have changed. It takes no memory and costs the same however
+    /// many clauses there are.
+    pub fn note_change(&mut self, x: u32)
+        requires { x < self.old.variables }
+        ensures variables { self.new.variables ≡ self.old.variables }
+        ensures added { self.new.added ≡ self.old.added }
+        ensures rests { self.new.rests ≡ map (touched x) self.old.rests }
+        ensures fits { (a b : Boxes) → Fits a self.old → DifferAt x a b → Fits b self.new }
+    {
+        self.table.changed.add(x);
+    }
+
+    /// Notes that boxes may have become wider, as after an undo. It takes no memory and costs the
+    /// clauses that rested by one literal since the last undo.
+    pub fn note_undo(&mut self)
+        ensures variables { self.new.variables ≡ self.old.variables }
+        ensures added { self.new.added ≡ self.old.added }
+        ensures rests { self.new.rests ≡ map widened self.old.rests }
+        ensures fits { (a b : Boxes) → Fits a self.old → AreWider a b → Fits b self.new }
+    {
+        self.table.rests.widen();
+    }
+
+    /// The number of a clause that is false in the boxes or unit. It stays listed, so the same one is
+    /// answered until it has been acted on. None only where no clause is so.
+    ///
+    /// # Errors
+    /// Want of memory; what the watches know is still true in the boxes.
+    pub fn next(&mut self, boxes: &[IntSet]) -> Result<Option<u64>, AllocError>
+        requires boxes { length boxes.now ≡ self.old.variables }
+        requires fits { Fits boxes.now self.old }
+        ensures variables { self.new.variables ≡ self.old.variables }
+        ensures added { self.new.added ≡ self.old.added }
+        ensures size { length self.new.rests ≡ length self.old.rests }
+        ensures fits { Fits boxes.now self.new }
+        ensures some { IfOk result (λ o. IfSome o (λ n. IsActing boxes.now self.new n)) }
+        ensures none { IfOk result (λ o. IfNone o ((i : ℕ) → i < length self.new.added
+            → acts boxes.now (clause_of self.new.added i) ≡ false)) }
+        ensures none_listed { IfOk result (λ o. IfNone o ((i : ℕ) → i < length self.new.added
+            → is_listed (rest_of self.new.rests i) ≡ false)) }
+    {
+        next_acting(&mut self.table, boxes)
+    }
+
+    /// How much has been done since the watches were made.
+    pub fn counts(&self) -> Counts {
+        self.table.counts
+    }
+}
