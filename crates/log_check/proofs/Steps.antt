@@ -54,7 +54,7 @@ same_literal-equal (x, s) (y, t) h =
 pub same_clause-equal : (c d : Literals) → same_clause c d ≡ true → c ≡ d
 same_clause-equal c d h = all_same-equal _ c d same_literal-equal h
 
-all_same-self : {X : Type 0} (same : X → X → Bool) (xs : List X) → ((x : X) → same x x ≡ true) → all_same same xs xs ≡ true
+pub all_same-self : {X : Type 0} (same : X → X → Bool) (xs : List X) → ((x : X) → same x x ≡ true) → all_same same xs xs ≡ true
 all_same-self same [] e = refl
 all_same-self same (x ∷ xs) e = rw (e x, all_same-self same xs e) refl
 
@@ -140,12 +140,12 @@ beats_trans : (up : Bool) (u v w : ℤ) → beats_value up u v ≡ true → beat
 beats_trans true u v w h k = grind (arith, ints)
 beats_trans false u v w h k = grind (arith, ints)
 
-here_better : (goal : GroundGoal) (goals : List GroundGoal) (a b : List ℤ) → beats_value goal.max (value_of a goal.var) (value_of b goal.var) ≡ true → better (goal ∷ goals) a b ≡ true
+pub here_better : (goal : GroundGoal) (goals : List GroundGoal) (a b : List ℤ) → beats_value goal.max (value_of a goal.var) (value_of b goal.var) ≡ true → better (goal ∷ goals) a b ≡ true
 here_better goal goals a b h =
     let apart = beats_apart goal.max (value_of a goal.var) (value_of b goal.var) h in
     rw apart h
 
-later_better : (goal : GroundGoal) (goals : List GroundGoal) (a b : List ℤ) → value_of a goal.var ≡ value_of b goal.var → better goals a b ≡ true → better (goal ∷ goals) a b ≡ true
+pub later_better : (goal : GroundGoal) (goals : List GroundGoal) (a b : List ℤ) → value_of a goal.var ≡ value_of b goal.var → better goals a b ≡ true → better (goal ∷ goals) a b ≡ true
 later_better goal goals a b e h =
     let same : int_eq (value_of a goal.var) (value_of b goal.var) ≡ true = (Decides-int_eq (value_of a goal.var) (value_of b goal.var)).1 e in
     rw same h

@@ -3,7 +3,7 @@
 -- Each level begins with a part of the boxes below, and what that part leaves aside has to be come
 -- back to. The decisions so far, the points of the present boxes, and what each level leaves aside
 -- less one, together are at most as many as the problem's points.
-use Rattle.std.proofs.Common.{◌≡◌, ℕ, suc, ◌+◌, ◌-◌, ◌<◌, ◌≤◌, true, false, not, ◌&&◌, cond, List, [], ◌∷◌, refl, sym, ap, arith, subst, slice_set, Option, Some, None}
+use Rattle.std.proofs.Common.{◌≡◌, ℕ, ◌+◌, ◌-◌, ◌≤◌, true, false, not, ◌&&◌, cond, List, [], ◌∷◌, refl, sym, ap, arith, subst, slice_set, Some, None}
 use Rattle.std.proofs.Math.Nat.{le_refl}
 use Rattle.std.proofs.lemmas.Bool.{and_parts, not-true}
 use Rattle.signed_clause.specs.Ranges.{Ranges}

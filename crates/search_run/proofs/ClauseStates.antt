@@ -1,31 +1,18 @@
 -- What a new clause leaves of a run's levels, modes and clauses.
-use Rattle.std.proofs.Common.{◌≡◌, ℕ, zero, suc, ◌+◌, ◌<◌, ◌≤◌, true, false, not, ◌&&◌, ◌||◌, cond, List, [], ◌∷◌, ◌++◌, ℤ, length, refl, sym, ap, ◌∙◌, arith, subst, nat_lt, ◌==◌, All, Option, Some, None, is_some}
+use Rattle.std.proofs.Common.{◌≡◌, ℕ, ◌<◌, true, false, ◌&&◌, ◌||◌, cond, List, [], ◌∷◌, ◌++◌, length, refl, ◌∙◌, arith, ◌==◌, Some, None, is_some}
 use Rattle.std.specs.List.{Contains}
 use Rattle.std.proofs.lemmas.List.{get_or_push, length_push}
 use Rattle.std.proofs.lemmas.List.Elements.{Contains-push, All-cons}
-use Rattle.std.proofs.lemmas.Bool.{and_parts, ltb-true, not-true}
-use Rattle.signed_clause.specs.Ranges.{Ranges, is_nil}
-use Rattle.signed_clause.specs.Clauses.{Boxes, Literals, box_of, false_in, IsClause}
-use Rattle.signed_clause.proofs.SetFacts.{within_law}
+use Rattle.std.proofs.lemmas.Bool.{and_parts}
+use Rattle.signed_clause.specs.Ranges.{is_nil}
+use Rattle.signed_clause.specs.Clauses.{Boxes, Literals, IsClause}
 use Rattle.ground_form.specs.declared.ground.Ground.{Ground}
-use Rattle.ground_form.specs.WellMade.{IsWellMade}
-use Rattle.log_form.specs.declared.line.Line.{Line}
-use Rattle.log_form.specs.declared.line.Line.TheVariants.{Axiom, Chain, Bound, Use, Found, Decide, Empty}
-use Rattle.log_form.specs.Acceptance.{Made, clause_at, has_empty, chain_holds, chain_end, same_clause, bounds, accepts, after, may_come, made_from, made}
-use Rattle.log_form.specs.Acceptance as acceptance
-use Rattle.log_check.specs.Soundness.{IsSound}
-use Rattle.log_check.proofs.Steps.{sound_step, sound_start, same_clause-equal}
+use Rattle.log_form.specs.Acceptance.{Made, clause_at, has_empty, bounds}
 use Rattle.learn_clauses.specs.Walk.{IsWithinDomains, walk_from, back_to}
-use Rattle.learn_clauses.proofs.WithinLaws.{valid_boxes}
-use Rattle.search_run.specs.Replay.{State, Mode, Going, Conflict, AtFound, Closed, start, top_boxes, is_going, acts, are_sets_within, is_walk, leads_back, may_explain, mode_by, jumped, jumped_to, react, learned, may_stand, changed, next, run_from, is_run, state_from, state_of}
-use Rattle.search_run.specs.Lines.{HasSets}
-use Rattle.search_run.proofs.LineSets.{has_clause, first_has, rest_has}
-use Rattle.search_run.proofs.LineSteps.{decision_parts}
-use Rattle.search_run.proofs.FewDecisions.{run_line}
-use Rattle.search_run.proofs.Within.{within_each, sets_within, chain_within, bound_within}
-use Rattle.search_run.proofs.LevelFacts.{AreBoxesIn, IsPart, IsStack, stack_boxes, stack_more}
-use Rattle.search_run.proofs.LevelSteps.{reacted_stack, decided_stack, stack_back}
-use Rattle.search_run.proofs.StateSteps.{at_append, empty_more, empty_one, some_at, AreMade, made_more, made_new, HoldsIn, reacted_mode, bounds_mode}
+use Rattle.search_run.specs.Replay.{State, Mode, Going, Conflict, AtFound, Closed, top_boxes, is_walk, leads_back, may_explain, led_back, back_or, react, learned}
+use Rattle.search_run.proofs.LevelFacts.{IsStack, stack_more}
+use Rattle.search_run.proofs.LevelSteps.{reacted_stack, stack_back}
+use Rattle.search_run.proofs.StateSteps.{at_append, empty_one, AreMade, made_more, HoldsIn, reacted_mode}
 
 -- what the lines so far leave is as every run leaves it
 pub record IsState (g : Ground) (m : Made) (s : State) : Type 0 where
@@ -62,7 +49,8 @@ plus m c = record { clauses = m.clauses ++ c ∷ []; found = m.found }
 
 pub more_within : (g : Ground) (m : Made) (c : Literals) →
     ((j : ℕ) → IsWithinDomains g.domains (clause_at m.clauses j)) →
-    IsWithinDomains g.domains c → (j : ℕ) → IsWithinDomains g.domains (clause_at (plus m c).clauses j)
+    IsWithinDomains g.domains c →
+    (j : ℕ) → IsWithinDomains g.domains (clause_at (plus m c).clauses j)
 more_within g m c old new =
     at_append (λ d. IsWithinDomains g.domains d) m.clauses (c ∷ []) (nothing_within g.domains) old
     (new, tt)
@@ -105,17 +93,17 @@ learned_state g m s c new h old =
     let learnt = learnt_more m s c old.learnt_made in
     let closed : State = record s { mode = Closed; learnt = c ∷ s.learnt } in
     (elim (is_nil c) as (λ b. is_nil c ≡ b → (b || is_some (back_to c s.levels)) ≡ true →
-    P (cond b closed (react k c (jumped c s)))) [
+    P (cond b closed (react k c (led_back c s)))) [
       | true ↦ λ e h. record {
-          within = more_within g m c old.within new.within;
-          stack = stack_more m.clauses (c ∷ []) g.domains s.levels old.stack;
-          mode_holds = empty_one m.clauses c new.open_so_far ∙ e;
-          learnt_made = learnt;
-          bounds_made = made_more m.clauses (c ∷ []) s.bounds old.bounds_made;
-        }
+        within = more_within g m c old.within new.within;
+        stack = stack_more m.clauses (c ∷ []) g.domains s.levels old.stack;
+        mode_holds = empty_one m.clauses c new.open_so_far ∙ e;
+        learnt_made = learnt;
+        bounds_made = made_more m.clauses (c ∷ []) s.bounds old.bounds_made;
+      }
       | false ↦ λ e h. (elim (back_to c s.levels) as (λ o. back_to c s.levels ≡ o →
           is_some o ≡ true →
-          P (react k c (record s { levels = jumped_to o s.levels; learnt = c ∷ s.learnt }))) [
+          P (react k c (record s { levels = back_or o s.levels; learnt = c ∷ s.learnt }))) [
             | None ↦ λ e h. absurd cc
             | Some lower ↦ λ e h.
                 let below = stack_back m.clauses g.domains c s.levels lower e old.stack in

@@ -1,7 +1,7 @@
 -- A run decides fewer times than its problem has points.
-use Rattle.std.proofs.Common.{◌≡◌, ℕ, zero, suc, ◌+◌, ◌<◌, ◌≤◌, true, false, not, ◌&&◌, ◌||◌, cond, List, [], ◌∷◌, ◌++◌, length, refl, sym, ap, ◌∙◌, arith, inl, inr, subst, slice_set, All, Option, Some, None, is_some, ◌==◌}
+use Rattle.std.proofs.Common.{◌≡◌, ℕ, suc, ◌+◌, ◌<◌, ◌≤◌, true, false, not, ◌&&◌, ◌||◌, cond, List, [], ◌∷◌, ◌++◌, length, refl, sym, arith, inl, inr, subst, All, Some, None, ◌==◌}
 use Rattle.std.proofs.lemmas.Bool.{and_parts, cases_lt}
-use Rattle.signed_clause.specs.Ranges.{Ranges, IsValid, is_nil}
+use Rattle.signed_clause.specs.Ranges.{Ranges, is_nil}
 use Rattle.signed_clause.specs.SetAlgebra.{meet}
 use Rattle.signed_clause.specs.Clauses.{Literals, box_of, false_in, unit_of, IsClause}
 use Rattle.signed_clause.specs.Running.{AreValid}
@@ -16,20 +16,20 @@ use Rattle.log_form.specs.Acceptance as acceptance
 use Rattle.log_check.specs.Soundness.{IsSound}
 use Rattle.log_check.proofs.Steps.{sound_step, sound_start}
 use Rattle.fd_store.specs.Levels.{Level, Stack, moved, reacted, pruned_by}
-use Rattle.learn_clauses.specs.Walk.{back_to, walk_from}
+use Rattle.learn_clauses.specs.Walk.{walk_from}
 use Rattle.learn_clauses.proofs.WithinLaws.{valid_boxes}
-use Rattle.search_run.specs.Replay.{State, Mode, Going, Conflict, AtFound, Closed, start, top_boxes, is_walk, leads_back, may_explain, jumped, jumped_to, react, learned, may_stand, changed, next, run_from, is_run}
+use Rattle.search_run.specs.Replay.{State, Mode, Going, Conflict, AtFound, Closed, start, top_boxes, is_walk, leads_back, may_explain, learned, may_stand, changed, next, run_from, is_run}
 use Rattle.search_run.specs.Decisions.{decisions, MayDecide}
 use Rattle.search_run.specs.Lines.{HasSets}
 use Rattle.search_run.proofs.LineSets.{has_clause, first_has, rest_has, one_more}
 use Rattle.search_run.proofs.Volumes.{volume-some, prune_adds_none}
 use Rattle.search_run.proofs.Units.{AreValid-set, IsUnitBy, unit_is}
-use Rattle.search_run.proofs.Budget.{IsBounded, in_mode}
+use Rattle.search_run.proofs.Budget.{IsBounded}
 use Rattle.search_run.proofs.LineSteps.{bounded_less, decision_parts, line_step, HasForms}
 
 -- ---- counting
 
-decisions-cons : (l : Line) (ls : List Line) →
+pub decisions-cons : (l : Line) (ls : List Line) →
     decisions (l ∷ ls) ≡ decisions (l ∷ []) + decisions ls
 decisions-cons (Axiom k c) ls = omega arith
 decisions-cons (Chain chain c) ls = omega arith
@@ -120,7 +120,8 @@ pruned_void n k s u z v w =
 reacted_void : (n k : ℕ) (s : Stack) (c : Literals) → IsClause c → IsVoid n s →
     IsVoid n (reacted k c s)
 reacted_void n k s c f v =
-    elim (false_in s.top.now c) as (λ b. IsVoid n (cond b s (pruned_by k (unit_of s.top.now c) s))) [
+    elim (false_in s.top.now c) as (λ b.
+    IsVoid n (cond b s (pruned_by k (unit_of s.top.now c) s))) [
       | true ↦ v
       | false ↦ (elim (unit_of s.top.now c) as (λ u. unit_of s.top.now c ≡ u →
           IsVoid n (pruned_by k u s)) [
@@ -208,6 +209,9 @@ decides_less_by_two g ls w f d =
             none = omega (arith, zero_size);
             alone = refl;
           } in
-          let none = run_void g acceptance.start (start g) more w has (sound_start g) d.stands first in
+          let none = run_void g acceptance.start (start g) more w has (sound_start g) d.stands
+          first in
           absurd (omega (arith, none, count))
     ]
+
+pub ruleset laws_of_decisions = (decides_less, decides_less_by_two)

@@ -81,3 +81,5 @@ pub run_more : (g : Ground) (ls : List Line) (l : Line) →
     is_run g (ls ++ l ∷ [])
     ≡ (is_run g ls && (may_come g (made g ls) l && may_stand g (made g ls) (state_of g ls) l))
 run_more g ls l = run_behind g acceptance.start (start g) ls l
+
+pub ruleset laws_of_more = (run_more, made_more, state_more)

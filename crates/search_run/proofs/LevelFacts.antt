@@ -1,17 +1,16 @@
 -- The levels of a run: where their entries came from, and how their boxes lie in the domains.
-use Rattle.std.proofs.Common.{◌≡◌, ◌≢◌, ℕ, zero, suc, ◌+◌, ◌<◌, ◌≤◌, true, false, not, ◌&&◌, cond, List, [], ◌∷◌, ◌++◌, ℤ, length, refl, sym, ap, ◌∙◌, arith, inl, inr, subst, slice_set, All, Option, Some, None, length-append}
+use Rattle.std.proofs.Common.{◌≡◌, ℕ, ◌<◌, true, false, List, [], ◌∷◌, ◌++◌, length, sym, ap, ◌∙◌, arith, inl, inr, subst, slice_set, Option, Some, None, length-append}
 use Rattle.std.proofs.lemmas.List.{length-set, get_or_append_left}
 use Rattle.std.proofs.lemmas.Bool.{and_parts, cases_eq}
 use Rattle.signed_clause.specs.Ranges.{Ranges, has, is_nil, IsValid, IsSubset}
 use Rattle.signed_clause.specs.SetAlgebra.{meet}
-use Rattle.signed_clause.specs.Clauses.{Boxes, Literals, box_of, false_in, unit_of, IsClause}
+use Rattle.signed_clause.specs.Clauses.{Boxes, Literals, box_of, unit_of}
 use Rattle.signed_clause.specs.Running.{AreValid}
 use Rattle.signed_clause.proofs.RangeSteps.{has-meet_valid, IsValid-meet}
-use Rattle.fd_store.specs.Levels.{Entry, Level, Stack, moved, reacted, pruned_by}
-use Rattle.fd_store.proofs.StackLaws.{put_back}
+use Rattle.fd_store.specs.Levels.{Entry, Level, Stack}
 use Rattle.log_form.specs.Acceptance.{clause_at}
-use Rattle.learn_clauses.specs.Walk.{IsFrom, AreFrom, CameFrom, trail_from, domains_from, domains_of, back_from, back_to}
-use Rattle.search_run.proofs.Units.{some_same, none_some, box-set_same, box-set_other, AreValid-set, IsUnitBy, unit_is}
+use Rattle.learn_clauses.specs.Walk.{IsFrom, AreFrom, CameFrom, trail_from, domains_from, domains_of}
+use Rattle.search_run.proofs.Units.{box-set_same, box-set_other, AreValid-set, IsUnitBy}
 
 -- ---- boxes in the domains
 
@@ -142,8 +141,7 @@ from_more : (cs ds : List Literals) (boxes : Boxes) (es : List Entry) → AreFro
     AreFrom (cs ++ ds) boxes es
 from_more cs ds boxes [] h = tt
 from_more cs ds boxes (e ∷ es) h =
-    let before = slice_set boxes e.var e.before in
-    (
+    let before = slice_set boxes e.var e.before in (
       is_from_more e.from cs ds before e.var (box_of boxes e.var) h.0,
       from_more cs ds before es h.1,
     )

@@ -1,14 +1,14 @@
 -- What a decision, a clause and a learnt clause leave of the levels of a run.
-use Rattle.std.proofs.Common.{◌≡◌, ℕ, suc, ◌<◌, true, false, not, ◌&&◌, cond, List, [], ◌∷◌, length, refl, sym, ap, ◌∙◌, subst, slice_set, Option, Some, None}
+use Rattle.std.proofs.Common.{◌≡◌, ℕ, ◌<◌, true, false, not, ◌&&◌, cond, List, [], ◌∷◌, length, refl, sym, ap, ◌∙◌, subst, slice_set, Some, None}
 use Rattle.std.proofs.lemmas.Bool.{and_parts, not-true}
 use Rattle.signed_clause.specs.Ranges.{Ranges}
 use Rattle.signed_clause.specs.Clauses.{Boxes, Literals, box_of, false_in, unit_of, IsClause}
-use Rattle.fd_store.specs.Levels.{Entry, Level, Stack, moved, reacted, pruned_by}
+use Rattle.fd_store.specs.Levels.{Level, Stack, moved, reacted, pruned_by}
 use Rattle.fd_store.proofs.StackLaws.{put_back}
 use Rattle.log_form.specs.Acceptance.{clause_at}
 use Rattle.learn_clauses.specs.Walk.{IsFrom, AreFrom, back_from, back_to}
-use Rattle.search_run.proofs.Units.{some_same, none_some, box-set_same, IsUnitBy, unit_is}
-use Rattle.search_run.proofs.LevelFacts.{AreBoxesIn, IsPart, part_in, unit_part, undone_by, IsLevel, AreLevels, IsStack, stack_boxes}
+use Rattle.search_run.proofs.Units.{some_same, none_some, box-set_same, unit_is}
+use Rattle.search_run.proofs.LevelFacts.{IsPart, part_in, unit_part, undone_by, IsLevel, AreLevels, IsStack, stack_boxes}
 
 -- ---- a pruning
 
@@ -80,12 +80,12 @@ reacted_stack clauses domains k c s lt is f a =
 
 -- ---- a decision
 
-pub decided_stack : (clauses : List Literals) (domains : Boxes) (x : ℕ) (half : Ranges) (s : Stack) →
-    x < length s.top.now → IsPart (box_of s.top.now x) half → IsStack clauses domains s →
+pub decided_stack : (clauses : List Literals) (domains : Boxes) (x : ℕ) (half : Ranges)
+    (s : Stack) → x < length s.top.now → IsPart (box_of s.top.now x) half →
+    IsStack clauses domains s →
     IsStack clauses domains (moved None x half s)
 decided_stack clauses domains x half s lt p a =
-    let boxes = stack_boxes clauses domains s a in
-    (
+    let boxes = stack_boxes clauses domains s a in (
       record {
         came = (tt, tt);
         led = put_back s.top.now x half;

@@ -12,3 +12,10 @@ pub mod ClauseStates
 pub mod States
 pub mod Fronts
 pub mod RunLaws
+pub mod Depths
+pub mod Orders
+pub mod SmallRuns
+pub mod WalkLines
+pub mod BoundTruths
+pub mod Waiting
+pub mod FoundLines

@@ -9,8 +9,8 @@ use Rattle.search_run.specs.Lines.{HasSets}
 
 -- ---- along a loop
 
-pub sets_step : (ls : List Line) (i : ℕ) (l : Line) → i < length ls → l ≡ get_or ls i l → HasSets l →
-    All (λ l. HasSets l) (take i ls) → All (λ l. HasSets l) (take (i + 1) ls)
+pub sets_step : (ls : List Line) (i : ℕ) (l : Line) → i < length ls → l ≡ get_or ls i l →
+    HasSets l → All (λ l. HasSets l) (take i ls) → All (λ l. HasSets l) (take (i + 1) ls)
 sets_step ls i l h e one s = All-more (λ l. HasSets l) ls i l h s (subst HasSets e one)
 
 pub sets_all : (ls : List Line) (i : ℕ) → length ls ≤ i → All (λ l. HasSets l) (take i ls) →

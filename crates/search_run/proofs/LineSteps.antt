@@ -1,5 +1,5 @@
 -- Each line of a run keeps the bound on its decisions.
-use Rattle.std.proofs.Common.{◌≡◌, ℕ, zero, suc, ◌+◌, ◌<◌, ◌≤◌, true, false, not, ◌&&◌, ◌||◌, cond, List, [], ◌∷◌, length, refl, sym, arith, subst, slice_set, nat_lt, ◌==◌, add-zero, Option, Some, None, is_some}
+use Rattle.std.proofs.Common.{◌≡◌, ℕ, zero, suc, ◌+◌, ◌<◌, ◌≤◌, true, false, not, ◌&&◌, ◌||◌, cond, List, [], ◌∷◌, length, refl, sym, arith, subst, slice_set, nat_lt, ◌==◌, add-zero, Some, None, is_some}
 use Rattle.std.proofs.lemmas.Int.{ints}
 use Rattle.std.proofs.lemmas.Bool.{and_parts, ltb-true, not-true}
 use Rattle.signed_clause.specs.Ranges.{Ranges, has, IsValid, is_nil}
@@ -8,18 +8,18 @@ use Rattle.signed_clause.specs.Clauses.{Boxes, Literals, box_of, IsClause}
 use Rattle.signed_clause.specs.Running.{AreValid}
 use Rattle.signed_clause.proofs.ClauseLaws.{has_from_within}
 use Rattle.ground_form.specs.declared.ground.Ground.{Ground}
-use Rattle.ground_form.specs.Solutions.{volume, size_of}
+use Rattle.ground_form.specs.Solutions.{size_of}
 use Rattle.log_form.specs.declared.line.Line.{Line}
 use Rattle.log_form.specs.declared.line.Line.TheVariants.{Axiom, Chain, Bound, Use, Found, Decide, Empty}
 use Rattle.log_form.specs.Acceptance.{Made, clause_at, bounds}
 use Rattle.fd_store.specs.Levels.{Stack, moved}
 use Rattle.learn_clauses.specs.Walk.{walk_from, back_to}
-use Rattle.search_run.specs.Replay.{State, Mode, Going, Conflict, AtFound, Closed, is_going, is_found, top_boxes, acts, is_settled, are_quiet, none_empty, are_fixed, are_sets_within, is_walk, leads_back, may_explain, mode_by, mode_by_bounds, jumped, jumped_to, react, learned, is_split, may_stand, changed, next}
+use Rattle.search_run.specs.Replay.{State, Mode, Going, Conflict, AtFound, Closed, is_going, is_found, top_boxes, acts, is_settled, are_quiet, none_empty, are_fixed, are_sets_within, is_walk, leads_back, may_explain, mode_by, mode_by_bounds, led_back, back_or, react, learned, is_split, may_stand, changed, next}
 use Rattle.search_run.specs.Decisions.{decisions}
 use Rattle.search_run.specs.Lines.{HasSets}
 use Rattle.search_run.proofs.Volumes.{IsCut}
 use Rattle.search_run.proofs.Units.{AreValid-set, IsHalf}
-use Rattle.search_run.proofs.Budget.{Stacked, pending, counted, Alive, IsBounded, IsOpen, in_mode, reacted_open, decided_open, learned_open}
+use Rattle.search_run.proofs.Budget.{Stacked, pending, IsBounded, IsOpen, in_mode, reacted_open, decided_open, learned_open}
 
 -- ---- what the modes say
 
@@ -141,10 +141,10 @@ chain_step g d k s c f h st sets within =
     let closed : P (record s { mode = Closed; learnt = c ∷ s.learnt }) =
     record { stack = st; sets = sets; alive = tt; within = within } in
     (elim (is_nil c) as (λ b. (b || is_some (back_to c s.levels)) ≡ true →
-    P (cond b (record s { mode = Closed; learnt = c ∷ s.learnt }) (react k c (jumped c s)))) [
+    P (cond b (record s { mode = Closed; learnt = c ∷ s.learnt }) (react k c (led_back c s)))) [
       | true ↦ λ h. closed
       | false ↦ λ h. (elim (back_to c s.levels) as (λ o. back_to c s.levels ≡ o → is_some o ≡ true →
-          P (react k c (record s { levels = jumped_to o s.levels; learnt = c ∷ s.learnt }))) [
+          P (react k c (record s { levels = back_or o s.levels; learnt = c ∷ s.learnt }))) [
             | None ↦ λ e h. absurd cc
             | Some lower ↦ λ e h.
                 in_mode g d _ (mode_by lower.top.now k c)

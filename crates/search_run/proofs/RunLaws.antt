@@ -1,11 +1,10 @@
 -- What every run leaves, in the words of the laws.
-use Rattle.std.proofs.Common.{◌≡◌, ◌↔◌, ℕ, zero, suc, ◌<◌, true, false, not, ◌&&◌, List, [], ◌∷◌, length, refl, sym, ap, ◌∙◌, arith, subst, All, slice_index_or}
+use Rattle.std.proofs.Common.{◌≡◌, ◌↔◌, ℕ, zero, suc, ◌<◌, true, false, not, List, [], ◌∷◌, length, refl, sym, ap, ◌∙◌, arith, subst, All, slice_index_or}
 use Rattle.std.specs.List.{Contains}
 use Rattle.std.proofs.lemmas.Bool.{and_parts, and_from, not-true}
 use Rattle.std.proofs.lemmas.List.{get_or_default}
-use Rattle.signed_clause.specs.Ranges.{Ranges, is_nil, IsValid}
-use Rattle.signed_clause.specs.SetAlgebra.{is_within}
-use Rattle.signed_clause.specs.Clauses.{Boxes, Literals, box_of, false_in}
+use Rattle.signed_clause.specs.Ranges.{is_nil, IsValid}
+use Rattle.signed_clause.specs.Clauses.{Boxes, Literals, box_of}
 use Rattle.signed_clause.specs.Running.{AreValid}
 use Rattle.signed_clause.proofs.SetFacts.{within_law}
 use Rattle.ground_form.specs.declared.ground.Ground.{Ground}
@@ -15,13 +14,14 @@ use Rattle.log_form.specs.declared.line.Line.{Line}
 use Rattle.log_form.specs.Acceptance.{Made, clause_at, has_empty, made}
 use Rattle.learn_clauses.specs.Walk.{domains_of, CameFrom, IsWithinDomains}
 use Rattle.learn_clauses.proofs.WithinLaws.{valid_boxes}
-use Rattle.search_run.specs.Replay.{State, Mode, Going, Conflict, AtFound, Closed, top_boxes, acts, none_acts, is_settled, is_run, state_of}
+use Rattle.search_run.specs.Replay.{Mode, Going, Conflict, AtFound, Closed, top_boxes, acts, none_acts, is_settled, is_run, state_of}
 use Rattle.search_run.specs.Lines.{HasSets}
 use Rattle.search_run.specs.Conflicts.{IsConflict}
 use Rattle.search_run.proofs.LevelFacts.{AreBoxesIn, stack_came, stack_domains, stack_boxes}
 use Rattle.search_run.proofs.StateSteps.{AreMade, HoldsIn}
 use Rattle.search_run.proofs.ClauseStates.{IsState}
 use Rattle.search_run.proofs.States.{run_state}
+use Rattle.search_run.proofs.Depths.{run_depth}
 
 within_all : (domains : Boxes) (cs : List Literals) →
     ((j : ℕ) → IsWithinDomains domains (clause_at cs j)) →
@@ -92,7 +92,7 @@ pub record IsRunOf (g : Ground) (ls : List Line) : Type 0 where
   pub sets : All (λ l. HasSets l) ls
   pub run : is_run g ls ≡ true
 
-state_is : (g : Ground) (ls : List Line) → IsRunOf g ls → IsState g (made g ls) (state_of g ls)
+pub state_is : (g : Ground) (ls : List Line) → IsRunOf g ls → IsState g (made g ls) (state_of g ls)
 state_is g ls r = run_state g ls r.well_made r.sets r.run
 
 pub run_came : (g : Ground) (ls : List Line) → IsRunOf g ls →
@@ -141,3 +141,7 @@ run_settled g ls r h =
     and_from (none_acts boxes (state_of g ls).learnt) (none_acts boxes (state_of g ls).bounds)
     (none_of boxes clauses (state_of g ls).learnt h state.learnt_made)
     (none_of boxes clauses (state_of g ls).bounds h state.bounds_made)
+
+pub ruleset laws_of_levels = (run_came, run_domains, run_within, run_boxes)
+
+pub ruleset laws_of_modes = (run_conflict, run_closed, run_settled, run_depth)

@@ -1,19 +1,12 @@
 -- What each line of a run leaves: levels, mode, learnt clauses and bounds.
-use Rattle.std.proofs.Common.{◌≡◌, ℕ, zero, suc, ◌+◌, ◌<◌, ◌≤◌, Bool, true, false, not, ◌&&◌, ◌||◌, cond, List, [], ◌∷◌, ◌++◌, ℤ, length, refl, sym, ap, ◌∙◌, arith, subst, slice_set, nat_lt, ◌==◌, All, Option, Some, None, is_some, length-append, append_assoc, append-nil}
+use Rattle.std.proofs.Common.{◌≡◌, ℕ, zero, suc, ◌<◌, Bool, true, false, ◌||◌, cond, List, [], ◌∷◌, ◌++◌, length, refl, sym, ap, ◌∙◌, arith, subst, All, is_some, length-append, append_assoc}
 use Rattle.std.specs.List.{AllByRecursion, Contains}
-use Rattle.std.proofs.lemmas.List.{get_or_push, length_push}
-use Rattle.std.proofs.lemmas.List.Elements.{Contains-append_left, Contains-append_right, Contains-push, All-contains_itself, All-cons}
-use Rattle.std.proofs.lemmas.Bool.{and_parts, ltb-true}
-use Rattle.signed_clause.specs.Ranges.{Ranges, IsValid, is_nil}
-use Rattle.signed_clause.specs.Clauses.{Boxes, Literals, box_of, false_in, unit_of, IsClause}
-use Rattle.signed_clause.proofs.SetFacts.{within_law}
-use Rattle.ground_form.specs.declared.ground.Ground.{Ground}
-use Rattle.ground_form.specs.WellMade.{IsWellMade}
+use Rattle.std.proofs.lemmas.List.Elements.{Contains-append_left, Contains-append_right, All-contains_itself}
+use Rattle.signed_clause.specs.Ranges.{is_nil}
+use Rattle.signed_clause.specs.Clauses.{Boxes, Literals, false_in, unit_of}
 use Rattle.log_form.specs.Acceptance.{Made, clause_at, has_empty}
 use Rattle.fd_store.specs.Levels.{Stack, reacted, pruned_by}
-use Rattle.learn_clauses.specs.Walk.{IsWithinDomains}
-use Rattle.search_run.specs.Replay.{State, Mode, Going, Conflict, AtFound, Closed, top_boxes, mode_by, first_false, mode_by_bounds}
-use Rattle.search_run.proofs.LevelFacts.{IsStack}
+use Rattle.search_run.specs.Replay.{Mode, Going, Conflict, AtFound, Closed, mode_by, first_false, mode_by_bounds}
 
 -- ---- clauses that were made
 
@@ -26,7 +19,8 @@ clause_here : (before : List Literals) (c : Literals) (cs : List Literals) →
 clause_here [] c cs = refl
 clause_here (b ∷ before) c cs = clause_here before c cs
 
-length_one : (before : List Literals) (c : Literals) → length (before ++ c ∷ []) ≡ suc (length before)
+length_one : (before : List Literals) (c : Literals) →
+    length (before ++ c ∷ []) ≡ suc (length before)
 length_one [] c = refl
 length_one (b ∷ before) c = ap suc (length_one before c)
 
@@ -46,7 +40,8 @@ or_assoc false b c = refl
 has_empty-append : (cs ds : List Literals) → has_empty (cs ++ ds) ≡ (has_empty cs || has_empty ds)
 has_empty-append [] ds = refl
 has_empty-append (c ∷ cs) ds =
-    ap (λ b. is_nil c || b) (has_empty-append cs ds) ∙ or_assoc (is_nil c) (has_empty cs) (has_empty ds)
+    ap (λ b. is_nil c || b) (has_empty-append cs ds)
+    ∙ or_assoc (is_nil c) (has_empty cs) (has_empty ds)
 
 -- the empty clause is made by the new clauses alone
 pub empty_more : (cs ds : List Literals) → has_empty cs ≡ false →

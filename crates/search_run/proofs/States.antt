@@ -1,11 +1,8 @@
 -- What every run leaves, line by line.
-use Rattle.std.proofs.Common.{◌≡◌, ℕ, zero, suc, ◌+◌, ◌<◌, ◌≤◌, true, false, not, ◌&&◌, ◌||◌, cond, List, [], ◌∷◌, ◌++◌, ℤ, length, refl, sym, ap, ◌∙◌, arith, subst, nat_lt, ◌==◌, All, Option, Some, None, is_some}
-use Rattle.std.specs.List.{Contains}
-use Rattle.std.proofs.lemmas.List.{get_or_push, length_push}
-use Rattle.std.proofs.lemmas.List.Elements.{Contains-push, All-cons}
+use Rattle.std.proofs.Common.{◌≡◌, ℕ, zero, suc, ◌<◌, true, false, not, ◌&&◌, List, [], ◌∷◌, ◌++◌, ℤ, length, refl, sym, ◌∙◌, arith, subst, nat_lt, All}
 use Rattle.std.proofs.lemmas.Bool.{and_parts, ltb-true, not-true}
-use Rattle.signed_clause.specs.Ranges.{Ranges, is_nil}
-use Rattle.signed_clause.specs.Clauses.{Boxes, Literals, box_of, false_in, IsClause}
+use Rattle.signed_clause.specs.Ranges.{Ranges}
+use Rattle.signed_clause.specs.Clauses.{Literals, box_of, IsClause}
 use Rattle.signed_clause.proofs.SetFacts.{within_law}
 use Rattle.ground_form.specs.declared.ground.Ground.{Ground}
 use Rattle.ground_form.specs.WellMade.{IsWellMade}
@@ -15,17 +12,17 @@ use Rattle.log_form.specs.Acceptance.{Made, clause_at, has_empty, chain_holds, c
 use Rattle.log_form.specs.Acceptance as acceptance
 use Rattle.log_check.specs.Soundness.{IsSound}
 use Rattle.log_check.proofs.Steps.{sound_step, sound_start, same_clause-equal}
-use Rattle.learn_clauses.specs.Walk.{IsWithinDomains, walk_from, back_to}
+use Rattle.learn_clauses.specs.Walk.{IsWithinDomains}
 use Rattle.learn_clauses.proofs.WithinLaws.{valid_boxes}
-use Rattle.search_run.specs.Replay.{State, Mode, Going, Conflict, AtFound, Closed, start, top_boxes, is_going, acts, are_sets_within, is_walk, leads_back, may_explain, mode_by, jumped, jumped_to, react, learned, may_stand, changed, next, run_from, is_run, state_from, state_of}
+use Rattle.search_run.specs.Replay.{State, start, top_boxes, is_going, acts, are_sets_within, may_explain, react, learned, may_stand, changed, next, run_from, is_run, state_from, state_of}
 use Rattle.search_run.specs.Lines.{HasSets}
 use Rattle.search_run.proofs.LineSets.{has_clause, first_has, rest_has}
 use Rattle.search_run.proofs.LineSteps.{decision_parts}
 use Rattle.search_run.proofs.FewDecisions.{run_line}
 use Rattle.search_run.proofs.Within.{within_each, sets_within, chain_within, bound_within}
-use Rattle.search_run.proofs.LevelFacts.{AreBoxesIn, IsPart, IsStack, stack_boxes, stack_more}
-use Rattle.search_run.proofs.LevelSteps.{reacted_stack, decided_stack, stack_back}
-use Rattle.search_run.proofs.StateSteps.{at_append, empty_more, empty_one, some_at, AreMade, made_more, made_new, HoldsIn, reacted_mode, bounds_mode}
+use Rattle.search_run.proofs.LevelFacts.{IsPart, stack_boxes, stack_more}
+use Rattle.search_run.proofs.LevelSteps.{reacted_stack, decided_stack}
+use Rattle.search_run.proofs.StateSteps.{at_append, empty_one, some_at, made_more, made_new, reacted_mode, bounds_mode}
 use Rattle.search_run.proofs.ClauseStates.{IsState, aged, nothing_within, IsMore, plus, more_within, reacts, explained_state}
 
 -- ---- one line

@@ -1,6 +1,6 @@
 -- What a unit clause says in boxes, and when a clause that is false behind a decision is unit
 -- before it.
-use Rattle.std.proofs.Common.{◌≡◌, ◌≢◌, ℕ, zero, suc, ◌<◌, true, false, not, ◌&&◌, cond, [], ◌∷◌, ℤ, length, refl, sym, ap, ◌∙◌, arith, inl, inr, subst, slice_set, Some, None}
+use Rattle.std.proofs.Common.{◌≡◌, ◌≢◌, ℕ, zero, suc, ◌<◌, true, false, not, ◌&&◌, cond, [], ◌∷◌, length, refl, sym, ap, ◌∙◌, arith, inl, inr, subst, slice_set, Some, None}
 use Rattle.std.proofs.lemmas.Int.{ints}
 use Rattle.std.proofs.lemmas.List.{get_or-set_same, get_or-set_other}
 use Rattle.std.proofs.lemmas.Bool.{and_parts, cases_eq, false_from_ne_true}
@@ -18,7 +18,8 @@ pub none_some : {X : Type 0} (x : X) → None ≡ Some x → ⊥
 none_some x e = cc
 
 -- a box that a set meets exists
-exists_from_meets : (boxes : Boxes) (x : ℕ) (s : Ranges) → is_disjoint s (box_of boxes x) ≡ false →
+pub exists_from_meets : (boxes : Boxes) (x : ℕ) (s : Ranges) →
+    is_disjoint s (box_of boxes x) ≡ false →
     x < length boxes
 exists_from_meets [] x s h = let none : is_nil (meet s []) ≡ true = ap is_nil (meet-none s) in
     absurd (grind arith)

@@ -1,5 +1,5 @@
 -- How many points boxes have, and what prunings and cuts leave of them.
-use Rattle.std.proofs.Common.{◌≡◌, ℕ, zero, suc, ◌+◌, ◌*◌, ◌<◌, ◌≤◌, true, false, not, ◌&&◌, [], ◌∷◌, length, refl, sym, ap, ◌∙◌, arith, inl, inr, slice_set, mul-zero}
+use Rattle.std.proofs.Common.{◌≡◌, ℕ, zero, suc, ◌+◌, ◌*◌, ◌<◌, ◌≤◌, true, false, not, [], ◌∷◌, length, refl, sym, ap, ◌∙◌, arith, inl, inr, slice_set, mul-zero}
 use Rattle.std.proofs.Math.Nat.{mul_assoc, mul_comm, mul-le-mul_right, one-le-mul, suc-mul, add-mul}
 use Rattle.std.proofs.lemmas.Bool.{and_parts, cases_lt, not-true}
 use Rattle.signed_clause.specs.Ranges.{Ranges, IsValid, is_nil, count_of}

@@ -1,10 +1,10 @@
 -- The clauses of a run name values of the domains alone.
-use Rattle.std.proofs.Common.{◌≡◌, ℕ, zero, suc, ◌+◌, ◌<◌, ◌≤◌, ◌⊎◌, inl, inr, true, false, ◌&&◌, ◌||◌, cond, Bool, List, [], ◌∷◌, ◌++◌, ℤ, length, refl, sym, ap, ◌∙◌, arith, subst, nat_lt, ◌==◌, All, Option, Some, None}
+use Rattle.std.proofs.Common.{◌≡◌, ℕ, suc, ◌<◌, inl, inr, true, false, ◌&&◌, ◌||◌, cond, List, [], ◌∷◌, ℤ, length, refl, sym, ap, ◌∙◌, arith, subst, nat_lt, ◌==◌, All, Option, Some, None}
 use Rattle.std.specs.List.{AllByRecursion}
-use Rattle.std.proofs.lemmas.Bool.{and_parts, cases_eq, eqb-true, ltb-true, ltb-false}
+use Rattle.std.proofs.lemmas.Bool.{and_parts, cases_eq, eqb-true}
 use Rattle.signed_clause.specs.Ranges.{Ranges, has, is_nil, IsValid, IsSubset}
 use Rattle.signed_clause.specs.SetAlgebra.{is_within, join, meet}
-use Rattle.signed_clause.specs.Clauses.{Boxes, Literals, box_of, set_of, has_var, resolvent, IsClause, IsClauseFrom}
+use Rattle.signed_clause.specs.Clauses.{Boxes, Literals, box_of, has_var, resolvent, IsClause, IsClauseFrom}
 use Rattle.signed_clause.specs.Running.{AreValid}
 use Rattle.signed_clause.proofs.SetFacts.{within_law}
 use Rattle.signed_clause.proofs.RangeSteps.{has-meet_valid, has-join_valid, IsValid-meet}
@@ -15,11 +15,11 @@ use Rattle.ground_form.specs.declared.ground.GroundGoal.{GroundGoal}
 use Rattle.ground_form.specs.Meaning.{value_of}
 use Rattle.ground_form.specs.Solutions.{IsPoint}
 use Rattle.ground_form.specs.WellMade.{IsWellMade}
-use Rattle.log_form.specs.Acceptance.{clause_at, chain_holds, chain_end, with_literal, better_than, as_good_as, better_values, as_good_values, bounds, bounds_from, bounds_of}
+use Rattle.log_form.specs.Acceptance.{clause_at, chain_holds, chain_end, with_literal, better_values, as_good_values, bounds, bounds_from, bounds_of}
 use Rattle.log_check.specs.Soundness.{FoundSolves}
 use Rattle.log_check.proofs.Bounds.{with_form, fits_at, better_than_valid, as_good_as_valid}
 use Rattle.learn_clauses.specs.Walk.{IsWithinDomains}
-use Rattle.learn_clauses.proofs.WithinLaws.{within-resolvent, valid_boxes}
+use Rattle.learn_clauses.proofs.WithinLaws.{within-resolvent}
 use Rattle.search_run.specs.Replay.{are_sets_within}
 
 -- ---- literal by literal
@@ -45,8 +45,7 @@ pub sets_within : (domains : Boxes) (c : Literals) (n : ℕ) → AreValid domain
 sets_within domains [] n a f h = tt
 sets_within domains (l ∷ c) n a f h =
     let box = box_of domains l.0 in
-    let p = and_parts (is_within l.1 box) (are_sets_within domains c) h in
-    (
+    let p = and_parts (is_within l.1 box) (are_sets_within domains c) h in (
       (within_law l.1 box f.2 (a l.0)).0 p.0,
       sets_within domains c (suc l.0) a f.3 p.1,
     )
@@ -112,7 +111,7 @@ meet_within a b f g v h =
     (and_parts (has a v) (has b v) (sym (has-meet_valid a b f g v) ∙ h)).0
 
 -- what is known of a bound at a goal
-record IsBoundSet (domains : Boxes) (x : ℕ) (s : Ranges) : Type 0 where
+pub record IsBoundSet (domains : Boxes) (x : ℕ) (s : Ranges) : Type 0 where
   pub valid : IsValid s
   pub within : IsSubset s (box_of domains x)
 
@@ -123,15 +122,15 @@ bound_set domains x s a lt v =
     let valid : IsValid box = a x [] lt in
     record { valid = IsValid-meet box s valid v; within = meet_within box s valid v }
 
-better_set : (domains : Boxes) (b : List ℤ) (goal : GroundGoal) → All (λ s. IsValid s) domains →
+pub better_set : (domains : Boxes) (b : List ℤ) (goal : GroundGoal) → All (λ s. IsValid s) domains →
     IsPoint domains b → goal.var < length domains →
     IsBoundSet domains goal.var (better_values domains b goal)
 better_set domains b goal a p lt =
     bound_set domains goal.var _ a lt
     (better_than_valid goal.max (value_of b goal.var) (fits_at domains b goal.var a p lt))
 
-as_good_set : (domains : Boxes) (b : List ℤ) (goal : GroundGoal) → All (λ s. IsValid s) domains →
-    IsPoint domains b → goal.var < length domains →
+pub as_good_set : (domains : Boxes) (b : List ℤ) (goal : GroundGoal) →
+    All (λ s. IsValid s) domains → IsPoint domains b → goal.var < length domains →
     IsBoundSet domains goal.var (as_good_values domains b goal)
 as_good_set domains b goal a p lt =
     bound_set domains goal.var _ a lt
@@ -153,8 +152,7 @@ bounds_within domains b (goal ∷ next ∷ goals) earlier a p w f e =
     let lt : goal.var < length domains = w 0 goal (omega arith) in
     let better = better_set domains b goal a p lt in
     let good = as_good_set domains b goal a p lt in
-    let form = with_form 0 goal.var _ earlier (omega arith) better.valid f in
-    (
+    let form = with_form 0 goal.var _ earlier (omega arith) better.valid f in (
       within_each domains _ (with_bound domains goal.var _ earlier good f e),
       bounds_within domains b (next ∷ goals) _ a p (λ k d less. w (suc k) d (omega arith)) form
           (with_bound domains goal.var _ earlier better f e),

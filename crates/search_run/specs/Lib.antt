@@ -2,3 +2,4 @@ pub mod Replay
 pub mod Decisions
 pub mod Lines
 pub mod Conflicts
+pub mod Ordered

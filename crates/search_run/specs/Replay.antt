@@ -2,7 +2,7 @@
 -- it is known which boxes the lines so far leave, level by level, and each line is one that a
 -- search with learning may write there: a decision stands only where no constraint, no learnt
 -- clause and no bound has anything left to say.
-use Rattle.std.specs.Prelude.{◌≡◌, ℕ, zero, suc, Bool, true, false, not, ◌&&◌, ◌||◌, cond, List, [], ◌∷◌, ◌++◌, ℤ, Option, Some, None, is_some, length, nat_lt, ◌==◌}
+use Rattle.std.specs.Prelude.{ℕ, zero, suc, Bool, true, false, not, ◌&&◌, ◌||◌, cond, List, [], ◌∷◌, ℤ, Option, Some, None, is_some, length, nat_lt, ◌==◌}
 use Rattle.signed_clause.specs.Ranges.{Ranges, is_nil}
 use Rattle.signed_clause.specs.SetAlgebra.{is_within}
 use Rattle.signed_clause.specs.Clauses.{Boxes, Literals, box_of, false_in, unit_of}
@@ -134,18 +134,19 @@ first_false boxes n (c ∷ cs) = cond (false_in boxes c) (Conflict n) (first_fal
 abbrev pub mode_by_bounds : Boxes → ℕ → List Literals → Mode
 mode_by_bounds boxes n cs = cond (has_empty cs) Closed (first_false boxes n cs)
 
--- the levels that a learnt clause leaves
-abbrev pub jumped_to : Option Stack → Stack → Stack
-jumped_to None levels = levels
-jumped_to (Some lower) levels = lower
+-- the levels that are led back to, or else those that stand
+abbrev pub back_or : Option Stack → Stack → Stack
+back_or None levels = levels
+back_or (Some lower) levels = lower
 
-abbrev pub jumped : Literals → State → State
-jumped c s = record s { levels = jumped_to (back_to c s.levels) s.levels; learnt = c ∷ s.learnt }
+-- the levels that a learnt clause leads back to
+abbrev pub led_back : Literals → State → State
+led_back c s = record s { levels = back_or (back_to c s.levels) s.levels; learnt = c ∷ s.learnt }
 
 -- a learnt clause drops levels and prunes; the empty one closes
 abbrev pub learned : ℕ → Literals → State → State
 learned n c s =
-    cond (is_nil c) (record s { mode = Closed; learnt = c ∷ s.learnt }) (react n c (jumped c s))
+    cond (is_nil c) (record s { mode = Closed; learnt = c ∷ s.learnt }) (react n c (led_back c s))
 
 -- the clauses of a Bound line take the place of those of the last one
 abbrev pub asked : ℕ → List Literals → State → State
@@ -159,13 +160,15 @@ is_split half box = not (is_nil half) && (is_within half box && not (is_within b
 
 -- the line may stand
 unfoldable pub may_stand : Ground → Made → State → Line → Bool
-may_stand g m s (Axiom k c) = is_going s.mode && (are_sets_within g.domains c && acts (top_boxes s) c)
+may_stand g m s (Axiom k c) =
+    is_going s.mode && (are_sets_within g.domains c && acts (top_boxes s) c)
 may_stand g m s (Use i) = is_going s.mode && acts (top_boxes s) (clause_at m.clauses i)
 may_stand g m s (Decide x half) =
     is_going s.mode && (none_empty (top_boxes s) && (are_quiet g.cons (top_boxes s) && (is_settled s
     && (nat_lt x g.search && is_split half (box_of (top_boxes s) x)))))
 may_stand g m s (Found a) =
-    is_going s.mode && (are_quiet g.cons (top_boxes s) && (is_settled s && are_fixed g.search (top_boxes s) a))
+    is_going s.mode && (are_quiet g.cons (top_boxes s) && (is_settled s
+    && are_fixed g.search (top_boxes s) a))
 may_stand g m s (Bound values) = is_found s.mode
 may_stand g m s (Chain chain c) = may_explain m s chain.first chain.steps c s.mode
 -- it is the first line
@@ -188,7 +191,8 @@ next g m s l = record (changed g m s l) { fresh = false }
 -- the lines are accepted, and each may stand when its turn comes
 abbrev pub run_from : Ground → Made → State → List Line → Bool
 run_from g m s [] = true
-run_from g m s (l ∷ ls) = may_come g m l && (may_stand g m s l && run_from g (after g m l) (next g m s l) ls)
+run_from g m s (l ∷ ls) =
+    may_come g m l && (may_stand g m s l && run_from g (after g m l) (next g m s l) ls)
 
 abbrev pub is_run : Ground → List Line → Bool
 is_run g ls = run_from g acceptance.start (start g) ls

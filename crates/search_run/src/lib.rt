@@ -1,12 +1,19 @@
-//! Runs of a search: which logs a search with learning may leave, and how often such a run decides.
+//! Runs of a search: which logs a search with learning may leave, and what every such log has.
 //!
-//! `specs/Replay` says which lists of lines are runs. A run is read without the search that made it:
-//! at each line the boxes that the lines so far leave are known, level by level, and so is what may
-//! come next. There is no code here but functions that do nothing, whose contracts are laws.
+//! `specs/Replay` says which lists of lines are runs. A run is read without the search that made
+//! it: at each line the boxes that the lines so far leave are known, level by level, and so is what
+//! may come next. The functions here do nothing; their contracts are laws of runs.
 //!
-//! - `laws`: how often a run decides.
+//! - `laws`: a line more and fronts; what every run leaves; how often a run decides.
+//! - `following`: a walk's chain and a solution as the next line.
+//! - `known`: what the types of a line's parts keep, which the laws need.
 #![tactic(auto)]
 
+mod following;
+mod known;
 mod laws;
 
-pub use laws::run_decides_less;
+pub use following::{found_may_follow, walk_may_follow};
+pub use laws::{
+    front_is_run, line_more, ordered_line_more, run_decides_less, run_leaves, run_reaches,
+};

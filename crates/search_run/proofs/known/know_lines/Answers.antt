@@ -1,5 +1,5 @@
 use Rattle.search_run.proofs.LineSets.{sets_step, sets_all}
-use Rattle.search_run.proofs.laws.know_lines.Goals as goal
+use Rattle.search_run.proofs.known.know_lines.Goals as goal
 
 pub loop-line-preserved : goal.loop-line-preserved
 loop-line-preserved c =
