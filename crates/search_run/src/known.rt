@@ -19,7 +19,7 @@ fn know_line(line: &Line)
 {
     match line {
         Line::Axiom(_, clause) | Line::Chain(_, clause) => {
-            clause.literals();
+            clause.clause().literals();
         }
         Line::Decide(_, half) => {
             half.ranges();
