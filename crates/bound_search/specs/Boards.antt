@@ -18,7 +18,13 @@ pub record IsBoard (g : Ground) (levels : Stack) (work : Work) (watching : Watch
   pub variables : watching.variables ≡ length g.domains
   pub watched : watches.Fits levels.top.now watching
 
--- the present boxes of each level below hold those above, and every constraint is quiet in them
+-- as many boxes, each of which holds the other's values, and in which every constraint is quiet
+pub record IsBelow (g : Ground) (boxes lower : Boxes) : Type 0 where
+  pub size : length lower ≡ length boxes
+  pub wider : AreWider boxes lower
+  pub is_quiet : AreAllQuiet g lower
+
+-- the present boxes of each level are so below those of the one above
 abbrev pub AreLower : Ground → Boxes → List Level → Type 0
 AreLower g boxes [] = Unit {0}
-AreLower g boxes (l ∷ ls) = AreWider boxes l.now × AreAllQuiet g l.now × AreLower g l.now ls
+AreLower g boxes (l ∷ ls) = IsBelow g boxes l.now × AreLower g l.now ls

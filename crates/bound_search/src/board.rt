@@ -3,7 +3,7 @@
 //! The levels of the boxes stand in a store; a queue and watches know what is still to be looked at
 //! in the present boxes. Each change of a box is noted to both, so that they fit the boxes behind
 //! every step.
-ghost use Rattle.std.specs.Prelude.{◌≡◌, ◌<◌, ◌≤◌, true, false, length, IfOk, OnOk};
+ghost use Rattle.std.specs.Prelude.{◌≡◌, ◌<◌, [], true, false, None, length, IfOk, OnOk};
 ghost use Rattle.signed_clause.specs.Ranges.{is_nil};
 ghost use Rattle.signed_clause.specs.SetAlgebra.{is_within};
 ghost use Rattle.signed_clause.specs.Clauses.{box_of, IsWithinBoxes};
