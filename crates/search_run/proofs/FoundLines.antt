@@ -94,7 +94,7 @@ fixed_single (suc n) (v ∷ a) h =
     let same = (Decides-int_eq v v).1 refl in
     rw (same, more) refl
 
-quiet_all : (cons : List Con) (boxes : Boxes) →
+pub quiet_all : (cons : List Con) (boxes : Boxes) →
     ((k : ℕ) (con : Con) → slice_get cons k ≡ Some con → quiet con boxes ≡ true) →
     are_quiet cons boxes ≡ true
 quiet_all [] boxes h = refl
@@ -206,7 +206,7 @@ found_comes g m a open_so_far sol better =
     let truths = true_all g.cons a sol.truths in
     rw (open_so_far, point, truths, better) refl
 
-going_open : (m : Made) (boxes : Boxes) (mode : Mode) → mode ≡ Going → HoldsIn m boxes mode →
+pub going_open : (m : Made) (boxes : Boxes) (mode : Mode) → mode ≡ Going → HoldsIn m boxes mode →
     has_empty m.clauses ≡ false
 going_open m boxes mode e h =
     let here : HoldsIn m boxes Going = subst (HoldsIn m boxes) e h in here

@@ -76,7 +76,7 @@ none_at : (boxes : Boxes) (cs : List Literals) (c : Literals) → none_acts boxe
     Contains cs c → acts boxes c ≡ false
 none_at boxes cs c h w = none_by boxes cs c w.0 h w.1 w.2
 
-none_of : (boxes : Boxes) (made cs : List Literals) → none_acts boxes made ≡ true →
+pub none_of : (boxes : Boxes) (made cs : List Literals) → none_acts boxes made ≡ true →
     AreMade made cs → none_acts boxes cs ≡ true
 none_of boxes made [] h k = refl
 none_of boxes made (c ∷ cs) h k =
