@@ -1,5 +1,6 @@
 -- What a change of a box and a way back leave of a board.
-use Rattle.std.proofs.Common.{◌≡◌, ◌≢◌, ℕ, suc, ◌+◌, ◌<◌, ◌≤◌, true, false, not, ◌&&◌, cond, List, [], ◌∷◌, length, refl, sym, ap, ◌∙◌, arith, subst, slice_set, nat_lt, Option, Some, None, length-set}
+use Rattle.std.proofs.Common.{◌≡◌, ◌≢◌, ℕ, suc, ◌+◌, ◌<◌, ◌≤◌, true, false, not, ◌&&◌, cond, List, [], ◌∷◌, length, refl, sym, ap, ◌∙◌, arith, subst, slice_set, nat_lt, Option, Some, None, length-set, map}
+use Rattle.std.proofs.lemmas.List.{length-map}
 use Rattle.std.proofs.lemmas.Bool.{ltb-true, lt-ltb}
 use Rattle.signed_clause.specs.Ranges.{Ranges, IsSubset}
 use Rattle.signed_clause.specs.SetAlgebra.{is_disjoint, is_within, meet}
@@ -11,7 +12,8 @@ use Rattle.fd_store.specs.Levels.{Level, Stack, moved, applied, applied_by, reac
 use Rattle.prop_queue.specs.Work as queue
 use Rattle.prop_queue.specs.Work.{AreAllQuiet}
 use Rattle.clause_watches.specs.Watching as watches
-use Rattle.clause_watches.specs.Watching.{AreWider}
+use Rattle.clause_watches.specs.declared.rest.Rest.{Rest}
+use Rattle.clause_watches.specs.Watching.{Watching, AreWider}
 use Rattle.search_run.proofs.Units.{some_same, none_some, exists_from_meets, box-set_other}
 use Rattle.bound_search.specs.Boards.{IsBelow, AreLower}
 
@@ -97,6 +99,14 @@ pruned_so n c x s t a e h k =
       | false ↦ λ h. pruned_unit n c x s u refl h
     ]) (sym e ∙ h) in
     subst (HasPruned n c x s) (sym k) it
+
+-- ---- rests and clauses
+
+-- there is still a rest for each clause where the rests change and the clauses don't
+pub still_paired : (w v : Watching) (f : Rest → Rest) → v.rests ≡ map f w.rests →
+    v.added ≡ w.added → length w.rests ≡ length w.added → length v.rests ≡ length v.added
+still_paired w v f r a e =
+    ap length r ∙ length-map w.rests f ∙ e ∙ sym (ap length a)
 
 -- ---- levels that are dropped
 

@@ -1,2 +1,4 @@
 pub mod BoardLaws
 pub mod MoreLines
+pub mod Decisions
+pub mod Chains

@@ -85,7 +85,7 @@ at_with g ls l clauses levels added mode r b =
 -- ---- what is watched
 
 -- the numbers stay right where clauses are added
-numbered_more : (cs ds : List Literals) (added : List (ℕ × Literals)) →
+pub numbered_more : (cs ds : List Literals) (added : List (ℕ × Literals)) →
     All (λ p. IsNumbered cs p) added → All (λ p. IsNumbered (cs ++ ds) p) added
 numbered_more cs ds added h = λ k d lt.
     let p = slice_index_or added k d in
@@ -109,7 +109,7 @@ watched_more cs ds s t added l b w = record {
 -- ---- a clause is used
 
 -- the state is one in which lines go on, and no clause that was made is empty
-going_on : (g : Ground) (ls : List Line) → IsRun g ls → (state_of g ls).mode ≡ Going →
+pub going_on : (g : Ground) (ls : List Line) → IsRun g ls → (state_of g ls).mode ≡ Going →
     has_empty (made g ls).clauses ≡ false
 going_on g ls r e =
     let whole = run_of g ls r in

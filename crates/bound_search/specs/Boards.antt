@@ -16,6 +16,7 @@ pub record IsBoard (g : Ground) (levels : Stack) (work : Work) (watching : Watch
   pub over : IsOver g work
   pub listed : queue.Fits g work levels.top.now
   pub variables : watching.variables ≡ length g.domains
+  pub paired : length watching.rests ≡ length watching.added
   pub watched : watches.Fits levels.top.now watching
 
 -- as many boxes, each of which holds the other's values, and in which every constraint is quiet

@@ -4,9 +4,11 @@
 use Rattle.std.specs.Prelude.{◌≡◌, ℕ, ◌<◌, ◌≤◌, true, false, List, [], ◌∷◌, length}
 use Rattle.std.specs.List.{All, Contains}
 use Rattle.signed_clause.specs.Ranges.{is_nil}
-use Rattle.signed_clause.specs.Clauses.{Literals}
+use Rattle.signed_clause.specs.Clauses.{Boxes, Literals}
 use Rattle.ground_form.specs.declared.ground.Ground.{Ground}
 use Rattle.ground_form.specs.WellMade.{IsWellMade}
+use Rattle.prop_queue.specs.Work.{AreAllQuiet}
+use Rattle.clause_watches.specs.Watching.{acts, clause_of}
 use Rattle.fd_store.specs.Levels.{Stack}
 use Rattle.log_form.specs.declared.line.Line.{Line}
 use Rattle.log_form.specs.Acceptance.{clause_at, made}
@@ -54,3 +56,10 @@ pub record IsAt (g : Ground) (ls : List Line) (clauses : List Literals) (levels 
   pub levels_are : (state_of g ls).levels ≡ levels
   pub mode_is : (state_of g ls).mode ≡ mode
   pub watched : AreWatched clauses (state_of g ls) added
+
+-- ---- fixpoints
+
+-- no constraint and no watched clause has anything to say in the boxes
+pub record IsFixed (g : Ground) (boxes : Boxes) (added : List (ℕ × Literals)) : Type 0 where
+  pub is_quiet : AreAllQuiet g boxes
+  pub idle : (i : ℕ) → i < length added → acts boxes (clause_of added i) ≡ false

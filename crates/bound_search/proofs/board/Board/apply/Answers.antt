@@ -1,5 +1,6 @@
 use Rattle.std.proofs.Common.{◌≡◌, ◌∙◌, sym, Some, length, arith}
-use Rattle.bound_search.proofs.BoardLaws.{move_changes, pruned_so}
+use Rattle.clause_watches.specs.Watching.{touched}
+use Rattle.bound_search.proofs.BoardLaws.{still_paired, move_changes, pruned_so}
 use Rattle.bound_search.proofs.board.Board.apply.Goals as goal
 
 pub note_change-requires : goal.note_change-requires
@@ -36,6 +37,8 @@ returns-in-Pruned-clause-board c =
       listed = c.note_change.ensures.fits g old.top.now new.top.now c.requires.well_made board.over
           board.size board.listed change.listed;
       variables = c.note_change-in-Pruned.ensures.variables ∙ board.variables;
+      paired = still_paired c.args.self.now.watches c.note_change-in-Pruned.new.self (touched x)
+          c.note_change-in-Pruned.ensures.rests c.note_change-in-Pruned.ensures.added board.paired;
       watched = c.note_change-in-Pruned.ensures.fits old.top.now new.top.now board.watched
           change.watched;
     }

@@ -1,5 +1,6 @@
 use Rattle.std.proofs.Common.{◌≡◌, ◌∙◌}
-use Rattle.bound_search.proofs.BoardLaws.{lower_dropped}
+use Rattle.clause_watches.specs.Watching.{widened}
+use Rattle.bound_search.proofs.BoardLaws.{still_paired, lower_dropped}
 use Rattle.bound_search.proofs.board.Board.undo_to.Goals as goal
 
 pub returns-clause-board : goal.returns-clause-board
@@ -15,6 +16,8 @@ returns-clause-board c =
       over = c.note_return.ensures.over g board.over;
       listed = (c.note_return.ensures.fits g new.top.now).1 lower.top.is_quiet;
       variables = c.note_undo.ensures.variables ∙ board.variables;
+      paired = still_paired c.args.self.now.watches c.note_undo.new.self widened
+          c.note_undo.ensures.rests c.note_undo.ensures.added board.paired;
       watched = c.note_undo.ensures.fits old.top.now new.top.now board.watched lower.top.wider;
     }
 
