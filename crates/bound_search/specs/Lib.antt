@@ -1,3 +1,4 @@
 pub mod Modes
 pub mod Boards
 pub mod Standing
+pub mod Engines

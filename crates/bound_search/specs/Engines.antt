@@ -1,0 +1,53 @@
+-- What each step of a search keeps true. What a reader believes after this file: the engine shows
+-- where the lines of the record have led, and how far each step is from the end of its loop.
+use Rattle.std.specs.Prelude.{◌≡◌, ℕ, ◌+◌, ◌<◌, ◌≤◌, true, List, [], ◌∷◌, length}
+use Rattle.signed_clause.specs.Ranges.{count_of}
+use Rattle.signed_clause.specs.Clauses.{Boxes}
+use Rattle.ground_form.specs.declared.ground.Ground.{Ground}
+use Rattle.log_form.specs.declared.line.Line.{Line}
+use Rattle.log_form.specs.Acceptance.{has_empty, made}
+use Rattle.proof_log.specs.Rounds.{Journal}
+use Rattle.search_run.specs.Replay.{Mode, Going, Conflict, is_run}
+use Rattle.search_run.specs.Decisions.{decisions}
+use Rattle.bound_search.specs.declared.after.After.{After}
+use Rattle.bound_search.specs.declared.after.After.TheVariants as after
+use Rattle.bound_search.specs.declared.engine.Engine.{Engine}
+use Rattle.bound_search.specs.Modes.{rank}
+use Rattle.bound_search.specs.Boards.{IsBoard, AreLower}
+use Rattle.bound_search.specs.Standing.{IsAt}
+
+-- the engine stands where the lines have led
+pub record Shows (g : Ground) (ls : List Line) (e : Engine) (mode : Mode) : Type 0 where
+  pub at : IsAt g ls e.clauses e.board.store e.board.watches.added mode
+  pub board : IsBoard g e.board.store e.board.queue e.board.watches
+  pub lower : AreLower g e.board.store.top.now e.board.store.below
+  pub table : length g.domains ≤ length e.running
+
+-- and so it does in the mode that an answer stands for; where that is closed, the empty clause was
+-- made, and nothing more is said
+abbrev pub Reached : Ground → List Line → Engine → After → Type 0
+Reached g ls e after.Going = Shows g ls e Going
+Reached g ls e (after.Conflict n) = Shows g ls e (Conflict n)
+Reached g ls e after.Closed = has_empty (made g ls).clauses ≡ true
+
+-- the lines are a run, also after want of memory, and nothing else of the record has changed
+pub record IsKept (g : Ground) (old new : Journal) : Type 0 where
+  pub run : is_run g new.lines ≡ true
+  pub problem : new.ground ≡ old.ground
+  pub rounds : new.rounds ≡ old.rounds
+
+-- ---- measures
+
+-- how many values all boxes have together
+abbrev pub total : Boxes → ℕ
+total [] = 0
+total (b ∷ boxes) = count_of b + total boxes
+
+-- a step within a level: where the search goes on, values were taken away
+pub record IsTurn (old new : Engine) (a : After) : Type 0 where
+  pub below : length new.board.store.below ≡ length old.board.store.below
+  pub fewer : a ≡ after.Going → total new.board.store.top.now < total old.board.store.top.now
+
+-- no line between decides
+abbrev pub DecideAlike : List Line → List Line → Type 0
+DecideAlike old new = decisions new ≡ decisions old
