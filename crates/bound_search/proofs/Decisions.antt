@@ -15,7 +15,7 @@ use Rattle.search_run.specs.Replay.{State, Mode, Going, top_boxes, is_going, act
 use Rattle.search_run.specs.Replay as replay
 use Rattle.search_run.proofs.RunLaws.{none_of}
 use Rattle.search_run.proofs.FoundLines.{quiet_all}
-use Rattle.bound_search.specs.Standing.{IsRun, clauses_of, AreWatched, IsFixed, IsAt}
+use Rattle.bound_search.specs.Standing.{IsRun, clauses_of, AreWatched, IsFixed, IsDecision, IsAt}
 use Rattle.bound_search.proofs.MoreLines.{boxes_at, going_on, MayFollow, run_with, IsBehind, at_with}
 
 -- ---- nothing is left to say
@@ -47,12 +47,6 @@ some_in (b ∷ boxes) h =
     rw (here, more) refl
 
 -- ---- a decision
-
--- what is asked of a decision
-pub record IsDecision (g : Ground) (boxes : Boxes) (x : ℕ) (half : Ranges) : Type 0 where
-  pub searched : x < g.search
-  pub valid : IsValid half
-  pub splits : is_split half (box_of boxes x) ≡ true
 
 decide_follows : (g : Ground) (m : Made) (s : State) (added : List (ℕ × Literals)) (x : ℕ)
     (half : Ranges) → s.mode ≡ Going → has_empty m.clauses ≡ false →

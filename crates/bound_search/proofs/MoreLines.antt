@@ -26,7 +26,7 @@ use Rattle.search_run.proofs.Fronts.{run_more, made_more, state_more}
 use Rattle.search_run.proofs.LineSets.{one_more}
 use Rattle.search_run.proofs.RunLaws.{IsRunOf, state_is, run_boxes, none_of}
 use Rattle.search_run.proofs.FoundLines.{going_open, quiet_all}
-use Rattle.bound_search.specs.Standing.{IsRun, clauses_of, IsNumbered, AreAdded, AreWatched, IsAt}
+use Rattle.bound_search.specs.Standing.{IsRun, clauses_of, IsNumbered, AreAdded, AreWatched, IsReason, IsAt}
 
 pub run_of : (g : Ground) (ls : List Line) → IsRun g ls → IsRunOf g ls
 run_of g ls r = record { well_made = r.well_made; sets = r.sets; run = r.run }
@@ -200,14 +200,6 @@ con_is : (cons : List Con) (k : ℕ) (con d : Con) → slice_get cons k ≡ Some
 con_is [] k con d e = absurd cc
 con_is (x ∷ cons) zero con d e = cc
 con_is (x ∷ cons) (suc k) con d e = con_is cons k con d e
-
--- what is asked of a clause that a constraint justifies
-pub record IsReason (g : Ground) (boxes : Boxes) (k : ℕ) (c : Literals) : Type 0 where
-  pub con : Con
-  pub there : slice_get g.cons k ≡ Some con
-  pub exists : k < length g.cons
-  pub prunes : IsPruning con g.domains boxes c
-  pub within : AreSetsWithin g.domains c
 
 axiom_follows : (g : Ground) (m : Made) (s : State) (k : ℕ) (c : Literals) → s.mode ≡ Going →
     has_empty m.clauses ≡ false → length (top_boxes s) ≡ length g.domains →

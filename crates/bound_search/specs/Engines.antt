@@ -1,13 +1,16 @@
 -- What each step of a search keeps true. What a reader believes after this file: the engine shows
 -- where the lines of the record have led, and how far each step is from the end of its loop.
-use Rattle.std.specs.Prelude.{◌≡◌, ℕ, ◌+◌, ◌<◌, ◌≤◌, true, List, [], ◌∷◌, length}
+use Rattle.std.specs.Prelude.{◌≡◌, ℕ, ◌+◌, ◌*◌, ◌<◌, ◌≤◌, true, List, [], ◌∷◌, length}
 use Rattle.signed_clause.specs.Ranges.{count_of}
 use Rattle.signed_clause.specs.Clauses.{Boxes}
 use Rattle.ground_form.specs.declared.ground.Ground.{Ground}
+use Rattle.branch_choice.specs.declared.split.Order.{Order}
+use Rattle.branch_choice.specs.Picks.{Hints}
 use Rattle.log_form.specs.declared.line.Line.{Line}
 use Rattle.log_form.specs.Acceptance.{has_empty, made}
 use Rattle.proof_log.specs.Rounds.{Journal}
 use Rattle.search_run.specs.Replay.{Mode, Going, Conflict, is_run}
+use Rattle.search_run.specs.Ordered.{IsOrdered}
 use Rattle.search_run.specs.Decisions.{decisions}
 use Rattle.bound_search.specs.declared.after.After.{After}
 use Rattle.bound_search.specs.declared.after.After.TheVariants as after
@@ -30,11 +33,17 @@ Reached g ls e after.Going = Shows g ls e Going
 Reached g ls e (after.Conflict n) = Shows g ls e (Conflict n)
 Reached g ls e after.Closed = has_empty (made g ls).clauses ≡ true
 
--- the lines are a run, also after want of memory, and nothing else of the record has changed
-pub record IsKept (g : Ground) (old new : Journal) : Type 0 where
+-- the lines are a run, also after want of memory; they decide by the order if they did; and nothing
+-- else of the record has changed
+pub record IsKeptBy (g : Ground) (order : Order) (hints : Hints) (old new : Journal) : Type 0 where
   pub run : is_run g new.lines ≡ true
+  pub ordered : IsOrdered g order hints old.lines → IsOrdered g order hints new.lines
   pub problem : new.ground ≡ old.ground
   pub rounds : new.rounds ≡ old.rounds
+
+-- so it is whatever the order
+abbrev pub IsKept : Ground → Journal → Journal → Type 0
+IsKept g old new = (order : Order) (hints : Hints) → IsKeptBy g order hints old new
 
 -- ---- measures
 
@@ -51,3 +60,8 @@ pub record IsTurn (old new : Engine) (a : After) : Type 0 where
 -- no line between decides
 abbrev pub DecideAlike : List Line → List Line → Type 0
 DecideAlike old new = decisions new ≡ decisions old
+
+-- a learnt clause dropped a level, or closed the search
+pub record IsFall (old new : Engine) (a : After) : Type 0 where
+  pub shorter : 3 * length new.board.store.below + rank a < 3 * length old.board.store.below + 1
+  pub fewer_levels : length new.board.store.below ≤ length old.board.store.below

@@ -1,18 +1,21 @@
 -- Where a search stands. What a reader believes after this file: the lines of its record are a run,
 -- the clauses, the levels and the mode that it keeps are what the run leaves, and each clause that
 -- a run has to wait for is watched under its number.
-use Rattle.std.specs.Prelude.{◌≡◌, ℕ, ◌<◌, ◌≤◌, true, false, List, [], ◌∷◌, length}
+use Rattle.std.specs.Prelude.{◌≡◌, ℕ, ◌<◌, ◌≤◌, true, false, List, [], ◌∷◌, Some, length, slice_get}
 use Rattle.std.specs.List.{All, Contains}
-use Rattle.signed_clause.specs.Ranges.{is_nil}
-use Rattle.signed_clause.specs.Clauses.{Boxes, Literals}
+use Rattle.signed_clause.specs.Ranges.{Ranges, is_nil, IsValid}
+use Rattle.signed_clause.specs.Clauses.{Boxes, Literals, box_of}
 use Rattle.ground_form.specs.declared.ground.Ground.{Ground}
+use Rattle.ground_form.specs.declared.con.Con.{Con}
 use Rattle.ground_form.specs.WellMade.{IsWellMade}
+use Rattle.rule_law.specs.Answers.{IsPruning}
+use Rattle.rule_law.specs.CutTo.{AreSetsWithin}
 use Rattle.prop_queue.specs.Work.{AreAllQuiet}
 use Rattle.clause_watches.specs.Watching.{acts, clause_of}
 use Rattle.fd_store.specs.Levels.{Stack}
 use Rattle.log_form.specs.declared.line.Line.{Line}
 use Rattle.log_form.specs.Acceptance.{clause_at, made}
-use Rattle.search_run.specs.Replay.{State, Mode, is_run, state_of}
+use Rattle.search_run.specs.Replay.{State, Mode, is_split, is_run, state_of}
 use Rattle.search_run.specs.Lines.{HasSets}
 
 -- the lines are a run over a well made problem without empty domains, and their parts are sets
@@ -63,3 +66,18 @@ pub record IsAt (g : Ground) (ls : List Line) (clauses : List Literals) (levels 
 pub record IsFixed (g : Ground) (boxes : Boxes) (added : List (ℕ × Literals)) : Type 0 where
   pub is_quiet : AreAllQuiet g boxes
   pub idle : (i : ℕ) → i < length added → acts boxes (clause_of added i) ≡ false
+
+-- a constraint of this number justifies the clause, which names values of the domains alone and is
+-- false in the boxes or unit
+pub record IsReason (g : Ground) (boxes : Boxes) (k : ℕ) (c : Literals) : Type 0 where
+  pub con : Con
+  pub there : slice_get g.cons k ≡ Some con
+  pub exists : k < length g.cons
+  pub prunes : IsPruning con g.domains boxes c
+  pub within : AreSetsWithin g.domains c
+
+-- a searched variable gets a set for its box that leaves some of the values and takes others away
+pub record IsDecision (g : Ground) (boxes : Boxes) (x : ℕ) (half : Ranges) : Type 0 where
+  pub searched : x < g.search
+  pub valid : IsValid half
+  pub splits : is_split half (box_of boxes x) ≡ true
