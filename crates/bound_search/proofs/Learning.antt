@@ -31,18 +31,19 @@ use Rattle.search_run.proofs.LevelFacts.{IsPart}
 use Rattle.search_run.proofs.RunLaws.{run_came, run_domains, run_within, run_conflict}
 use Rattle.bound_search.specs.declared.after.After.{After}
 use Rattle.bound_search.specs.declared.after.After.TheVariants as after
+use Rattle.bound_search.specs.declared.board.Board.{Board}
 use Rattle.bound_search.specs.declared.engine.Engine.{Engine}
 use Rattle.bound_search.specs.Modes.{mode_of, rank}
 use Rattle.bound_search.specs.Boards.{IsBoard, AreLower}
 use Rattle.bound_search.specs.Standing.{IsRun, IsFixed, IsDecision, IsAt}
-use Rattle.bound_search.specs.Engines.{Shows, Reached, IsKeptBy, IsKept, IsFall}
+use Rattle.bound_search.specs.Engines.{Shows, Reached, IsApplied, IsEngineWith, IsKeptBy, IsKept, MayTakeIn, IsTakenIn, IsFall}
 use Rattle.bound_search.proofs.BoardLaws.{lower_dropped}
 use Rattle.bound_search.proofs.Fewer.{decided_lower, below_same}
 use Rattle.bound_search.proofs.MoreLines.{run_of, boxes_at}
 use Rattle.bound_search.proofs.Decisions.{decide_at}
 use Rattle.bound_search.proofs.Chains.{IsExplained, IsClosed, chain_closes, chain_at}
-use Rattle.bound_search.proofs.Steps.{valid_at, IsApplied, decisions-behind, alike}
-use Rattle.bound_search.proofs.UseAxiom.{IsWritten, kept_line, kept_by, IsEngineWith, IsDone, line_reached}
+use Rattle.bound_search.proofs.Steps.{valid_at, decisions-behind, alike}
+use Rattle.bound_search.proofs.UseAxiom.{IsWritten, kept_line, kept_by, IsDone, line_reached}
 
 -- ---- a decision
 
@@ -235,4 +236,126 @@ board_added g s work w v p b vars added rests =
       paired = omega (arith, more, longer, one, two, paired);
       watched = subst (λ (rs : List Rest). (i : ℕ) →
           IsKnown s.top.now (clause_of v.added i) (rest_of rs i)) (sym rests) fits;
+    }
+
+-- ---- what is learnt
+
+-- the steps and the clause that an analysis answers, with the level that is dropped
+pub record IsLesson (clauses : List Literals) (levels : Stack) (n : ℕ) (chain : chains.Chain)
+    (c : Literals) (level : ℕ) : Type 0 where
+  pub explained : IsExplained clauses levels n chain c
+  pub within : IsWithinDomains (domains_of levels) c
+  pub closes : (level ≡ 0) ↔ (c ≡ [])
+  pub drops : 0 < level → IsDroppedBy c levels level
+
+pub lesson_run : (g : Ground) (ls : List Line) (clauses : List Literals) (levels : Stack)
+    (added : List (ℕ × Literals)) (n : ℕ) (chain : chains.Chain) (c : Literals) (level : ℕ) →
+    IsAt g ls clauses levels added (Conflict n) → IsLesson clauses levels n chain c level →
+    IsRun g (ls ++ Chain chain c ∷ [])
+lesson_run g ls clauses levels added n chain c zero at h =
+    (chain_closes g ls clauses levels added n chain c at h.explained (h.closes.0 refl)).lines
+lesson_run g ls clauses levels added n chain c (suc k) at h =
+    (chain_at g ls clauses levels added n chain c (suc k) at h.explained
+    (h.drops (omega arith))).lines
+
+pub lesson_kept : (g : Ground) (old new : Journal) (d : Engine) (n : ℕ) (chain : chains.Chain)
+    (c : Literals) (level : ℕ) → Shows g old.lines d (Conflict n) →
+    IsLesson d.clauses d.board.store n chain c level → IsWritten old new (Chain chain c) →
+    IsKept g old new
+lesson_kept g old new d n chain c level s h w =
+    kept_by g old new (Chain chain c) w (λ g order hints s. tt)
+    (lesson_run g old.lines d.clauses d.board.store d.board.watches.added n chain c level s.at h)
+
+pub lesson_closes : (g : Ground) (old new : Journal) (d : Engine) (n : ℕ) (chain : chains.Chain)
+    (c : Literals) (level : ℕ) → Shows g old.lines d (Conflict n) →
+    IsLesson d.clauses d.board.store n chain c level → IsWritten old new (Chain chain c) →
+    level ≡ 0 → has_empty (made g new.lines).clauses ≡ true
+lesson_closes g old new d n chain c level s h w e =
+    let closed = (chain_closes g old.lines d.clauses d.board.store d.board.watches.added n chain c
+    s.at h.explained (h.closes.0 e)).closed in
+    subst (λ (ls : List Line). has_empty (made g ls).clauses ≡ true) (sym w.lines) closed
+
+pub may_take_in : (g : Ground) (ls : List Line) (d : Engine) (n : ℕ) (chain : chains.Chain)
+    (c : Literals) (level : ℕ) → Shows g ls d (Conflict n) →
+    IsLesson d.clauses d.board.store n chain c level → 0 < level →
+    MayTakeIn g d.board.store c level
+may_take_in g ls d n chain c level s h lt =
+    let levels = d.board.store in
+    let added = d.board.watches.added in
+    let size = (boxes_at g ls d.clauses levels added (Conflict n) s.at).size in
+    let is = domains_at g ls d.clauses levels added (Conflict n) s.at in
+    let within = subst (λ (b : Boxes). IsWithinDomains b c) is h.within in
+    record {
+      exists = (h.drops lt).exists;
+      some = lt;
+      vars = vars_within g.domains c 0 (length levels.top.now) h.explained.form (omega (arith, size))
+          within;
+      form = h.explained.form;
+    }
+
+pub lesson_reached : (g : Ground) (old new : Journal) (d e : Engine) (n : ℕ) (chain : chains.Chain)
+    (c : Literals) (level : ℕ) (a : After) → Shows g old.lines d (Conflict n) →
+    IsLesson d.clauses d.board.store n chain c level → IsWritten old new (Chain chain c) →
+    0 < level → IsTakenIn g d e c level a → Reached g new.lines e a
+lesson_reached g old new d e n chain c level a s h w lt t =
+    let levels = d.board.store in
+    let added = d.board.watches.added in
+    let drop = h.drops lt in
+    let exists = drop.exists in
+    let below = dropped (level - 1) levels in
+    let at = chain_at g old.lines d.clauses levels added n chain c level s.at h.explained drop in
+    let lower = lower_dropped g (level - 1) levels below (omega (arith, lt, exists)) s.lower refl in
+    line_reached g old new (Chain chain c) d e below (length d.clauses) c (d.clauses ++ c ∷ [])
+    (added ++ (length d.clauses, c) ∷ []) a (record {
+      written = w;
+      engine = t.engine;
+      applied = t.applied;
+      lower = lower.below;
+      form = h.explained.form;
+      valid = lower.top.wider.large_valid;
+      table = s.table;
+    }) at
+
+pub lesson_falls : (g : Ground) (d e : Engine) (c : Literals) (level : ℕ) (a : After) →
+    MayTakeIn g d.board.store c level → IsTakenIn g d e c level a → IsFall d e a
+lesson_falls g d e c level a m t =
+    let levels = d.board.store in
+    let below = dropped (level - 1) levels in
+    let exists = m.exists in
+    let some = m.some in
+    let less = fewer_levels (level - 1) levels below (omega (arith, exists, some)) refl in
+    let same : length e.board.store.below ≡ length below.below =
+    ap length (below_same (length d.clauses) c below e.board.store t.applied.store) in
+    let few = rank_few a in
+    record {
+      shorter = omega (arith, less, same, few);
+      fewer_levels = omega (arith, less, same);
+    }
+
+-- the clause is the same
+pub taken_same : (g : Ground) (d e : Engine) (b c : Literals) (level : ℕ) (a : After) → b ≡ c →
+    IsTakenIn g d e b level a → IsTakenIn g d e c level a
+taken_same g d e b c level a same t =
+    subst (λ (k : Literals). IsTakenIn g d e k level a) same t
+
+-- the analysis before it changed no more than what the table holds
+pub taken_table : (g : Ground) (d f e : Engine) (c : Literals) (level : ℕ) (a : After) →
+    f.board ≡ d.board → f.clauses ≡ d.clauses → length f.running ≡ length d.running →
+    IsTakenIn g f e c level a → IsTakenIn g d e c level a
+taken_table g d f e c level a boards clauses table t =
+    let P : Board → List Literals → Type 0 = λ b cs.
+    IsApplied g e (dropped (level - 1) b.store) (length cs) c a in
+    let Q : Board → List Literals → Type 0 = λ b cs.
+    (e.clauses ≡ cs ++ c ∷ []) × (e.board.watches.added ≡ b.watches.added ++ (length cs, c) ∷ []) in
+    let one : P d.board f.clauses = subst (λ (b : Board). P b f.clauses) boards t.applied in
+    let both : Q f.board f.clauses = (t.engine.clauses_are, t.engine.added_are) in
+    let two : Q d.board f.clauses = subst (λ (b : Board). Q b f.clauses) boards both in
+    let three : Q d.board d.clauses = subst (λ (cs : List Literals). Q d.board cs) clauses two in
+    record {
+      applied = subst (λ (cs : List Literals). P d.board cs) clauses one;
+      engine = record {
+        clauses_are = three.0;
+        added_are = three.1;
+        table = t.engine.table ∙ table;
+      };
     }

@@ -21,7 +21,7 @@ use Rattle.bound_search.specs.declared.engine.Engine.{Engine}
 use Rattle.bound_search.specs.Modes.{mode_of}
 use Rattle.bound_search.specs.Boards.{IsBoard, AreLower}
 use Rattle.bound_search.specs.Standing.{IsRun, IsAt}
-use Rattle.bound_search.specs.Engines.{Shows, Reached, IsKept, total, IsTurn}
+use Rattle.bound_search.specs.Engines.{Shows, Reached, IsApplied, total, IsTurn}
 use Rattle.bound_search.proofs.MoreLines.{run_of, boxes_at}
 use Rattle.bound_search.proofs.Fewer.{fewer_values, reacted_lower, below_same}
 
@@ -59,13 +59,6 @@ known_clause g ls clauses levels added mode i at =
     }
 
 -- ---- what a clause does
-
--- what the board tells of a clause of number n that was applied to the levels before
-pub record IsApplied (g : Ground) (e : Engine) (old : Stack) (n : ℕ) (c : Literals) (a : After) :
-    Type 0 where
-  pub mode : mode_of a ≡ mode_by old.top.now n c
-  pub store : e.board.store ≡ reacted n c old
-  pub board : IsBoard g e.board.store e.board.queue e.board.watches
 
 closed_made : (g : Ground) (ls : List Line) → IsRun g ls → (state_of g ls).mode ≡ Closed →
     has_empty (made g ls).clauses ≡ true

@@ -18,9 +18,9 @@ use Rattle.bound_search.specs.declared.after.After.{After}
 use Rattle.bound_search.specs.declared.engine.Engine.{Engine}
 use Rattle.bound_search.specs.Boards.{AreLower}
 use Rattle.bound_search.specs.Standing.{IsRun, IsReason, IsAt}
-use Rattle.bound_search.specs.Engines.{Shows, Reached, IsKeptBy, IsKept, IsTurn}
+use Rattle.bound_search.specs.Engines.{Shows, Reached, IsKeptBy, IsKept, IsApplied, IsEngineWith, IsTurn}
 use Rattle.bound_search.proofs.MoreLines.{IsUsed, use_at, axiom_at}
-use Rattle.bound_search.proofs.Steps.{valid_at, known_clause, IsApplied, reached_by, turn_by, alike}
+use Rattle.bound_search.proofs.Steps.{valid_at, known_clause, reached_by, turn_by, alike}
 
 -- the record got a line, and nothing else of it has changed
 pub record IsWritten (old new : Journal) (l : Line) : Type 0 where
@@ -67,13 +67,6 @@ kept_both g a b c h k = λ order hints.
       problem = two.problem ∙ one.problem;
       rounds = two.rounds ∙ one.rounds;
     }
-
--- the engine keeps its clauses and its table but for what a step does to them
-pub record IsEngineWith (d e : Engine) (clauses : List Literals) (added : List (ℕ × Literals)) :
-    Type 0 where
-  pub clauses_are : e.clauses ≡ clauses
-  pub added_are : e.board.watches.added ≡ added
-  pub table : length e.running ≡ length d.running
 
 -- a line was written, and its clause, of number n, was applied to the levels s
 pub record IsDone (g : Ground) (old new : Journal) (l : Line) (d e : Engine) (s : Stack) (n : ℕ)

@@ -1,21 +1,22 @@
 -- What each step of a search keeps true. What a reader believes after this file: the engine shows
 -- where the lines of the record have led, and how far each step is from the end of its loop.
-use Rattle.std.specs.Prelude.{◌≡◌, ℕ, ◌+◌, ◌*◌, ◌<◌, ◌≤◌, true, List, [], ◌∷◌, length}
+use Rattle.std.specs.Prelude.{◌≡◌, ℕ, ◌+◌, ◌*◌, ◌-◌, ◌<◌, ◌≤◌, true, List, [], ◌∷◌, ◌++◌, length}
 use Rattle.signed_clause.specs.Ranges.{count_of}
-use Rattle.signed_clause.specs.Clauses.{Boxes}
+use Rattle.signed_clause.specs.Clauses.{Boxes, Literals, IsClause, IsWithinBoxes}
 use Rattle.ground_form.specs.declared.ground.Ground.{Ground}
 use Rattle.branch_choice.specs.declared.split.Order.{Order}
 use Rattle.branch_choice.specs.Picks.{Hints}
+use Rattle.fd_store.specs.Levels.{Stack, reacted, dropped}
 use Rattle.log_form.specs.declared.line.Line.{Line}
 use Rattle.log_form.specs.Acceptance.{has_empty, made}
 use Rattle.proof_log.specs.Rounds.{Journal}
-use Rattle.search_run.specs.Replay.{Mode, Going, Conflict, is_run}
+use Rattle.search_run.specs.Replay.{Mode, Going, Conflict, mode_by, is_run}
 use Rattle.search_run.specs.Ordered.{IsOrdered}
 use Rattle.search_run.specs.Decisions.{decisions}
 use Rattle.bound_search.specs.declared.after.After.{After}
 use Rattle.bound_search.specs.declared.after.After.TheVariants as after
 use Rattle.bound_search.specs.declared.engine.Engine.{Engine}
-use Rattle.bound_search.specs.Modes.{rank}
+use Rattle.bound_search.specs.Modes.{mode_of, rank}
 use Rattle.bound_search.specs.Boards.{IsBoard, AreLower}
 use Rattle.bound_search.specs.Standing.{IsAt}
 
@@ -32,6 +33,38 @@ abbrev pub Reached : Ground → List Line → Engine → After → Type 0
 Reached g ls e after.Going = Shows g ls e Going
 Reached g ls e (after.Conflict n) = Shows g ls e (Conflict n)
 Reached g ls e after.Closed = has_empty (made g ls).clauses ≡ true
+
+-- ---- what a step does to the engine
+
+-- what the board tells of a clause of number n that was applied to the levels before
+pub record IsApplied (g : Ground) (e : Engine) (old : Stack) (n : ℕ) (c : Literals) (a : After) :
+    Type 0 where
+  pub mode : mode_of a ≡ mode_by old.top.now n c
+  pub store : e.board.store ≡ reacted n c old
+  pub board : IsBoard g e.board.store e.board.queue e.board.watches
+
+-- the engine keeps its clauses and its table but for what a step does to them
+pub record IsEngineWith (d e : Engine) (clauses : List Literals) (added : List (ℕ × Literals)) :
+    Type 0 where
+  pub clauses_are : e.clauses ≡ clauses
+  pub added_are : e.board.watches.added ≡ added
+  pub table : length e.running ≡ length d.running
+
+-- the level that a learnt clause drops stands, and in the boxes below it its variables have boxes
+pub record MayTakeIn (g : Ground) (levels : Stack) (c : Literals) (level : ℕ) : Type 0 where
+  pub exists : level ≤ length levels.below
+  pub some : 0 < level
+  pub vars : IsWithinBoxes c levels.top.now
+  pub form : IsClause c
+
+-- the learnt clause was taken in at the level below
+pub record IsTakenIn (g : Ground) (d e : Engine) (c : Literals) (level : ℕ) (a : After) : Type 0
+  where
+    pub applied : IsApplied g e (dropped (level - 1) d.board.store) (length d.clauses) c a
+    pub engine : IsEngineWith d e (d.clauses ++ c ∷ [])
+        (d.board.watches.added ++ (length d.clauses, c) ∷ [])
+
+-- ---- what a step does to the record
 
 -- the lines are a run, also after want of memory; they decide by the order if they did; and nothing
 -- else of the record has changed

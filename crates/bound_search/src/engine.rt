@@ -3,14 +3,16 @@
 //! Each function writes its line as soon as nothing but memory can be wanting, so that the lines are
 //! a run at every time.
 ghost use Rattle.std.specs.Prelude.{◌≡◌, ◌<◌, ◌+◌, ◌*◌, true, length, IfOk, OnOk};
+ghost use Rattle.ground_form.specs.WellMade.{IsWellMade};
 ghost use Rattle.log_form.specs.Acceptance.{clause_at};
 ghost use Rattle.branch_choice.specs.declared.split.Order.{Order};
 ghost use Rattle.branch_choice.specs.Picks.{Hints};
 ghost use Rattle.search_run.specs.Decisions.{decisions};
 ghost use Rattle.search_run.specs.Ordered.{IsDecidedBy};
 ghost use Rattle.search_run.specs.Replay.{Going, Conflict, acts, is_run};
+ghost use Rattle.bound_search.specs.Boards.{IsBoard, AreLower};
 ghost use Rattle.bound_search.specs.Standing.{IsReason, IsFixed, IsDecision};
-ghost use Rattle.bound_search.specs.Engines.{Shows, Reached, IsKeptBy, IsKept, IsTurn, IsFall, DecideAlike};
+ghost use Rattle.bound_search.specs.Engines.{Shows, Reached, IsKeptBy, IsKept, MayTakeIn, IsTakenIn, IsTurn, IsFall, DecideAlike};
 
 use crate::after::After;
 use crate::board::Board;
@@ -91,14 +93,14 @@ pub fn decide(
     e: &mut Engine,
     journal: &mut Record,
     x: u32,
-    half: IntSet,
+    half: &IntSet,
 ) -> Result<(), AllocError>
     requires at { Shows g.now journal.old.lines e.old Going }
     requires fixed { IsFixed g.now e.old.board.store.top.now e.old.board.watches.added }
-    requires decision { IsDecision g.now e.old.board.store.top.now x half }
+    requires decision { IsDecision g.now e.old.board.store.top.now x half.now }
     requires level { length e.old.board.store.below < 4294967295 }
     ensures kept { (order : Order) (hints : Hints)
-        → IsDecidedBy order e.old.board.store.top.now hints g.now.search x half
+        → IsDecidedBy order e.old.board.store.top.now hints g.now.search x half.now
         → IsKeptBy g.now order hints journal.old journal.new }
     ensures at { OnOk result (Shows g.now journal.new.lines e.new Going) }
     ensures below { OnOk result (length e.new.board.store.below
@@ -106,7 +108,7 @@ pub fn decide(
     ensures more { OnOk result (decisions journal.new.lines ≡ decisions journal.old.lines + 1) }
 {
     journal.push(Line::Decide(x, half.copy()?))?;
-    e.board.decide(g, x, &half)?;
+    e.board.decide(g, x, half)?;
     Ok(())
 }
 
@@ -129,7 +131,25 @@ pub fn learn(
     if learnt.level == 0 {
         return Ok(After::Closed);
     }
-    e.board.undo_to(g, learnt.level - 1);
+    let after = take_in(g, e, handle, learnt.level)?;
+    Ok(after)
+}
+
+/// Takes in a learnt clause: its level is dropped, it is applied in the boxes below, and it gets a
+/// number and is watched.
+fn take_in(
+    g: &Ground,
+    e: &mut Engine,
+    handle: ClauseHandle,
+    level: u32,
+) -> Result<After, AllocError>
+    requires well_made { IsWellMade g.now }
+    requires board { IsBoard g.now e.old.board.store e.old.board.queue e.old.board.watches }
+    requires lower { AreLower g.now e.old.board.store.top.now e.old.board.store.below }
+    requires level { MayTakeIn g.now e.old.board.store handle level }
+    ensures { IfOk result (λ a. IsTakenIn g.now e.old e.new handle level a) }
+{
+    e.board.undo_to(g, level - 1);
     let after = e.board.apply(g, e.clauses.count(), handle.clause())?;
     let number = e.clauses.push(handle.copy()?)?;
     e.board.watches.add(number, handle)?;
