@@ -1,4 +1,4 @@
-use Rattle.std.proofs.Common.{◌≡◌, ◌∙◌, ◌<◌, ◌++◌, ◌∷◌, [], ℕ, Some, ⊥, refl, sym, ap, subst, arith, length}
+use Rattle.std.proofs.Common.{◌≡◌, ◌∙◌, ◌<◌, ◌++◌, ◌∷◌, [], ℕ, Some, refl, sym, ap, subst, arith, length}
 use Rattle.signed_clause.specs.Clauses.{Literals, IsClause}
 use Rattle.fd_store.specs.Levels.{Stack}
 use Rattle.numbered_clauses.specs.declared.chain.Chain as chains
