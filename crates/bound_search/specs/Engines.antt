@@ -1,6 +1,6 @@
 -- What each step of a search keeps true. What a reader believes after this file: the engine shows
 -- where the lines of the record have led, and how far each step is from the end of its loop.
-use Rattle.std.specs.Prelude.{◌≡◌, ℕ, ◌+◌, ◌*◌, ◌-◌, ◌<◌, ◌≤◌, true, List, [], ◌∷◌, ◌++◌, length}
+use Rattle.std.specs.Prelude.{◌≡◌, ℕ, ◌+◌, ◌*◌, ◌-◌, ◌<◌, ◌≤◌, true, List, [], ◌∷◌, ◌++◌, Option, Some, None, length}
 use Rattle.signed_clause.specs.Ranges.{count_of}
 use Rattle.signed_clause.specs.Clauses.{Boxes, Literals, IsClause, IsWithinBoxes}
 use Rattle.ground_form.specs.declared.ground.Ground.{Ground}
@@ -18,7 +18,7 @@ use Rattle.bound_search.specs.declared.after.After.TheVariants as after
 use Rattle.bound_search.specs.declared.engine.Engine.{Engine}
 use Rattle.bound_search.specs.Modes.{mode_of, rank}
 use Rattle.bound_search.specs.Boards.{IsBoard, AreLower}
-use Rattle.bound_search.specs.Standing.{IsAt}
+use Rattle.bound_search.specs.Standing.{IsFixed, IsAt}
 
 -- the engine stands where the lines have led
 pub record Shows (g : Ground) (ls : List Line) (e : Engine) (mode : Mode) : Type 0 where
@@ -98,3 +98,15 @@ DecideAlike old new = decisions new ≡ decisions old
 pub record IsFall (old new : Engine) (a : After) : Type 0 where
   pub shorter : 3 * length new.board.store.below + rank a < 3 * length old.board.store.below + 1
   pub fewer_levels : length new.board.store.below ≤ length old.board.store.below
+
+-- ---- loops
+
+-- one line more, or a fixpoint
+abbrev pub TurnOf : Ground → List Line → Engine → Option After → Type 0
+TurnOf g ls e None =
+    Shows g ls e Going × IsFixed g e.board.store.top.now e.board.watches.added
+TurnOf g ls e (Some a) = Reached g ls e a
+
+-- at a fixpoint, where the search goes on
+abbrev pub FixedIf : Ground → Engine → After → Type 0
+FixedIf g e a = a ≡ after.Going → IsFixed g e.board.store.top.now e.board.watches.added
