@@ -6,3 +6,5 @@ pub mod Fewer
 pub mod Steps
 pub mod UseAxiom
 pub mod Learning
+pub mod Turning
+pub mod BoundLaws

@@ -2,3 +2,4 @@ pub mod Modes
 pub mod Boards
 pub mod Standing
 pub mod Engines
+pub mod BoundLists

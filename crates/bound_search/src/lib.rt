@@ -1,6 +1,8 @@
 //! Branch and bound, the record of which is a run.
 //!
 //! - `engine`: what goes with the lines, and one function for each kind of line.
+//! - `lines`: lines up to the next fixpoint.
+//! - `bounding`: the lines behind a solution.
 //! - `board`: the boxes of a search, and what is still to be looked at in them.
 //! - `recent`: the clauses that each constraint made last.
 //! - `after`: what a search has come to behind a line.
@@ -8,7 +10,9 @@
 
 mod after;
 mod board;
+mod bounding;
 mod engine;
+mod lines;
 mod recent;
 
 pub use after::After;
