@@ -15,6 +15,8 @@ use Rattle.ground_form.specs.Bounds.{singles}
 use Rattle.ground_form.specs.Meaning.{value_of}
 use Rattle.ground_form.specs.Solutions.{IsSolution, better}
 use Rattle.ground_form.specs.WellMade.{IsWellMade}
+use Rattle.fixpoint_law.specs.Singles.{IsSingle}
+use Rattle.branch_choice.specs.Picks.{is_single}
 use Rattle.fd_store.specs.Levels.{Stack}
 use Rattle.log_form.specs.declared.line.Line.{Line}
 use Rattle.log_form.specs.declared.line.Line.TheVariants.{Bound, Found}
@@ -287,3 +289,11 @@ pub bounds_there : (boxes : Boxes) (cs ds : List Literals) →
     ((j : ℕ) → IsWithinBoxes (clause_at (cs ++ ds) j) boxes) →
     All (λ c. IsWithinBoxes c boxes) ds
 bounds_there boxes cs ds h = tail_all (λ c. IsWithinBoxes c boxes) cs ds h
+
+-- a set that is a single value
+pub single_is : (s : Ranges) → is_single s ≡ true → IsSingle s
+single_is [] h = absurd cc
+single_is (r ∷ []) h =
+    let same : r.0 ≡ r.1 = (Decides-int_eq r.0 r.1).0 h in
+    (r.0, ap (λ (v : ℤ). (r.0, v) ∷ []) (sym same))
+single_is (r ∷ s ∷ rs) h = absurd cc

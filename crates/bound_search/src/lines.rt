@@ -83,7 +83,8 @@ pub fn propagate(
         match turn(g, kit, e, journal)? {
             None => return Ok(After::Going),
             Some(After::Going) => {}
-            Some(after) => return Ok(after),
+            Some(After::Conflict(n)) => return Ok(After::Conflict(n)),
+            Some(After::Closed) => return Ok(After::Closed),
         }
     }
 }

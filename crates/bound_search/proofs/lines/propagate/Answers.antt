@@ -1,0 +1,18 @@
+use Rattle.std.proofs.Common.{◌≡◌, ◌∙◌, length, Option, Some, ap, subst, sym}
+use Rattle.bound_search.specs.declared.after.After.{After}
+use Rattle.bound_search.specs.Engines.{TurnOf}
+use Rattle.bound_search.proofs.UseAxiom.{kept_both}
+use Rattle.bound_search.proofs.lines.propagate.Goals as goal
+
+pub returns-in_err-turn-clause-kept : goal.returns-in_err-turn-clause-kept
+returns-in_err-turn-clause-kept g c =
+    kept_both c.args.g.now c.args.journal.now c.lines.journal c.turn.new.journal
+    c.lines.invariant.kept c.turn.ensures.kept
+
+pub returns-in-None-clause-kept : goal.returns-in-None-clause-kept
+returns-in-None-clause-kept g c =
+    kept_both c.args.g.now c.args.journal.now c.lines.journal c.turn.new.journal
+    c.lines.invariant.kept c.turn.ensures.kept
+
+pub lines-preserved : goal.lines-preserved
+lines-preserved g c = ?
