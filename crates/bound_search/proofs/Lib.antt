@@ -8,3 +8,4 @@ pub mod UseAxiom
 pub mod Learning
 pub mod Turning
 pub mod BoundLaws
+pub mod Finishing

@@ -76,7 +76,7 @@ shows_by g ls e old n c mode a at p lower f valid table = record {
   table = table;
 }
 
-by_after : (g : Ground) (ls : List Line) (e : Engine) (mode : Mode) (a : After) →
+pub by_after : (g : Ground) (ls : List Line) (e : Engine) (mode : Mode) (a : After) →
     mode_of a ≡ mode → IsRun g ls → (state_of g ls).mode ≡ mode → Shows g ls e mode →
     Reached g ls e a
 by_after g ls e mode after.Going h r k s = subst (Shows g ls e) (sym h) s

@@ -10,12 +10,13 @@ use Rattle.fd_store.specs.Levels.{Stack, reacted, dropped}
 use Rattle.log_form.specs.declared.line.Line.{Line}
 use Rattle.log_form.specs.Acceptance.{has_empty, made}
 use Rattle.proof_log.specs.Rounds.{Journal}
-use Rattle.search_run.specs.Replay.{Mode, Going, Conflict, mode_by, is_run}
+use Rattle.search_run.specs.Replay.{Mode, Going, Conflict, mode_by, mode_by_bounds, is_run}
 use Rattle.search_run.specs.Ordered.{IsOrdered}
 use Rattle.search_run.specs.Decisions.{decisions}
 use Rattle.bound_search.specs.declared.after.After.{After}
 use Rattle.bound_search.specs.declared.after.After.TheVariants as after
 use Rattle.bound_search.specs.declared.engine.Engine.{Engine}
+use Rattle.bound_search.specs.BoundLists.{numbered_from}
 use Rattle.bound_search.specs.Modes.{mode_of, rank}
 use Rattle.bound_search.specs.Boards.{IsBoard, AreLower}
 use Rattle.bound_search.specs.Standing.{IsFixed, IsAt}
@@ -110,3 +111,17 @@ TurnOf g ls e (Some a) = Reached g ls e a
 -- at a fixpoint, where the search goes on
 abbrev pub FixedIf : Ground → Engine → After → Type 0
 FixedIf g e a = a ≡ after.Going → IsFixed g e.board.store.top.now e.board.watches.added
+
+-- ---- bounds
+
+-- the clauses of a Bound line got numbers and are watched, and nothing else of the engine has
+-- changed
+pub record IsBounded (old new : Engine) (cs : List Literals) (a : After) : Type 0 where
+  pub clauses_are : new.clauses ≡ old.clauses ++ cs
+  pub added_are : new.board.watches.added
+      ≡ old.board.watches.added ++ numbered_from (length old.clauses) cs
+  pub store : new.board.store ≡ old.board.store
+  pub table : length new.running ≡ length old.running
+  pub board : (g : Ground) → IsBoard g old.board.store old.board.queue old.board.watches
+      → IsBoard g new.board.store new.board.queue new.board.watches
+  pub mode : mode_of a ≡ mode_by_bounds old.board.store.top.now (length old.clauses) cs

@@ -18,7 +18,7 @@ ghost use Rattle.bound_search.specs.BoundLists.{numbered_from, first_or, values_
 ghost use Rattle.bound_search.specs.Boards.{IsBoard};
 ghost use Rattle.bound_search.specs.Modes.{rank};
 ghost use Rattle.bound_search.specs.Standing.{IsFixed};
-ghost use Rattle.bound_search.specs.Engines.{Shows, Reached, IsKept, DecideAlike};
+ghost use Rattle.bound_search.specs.Engines.{Shows, Reached, IsKept, DecideAlike, IsBounded};
 
 use crate::after::After;
 use crate::engine::Engine;
@@ -164,4 +164,48 @@ fn take_bounds(
         first = take_bound(clauses, watches, boxes, c, first)?;
     }
     Ok(first)
+}
+
+/// Takes in the clauses of a Bound line: an empty one closes the search, else the first that is
+/// false is the conflict.
+fn take_all(e: &mut Engine, list: &[ClauseHandle]) -> Result<After, AllocError>
+    requires vars { All (λ c. IsWithinBoxes c e.old.board.store.top.now) list.now }
+    requires variables { e.old.board.watches.variables ≡ length e.old.board.store.top.now }
+    ensures bound { IfOk result (λ a. IsBounded e.old e.new list.now a) }
+{
+    let first = take_bounds(
+        &mut e.clauses,
+        &mut e.board.watches,
+        e.board.store.boxes(),
+        list,
+    )?;
+    if has_empty(list) {
+        return Ok(After::Closed);
+    }
+    match first {
+        Some(n) => Ok(After::Conflict(n)),
+        None => Ok(After::Going),
+    }
+}
+
+/// Writes the solution that the boxes are, and asks for a better one.
+pub fn finish(g: &Ground, e: &mut Engine, journal: &mut Record) -> Result<After, AllocError>
+    requires at { Shows g.now journal.old.lines e.old Going }
+    requires fixed { IsFixed g.now e.old.board.store.top.now e.old.board.watches.added }
+    requires single { AreAllSingle e.old.board.store.top.now g.now.search }
+    ensures kept { IsKept g.now journal.old journal.new }
+    ensures at { IfOk result (λ a. Reached g.now journal.new.lines e.new a) }
+    ensures stops { IfOk result (λ a. rank a ≤ 1) }
+    ensures below { OnOk result (length e.new.board.store.below
+        ≡ length e.old.board.store.below) }
+    ensures alike { OnOk result (DecideAlike journal.old.lines journal.new.lines) }
+{
+    let values = solution(e.alloc, g, e.board.store.boxes())?;
+    let goals = g.goals.items();
+    let bounds = bounds_of(e.alloc, g.domains.items(), goals, values.as_slice())?;
+    let stated = goal_values(e.alloc, goals, values.as_slice())?;
+    journal.push(Line::Found(Values::of(values)))?;
+    journal.push(Line::Bound(Values::of(stated)))?;
+    let after = take_all(e, bounds.as_slice())?;
+    Ok(after)
 }

@@ -14,5 +14,22 @@ returns-in-None-clause-kept g c =
     kept_both c.args.g.now c.args.journal.now c.lines.journal c.turn.new.journal
     c.lines.invariant.kept c.turn.ensures.kept
 
+pub returns-in-Some-Conflict-clause-kept : goal.returns-in-Some-Conflict-clause-kept
+returns-in-Some-Conflict-clause-kept g c =
+    kept_both c.args.g.now c.args.journal.now c.lines.journal c.turn.new.journal
+    c.lines.invariant.kept c.turn.ensures.kept
+
+pub returns-in-Some-Closed-clause-kept : goal.returns-in-Some-Closed-clause-kept
+returns-in-Some-Closed-clause-kept g c =
+    kept_both c.args.g.now c.args.journal.now c.lines.journal c.turn.new.journal
+    c.lines.invariant.kept c.turn.ensures.kept
+
 pub lines-preserved : goal.lines-preserved
-lines-preserved g c = ?
+lines-preserved g c = record {
+  at = subst (λ (o : Option After). TurnOf c.args.g.now c.turn.new.journal.lines c.turn.new.e o)
+      (c.in-Some-Going.is ∙ ap Some c.in-Some-Going.field-0-is) c.in_ok-turn.ensures.at;
+  kept = kept_both c.args.g.now c.args.journal.now c.lines.journal c.turn.new.journal
+      c.lines.invariant.kept c.turn.ensures.kept;
+  below = c.in_ok-turn.ensures.below ∙ c.lines.invariant.below;
+  alike = c.in_ok-turn.ensures.alike ∙ c.lines.invariant.alike;
+}
