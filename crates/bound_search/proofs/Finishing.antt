@@ -14,6 +14,7 @@ use Rattle.log_form.specs.Acceptance.{clause_at, states, bounds_of, made}
 use Rattle.proof_log.specs.Rounds.{Journal}
 use Rattle.search_run.specs.Replay.{Mode, Going, mode_by_bounds, is_run, state_of}
 use Rattle.search_run.specs.Decisions.{decisions}
+use Rattle.search_run.specs.Ordered.{IsOrdered}
 use Rattle.bound_search.specs.declared.after.After.{After}
 use Rattle.bound_search.specs.declared.after.After.TheVariants as after
 use Rattle.bound_search.specs.declared.engine.Engine.{Engine}
@@ -65,6 +66,18 @@ pub found_kept : (g : Ground) (old mid : Journal) (d : Engine) (a : List ℤ) �
     Shows g old.lines d Going → IsFoundHere g d a → IsWritten old mid (Found a) → IsKept g old mid
 found_kept g old mid d a s f w =
     kept_by g old mid (Found a) w (λ g order hints s. tt) (found_runs g old d a s f)
+
+-- a record that a failed push left as it was
+pub kept_after : (g : Ground) (old mid new : Journal) → IsKept g old mid →
+    new.lines ≡ mid.lines → new.ground ≡ mid.ground → new.rounds ≡ mid.rounds → IsKept g old new
+kept_after g old mid new h l p q = λ order hints.
+    let k = h order hints in
+    record {
+      run = subst (λ (ls : List Line). is_run g ls ≡ true) (sym l) k.run;
+      ordered = λ o. subst (IsOrdered g order hints) (sym l) (k.ordered o);
+      problem = p ∙ k.problem;
+      rounds = q ∙ k.rounds;
+    }
 
 pub both_kept : (g : Ground) (old mid new : Journal) (d : Engine) (a : List ℤ) →
     Shows g old.lines d Going → IsFoundHere g d a → AreWritten g old mid new a → IsKept g old new

@@ -5,7 +5,8 @@ use Rattle.signed_clause.specs.Ranges.{count_of}
 use Rattle.signed_clause.specs.Clauses.{Boxes, Literals, IsClause, IsWithinBoxes}
 use Rattle.ground_form.specs.declared.ground.Ground.{Ground}
 use Rattle.branch_choice.specs.declared.split.Order.{Order}
-use Rattle.branch_choice.specs.Picks.{Hints}
+use Rattle.branch_choice.specs.declared.split.Split.{Split}
+use Rattle.branch_choice.specs.Picks.{Hints, IsPick}
 use Rattle.fd_store.specs.Levels.{Stack, reacted, dropped}
 use Rattle.log_form.specs.declared.line.Line.{Line}
 use Rattle.log_form.specs.Acceptance.{has_empty, made}
@@ -16,6 +17,8 @@ use Rattle.search_run.specs.Decisions.{decisions}
 use Rattle.bound_search.specs.declared.after.After.{After}
 use Rattle.bound_search.specs.declared.after.After.TheVariants as after
 use Rattle.bound_search.specs.declared.engine.Engine.{Engine}
+use Rattle.bound_search.specs.declared.settling.Step.{Step}
+use Rattle.bound_search.specs.declared.settling.Step.TheVariants as step
 use Rattle.bound_search.specs.BoundLists.{numbered_from}
 use Rattle.bound_search.specs.Modes.{mode_of, rank}
 use Rattle.bound_search.specs.Boards.{IsBoard, AreLower}
@@ -125,3 +128,22 @@ pub record IsBounded (old new : Engine) (cs : List Literals) (a : After) : Type 
   pub board : (g : Ground) → IsBoard g old.board.store old.board.queue old.board.watches
       → IsBoard g new.board.store new.board.queue new.board.watches
   pub mode : mode_of a ≡ mode_by_bounds old.board.store.top.now (length old.clauses) cs
+
+-- ---- decisions that are due
+
+-- nothing is left to say, and the chooser's order picks the split
+pub record IsDue (g : Ground) (ls : List Line) (order : Order) (hints : Hints) (e : Engine)
+    (s : Split) : Type 0 where
+  pub at : Shows g ls e Going
+  pub fixed : IsFixed g e.board.store.top.now e.board.watches.added
+  pub picked : IsPick order e.board.store.top.now hints g.search (Some s)
+
+-- a decision is due, or something else has come
+abbrev pub StepOf : Ground → List Line → Order → Hints → Engine → Step → Type 0
+StepOf g ls order hints e (step.Split s) = IsDue g ls order hints e s
+StepOf g ls order hints e (step.Then a) = Reached g ls e a × (rank a ≤ 1)
+
+-- a decision is due, or the search is closed
+abbrev pub SettledOf : Ground → List Line → Order → Hints → Engine → Option Split → Type 0
+SettledOf g ls order hints e None = has_empty (made g ls).clauses ≡ true
+SettledOf g ls order hints e (Some s) = IsDue g ls order hints e s

@@ -1,6 +1,7 @@
 //! Branch and bound, the record of which is a run.
 //!
 //! - `engine`: what goes with the lines, and one function for each kind of line.
+//! - `settling`: on to the next decision.
 //! - `lines`: lines up to the next fixpoint.
 //! - `bounding`: the lines behind a solution.
 //! - `board`: the boxes of a search, and what is still to be looked at in them.
@@ -14,5 +15,6 @@ mod bounding;
 mod engine;
 mod lines;
 mod recent;
+mod settling;
 
 pub use after::After;
