@@ -9,3 +9,4 @@ pub mod Learning
 pub mod Turning
 pub mod BoundLaws
 pub mod Finishing
+pub mod Splits

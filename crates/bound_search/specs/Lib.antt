@@ -3,3 +3,4 @@ pub mod Boards
 pub mod Standing
 pub mod Engines
 pub mod BoundLists
+pub mod Ends

@@ -1,6 +1,7 @@
 //! Branch and bound, the record of which is a run.
 //!
 //! - `engine`: what goes with the lines, and one function for each kind of line.
+//! - `search`: from the beginning to the end.
 //! - `settling`: on to the next decision.
 //! - `lines`: lines up to the next fixpoint.
 //! - `bounding`: the lines behind a solution.
@@ -15,6 +16,7 @@ mod bounding;
 mod engine;
 mod lines;
 mod recent;
+mod search;
 mod settling;
 
-pub use after::After;
+pub use search::{Ended, Limits};
