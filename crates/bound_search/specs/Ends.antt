@@ -5,8 +5,8 @@ use Rattle.ground_form.specs.declared.ground.Ground.{Ground}
 use Rattle.log_form.specs.declared.line.Line.{Line}
 use Rattle.log_form.specs.Acceptance.{has_empty, made}
 use Rattle.search_run.specs.Decisions.{decisions, MayDecide}
-use Rattle.bound_search.specs.declared.search.Ended.{Ended}
-use Rattle.bound_search.specs.declared.search.Ended.TheVariants as ended
+use Rattle.bound_search.specs.declared.solving.Ended.{Ended}
+use Rattle.bound_search.specs.declared.solving.Ended.TheVariants as ended
 
 -- closed: the empty clause was made; spent: all decisions were taken, and a further one may stand
 abbrev pub EndsOf : Ground → ℕ → List Line → Ended → Type 0

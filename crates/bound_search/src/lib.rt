@@ -1,7 +1,7 @@
 //! Branch and bound, the record of which is a run.
 //!
 //! - `engine`: what goes with the lines, and one function for each kind of line.
-//! - `search`: from the beginning to the end.
+//! - `solving`: from the beginning to the end.
 //! - `settling`: on to the next decision.
 //! - `lines`: lines up to the next fixpoint.
 //! - `bounding`: the lines behind a solution.
@@ -16,7 +16,7 @@ mod bounding;
 mod engine;
 mod lines;
 mod recent;
-mod search;
 mod settling;
+mod solving;
 
-pub use search::{Ended, Limits};
+pub use solving::{Ended, Limits, search};

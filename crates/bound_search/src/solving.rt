@@ -1,5 +1,5 @@
 //! The search from its beginning to its end.
-ghost use Rattle.std.specs.Prelude.{◌≡◌, ◌≤◌, ◌<◌, ◌+◌, [], true, false, length, IfOk, OnOk, IfSome, IfNone};
+ghost use Rattle.std.specs.Prelude.{◌≡◌, ◌≤◌, ◌<◌, ◌+◌, [], ℕ, true, false, length, IfOk, OnOk, IfSome, IfNone};
 ghost use Rattle.std.specs.List.{All};
 ghost use Rattle.signed_clause.specs.Ranges.{is_nil, IsValid};
 ghost use Rattle.signed_clause.specs.SetAlgebra.{meet};
@@ -11,7 +11,6 @@ ghost use Rattle.log_form.specs.Acceptance.{has_empty, made};
 ghost use Rattle.search_run.specs.Replay.{Going, is_run};
 ghost use Rattle.search_run.specs.Ordered.{IsOrdered};
 ghost use Rattle.search_run.specs.Decisions.{decisions, MayDecide};
-ghost use Rattle.bound_search.specs.Standing.{IsRun};
 ghost use Rattle.bound_search.specs.Engines.{Shows, IsKeptBy, IsDue};
 ghost use Rattle.bound_search.specs.Ends.{EndsOf};
 
@@ -91,10 +90,18 @@ fn decide_split(
         ≡ length e.old.board.store.below + 1) }
     ensures more { OnOk result (decisions journal.new.lines ≡ decisions journal.old.lines + 1) }
 {
-    let x = split.var;
-    let half = half_of(e.alloc, split).meet(&e.board.store.boxes()[x as usize])?;
-    decide(g, e, journal, x, &half)?;
-    Ok(())
+    let half = taken_half(e.alloc, split, e.board.store.boxes())?;
+    decide(g, e, journal, split.var, &half)
+}
+
+/// What the split takes of its variable's box.
+fn taken_half(alloc: Global, split: Split, boxes: &[IntSet]) -> Result<IntSet, AllocError>
+    requires { split.var < length boxes.now }
+    ensures half { IfOk result (λ s. s ≡ meet (half_of split) (box_of boxes.now split.var)) }
+    ensures valid { IsValid (half_of split) }
+{
+    let half = half_of(alloc, split).meet(&boxes[split.var as usize])?;
+    Ok(half)
 }
 
 /// The first empty domain.
@@ -111,6 +118,19 @@ fn first_empty(domains: &[IntSet]) -> Option<u32>
         }
     }
     None
+}
+
+/// Writes that a domain is empty, so that there is no solution.
+fn no_point(g: &Ground, journal: &mut Record, x: u32) -> Result<Ended, AllocError>
+    requires lines { journal.old.lines ≡ [] }
+    requires var { x < length g.now.domains }
+    requires none { is_nil (box_of g.now.domains x) ≡ true }
+    ensures kept { (order : Order) (hints : Hints)
+        → IsKeptBy g.now order hints journal.old journal.new }
+    ensures ends { IfOk result (λ r. (budget : ℕ) → EndsOf g.now budget journal.new.lines r) }
+{
+    journal.push(Line::Empty(x))?;
+    Ok(Ended::Closed)
 }
 
 /// The search where no domain is empty.
@@ -141,6 +161,47 @@ fn run(
                 decide_split(g, chooser, hints, &mut e, journal, split)?;
                 left -= 1;
             }
+        }
+    }
+}
+
+/// Searches for a best solution by branch and bound. The record's lines are a run: at each of them
+/// the search was forced to what it wrote, or decided at a fixpoint by the chooser's order, and
+/// whoever has the problem and the lines can check what they show.
+///
+/// It writes into the present round of the record, which has no lines yet, and takes at most
+/// `limits.budget` decisions. `hints` has a value, or none, for each searched variable.
+///
+/// # Errors
+/// Want of memory; the lines so far are a run.
+pub fn search(
+    limits: Limits,
+    g: &Ground,
+    kit: &mut Kit,
+    chooser: &Chooser,
+    hints: &[Option<i64>],
+    journal: &mut Record,
+) -> Result<Ended, AllocError>
+    requires well_made { IsWellMade g.now }
+    requires lines { journal.old.lines ≡ [] }
+    requires hints { g.now.search ≤ length hints.now }
+    ensures run { is_run g.now journal.new.lines ≡ true }
+    ensures ordered { IsOrdered g.now chooser.now.order hints.now journal.new.lines }
+    ensures closed { IfOk result (λ r. r ≡ Ended.Closed
+        → has_empty (made g.now journal.new.lines).clauses ≡ true) }
+    ensures spent { IfOk result (λ r. r ≡ Ended.Spent
+        → (decisions journal.new.lines ≡ limits.budget) × MayDecide g.now journal.new.lines) }
+    ensures problem { journal.new.ground ≡ journal.old.ground }
+    ensures rounds { journal.new.rounds ≡ journal.old.rounds }
+{
+    match first_empty(g.domains.items()) {
+        Some(x) => {
+            let ended = no_point(g, journal, x)?;
+            Ok(ended)
+        }
+        None => {
+            let ended = run(limits, g, kit, chooser, hints, journal)?;
+            Ok(ended)
         }
     }
 }
