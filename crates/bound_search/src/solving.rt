@@ -54,6 +54,13 @@ fn half_of(alloc: Global, split: Split) -> IntSet
     IntSet::range(alloc, low, split.value)
 }
 
+/// What the part's type keeps. It takes no memory.
+fn know_half(alloc: Global, split: Split)
+    ensures { IsValid (half_of split) }
+{
+    half_of(alloc, split);
+}
+
 /// The engine before the first line.
 fn start(alloc: Global, g: &Ground) -> Result<Engine, AllocError>
     requires well_made { IsWellMade g.now }
@@ -155,6 +162,7 @@ fn run(
         match settle(g, kit, chooser, hints, &mut e, journal)? {
             None => return Ok(Ended::Closed),
             Some(split) => {
+                know_half(limits.alloc, split);
                 if left == 0 {
                     return Ok(Ended::Spent);
                 }

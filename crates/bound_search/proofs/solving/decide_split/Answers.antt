@@ -1,4 +1,4 @@
-use Rattle.std.proofs.Common.{◌≡◌, ◌∙◌, sym, ap, subst, List, ℤ}
+use Rattle.std.proofs.Common.{◌≡◌, ◌∙◌, refl, sym, ap, subst, List, ℤ, ◌<◌, length, arith}
 use Rattle.signed_clause.specs.Ranges.{Ranges}
 use Rattle.signed_clause.specs.SetAlgebra.{meet}
 use Rattle.signed_clause.specs.Clauses.{Boxes, box_of}
@@ -29,3 +29,12 @@ returns-clause-kept g c =
     c.decide.ensures.kept order hints
     (subst (IsDecidedBy order boxes hints c.args.g.now.search s.var) (sym is)
     (due_order c.args.g.now order boxes hints s c.requires.due.picked))
+
+pub taken_half-requires : goal.taken_half-requires
+taken_half-requires g c =
+    let split = c.requires.due.picked.split c.args.split refl in
+    let searched = split.undecided.searched in
+    let few = c.requires.due.at.at.lines.well_made.search in
+    let size = c.requires.due.at.board.size in
+    let same = ap (λ (b : Boxes). length b) c.boxes.ensures.boxes in
+    omega (arith, searched, few, size, same)
