@@ -87,11 +87,7 @@ fn push_value(out: &mut Vec<i64>, values: &[i64], x: u32) -> Result<(), AllocErr
 }
 
 /// The goals' values.
-fn goal_values(
-    alloc: Global,
-    goals: &[GroundGoal],
-    values: &[i64],
-) -> Result<Vec<i64>, AllocError>
+fn goal_values(alloc: Global, goals: &[GroundGoal], values: &[i64]) -> Result<Vec<i64>, AllocError>
     requires { All (λ goal. goal.var < length values.now) goals.now }
     ensures { IfOk result (λ v. v.items ≡ values_of values.now goals.now) }
 {

@@ -113,12 +113,7 @@ pub fn decide(
 }
 
 /// Explains a conflict: levels are dropped, and the learnt clause is used and watched from now on.
-pub fn learn(
-    g: &Ground,
-    e: &mut Engine,
-    journal: &mut Record,
-    n: u64,
-) -> Result<After, AllocError>
+pub fn learn(g: &Ground, e: &mut Engine, journal: &mut Record, n: u64) -> Result<After, AllocError>
     requires at { Shows g.now journal.old.lines e.old (Conflict n) }
     ensures kept { IsKept g.now journal.old journal.new }
     ensures at { IfOk result (λ a. Reached g.now journal.new.lines e.new a) }

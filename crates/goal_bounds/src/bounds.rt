@@ -147,11 +147,7 @@ pub fn bounds_of(
 }
 
 /// Adds a clause, with a first owner.
-fn push_own(
-    alloc: Global,
-    out: &mut Vec<ClauseHandle>,
-    clause: Clause,
-) -> Result<(), AllocError>
+fn push_own(alloc: Global, out: &mut Vec<ClauseHandle>, clause: Clause) -> Result<(), AllocError>
     ensures { OnOk result (out.new.items ≡ out.old.items ++ clause ∷ []) }
 {
     match ClauseHandle::of(alloc, clause) {

@@ -50,10 +50,10 @@ take_all-requires-clause-vars c =
       solves = c.in_ok-values.ensures.solves;
     } in
     let bounds = c.in_ok-bounds.ensures
-        ∙ ap (λ (v : List ℤ). bounds_of c.items-goals.result.now c.items.result.now v)
-        c.as_slice.ensures.value
-        ∙ ap (λ (b : Boxes). bounds_of c.items-goals.result.now b a) c.items.ensures
-        ∙ ap (λ (q : List GroundGoal). bounds_of q g.domains a) c.items-goals.ensures in
+    ∙ ap (λ (v : List ℤ). bounds_of c.items-goals.result.now c.items.result.now v)
+    c.as_slice.ensures.value
+    ∙ ap (λ (b : Boxes). bounds_of c.items-goals.result.now b a) c.items.ensures
+    ∙ ap (λ (q : List GroundGoal). bounds_of q g.domains a) c.items-goals.ensures in
     let list = c.as_slice-3.ensures.value ∙ bounds in
     subst (λ (cs : List Literals). All (λ c. IsWithinBoxes c d.board.store.top.now) cs) (sym list)
     (vars_there g c.args.journal.now d a c.requires.at here)
@@ -75,8 +75,8 @@ returns-in_err-after-clause-kept c =
       rounds = c.in_ok-push.ensures.rounds;
     } in
     let stated = c.of-2.ensures ∙ c.in_ok-stated.ensures
-        ∙ ap (λ (v : List ℤ). values_of v c.items-goals.result.now) c.as_slice-2.ensures.value
-        ∙ ap (values_of a) c.items-goals.ensures in
+    ∙ ap (λ (v : List ℤ). values_of v c.items-goals.result.now) c.as_slice-2.ensures.value
+    ∙ ap (values_of a) c.items-goals.ensures in
     let written : AreWritten g c.args.journal.now c.push.new.self c.push-2.new.self a = record {
       found = found;
       bound = record {
@@ -105,8 +105,8 @@ returns-clause-kept c =
       rounds = c.in_ok-push.ensures.rounds;
     } in
     let stated = c.of-2.ensures ∙ c.in_ok-stated.ensures
-        ∙ ap (λ (v : List ℤ). values_of v c.items-goals.result.now) c.as_slice-2.ensures.value
-        ∙ ap (values_of a) c.items-goals.ensures in
+    ∙ ap (λ (v : List ℤ). values_of v c.items-goals.result.now) c.as_slice-2.ensures.value
+    ∙ ap (values_of a) c.items-goals.ensures in
     let written : AreWritten g c.args.journal.now c.push.new.self c.push-2.new.self a = record {
       found = found;
       bound = record {
@@ -135,8 +135,8 @@ returns-clause-at c =
       rounds = c.in_ok-push.ensures.rounds;
     } in
     let stated = c.of-2.ensures ∙ c.in_ok-stated.ensures
-        ∙ ap (λ (v : List ℤ). values_of v c.items-goals.result.now) c.as_slice-2.ensures.value
-        ∙ ap (values_of a) c.items-goals.ensures in
+    ∙ ap (λ (v : List ℤ). values_of v c.items-goals.result.now) c.as_slice-2.ensures.value
+    ∙ ap (values_of a) c.items-goals.ensures in
     let written : AreWritten g c.args.journal.now c.push.new.self c.push-2.new.self a = record {
       found = found;
       bound = record {
@@ -147,13 +147,13 @@ returns-clause-at c =
       };
     } in
     let bounds = c.in_ok-bounds.ensures
-        ∙ ap (λ (v : List ℤ). bounds_of c.items-goals.result.now c.items.result.now v)
-        c.as_slice.ensures.value
-        ∙ ap (λ (b : Boxes). bounds_of c.items-goals.result.now b a) c.items.ensures
-        ∙ ap (λ (q : List GroundGoal). bounds_of q g.domains a) c.items-goals.ensures in
+    ∙ ap (λ (v : List ℤ). bounds_of c.items-goals.result.now c.items.result.now v)
+    c.as_slice.ensures.value
+    ∙ ap (λ (b : Boxes). bounds_of c.items-goals.result.now b a) c.items.ensures
+    ∙ ap (λ (q : List GroundGoal). bounds_of q g.domains a) c.items-goals.ensures in
     let list = c.as_slice-3.ensures.value ∙ bounds in
     let bounded = subst (λ (cs : List Literals). IsBounded d c.take_all.new.e cs c.in_ok-after.after)
-        list c.in_ok-after.ensures.bound in
+    list c.in_ok-after.ensures.bound in
     (finish_step g c.args.journal.now c.push.new.self c.push-2.new.self d c.take_all.new.e a
     c.in_ok-after.after c.requires.at here written bounded).at
 
@@ -174,8 +174,8 @@ returns-clause-stops c =
       rounds = c.in_ok-push.ensures.rounds;
     } in
     let stated = c.of-2.ensures ∙ c.in_ok-stated.ensures
-        ∙ ap (λ (v : List ℤ). values_of v c.items-goals.result.now) c.as_slice-2.ensures.value
-        ∙ ap (values_of a) c.items-goals.ensures in
+    ∙ ap (λ (v : List ℤ). values_of v c.items-goals.result.now) c.as_slice-2.ensures.value
+    ∙ ap (values_of a) c.items-goals.ensures in
     let written : AreWritten g c.args.journal.now c.push.new.self c.push-2.new.self a = record {
       found = found;
       bound = record {
@@ -186,13 +186,13 @@ returns-clause-stops c =
       };
     } in
     let bounds = c.in_ok-bounds.ensures
-        ∙ ap (λ (v : List ℤ). bounds_of c.items-goals.result.now c.items.result.now v)
-        c.as_slice.ensures.value
-        ∙ ap (λ (b : Boxes). bounds_of c.items-goals.result.now b a) c.items.ensures
-        ∙ ap (λ (q : List GroundGoal). bounds_of q g.domains a) c.items-goals.ensures in
+    ∙ ap (λ (v : List ℤ). bounds_of c.items-goals.result.now c.items.result.now v)
+    c.as_slice.ensures.value
+    ∙ ap (λ (b : Boxes). bounds_of c.items-goals.result.now b a) c.items.ensures
+    ∙ ap (λ (q : List GroundGoal). bounds_of q g.domains a) c.items-goals.ensures in
     let list = c.as_slice-3.ensures.value ∙ bounds in
     let bounded = subst (λ (cs : List Literals). IsBounded d c.take_all.new.e cs c.in_ok-after.after)
-        list c.in_ok-after.ensures.bound in
+    list c.in_ok-after.ensures.bound in
     (finish_step g c.args.journal.now c.push.new.self c.push-2.new.self d c.take_all.new.e a
     c.in_ok-after.after c.requires.at here written bounded).stops
 
@@ -213,8 +213,8 @@ returns-clause-alike c =
       rounds = c.in_ok-push.ensures.rounds;
     } in
     let stated = c.of-2.ensures ∙ c.in_ok-stated.ensures
-        ∙ ap (λ (v : List ℤ). values_of v c.items-goals.result.now) c.as_slice-2.ensures.value
-        ∙ ap (values_of a) c.items-goals.ensures in
+    ∙ ap (λ (v : List ℤ). values_of v c.items-goals.result.now) c.as_slice-2.ensures.value
+    ∙ ap (values_of a) c.items-goals.ensures in
     let written : AreWritten g c.args.journal.now c.push.new.self c.push-2.new.self a = record {
       found = found;
       bound = record {
@@ -225,12 +225,12 @@ returns-clause-alike c =
       };
     } in
     let bounds = c.in_ok-bounds.ensures
-        ∙ ap (λ (v : List ℤ). bounds_of c.items-goals.result.now c.items.result.now v)
-        c.as_slice.ensures.value
-        ∙ ap (λ (b : Boxes). bounds_of c.items-goals.result.now b a) c.items.ensures
-        ∙ ap (λ (q : List GroundGoal). bounds_of q g.domains a) c.items-goals.ensures in
+    ∙ ap (λ (v : List ℤ). bounds_of c.items-goals.result.now c.items.result.now v)
+    c.as_slice.ensures.value
+    ∙ ap (λ (b : Boxes). bounds_of c.items-goals.result.now b a) c.items.ensures
+    ∙ ap (λ (q : List GroundGoal). bounds_of q g.domains a) c.items-goals.ensures in
     let list = c.as_slice-3.ensures.value ∙ bounds in
     let bounded = subst (λ (cs : List Literals). IsBounded d c.take_all.new.e cs c.in_ok-after.after)
-        list c.in_ok-after.ensures.bound in
+    list c.in_ok-after.ensures.bound in
     (finish_step g c.args.journal.now c.push.new.self c.push-2.new.self d c.take_all.new.e a
     c.in_ok-after.after c.requires.at here written bounded).alike
