@@ -192,7 +192,7 @@ fn as_good_values(
 }
 
 /// The empty clause.
-fn empty_clause(alloc: Global) -> Clause
+pub fn empty_clause(alloc: Global) -> Clause
     ensures list { result ≡ [] }
     ensures form { IsClause result }
 {

@@ -5,4 +5,4 @@
 
 mod bounds;
 
-pub use bounds::bounds_of;
+pub use bounds::{bounds_of, empty_clause};
