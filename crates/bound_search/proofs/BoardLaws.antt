@@ -1,13 +1,13 @@
 -- What a change of a box and a way back leave of a board.
-use Rattle.std.proofs.Common.{◌≡◌, ◌≢◌, ℕ, suc, ◌+◌, ◌<◌, ◌≤◌, true, false, not, ◌&&◌, cond, List, [], ◌∷◌, length, refl, sym, ap, ◌∙◌, arith, subst, slice_set, nat_lt, Option, Some, None, length-set, map}
+use Rattle.std.proofs.Common.{◌≡◌, ℕ, suc, ◌<◌, true, false, not, ◌&&◌, cond, List, [], ◌∷◌, length, refl, sym, ap, ◌∙◌, arith, subst, slice_set, nat_lt, Option, Some, None, length-set, map}
 use Rattle.std.proofs.lemmas.List.{length-map}
-use Rattle.std.proofs.lemmas.Bool.{ltb-true, lt-ltb}
-use Rattle.signed_clause.specs.Ranges.{Ranges, IsSubset}
+use Rattle.std.proofs.lemmas.Bool.{lt-ltb}
+use Rattle.signed_clause.specs.Ranges.{Ranges}
 use Rattle.signed_clause.specs.SetAlgebra.{is_disjoint, is_within, meet}
 use Rattle.signed_clause.specs.Clauses.{Boxes, Literals, box_of, false_in, unit_of, alone_of}
 use Rattle.ground_form.specs.declared.ground.Ground.{Ground}
 use Rattle.fd_store.specs.declared.store.Applied.{Applied}
-use Rattle.fd_store.specs.declared.store.Applied.TheVariants.{Pruned, Conflict, Nothing}
+use Rattle.fd_store.specs.declared.store.Applied.TheVariants.{Pruned, Conflict}
 use Rattle.fd_store.specs.Levels.{Level, Stack, moved, applied, applied_by, reacted, pruned_by, dropped_from, dropped}
 use Rattle.prop_queue.specs.Work as queue
 use Rattle.prop_queue.specs.Work.{AreAllQuiet}

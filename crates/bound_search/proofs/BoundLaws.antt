@@ -1,13 +1,11 @@
 -- Where a search stands behind a solution.
-use Rattle.std.proofs.Common.{◌≡◌, ℕ, zero, suc, ◌+◌, ◌<◌, ◌≤◌, Bool, true, false, not, ◌&&◌, ◌||◌, cond, List, [], ◌∷◌, ◌++◌, ℤ, length, refl, sym, ap, ◌∙◌, arith, subst, nat_lt, All, Option, Some, None, slice_index_or, length-append, append_assoc}
+use Rattle.std.proofs.Common.{◌≡◌, ℕ, suc, ◌<◌, true, false, cond, List, [], ◌∷◌, ◌++◌, ℤ, length, refl, sym, ap, ◌∙◌, arith, subst, All, Option, Some, length-append, append_assoc}
 use Rattle.std.specs.List.{Contains, AllByRecursion}
-use Rattle.std.specs.Ordering.{int_eq}
-use Rattle.std.proofs.lemmas.Bool.{and_parts, and_from, lt-ltb}
 use Rattle.std.proofs.lemmas.Bool.Decides.{Decides-int_eq}
 use Rattle.std.proofs.lemmas.List.{get_or_default}
-use Rattle.std.proofs.lemmas.List.Elements.{Contains-append_left, Contains-append_right, All-append, All-cons, All-nil}
-use Rattle.signed_clause.specs.Ranges.{Ranges, is_nil, IsValid}
-use Rattle.signed_clause.specs.Clauses.{Boxes, Literals, box_of, false_in, clause_true, IsClause, IsWithinBoxes}
+use Rattle.std.proofs.lemmas.List.Elements.{All-append, All-cons}
+use Rattle.signed_clause.specs.Ranges.{Ranges}
+use Rattle.signed_clause.specs.Clauses.{Boxes, Literals, false_in, clause_true, IsClause, IsWithinBoxes}
 use Rattle.signed_clause.specs.Running.{AreValid}
 use Rattle.ground_form.specs.declared.ground.Ground.{Ground}
 use Rattle.ground_form.specs.declared.ground.GroundGoal.{GroundGoal}
@@ -25,13 +23,12 @@ use Rattle.log_form.specs.Acceptance as acceptance
 use Rattle.log_check.proofs.Bounds.{bounds_form}
 use Rattle.search_run.specs.Replay.{State, Mode, Going, Conflict, AtFound, Closed, top_boxes, first_false, mode_by_bounds, asked, may_stand, changed, next, state_of}
 use Rattle.search_run.specs.Replay as replay
-use Rattle.search_run.specs.Lines.{HasSets}
 use Rattle.search_run.proofs.Fronts.{made_more as made_with, state_more as state_with}
 use Rattle.search_run.proofs.LineSets.{one_more}
-use Rattle.search_run.proofs.StateSteps.{AreMade, made_more, made_new}
-use Rattle.search_run.proofs.FoundLines.{IsFoundLine, found_follows, single_true}
+use Rattle.search_run.proofs.StateSteps.{made_more, made_new}
+use Rattle.search_run.proofs.FoundLines.{found_follows, single_true}
 use Rattle.search_run.proofs.BoundTruths.{bound_beats}
-use Rattle.bound_search.specs.BoundLists.{numbered_from, first_or, values_of}
+use Rattle.bound_search.specs.BoundLists.{numbered_from, values_of}
 use Rattle.bound_search.specs.Standing.{IsRun, clauses_of, IsNumbered, AreAdded, AreWatched, IsFixed, IsAt}
 use Rattle.bound_search.proofs.MoreLines.{run_of, going_on, MayFollow, run_with, IsBehind, at_with, numbered_more}
 use Rattle.bound_search.proofs.Decisions.{idle_all, settled_at}

@@ -1,9 +1,9 @@
 -- Where a search stands behind a learnt clause.
-use Rattle.std.proofs.Common.{◌≡◌, ◌↔◌, ℕ, zero, suc, ◌+◌, ◌-◌, ◌<◌, ◌≤◌, Bool, true, false, not, ◌&&◌, ◌||◌, cond, List, [], ◌∷◌, ◌++◌, length, refl, sym, ap, ◌∙◌, arith, subst, nat_lt, All, Option, Some, None, is_some, slice_index_or, length-append}
+use Rattle.std.proofs.Common.{◌≡◌, ℕ, ◌-◌, Bool, true, false, ◌||◌, cond, List, [], ◌∷◌, ◌++◌, length, refl, sym, ap, ◌∙◌, arith, subst, All, Option, Some, is_some}
 use Rattle.std.specs.List.{Contains}
-use Rattle.std.proofs.lemmas.List.{get_or_push, length_push, get_or_append_left}
-use Rattle.std.proofs.lemmas.List.Elements.{Contains-push, Contains-append_left, All-cons, All-push}
-use Rattle.signed_clause.specs.Ranges.{Ranges, is_nil}
+use Rattle.std.proofs.lemmas.List.{get_or_push, length_push}
+use Rattle.std.proofs.lemmas.List.Elements.{Contains-push, All-cons, All-push}
+use Rattle.signed_clause.specs.Ranges.{is_nil}
 use Rattle.signed_clause.specs.Clauses.{Boxes, Literals, false_in, IsClause}
 use Rattle.ground_form.specs.declared.ground.Ground.{Ground}
 use Rattle.numbered_clauses.specs.declared.chain.Chain as chains
@@ -15,9 +15,8 @@ use Rattle.log_form.specs.Acceptance.{Made, clause_at, has_empty, after, made}
 use Rattle.log_form.specs.Acceptance as acceptance
 use Rattle.search_run.specs.Replay.{State, Mode, Going, Conflict, Closed, top_boxes, leads_back, mode_by, react, learned, led_back, back_or, changed, next, is_run, state_of}
 use Rattle.search_run.specs.Replay as replay
-use Rattle.search_run.proofs.Fronts.{made_more, state_more}
+use Rattle.search_run.proofs.Fronts.{made_more}
 use Rattle.search_run.proofs.LineSets.{one_more}
-use Rattle.search_run.proofs.RunLaws.{IsRunOf, run_closed}
 use Rattle.search_run.proofs.StateSteps.{made_more as still_among}
 use Rattle.search_run.proofs.WalkLines.{walk_follows}
 use Rattle.bound_search.specs.Standing.{IsRun, clauses_of, IsNumbered, AreAdded, AreWatched, IsAt}

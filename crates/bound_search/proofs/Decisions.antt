@@ -1,11 +1,10 @@
 -- Where a search stands behind a decision.
-use Rattle.std.proofs.Common.{◌≡◌, ℕ, zero, suc, ◌+◌, ◌<◌, ◌≤◌, Bool, true, false, not, ◌&&◌, List, [], ◌∷◌, ◌++◌, length, refl, sym, ap, ◌∙◌, arith, subst, nat_lt, All, Some, None, slice_index_or}
-use Rattle.std.proofs.lemmas.Bool.{and_parts, and_from, lt-ltb}
-use Rattle.signed_clause.specs.Ranges.{Ranges, is_nil, IsValid}
+use Rattle.std.proofs.Common.{◌≡◌, ℕ, suc, ◌<◌, ◌≤◌, true, false, List, [], ◌∷◌, ◌++◌, length, refl, ap, arith, subst, None, slice_index_or}
+use Rattle.std.proofs.lemmas.Bool.{and_from, lt-ltb}
+use Rattle.signed_clause.specs.Ranges.{Ranges, is_nil}
 use Rattle.signed_clause.specs.Clauses.{Boxes, Literals, box_of}
 use Rattle.ground_form.specs.declared.ground.Ground.{Ground}
 use Rattle.rule_law.specs.Answers.{AreBoxesWithin}
-use Rattle.prop_queue.specs.Work.{AreAllQuiet}
 use Rattle.fd_store.specs.Levels.{Stack, moved}
 use Rattle.log_form.specs.declared.line.Line.{Line}
 use Rattle.log_form.specs.declared.line.Line.TheVariants.{Decide}
@@ -15,7 +14,7 @@ use Rattle.search_run.specs.Replay.{State, Mode, Going, top_boxes, is_going, act
 use Rattle.search_run.specs.Replay as replay
 use Rattle.search_run.proofs.RunLaws.{none_of}
 use Rattle.search_run.proofs.FoundLines.{quiet_all}
-use Rattle.bound_search.specs.Standing.{IsRun, clauses_of, AreWatched, IsFixed, IsDecision, IsAt}
+use Rattle.bound_search.specs.Standing.{clauses_of, AreWatched, IsFixed, IsDecision, IsAt}
 use Rattle.bound_search.proofs.MoreLines.{boxes_at, going_on, MayFollow, run_with, IsBehind, at_with}
 
 -- ---- nothing is left to say

@@ -1,8 +1,8 @@
 -- What a clause and a decision leave of the boxes: each lies within what it was, and where a clause
 -- prunes there are fewer values.
-use Rattle.std.proofs.Common.{◌≡◌, ℕ, zero, suc, ◌+◌, ◌<◌, ◌≤◌, true, false, not, ◌&&◌, ◌||◌, cond, List, [], ◌∷◌, ℤ, length, refl, sym, ap, ◌∙◌, arith, subst, slice_set, Option, Some, None, is_some}
+use Rattle.std.proofs.Common.{◌≡◌, ℕ, zero, suc, ◌+◌, ◌<◌, true, false, not, ◌&&◌, cond, List, [], ◌∷◌, ℤ, length, refl, sym, ap, ◌∙◌, arith, subst, slice_set, Option, Some, None, is_some}
 use Rattle.std.proofs.lemmas.Bool.{and_parts, not-true, false_from_ne_true}
-use Rattle.signed_clause.specs.Ranges.{Ranges, has, is_nil, IsValid, IsSubset, count_of}
+use Rattle.signed_clause.specs.Ranges.{Ranges, has, is_nil, IsValid, count_of}
 use Rattle.signed_clause.specs.SetAlgebra.{is_disjoint, is_within, meet, less}
 use Rattle.signed_clause.specs.Clauses.{Boxes, Literals, box_of, false_in, unit_of, alone_of, IsClauseFrom, IsClause}
 use Rattle.signed_clause.specs.Running.{AreValid}
@@ -13,12 +13,11 @@ use Rattle.ground_form.specs.declared.ground.Ground.{Ground}
 use Rattle.fd_store.specs.Levels.{Level, Stack, moved, reacted, pruned_by}
 use Rattle.prop_queue.specs.Work.{AreAllQuiet}
 use Rattle.clause_watches.specs.Watching.{AreWider}
-use Rattle.search_run.specs.Replay.{Mode, Going, Conflict, Closed, acts, mode_by}
-use Rattle.search_run.proofs.Units.{some_same, none_some, exists_from_meets, unit_is}
+use Rattle.search_run.specs.Replay.{Going, Conflict, Closed, acts, mode_by}
+use Rattle.search_run.proofs.Units.{some_same, none_some, unit_is}
 use Rattle.search_run.proofs.LevelFacts.{AreBoxesIn, IsPart, part_in, unit_part}
 use Rattle.bound_search.specs.Boards.{IsBelow, AreLower}
 use Rattle.bound_search.specs.Engines.{total}
-use Rattle.bound_search.proofs.BoardLaws.{moved_now}
 
 -- ---- fewer values
 

@@ -1,18 +1,16 @@
 -- The step that writes a solution and asks for a better one.
-use Rattle.std.proofs.Common.{◌≡◌, ℕ, ◌+◌, ◌<◌, ◌≤◌, true, List, [], ◌∷◌, ◌++◌, ℤ, length, refl, sym, ap, ◌∙◌, arith, subst, All}
-use Rattle.signed_clause.specs.Clauses.{Boxes, Literals, IsWithinBoxes}
-use Rattle.signed_clause.specs.Running.{AreValid}
+use Rattle.std.proofs.Common.{◌≡◌, ℕ, ◌<◌, ◌≤◌, true, List, [], ◌∷◌, ◌++◌, ℤ, length, refl, sym, ap, ◌∙◌, arith, subst, All}
+use Rattle.signed_clause.specs.Clauses.{Literals, IsWithinBoxes}
 use Rattle.ground_form.specs.declared.ground.Ground.{Ground}
-use Rattle.ground_form.specs.declared.ground.GroundGoal.{GroundGoal}
 use Rattle.ground_form.specs.Bounds.{singles}
 use Rattle.ground_form.specs.Solutions.{IsSolution}
 use Rattle.ground_form.specs.WellMade.{IsWellMade}
 use Rattle.fd_store.specs.Levels.{Stack}
 use Rattle.log_form.specs.declared.line.Line.{Line}
 use Rattle.log_form.specs.declared.line.Line.TheVariants.{Bound, Found}
-use Rattle.log_form.specs.Acceptance.{clause_at, states, bounds_of, made}
+use Rattle.log_form.specs.Acceptance.{bounds_of}
 use Rattle.proof_log.specs.Rounds.{Journal}
-use Rattle.search_run.specs.Replay.{Mode, Going, mode_by_bounds, is_run, state_of}
+use Rattle.search_run.specs.Replay.{Going, mode_by_bounds, is_run}
 use Rattle.search_run.specs.Decisions.{decisions}
 use Rattle.search_run.specs.Ordered.{IsOrdered}
 use Rattle.bound_search.specs.declared.after.After.{After}
@@ -20,7 +18,7 @@ use Rattle.bound_search.specs.declared.after.After.TheVariants as after
 use Rattle.bound_search.specs.declared.engine.Engine.{Engine}
 use Rattle.bound_search.specs.BoundLists.{numbered_from, values_of}
 use Rattle.bound_search.specs.Modes.{mode_of, rank}
-use Rattle.bound_search.specs.Boards.{IsBoard, AreLower}
+use Rattle.bound_search.specs.Boards.{AreLower}
 use Rattle.bound_search.specs.Standing.{IsRun, IsFixed, IsAt}
 use Rattle.bound_search.specs.Engines.{Shows, Reached, IsKept, IsBounded}
 use Rattle.bound_search.proofs.BoundLaws.{states_values, found_run, bound_at, bound_stops, bounds_there}

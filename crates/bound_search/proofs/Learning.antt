@@ -1,20 +1,18 @@
 -- The steps that decide and that explain a conflict.
-use Rattle.std.proofs.Common.{◌≡◌, ◌↔◌, ℕ, zero, suc, ◌+◌, ◌*◌, ◌-◌, ◌<◌, ◌≤◌, true, false, not, ◌&&◌, cond, List, [], ◌∷◌, ◌++◌, length, refl, sym, ap, ◌∙◌, arith, subst, nat_lt, All, Some, None, slice_index_or}
+use Rattle.std.proofs.Common.{◌≡◌, ◌↔◌, ℕ, zero, suc, ◌+◌, ◌-◌, ◌<◌, ◌≤◌, true, false, not, ◌&&◌, cond, List, [], ◌∷◌, ◌++◌, length, refl, sym, ap, ◌∙◌, arith, subst, nat_lt, All, None}
 use Rattle.std.proofs.lemmas.Bool.{and_parts, not-true, lt-ltb}
 use Rattle.std.proofs.lemmas.List.{length_push}
-use Rattle.signed_clause.specs.Ranges.{Ranges, is_nil, IsValid, IsSubset}
+use Rattle.signed_clause.specs.Ranges.{Ranges, is_nil}
 use Rattle.signed_clause.specs.SetAlgebra.{is_within}
-use Rattle.signed_clause.specs.Clauses.{Boxes, Literals, box_of, false_in, IsClause, IsWithinBoxes}
-use Rattle.signed_clause.specs.Running.{AreValid}
+use Rattle.signed_clause.specs.Clauses.{Boxes, Literals, box_of, false_in}
 use Rattle.signed_clause.proofs.SetFacts.{within_law}
 use Rattle.ground_form.specs.declared.ground.Ground.{Ground}
 use Rattle.numbered_clauses.specs.declared.chain.Chain as chains
-use Rattle.fd_store.specs.Levels.{Level, Stack, moved, reacted, dropped_from, dropped}
-use Rattle.learn_clauses.specs.Walk.{domains_of, CameFrom, IsWithinDomains, walk_from, IsDroppedBy}
-use Rattle.learn_clauses.proofs.WithinLaws.{valid_boxes, vars_within}
+use Rattle.fd_store.specs.Levels.{Level, Stack, moved, dropped_from, dropped}
+use Rattle.learn_clauses.specs.Walk.{domains_of, CameFrom, IsWithinDomains, IsDroppedBy}
+use Rattle.learn_clauses.proofs.WithinLaws.{vars_within}
 use Rattle.clause_watches.specs.declared.rest.Rest.{Rest}
 use Rattle.clause_watches.specs.declared.rest.Rest.TheVariants.{Listed}
-use Rattle.clause_watches.specs.Watching as watches
 use Rattle.clause_watches.specs.Watching.{Watching, IsKnown, clause_of, rest_of}
 use Rattle.branch_choice.specs.declared.split.Order.{Order}
 use Rattle.branch_choice.specs.Picks.{Hints}
@@ -23,9 +21,8 @@ use Rattle.log_form.specs.declared.line.Line.TheVariants.{Chain, Decide}
 use Rattle.log_form.specs.Acceptance.{clause_at, has_empty, made}
 use Rattle.proof_log.specs.Rounds.{Journal}
 use Rattle.prop_queue.specs.Work.{Work}
-use Rattle.search_run.specs.Replay.{State, Mode, Going, Conflict, Closed, top_boxes, is_split, mode_by, is_run, state_of}
-use Rattle.search_run.specs.Ordered.{IsLineBy, IsDecidedBy, IsOrdered}
-use Rattle.search_run.specs.Conflicts.{IsConflict}
+use Rattle.search_run.specs.Replay.{Mode, Going, Conflict, state_of}
+use Rattle.search_run.specs.Ordered.{IsDecidedBy}
 use Rattle.search_run.specs.Decisions.{decisions}
 use Rattle.search_run.proofs.LevelFacts.{IsPart}
 use Rattle.search_run.proofs.RunLaws.{run_came, run_domains, run_within, run_conflict}
@@ -33,17 +30,17 @@ use Rattle.bound_search.specs.declared.after.After.{After}
 use Rattle.bound_search.specs.declared.after.After.TheVariants as after
 use Rattle.bound_search.specs.declared.board.Board.{Board}
 use Rattle.bound_search.specs.declared.engine.Engine.{Engine}
-use Rattle.bound_search.specs.Modes.{mode_of, rank}
-use Rattle.bound_search.specs.Boards.{IsBoard, AreLower}
+use Rattle.bound_search.specs.Modes.{rank}
+use Rattle.bound_search.specs.Boards.{IsBoard}
 use Rattle.bound_search.specs.Standing.{IsRun, IsFixed, IsDecision, IsAt}
 use Rattle.bound_search.specs.Engines.{Shows, Reached, IsApplied, IsEngineWith, IsKeptBy, IsKept, MayTakeIn, IsTakenIn, IsFall}
 use Rattle.bound_search.proofs.BoardLaws.{lower_dropped}
 use Rattle.bound_search.proofs.Fewer.{decided_lower, below_same}
 use Rattle.bound_search.proofs.MoreLines.{run_of, boxes_at}
 use Rattle.bound_search.proofs.Decisions.{decide_at}
-use Rattle.bound_search.proofs.Chains.{IsExplained, IsClosed, chain_closes, chain_at}
-use Rattle.bound_search.proofs.Steps.{valid_at, decisions-behind, alike}
-use Rattle.bound_search.proofs.UseAxiom.{IsWritten, kept_line, kept_by, IsDone, line_reached}
+use Rattle.bound_search.proofs.Chains.{IsExplained, chain_closes, chain_at}
+use Rattle.bound_search.proofs.Steps.{valid_at, decisions-behind}
+use Rattle.bound_search.proofs.UseAxiom.{IsWritten, kept_line, kept_by, line_reached}
 
 -- ---- a decision
 

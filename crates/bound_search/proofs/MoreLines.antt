@@ -1,22 +1,18 @@
 -- Where a search stands behind a line more.
-use Rattle.std.proofs.Common.{◌≡◌, ℕ, zero, suc, ◌+◌, ◌<◌, ◌≤◌, Bool, true, false, not, ◌&&◌, ◌||◌, List, [], ◌∷◌, ◌++◌, ℤ, length, refl, sym, ap, ◌∙◌, arith, subst, nat_lt, All, Option, Some, None, is_some, slice_get, slice_index_or, length-append}
-use Rattle.std.specs.List.{Contains}
-use Rattle.std.proofs.lemmas.Bool.{and_parts, and_from, lt-ltb}
-use Rattle.std.proofs.lemmas.List.{get_or_push, length_push, get_or_append_left}
-use Rattle.std.proofs.lemmas.List.Elements.{All-push}
-use Rattle.signed_clause.specs.Ranges.{Ranges, is_nil, IsValid}
+use Rattle.std.proofs.Common.{◌≡◌, ℕ, zero, suc, ◌<◌, true, false, ◌&&◌, List, [], ◌∷◌, ◌++◌, length, refl, sym, ap, ◌∙◌, arith, subst, All, Some, slice_get, slice_index_or, length-append}
+use Rattle.std.proofs.lemmas.Bool.{and_from, lt-ltb}
+use Rattle.std.proofs.lemmas.List.{get_or_append_left}
 use Rattle.signed_clause.specs.SetAlgebra.{is_within}
-use Rattle.signed_clause.specs.Clauses.{Boxes, Literals, box_of, false_in, unit_of, IsClause, IsWithinBoxes}
+use Rattle.signed_clause.specs.Clauses.{Boxes, Literals, box_of, IsWithinBoxes}
 use Rattle.ground_form.specs.declared.con.Con.{Con}
 use Rattle.ground_form.specs.declared.ground.Ground.{Ground}
 use Rattle.ground_form.specs.Meaning.{clause_vars}
 use Rattle.box_rules.specs.Justified.{justified}
-use Rattle.rule_law.specs.Answers.{AreBoxesWithin, IsPruning}
+use Rattle.rule_law.specs.Answers.{AreBoxesWithin}
 use Rattle.rule_law.specs.CutTo.{AreSetsWithin}
-use Rattle.prop_queue.specs.Work.{AreAllQuiet}
-use Rattle.fd_store.specs.Levels.{Stack, moved, reacted}
+use Rattle.fd_store.specs.Levels.{Stack, reacted}
 use Rattle.log_form.specs.declared.line.Line.{Line}
-use Rattle.log_form.specs.declared.line.Line.TheVariants.{Axiom, Chain, Bound, Use, Found, Decide, Empty}
+use Rattle.log_form.specs.declared.line.Line.TheVariants.{Axiom, Use}
 use Rattle.log_form.specs.Acceptance.{Made, clause_at, has_empty, vars_below, con_at, accepts, after, may_come, made}
 use Rattle.log_form.specs.Acceptance as acceptance
 use Rattle.search_run.specs.Replay.{State, Mode, Going, top_boxes, is_going, acts, none_acts, is_settled, are_quiet, none_empty, are_sets_within, is_split, mode_by, may_stand, changed, next, is_run, state_of}
@@ -24,9 +20,9 @@ use Rattle.search_run.specs.Replay as replay
 use Rattle.search_run.specs.Lines.{HasSets}
 use Rattle.search_run.proofs.Fronts.{run_more, made_more, state_more}
 use Rattle.search_run.proofs.LineSets.{one_more}
-use Rattle.search_run.proofs.RunLaws.{IsRunOf, state_is, run_boxes, none_of}
-use Rattle.search_run.proofs.FoundLines.{going_open, quiet_all}
-use Rattle.bound_search.specs.Standing.{IsRun, clauses_of, IsNumbered, AreAdded, AreWatched, IsReason, IsAt}
+use Rattle.search_run.proofs.RunLaws.{IsRunOf, state_is, run_boxes}
+use Rattle.search_run.proofs.FoundLines.{going_open}
+use Rattle.bound_search.specs.Standing.{IsRun, IsNumbered, AreAdded, AreWatched, IsReason, IsAt}
 
 pub run_of : (g : Ground) (ls : List Line) → IsRun g ls → IsRunOf g ls
 run_of g ls r = record { well_made = r.well_made; sets = r.sets; run = r.run }

@@ -1,26 +1,25 @@
 -- What choosers are asked about, and what their splits are as decisions.
-use Rattle.std.proofs.Common.{◌≡◌, ℕ, ◌+◌, ◌<◌, ◌≤◌, ◌^◌, true, false, not, ◌&&◌, cond, List, [], ◌∷◌, ◌++◌, ℤ, length, refl, sym, ap, ◌∙◌, arith, subst, All, Some}
+use Rattle.std.proofs.Common.{◌≡◌, ℕ, ◌<◌, ◌≤◌, true, false, List, [], ◌∷◌, ◌++◌, ℤ, length, refl, sym, ap, ◌∙◌, arith, subst, Some}
 use Rattle.std.proofs.lemmas.List.{get_or_default}
-use Rattle.std.proofs.lemmas.Bool.{and_parts, and_from, false_from_ne_true, lt-ltb}
+use Rattle.std.proofs.lemmas.Bool.{and_parts, false_from_ne_true, lt-ltb}
 use Rattle.signed_clause.specs.Ranges.{Ranges, has, is_nil, IsValid}
 use Rattle.signed_clause.specs.SetAlgebra.{is_disjoint, is_within, meet}
-use Rattle.signed_clause.specs.Clauses.{Boxes, Literals, box_of}
+use Rattle.signed_clause.specs.Clauses.{Boxes, box_of}
 use Rattle.signed_clause.proofs.RangeSteps.{has-meet_valid, IsValid-meet}
 use Rattle.signed_clause.proofs.SetFacts.{within_law}
 use Rattle.ground_form.specs.declared.ground.Ground.{Ground}
-use Rattle.rule_law.specs.Answers.{AreBoxesWithin}
 use Rattle.branch_choice.specs.declared.split.Split.{Split}
 use Rattle.branch_choice.specs.declared.split.Order.{Order}
 use Rattle.branch_choice.specs.declared.split.Order.TheVariants as orders
-use Rattle.branch_choice.specs.Picks.{Hints, IsAsked, IsPick, half_of, IsFirstSplit, IsSmallSplit, IsFormerSplit}
+use Rattle.branch_choice.specs.Picks.{Hints, IsAsked, IsPick, half_of}
 use Rattle.log_form.specs.declared.line.Line.{Line}
-use Rattle.log_form.specs.declared.line.Line.TheVariants.{Decide, Empty}
+use Rattle.log_form.specs.declared.line.Line.TheVariants.{Empty}
 use Rattle.log_form.specs.Acceptance.{has_empty, made}
 use Rattle.log_form.specs.Acceptance as acceptance
 use Rattle.proof_log.specs.Rounds.{Journal}
 use Rattle.search_run.specs.Replay as replay
 use Rattle.search_run.specs.Replay.{Going, is_split, is_run}
-use Rattle.search_run.specs.Ordered.{IsHalfOf, IsDecidedBy, IsOrdered}
+use Rattle.search_run.specs.Ordered.{IsDecidedBy, IsOrdered}
 use Rattle.search_run.specs.Decisions.{MayDecide}
 use Rattle.bound_search.specs.declared.engine.Engine.{Engine}
 use Rattle.bound_search.specs.Standing.{IsDecision}

@@ -1,17 +1,15 @@
 -- What the steps of a search come to.
-use Rattle.std.proofs.Common.{◌≡◌, ℕ, ◌+◌, ◌<◌, ◌≤◌, true, List, [], ◌∷◌, ◌++◌, length, refl, sym, ap, ◌∙◌, arith, subst, All}
-use Rattle.signed_clause.specs.Clauses.{Boxes, Literals, false_in, IsClause, IsWithinBoxes}
+use Rattle.std.proofs.Common.{◌≡◌, ℕ, ◌+◌, ◌≤◌, true, List, [], ◌∷◌, ◌++◌, length, sym, ap, ◌∙◌, arith, subst}
+use Rattle.signed_clause.specs.Clauses.{Boxes, Literals, IsClause, IsWithinBoxes}
 use Rattle.signed_clause.specs.Running.{AreValid}
 use Rattle.ground_form.specs.declared.ground.Ground.{Ground}
-use Rattle.rule_law.specs.Answers.{AreBoxesWithin}
 use Rattle.fd_store.specs.Levels.{Stack, reacted}
 use Rattle.learn_clauses.specs.Walk.{IsWithinDomains}
 use Rattle.learn_clauses.proofs.WithinLaws.{valid_boxes, vars_within}
 use Rattle.log_form.specs.declared.line.Line.{Line}
 use Rattle.log_form.specs.declared.line.Line.TheVariants.{Axiom, Chain, Bound, Use, Found, Decide, Empty}
-use Rattle.log_form.specs.Acceptance.{Made, clause_at, has_empty, made}
-use Rattle.proof_log.specs.Rounds.{Journal}
-use Rattle.search_run.specs.Replay.{State, Mode, Going, Conflict, Closed, acts, mode_by, is_run, state_of}
+use Rattle.log_form.specs.Acceptance.{clause_at, has_empty, made}
+use Rattle.search_run.specs.Replay.{Mode, Closed, acts, mode_by, state_of}
 use Rattle.search_run.specs.Decisions.{decisions}
 use Rattle.search_run.proofs.RunLaws.{run_closed, state_is}
 use Rattle.search_run.proofs.Waiting.{run_sound}
@@ -19,9 +17,9 @@ use Rattle.bound_search.specs.declared.after.After.{After}
 use Rattle.bound_search.specs.declared.after.After.TheVariants as after
 use Rattle.bound_search.specs.declared.engine.Engine.{Engine}
 use Rattle.bound_search.specs.Modes.{mode_of}
-use Rattle.bound_search.specs.Boards.{IsBoard, AreLower}
+use Rattle.bound_search.specs.Boards.{AreLower}
 use Rattle.bound_search.specs.Standing.{IsRun, IsAt}
-use Rattle.bound_search.specs.Engines.{Shows, Reached, IsApplied, total, IsTurn}
+use Rattle.bound_search.specs.Engines.{Shows, Reached, IsApplied, IsTurn}
 use Rattle.bound_search.proofs.MoreLines.{run_of, boxes_at}
 use Rattle.bound_search.proofs.Fewer.{fewer_values, reacted_lower, below_same}
 

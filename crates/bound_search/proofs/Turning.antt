@@ -1,16 +1,15 @@
 -- What is known of an engine whose board was asked.
-use Rattle.std.proofs.Common.{◌≡◌, ℕ, ◌+◌, ◌<◌, ◌≤◌, true, List, [], length, refl, sym, ap, ◌∙◌, arith, subst, All, slice_index_or}
-use Rattle.std.proofs.lemmas.List.{get_or_default}
+use Rattle.std.proofs.Common.{◌≡◌, ℕ, true, List, [], length, refl, sym, ap, ◌∙◌, arith, subst, slice_index_or}
 use Rattle.signed_clause.specs.Clauses.{Boxes, Literals}
 use Rattle.ground_form.specs.declared.ground.Ground.{Ground}
 use Rattle.fd_store.specs.Levels.{Stack}
-use Rattle.clause_watches.specs.Watching.{Watching, IsActing}
+use Rattle.clause_watches.specs.Watching.{IsActing}
 use Rattle.log_form.specs.declared.line.Line.{Line}
-use Rattle.log_form.specs.Acceptance.{clause_at, made}
-use Rattle.search_run.specs.Replay.{State, Mode, Going, acts, state_of}
+use Rattle.log_form.specs.Acceptance.{clause_at}
+use Rattle.search_run.specs.Replay.{Mode, acts}
 use Rattle.bound_search.specs.declared.engine.Engine.{Engine}
 use Rattle.bound_search.specs.Boards.{IsBoard, AreLower}
-use Rattle.bound_search.specs.Standing.{IsNumbered, AreWatched, IsReason, IsAt}
+use Rattle.bound_search.specs.Standing.{IsNumbered, IsAt}
 use Rattle.bound_search.specs.Engines.{Shows}
 use Rattle.bound_search.proofs.MoreLines.{IsUsed}
 

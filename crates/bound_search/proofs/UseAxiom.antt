@@ -1,6 +1,6 @@
 -- The steps that use a clause and that write a constraint's.
-use Rattle.std.proofs.Common.{◌≡◌, ℕ, ◌+◌, ◌<◌, ◌≤◌, true, List, [], ◌∷◌, ◌++◌, length, refl, sym, ap, ◌∙◌, arith, subst}
-use Rattle.signed_clause.specs.Clauses.{Boxes, Literals, IsClause}
+use Rattle.std.proofs.Common.{◌≡◌, ℕ, ◌≤◌, true, List, [], ◌∷◌, ◌++◌, length, refl, sym, ◌∙◌, arith, subst}
+use Rattle.signed_clause.specs.Clauses.{Literals, IsClause}
 use Rattle.signed_clause.specs.Running.{AreValid}
 use Rattle.ground_form.specs.declared.ground.Ground.{Ground}
 use Rattle.fd_store.specs.Levels.{Stack, reacted}
@@ -8,9 +8,8 @@ use Rattle.branch_choice.specs.declared.split.Order.{Order}
 use Rattle.branch_choice.specs.Picks.{Hints}
 use Rattle.log_form.specs.declared.line.Line.{Line}
 use Rattle.log_form.specs.declared.line.Line.TheVariants.{Axiom, Use}
-use Rattle.log_form.specs.Acceptance.{clause_at}
 use Rattle.proof_log.specs.Rounds.{Journal}
-use Rattle.search_run.specs.Replay.{State, Mode, Going, acts, mode_by, is_run, state_of}
+use Rattle.search_run.specs.Replay.{State, Going, mode_by, is_run, state_of}
 use Rattle.search_run.specs.Ordered.{IsLineBy, IsOrdered}
 use Rattle.search_run.proofs.Orders.{ordered_more}
 use Rattle.search_run.specs.Decisions.{decisions}

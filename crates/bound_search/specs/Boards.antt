@@ -1,7 +1,7 @@
 -- The boxes of a search, and what goes with them. What a reader believes after this file: queue and
 -- watches are those of the problem, and what they know is true in the present boxes; and each level
 -- below stands at a fixpoint of the constraints.
-use Rattle.std.specs.Prelude.{◌≡◌, ℕ, List, [], ◌∷◌, length}
+use Rattle.std.specs.Prelude.{◌≡◌, List, [], ◌∷◌, length}
 use Rattle.signed_clause.specs.Clauses.{Boxes}
 use Rattle.ground_form.specs.declared.ground.Ground.{Ground}
 use Rattle.fd_store.specs.Levels.{Level, Stack}

@@ -1,4 +1,4 @@
-use Rattle.std.proofs.Common.{◌≡◌, ◌∙◌, ◌++◌, ◌∷◌, [], List, ℤ, ℕ, length, sym, ap, subst, All}
+use Rattle.std.proofs.Common.{◌∙◌, ◌++◌, ◌∷◌, [], List, ℤ, sym, ap, subst, All}
 use Rattle.signed_clause.specs.Clauses.{Boxes, Literals, IsWithinBoxes}
 use Rattle.ground_form.specs.declared.ground.GroundGoal.{GroundGoal}
 use Rattle.rule_law.specs.Answers.{AreBoxesWithin}
@@ -9,7 +9,7 @@ use Rattle.bound_search.specs.BoundLists.{values_of}
 use Rattle.bound_search.specs.Engines.{IsBounded}
 use Rattle.bound_search.proofs.MoreLines.{boxes_at}
 use Rattle.bound_search.proofs.UseAxiom.{IsWritten}
-use Rattle.bound_search.proofs.Finishing.{goals_there, IsFoundHere, AreWritten, found_kept, kept_after, both_kept, vars_there, finish_step}
+use Rattle.bound_search.proofs.Finishing.{IsFoundHere, AreWritten, found_kept, kept_after, both_kept, vars_there, finish_step}
 use Rattle.bound_search.proofs.bounding.finish.Goals as goal
 
 pub solution-requires-clause-boxes : goal.solution-requires-clause-boxes

@@ -1,4 +1,3 @@
-use Rattle.std.proofs.Common.{◌≡◌, ◌<◌, ℕ}
 use Rattle.signed_clause.specs.Clauses.{box_of}
 use Rattle.bound_search.proofs.BoundLaws.{single_is}
 use Rattle.bound_search.proofs.bounding.solution.Goals as goal

@@ -1,10 +1,9 @@
-use Rattle.std.proofs.Common.{◌≡◌, ◌∙◌, ◌++◌, ◌∷◌, [], List, ℕ, refl, sym, ap, subst, length, true}
-use Rattle.signed_clause.specs.Clauses.{Literals, IsWithinBoxes}
+use Rattle.std.proofs.Common.{◌∙◌, ◌++◌, ◌∷◌, [], ℕ, refl, ap, length}
+use Rattle.signed_clause.specs.Clauses.{Literals}
 use Rattle.fd_store.specs.Levels.{reacted}
-use Rattle.log_form.specs.declared.line.Line.{Line}
 use Rattle.log_form.specs.declared.line.Line.TheVariants.{Axiom}
 use Rattle.search_run.specs.Replay.{mode_by}
-use Rattle.bound_search.proofs.UseAxiom.{IsStep, IsWritten, axiom_step, axiom_kept}
+use Rattle.bound_search.proofs.UseAxiom.{IsStep, axiom_step, axiom_kept}
 use Rattle.bound_search.proofs.engine.add_axiom.Goals as goal
 
 step : (c : goal.In_ok-push-2) → IsStep c.args.g.now c.args.journal.now c.push.new.self c.args.e.now

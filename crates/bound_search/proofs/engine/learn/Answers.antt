@@ -1,14 +1,8 @@
-use Rattle.std.proofs.Common.{◌≡◌, ◌∙◌, ◌<◌, ◌++◌, ◌∷◌, [], ℕ, Some, refl, sym, ap, subst, arith, length}
-use Rattle.signed_clause.specs.Clauses.{Literals, IsClause}
-use Rattle.fd_store.specs.Levels.{Stack}
-use Rattle.numbered_clauses.specs.declared.chain.Chain as chains
-use Rattle.learn_clauses.specs.Walk.{walk_from}
-use Rattle.learn_clauses.specs.declared.conflict.Learnt.{Learnt}
+use Rattle.std.proofs.Common.{◌∙◌, ◌<◌, ◌++◌, ◌∷◌, [], refl, sym, ap, subst, arith}
+use Rattle.signed_clause.specs.Clauses.{Literals}
 use Rattle.log_form.specs.declared.line.Line.TheVariants.{Chain}
-use Rattle.proof_log.specs.Rounds.{Journal}
-use Rattle.bound_search.specs.Engines.{MayTakeIn, IsTakenIn}
+use Rattle.bound_search.specs.Engines.{MayTakeIn}
 use Rattle.bound_search.proofs.Steps.{alike}
-use Rattle.bound_search.proofs.UseAxiom.{IsWritten}
 use Rattle.bound_search.proofs.Learning.{conflict_known, IsLesson, lesson_kept, lesson_closes, may_take_in, lesson_reached, lesson_falls, taken_same, taken_table}
 use Rattle.bound_search.proofs.engine.learn.Goals as goal
 

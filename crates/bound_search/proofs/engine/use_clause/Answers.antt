@@ -1,11 +1,6 @@
-use Rattle.std.proofs.Common.{◌≡◌, ◌∙◌, ◌++◌, ◌∷◌, [], List, ℕ, refl, sym, ap, subst, length, true}
+use Rattle.std.proofs.Common.{◌≡◌, refl, sym, subst, true}
 use Rattle.signed_clause.specs.Clauses.{Literals, IsWithinBoxes}
-use Rattle.ground_form.specs.declared.ground.Ground.{Ground}
-use Rattle.log_form.specs.declared.line.Line.{Line}
-use Rattle.log_form.specs.declared.line.Line.TheVariants.{Use}
-use Rattle.log_form.specs.Acceptance.{clause_at}
 use Rattle.search_run.specs.Replay.{acts}
-use Rattle.bound_search.proofs.MoreLines.{use_at}
 use Rattle.bound_search.proofs.Steps.{known_clause}
 use Rattle.bound_search.proofs.UseAxiom.{IsStep, use_step, use_kept}
 use Rattle.bound_search.proofs.engine.use_clause.Goals as goal

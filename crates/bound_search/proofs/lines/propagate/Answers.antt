@@ -1,4 +1,4 @@
-use Rattle.std.proofs.Common.{◌≡◌, ◌∙◌, length, Option, Some, ap, subst, sym}
+use Rattle.std.proofs.Common.{◌∙◌, Option, Some, ap, subst}
 use Rattle.bound_search.specs.declared.after.After.{After}
 use Rattle.bound_search.specs.Engines.{TurnOf}
 use Rattle.bound_search.proofs.UseAxiom.{kept_both}

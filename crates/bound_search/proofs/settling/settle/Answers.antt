@@ -1,4 +1,4 @@
-use Rattle.std.proofs.Common.{◌≡◌, ◌∙◌, ◌≤◌, length, arith, subst, Option}
+use Rattle.std.proofs.Common.{◌∙◌, arith, subst}
 use Rattle.bound_search.specs.declared.settling.Step.{Step}
 use Rattle.bound_search.specs.Engines.{StepOf}
 use Rattle.bound_search.proofs.UseAxiom.{kept_both}

@@ -1,5 +1,4 @@
-use Rattle.std.proofs.Common.{◌≡◌, ◌∙◌, refl, sym, ap, subst, List, ℤ, ◌<◌, length, arith}
-use Rattle.signed_clause.specs.Ranges.{Ranges}
+use Rattle.std.proofs.Common.{◌∙◌, refl, sym, ap, subst, length, arith}
 use Rattle.signed_clause.specs.SetAlgebra.{meet}
 use Rattle.signed_clause.specs.Clauses.{Boxes, box_of}
 use Rattle.branch_choice.specs.Picks.{half_of}

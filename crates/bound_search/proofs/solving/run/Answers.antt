@@ -1,4 +1,4 @@
-use Rattle.std.proofs.Common.{◌≡◌, ◌+◌, Option, subst, arith}
+use Rattle.std.proofs.Common.{Option, subst, arith}
 use Rattle.branch_choice.specs.declared.split.Split.{Split}
 use Rattle.bound_search.specs.Engines.{SettledOf, IsDue}
 use Rattle.bound_search.proofs.Splits.{due_may_decide}

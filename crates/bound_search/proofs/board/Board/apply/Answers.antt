@@ -1,4 +1,4 @@
-use Rattle.std.proofs.Common.{◌≡◌, ◌∙◌, sym, Some, length, arith}
+use Rattle.std.proofs.Common.{◌∙◌, Some, arith}
 use Rattle.clause_watches.specs.Watching.{touched}
 use Rattle.bound_search.proofs.BoardLaws.{still_paired, move_changes, pruned_so}
 use Rattle.bound_search.proofs.board.Board.apply.Goals as goal

@@ -1,4 +1,4 @@
-use Rattle.std.proofs.Common.{◌≡◌, ◌∙◌, None, sym}
+use Rattle.std.proofs.Common.{◌∙◌, None}
 use Rattle.clause_watches.specs.Watching.{touched}
 use Rattle.bound_search.proofs.BoardLaws.{still_paired, move_changes}
 use Rattle.bound_search.proofs.board.Board.decide.Goals as goal

@@ -1,4 +1,4 @@
-use Rattle.std.proofs.Common.{◌≡◌, ◌∙◌}
+use Rattle.std.proofs.Common.{◌∙◌}
 use Rattle.clause_watches.specs.Watching.{widened}
 use Rattle.bound_search.proofs.BoardLaws.{still_paired, lower_dropped}
 use Rattle.bound_search.proofs.board.Board.undo_to.Goals as goal
