@@ -14,6 +14,7 @@ use Rattle.signed_clause.proofs.RangeSteps.{has-meet_valid, IsValid-meet, has-jo
 use Rattle.ground_form.specs.declared.ground.GroundGoal.{GroundGoal}
 use Rattle.ground_form.specs.Meaning.{value_of}
 use Rattle.ground_form.specs.Solutions.{IsPoint, better}
+pub use Rattle.goal_bounds.proofs.WithForm.{with_form}
 use Rattle.log_form.specs.Acceptance.{better_than, as_good_as, with_literal, better_values, as_good_values, bounds_from}
 
 pub has-within : (low top : ℤ) (rs : Ranges) (v : ℤ) → Ascends low top rs → has rs v ≡ true → (low ≤ℤ v) × (v ≤ℤ top)
@@ -56,21 +57,6 @@ as_good_equal true v w h e = has-piece w (pos 9223372036854775807) v [] ∙ grin
 as_good_equal false v w h e = has-piece (negsuc 9223372036854775807) w v [] ∙ grind (arith, ints)
 
 -- ---- a clause with one more literal
-
-pub with_form : (n : ℕ) (x : ℕ) (s : Ranges) (c : Literals) → n ≤ x → IsValid s → IsClauseFrom n c → IsClauseFrom n (with_literal x s c)
-with_form n x s [] h v f =
-    elim (is_nil s) as (λ b. is_nil s ≡ b → IsClauseFrom n (cond b [] ((x, s) ∷ []))) [ true ↦ λ e. tt | false ↦ λ e. (h, e, v, tt) ] refl
-with_form n x s (l ∷ c) h v f =
-    elim (is_nil s) as (λ b. is_nil s ≡ b → IsClauseFrom n (cond b (l ∷ c) (cond (nat_lt x l.0) ((x, s) ∷ l ∷ c) (cond (l.0 == x) ((x, join l.1 s) ∷ c) (l ∷ with_literal x s c))))) [
-      | true ↦ λ e. f
-      | false ↦ λ e. (elim (nat_lt x l.0) as (λ b. nat_lt x l.0 ≡ b → IsClauseFrom n (cond b ((x, s) ∷ l ∷ c) (cond (l.0 == x) ((x, join l.1 s) ∷ c) (l ∷ with_literal x s c)))) [
-        | true ↦ λ p. let lt = ltb-true x l.0 p in (h, e, v, (omega arith, f.1, f.2, f.3))
-        | false ↦ λ p. (elim (l.0 == x) as (λ b. l.0 == x ≡ b → IsClauseFrom n (cond b ((x, join l.1 s) ∷ c) (l ∷ with_literal x s c))) [
-          | true ↦ λ q. let same = eqb-true l.0 x q in (h, join-some l.1 s f.1, IsValid-join l.1 s f.2 v, subst (λ (m : ℕ). IsClauseFrom (suc m) c) same f.3)
-          | false ↦ λ q. let apart = eqb-false l.0 x q in let ge = ltb-false x l.0 p in (f.0, f.1, f.2, with_form (suc l.0) x s c (omega arith) v f.3)
-        ]) refl
-      ]) refl
-    ] refl
 
 has_nil : (s : Ranges) (v : ℤ) → is_nil s ≡ true → has s v ≡ false
 has_nil [] v e = refl

@@ -1,6 +1,5 @@
 pub mod Soundness
 pub mod Chains
-pub mod Literals
 pub mod Verdicts
 pub mod Progress
 pub mod Refusals

@@ -16,12 +16,13 @@ ghost use Rattle.log_check.specs.Soundness.{HasClause, FoundSolves};
 ghost use Rattle.log_check.specs.Progress.{made_of, IsRight};
 ghost use Rattle.log_check.specs.Verdicts.{Ending};
 
-use crate::bound_line::{empty_clause, push_bounds};
+use crate::bound_line::push_bounds;
 use crate::chains::derives;
 use crate::derived::Derived;
 use crate::solution::{are_all_true, are_goal_values, is_better, is_point};
 use crate::verdict::Verdict;
 use box_rules::justified;
+use goal_bounds::empty_clause;
 use ground_form::Ground;
 use log_form::{Line, Values};
 use signed_clause::{Clause, RunningClause};

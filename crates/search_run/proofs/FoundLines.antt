@@ -73,7 +73,7 @@ true_single boxes a l valid f e h =
     (subst (λ (b : Ranges). is_disjoint l.1 b ≡ false) at h)
 
 -- what isn't false there is true
-single_true : (c : Literals) (n : ℕ) (boxes : Boxes) (a : List ℤ) → AreValid boxes →
+pub single_true : (c : Literals) (n : ℕ) (boxes : Boxes) (a : List ℤ) → AreValid boxes →
     IsClauseFrom n c → boxes ≡ singles a → false_in boxes c ≡ false → clause_true c a ≡ true
 single_true [] n boxes a v f e h = absurd cc
 single_true (l ∷ c) n boxes a v f e h =
@@ -146,7 +146,7 @@ clauses_true (c ∷ cs) boxes a v e f h =
     )
 
 -- clauses that were made are clauses
-made_forms : (clauses cs : List Literals) → ((j : ℕ) → IsClause (clause_at clauses j)) →
+pub made_forms : (clauses cs : List Literals) → ((j : ℕ) → IsClause (clause_at clauses j)) →
     AreMade clauses cs → All (λ c. IsClause c) cs
 made_forms clauses cs f h = λ k d lt.
     let at = h k d lt in

@@ -1,6 +1,6 @@
 use Rattle.std.proofs.Common.{◌≡◌, true, false}
-use Rattle.log_check.proofs.BoundSteps.{with_is_clause}
-use Rattle.log_check.proofs.bound_line.with_literal.Goals as goal
+use Rattle.goal_bounds.proofs.BoundSteps.{with_is_clause}
+use Rattle.goal_bounds.proofs.bounds.with_literal.Goals as goal
 
 pub unreachable-requires : goal.unreachable-requires
 unreachable-requires c =

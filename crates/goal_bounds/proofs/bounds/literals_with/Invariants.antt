@@ -1,6 +1,6 @@
 use Rattle.std.proofs.Common.{◌≡◌, ◌++◌, ◌-◌, drop, length}
 use Rattle.log_form.specs.Acceptance.{with_literal}
-use Rattle.log_check.proofs.bound_line.literals_with.Given as goal
+use Rattle.goal_bounds.proofs.bounds.literals_with.Given as goal
 
 abbrev pub invariant-loop-k : goal.invariant-loop-k
 invariant-loop-k l = l.out.items ++ with_literal l.x l.set (drop l.k l.literals) ≡ with_literal l.x l.set l.literals

@@ -1,0 +1,156 @@
+-- The step that writes a solution and asks for a better one.
+use Rattle.std.proofs.Common.{◌≡◌, ℕ, ◌<◌, ◌≤◌, true, List, [], ◌∷◌, ◌++◌, ℤ, length, refl, sym, ap, ◌∙◌, arith, subst, All}
+use Rattle.signed_clause.specs.Clauses.{Literals, IsWithinBoxes}
+use Rattle.ground_form.specs.declared.ground.Ground.{Ground}
+use Rattle.ground_form.specs.Bounds.{singles}
+use Rattle.ground_form.specs.Solutions.{IsSolution}
+use Rattle.ground_form.specs.WellMade.{IsWellMade}
+use Rattle.fd_store.specs.Levels.{Stack}
+use Rattle.log_form.specs.declared.line.Line.{Line}
+use Rattle.log_form.specs.declared.line.Line.TheVariants.{Bound, Found}
+use Rattle.log_form.specs.Acceptance.{bounds_of}
+use Rattle.proof_log.specs.Rounds.{Journal}
+use Rattle.search_run.specs.Replay.{Going, mode_by_bounds, is_run}
+use Rattle.search_run.specs.Decisions.{decisions}
+use Rattle.search_run.specs.Ordered.{IsOrdered}
+use Rattle.bound_search.specs.declared.after.After.{After}
+use Rattle.bound_search.specs.declared.after.After.TheVariants as after
+use Rattle.bound_search.specs.declared.engine.Engine.{Engine}
+use Rattle.bound_search.specs.BoundLists.{numbered_from, values_of}
+use Rattle.bound_search.specs.Modes.{mode_of, rank}
+use Rattle.bound_search.specs.Boards.{AreLower}
+use Rattle.bound_search.specs.Standing.{IsRun, IsFixed, IsAt}
+use Rattle.bound_search.specs.Engines.{Shows, Reached, IsKept, IsBounded}
+use Rattle.bound_search.proofs.BoundLaws.{states_values, found_run, bound_at, bound_stops, bounds_there}
+use Rattle.bound_search.proofs.Steps.{valid_at, known_clause, by_after, alike}
+use Rattle.bound_search.proofs.UseAxiom.{IsWritten, kept_by, kept_both}
+
+-- the goals have values
+pub goals_there : (g : Ground) (a : List ℤ) → IsWellMade g → IsSolution g a →
+    All (λ goal. goal.var < length a) g.goals
+goals_there g a w s = λ k d lt.
+    let there = w.goals k d lt in
+    let size = s.point.size in
+    omega (arith, there, size)
+
+-- boxes at a fixpoint that are these values, a solution
+pub record IsFoundHere (g : Ground) (e : Engine) (a : List ℤ) : Type 0 where
+  pub fixed : IsFixed g e.board.store.top.now e.board.watches.added
+  pub single : e.board.store.top.now ≡ singles a
+  pub solves : IsSolution g a
+
+-- the two lines were written
+pub record AreWritten (g : Ground) (old mid new : Journal) (a : List ℤ) : Type 0 where
+  pub found : IsWritten old mid (Found a)
+  pub bound : IsWritten mid new (Bound (values_of a g.goals))
+
+found_runs : (g : Ground) (old : Journal) (d : Engine) (a : List ℤ) → Shows g old.lines d Going →
+    IsFoundHere g d a → IsRun g (old.lines ++ Found a ∷ [])
+found_runs g old d a s f =
+    found_run g old.lines d.clauses d.board.store d.board.watches.added a s.at f.fixed f.single
+    f.solves
+
+both_at : (g : Ground) (old : Journal) (d : Engine) (a : List ℤ) → Shows g old.lines d Going →
+    IsFoundHere g d a →
+    IsAt g ((old.lines ++ Found a ∷ []) ++ Bound (values_of a g.goals) ∷ [])
+    (d.clauses ++ bounds_of g.goals g.domains a) d.board.store
+    (d.board.watches.added ++ numbered_from (length d.clauses) (bounds_of g.goals g.domains a))
+    (mode_by_bounds d.board.store.top.now (length d.clauses) (bounds_of g.goals g.domains a))
+both_at g old d a s f =
+    bound_at g old.lines d.clauses d.board.store d.board.watches.added a (values_of a g.goals) s.at
+    (found_runs g old d a s f) (states_values g.goals a)
+
+pub found_kept : (g : Ground) (old mid : Journal) (d : Engine) (a : List ℤ) →
+    Shows g old.lines d Going → IsFoundHere g d a → IsWritten old mid (Found a) → IsKept g old mid
+found_kept g old mid d a s f w =
+    kept_by g old mid (Found a) w (λ g order hints s. tt) (found_runs g old d a s f)
+
+-- a record that a failed push left as it was
+pub kept_after : (g : Ground) (old mid new : Journal) → IsKept g old mid →
+    new.lines ≡ mid.lines → new.ground ≡ mid.ground → new.rounds ≡ mid.rounds → IsKept g old new
+kept_after g old mid new h l p q = λ order hints.
+    let k = h order hints in
+    record {
+      run = subst (λ (ls : List Line). is_run g ls ≡ true) (sym l) k.run;
+      ordered = λ o. subst (IsOrdered g order hints) (sym l) (k.ordered o);
+      problem = p ∙ k.problem;
+      rounds = q ∙ k.rounds;
+    }
+
+pub both_kept : (g : Ground) (old mid new : Journal) (d : Engine) (a : List ℤ) →
+    Shows g old.lines d Going → IsFoundHere g d a → AreWritten g old mid new a → IsKept g old new
+both_kept g old mid new d a s f w =
+    let line = Bound (values_of a g.goals) in
+    let run : IsRun g (mid.lines ++ line ∷ []) =
+    subst (λ (ls : List Line). IsRun g (ls ++ line ∷ [])) (sym w.found.lines)
+    (both_at g old d a s f).lines in
+    kept_both g old mid new (found_kept g old mid d a s f w.found)
+    (kept_by g mid new line w.bound (λ g order hints s. tt) run)
+
+pub vars_there : (g : Ground) (old : Journal) (d : Engine) (a : List ℤ) →
+    Shows g old.lines d Going → IsFoundHere g d a →
+    All (λ c. IsWithinBoxes c d.board.store.top.now) (bounds_of g.goals g.domains a)
+vars_there g old d a s f =
+    let bs = bounds_of g.goals g.domains a in
+    let at = both_at g old d a s f in
+    bounds_there d.board.store.top.now d.clauses bs (λ j.
+    (known_clause g ((old.lines ++ Found a ∷ []) ++ Bound (values_of a g.goals) ∷ [])
+    (d.clauses ++ bs) d.board.store
+    (d.board.watches.added ++ numbered_from (length d.clauses) bs)
+    (mode_by_bounds d.board.store.top.now (length d.clauses) bs) j at).vars)
+
+ranks : (a : After) → (mode_of a ≡ Going → ⊥) → rank a ≤ 1
+ranks after.Going h = absurd (h refl)
+ranks (after.Conflict n) h = omega arith
+ranks after.Closed h = omega arith
+
+-- what the step comes to
+pub record HasFinished (g : Ground) (old new : Journal) (d e : Engine) (a : After) : Type 0 where
+  pub at : Reached g new.lines e a
+  pub stops : rank a ≤ 1
+  pub below : length e.board.store.below ≡ length d.board.store.below
+  pub alike : decisions new.lines ≡ decisions old.lines
+
+pub finish_step : (g : Ground) (old mid new : Journal) (d e : Engine) (a : List ℤ) (o : After) →
+    Shows g old.lines d Going → IsFoundHere g d a → AreWritten g old mid new a →
+    IsBounded d e (bounds_of g.goals g.domains a) o → HasFinished g old new d e o
+finish_step g old mid new d e a o s f w b =
+    let bs = bounds_of g.goals g.domains a in
+    let boxes = d.board.store.top.now in
+    let line = Bound (values_of a g.goals) in
+    let whole = (old.lines ++ Found a ∷ []) ++ line ∷ [] in
+    let mode = mode_by_bounds boxes (length d.clauses) bs in
+    let at = both_at g old d a s f in
+    let lines : new.lines ≡ whole =
+    w.bound.lines ∙ ap (λ (ls : List Line). ls ++ line ∷ []) w.found.lines in
+    let one : IsAt g new.lines (d.clauses ++ bs) d.board.store
+    (d.board.watches.added ++ numbered_from (length d.clauses) bs) mode =
+    subst (λ (ls : List Line). IsAt g ls (d.clauses ++ bs) d.board.store
+    (d.board.watches.added ++ numbered_from (length d.clauses) bs) mode) (sym lines) at in
+    let two : IsAt g new.lines e.clauses d.board.store
+    (d.board.watches.added ++ numbered_from (length d.clauses) bs) mode =
+    subst (λ (cs : List Literals). IsAt g new.lines cs d.board.store
+    (d.board.watches.added ++ numbered_from (length d.clauses) bs) mode) (sym b.clauses_are) one in
+    let three : IsAt g new.lines e.clauses d.board.store e.board.watches.added mode =
+    subst (λ (ps : List (ℕ × Literals)). IsAt g new.lines e.clauses d.board.store ps mode)
+    (sym b.added_are) two in
+    let four : IsAt g new.lines e.clauses e.board.store e.board.watches.added mode =
+    subst (λ (k : Stack). IsAt g new.lines e.clauses k e.board.watches.added mode) (sym b.store)
+    three in
+    let table = s.table in
+    let same = b.table in
+    let shows : Shows g new.lines e mode = record {
+      at = four;
+      board = b.board g s.board;
+      lower = subst (λ (k : Stack). AreLower g k.top.now k.below) (sym b.store) s.lower;
+      table = omega (arith, table, same);
+    } in
+    let valid = valid_at g old.lines d.clauses d.board.store d.board.watches.added Going s.at in
+    record {
+      at = by_after g new.lines e mode o b.mode four.lines four.mode_is shows;
+      stops = ranks o (λ h. bound_stops g (length d.clauses) boxes a s.at.lines.well_made valid
+          f.single f.solves (sym b.mode ∙ h));
+      below = ap (λ (k : Stack). length k.below) b.store;
+      alike = alike mid.lines new.lines line w.bound.lines refl
+          ∙ alike old.lines mid.lines (Found a) w.found.lines refl;
+    }

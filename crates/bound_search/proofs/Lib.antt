@@ -1,0 +1,12 @@
+pub mod BoardLaws
+pub mod MoreLines
+pub mod Decisions
+pub mod Chains
+pub mod Fewer
+pub mod Steps
+pub mod UseAxiom
+pub mod Learning
+pub mod Turning
+pub mod BoundLaws
+pub mod Finishing
+pub mod Splits

@@ -1,0 +1,6 @@
+pub mod Modes
+pub mod Boards
+pub mod Standing
+pub mod Engines
+pub mod BoundLists
+pub mod Ends

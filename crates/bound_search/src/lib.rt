@@ -1,0 +1,22 @@
+//! Branch and bound, the record of which is a run.
+//!
+//! - `engine`: what goes with the lines, and one function for each kind of line.
+//! - `solving`: from the beginning to the end.
+//! - `settling`: on to the next decision.
+//! - `lines`: lines up to the next fixpoint.
+//! - `bounding`: the lines behind a solution.
+//! - `board`: the boxes of a search, and what is still to be looked at in them.
+//! - `recent`: the clauses that each constraint made last.
+//! - `after`: what a search has come to behind a line.
+#![tactic(auto)]
+
+mod after;
+mod board;
+mod bounding;
+mod engine;
+mod lines;
+mod recent;
+mod settling;
+mod solving;
+
+pub use solving::{Ended, Limits, search};

@@ -1,0 +1,90 @@
+//! Lines up to the next fixpoint of a search.
+//!
+//! Constraints are asked before clauses. A constraint that says again what it said lately uses that
+//! clause; else its clause is written.
+ghost use Rattle.std.specs.Prelude.{◌≡◌, length, IfOk, OnOk, IfSome};
+ghost use Rattle.search_run.specs.Replay.{Going};
+ghost use Rattle.bound_search.specs.Standing.{IsReason};
+ghost use Rattle.bound_search.specs.Engines.{Shows, Reached, IsKept, IsTurn, DecideAlike, TurnOf, FixedIf};
+
+use crate::after::After;
+use crate::engine::{Engine, add_axiom, use_clause};
+use ground_form::Ground;
+use proof_log::Record;
+use rule_law::Kit;
+use signed_clause::Clause;
+use std::alloc::AllocError;
+
+/// Uses the clause that constraint `k` has to say, where it made it lately; else writes it.
+fn explain(
+    g: &Ground,
+    e: &mut Engine,
+    journal: &mut Record,
+    k: u32,
+    c: Clause,
+) -> Result<After, AllocError>
+    requires at { Shows g.now journal.old.lines e.old Going }
+    requires reason { IsReason g.now e.old.board.store.top.now k c }
+    ensures kept { IsKept g.now journal.old journal.new }
+    ensures at { IfOk result (λ a. Reached g.now journal.new.lines e.new a) }
+    ensures turn { IfOk result (λ a. IsTurn e.old e.new a) }
+    ensures alike { OnOk result (DecideAlike journal.old.lines journal.new.lines) }
+{
+    match e.recent.find(&e.clauses, k, &c) {
+        Some(n) => use_clause(g, e, journal, n),
+        None => add_axiom(g, e, journal, k, c),
+    }
+}
+
+/// One line, where a constraint or a clause has something to say; else it is a fixpoint.
+pub fn turn(
+    g: &Ground,
+    kit: &mut Kit,
+    e: &mut Engine,
+    journal: &mut Record,
+) -> Result<Option<After>, AllocError>
+    requires at { Shows g.now journal.old.lines e.old Going }
+    ensures kept { IsKept g.now journal.old journal.new }
+    ensures at { IfOk result (λ o. TurnOf g.now journal.new.lines e.new o) }
+    ensures turn { IfOk result (λ o. IfSome o (λ a. IsTurn e.old e.new a)) }
+    ensures below { OnOk result (length e.new.board.store.below
+        ≡ length e.old.board.store.below) }
+    ensures alike { OnOk result (DecideAlike journal.old.lines journal.new.lines) }
+{
+    if let Some((k, c)) = e.board.next_cause(e.alloc, g, kit)? {
+        let after = explain(g, e, journal, k, c)?;
+        return Ok(Some(after));
+    }
+    match e.board.next_clause(g)? {
+        None => Ok(None),
+        Some(n) => {
+            let after = use_clause(g, e, journal, n)?;
+            Ok(Some(after))
+        }
+    }
+}
+
+/// Lines up to a fixpoint, a conflict, or the end.
+pub fn propagate(
+    g: &Ground,
+    kit: &mut Kit,
+    e: &mut Engine,
+    journal: &mut Record,
+) -> Result<After, AllocError>
+    requires at { Shows g.now journal.old.lines e.old Going }
+    ensures kept { IsKept g.now journal.old journal.new }
+    ensures at { IfOk result (λ a. Reached g.now journal.new.lines e.new a) }
+    ensures fixed { IfOk result (λ a. FixedIf g.now e.new a) }
+    ensures below { OnOk result (length e.new.board.store.below
+        ≡ length e.old.board.store.below) }
+    ensures alike { OnOk result (DecideAlike journal.old.lines journal.new.lines) }
+{
+    'lines: loop {
+        match turn(g, kit, e, journal)? {
+            None => return Ok(After::Going),
+            Some(After::Going) => {}
+            Some(After::Conflict(n)) => return Ok(After::Conflict(n)),
+            Some(After::Closed) => return Ok(After::Closed),
+        }
+    }
+}

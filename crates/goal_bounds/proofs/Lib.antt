@@ -1,0 +1,2 @@
+pub mod WithForm
+pub mod BoundSteps
