@@ -19,14 +19,22 @@ fn boxes_of(alloc: Global, bits: &[u32]) -> Result<Vec<IntSet>, AllocError> {
     Ok(boxes)
 }
 
-/// Whether none of the boxes is empty.
+/// Whether the set has values.
+fn has_values(set: &IntSet) -> bool
+    ensures valid { IsValid set.now }
+    ensures some { result ≡ true → is_nil set.now ≡ false }
+{
+    set.ranges();
+    !set.is_empty()
+}
+
+/// Whether each of the boxes has.
 fn have_values(boxes: &[IntSet]) -> bool
     ensures sets { result ≡ true → All (λ s. IsValid s) boxes.now }
     ensures some { result ≡ true → All (λ s. is_nil s ≡ false) boxes.now }
 {
     for set in boxes {
-        set.ranges();
-        if set.is_empty() {
+        if !has_values(set) {
             return false;
         }
     }

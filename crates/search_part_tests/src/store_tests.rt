@@ -62,11 +62,12 @@ fn decide(
 
 /// Applies the clause, and whether that came to what the copied boxes say.
 fn apply(store: &mut Store, copies: &mut Copies, clause: &Clause) -> Result<bool, AllocError> {
-    if !has_boxes(clause, store.boxes()) || !has_boxes(clause, top(copies)) {
+    let boxes = top(copies);
+    if !has_boxes(clause, store.boxes()) || !has_boxes(clause, boxes) {
         return Ok(false);
     }
-    let is_false = clause.is_false(top(copies));
-    let unit = clause.unit(top(copies))?;
+    let is_false = clause.is_false(boxes);
+    let unit = clause.unit(boxes)?;
     let applied = store.apply(7, clause)?;
     Ok(match (applied, unit) {
         (Applied::Pruned(x), Some((y, set))) => {
@@ -99,8 +100,9 @@ fn step(
     let mut right = true;
     match numbers.below(8) {
         0 | 1 => {
-            if (x as usize) < top(copies).len() {
-                let half = set_of_bits(alloc, bits)?.meet(&top(copies)[x as usize])?;
+            let boxes = top(copies);
+            if (x as usize) < boxes.len() {
+                let half = set_of_bits(alloc, bits)?.meet(&boxes[x as usize])?;
                 decide(store, copies, x, &half, alloc)?;
             }
         }

@@ -78,10 +78,9 @@ fn undo(bench: &mut Bench) -> bool {
 
 /// Prunes by the clause of the number, where it is unit.
 fn prune(bench: &mut Bench, number: u64) -> Result<(), AllocError> {
+    let boxes = bench.watched.boxes();
     let unit = match bench.clauses.get(number) {
-        Some(clause) if has_boxes(clause, bench.watched.boxes()) => {
-            clause.unit(bench.watched.boxes())?
-        }
+        Some(clause) if has_boxes(clause, boxes) => clause.unit(boxes)?,
         _ => None,
     };
     if let Some((x, set)) = unit {
