@@ -1,7 +1,7 @@
 //! `Engine`, what a search keeps beside its record, and one function for each kind of line.
 //!
-//! Each function writes its line as soon as nothing but memory can be wanting, so that the lines are
-//! a run at every time.
+//! Each function writes its line as soon as nothing but memory can be wanting, so that the lines
+//! are a run at every time.
 ghost use Rattle.std.specs.Prelude.{◌≡◌, ◌<◌, ◌+◌, ◌*◌, true, length, IfOk, OnOk};
 ghost use Rattle.ground_form.specs.WellMade.{IsWellMade};
 ghost use Rattle.log_form.specs.Acceptance.{clause_at};
