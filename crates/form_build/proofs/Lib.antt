@@ -1,6 +1,7 @@
 pub mod Lists
 pub mod Growth
 pub mod Steps
+pub mod Flags
 pub mod Final
 pub mod Distributing
 pub mod MergedSums
@@ -9,4 +10,7 @@ pub mod ScaledBounds
 pub mod Linears
 pub mod Singles
 pub mod Fitting
+pub mod Joins
+pub mod ValuesMade
+pub mod Statements
 pub mod OwnVariables

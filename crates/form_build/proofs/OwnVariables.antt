@@ -30,23 +30,3 @@ variable_box x f boxes is h =
     let low = one_least x boxes (omega (arith, ints, wide)) in
     let high = one_greatest x boxes (omega (arith, ints, wide)) in
     (omega (arith, ints, least, low, is.offset), omega (arith, ints, greatest, high, is.offset))
-
--- the definition is the sum's, of terms and an offset that are its own
-moved : (f : Linear) (old new : Ground) (x : ℕ) (ts : List (ℤ × ℕ)) (offset : ℤ) → ts ≡ f.terms → offset ≡ f.offset → IsDefined old new x (linear_domain ts offset old.domains) (LinDef x ts offset) → IsDefined old new x (linear_domain f.terms f.offset old.domains) (LinDef x f.terms f.offset)
-moved f old new x ts offset e k d =
-    let one = subst (λ (z : List (ℤ × ℕ)). IsDefined old new x (linear_domain z offset old.domains) (LinDef x z offset)) e d in
-    subst (λ (v : ℤ). IsDefined old new x (linear_domain f.terms v old.domains) (LinDef x f.terms v)) k one
-
-pub made_there : (f : Linear) (old new : Ground) (x : ℕ) (ts : List (ℤ × ℕ)) (offset : ℤ) → ts ≡ f.terms → offset ≡ f.offset → IsDefined old new x (linear_domain ts offset old.domains) (LinDef x ts offset) → x < length new.domains
-made_there f old new x ts offset e k d = there_made f old new x (moved f old new x ts offset e k d)
-
-pub made_box : (f : Linear) (old new : Ground) (x : ℕ) (ts : List (ℤ × ℕ)) (offset : ℤ) → ts ≡ f.terms → offset ≡ f.offset → AreTerms old.domains 0 f.terms → IsDefined old new x (linear_domain ts offset old.domains) (LinDef x ts offset) → LiesWithin (least_linear f old.domains) (greatest_linear f old.domains) (box_of new.domains x)
-made_box f old new x ts offset e k h d =
-    let box = box_made f old new x h (moved f old new x ts offset e k d) in
-    let low = ap low_of box in
-    let high = ap high_of box in
-    (omega (arith, ints, low), omega (arith, ints, high))
-
-pub made_value : (f : Linear) (new : Ground) (x : ℕ) (ts : List (ℤ × ℕ)) (offset : ℤ) (a : List ℤ) → ts ≡ f.terms → offset ≡ f.offset → Means new x (λ b. sum_at ts b +ℤ offset) → IsWorld new a → value_of a x ≡ linear_at f a
-made_value f new x ts offset a e k m w =
-    m a w.defined ∙ ap (λ (z : List (ℤ × ℕ)). sum_at z a +ℤ offset) e ∙ ap (λ (v : ℤ). sum_at f.terms a +ℤ v) k

@@ -1,15 +1,16 @@
 -- Worlds of a ground problem in the making, and how it grows. What a reader believes after this
 -- file: what is said of every world of a problem is said of every world of one that it grows to,
 -- and what was added says exactly this of each world.
-use Rattle.std.specs.Prelude.{◌≡◌, ◌↔◌, ℕ, ◌+◌, ◌-◌, ◌^◌, ◌<◌, ◌≤◌, Bool, true, List, [], ◌++◌, ℤ, length, Contains}
+use Rattle.std.specs.Prelude.{◌≡◌, ◌↔◌, ℕ, ◌+◌, ◌-◌, ◌^◌, ◌<◌, ◌≤◌, Bool, true, false, List, [], ◌++◌, ℤ, pos, length, Contains}
 use Rattle.std.specs.List.{All}
-use Rattle.signed_clause.specs.Ranges.{has}
+use Rattle.signed_clause.specs.Ranges.{Ranges, has, is_nil}
 use Rattle.signed_clause.specs.Clauses.{Boxes, box_of}
 use Rattle.ground_form.specs.declared.con.Con.{Con}
 use Rattle.ground_form.specs.declared.ground.Ground.{Ground}
-use Rattle.ground_form.specs.Meaning.{value_of}
+use Rattle.ground_form.specs.Meaning.{value_of, bit}
+use Rattle.ground_form.specs.Bounds.{low_of, high_of}
 use Rattle.ground_form.specs.StandsFor.{IsDefinition}
-use Rattle.ground_build.specs.Growing.{IsOnlyExtension, AreTrue, AreDefined}
+use Rattle.ground_build.specs.Growing.{IsOnlyExtension, AreTrue, AreDefined, IsFlag}
 
 -- ---- worlds
 
@@ -60,6 +61,36 @@ pub record HasDefinition (g : Ground) (x : ℕ) (con : Con) : Type 0 where
   pub exists : x < length g.domains
   pub definition : IsDefinition g.search con
   pub has : Contains g.cons con
+
+-- f is a flag, and in every world it is this truth
+pub record IsFlagOf (g : Ground) (f : ℕ) (says : List ℤ → Bool) : Type 0 where
+  pub exists : f < length g.domains
+  pub flag : IsFlag g f
+  pub value : (a : List ℤ) → IsWorld g a → value_of a f ≡ bit (says a)
+
+-- x has a box from the least to the greatest, and in every world it is this value
+pub record IsVariableOf (g : Ground) (x : ℕ) (least greatest : ℤ) (says : List ℤ → ℤ) : Type 0 where
+  pub exists : x < length g.domains
+  pub low : low_of (box_of g.domains x) ≡ least
+  pub high : high_of (box_of g.domains x) ≡ greatest
+  pub value : (a : List ℤ) → IsWorld g a → value_of a x ≡ says a
+
+-- x has this box, and in every world it is the variable of the item whose value the index has
+pub record IsPickOf (g : Ground) (x : ℕ) (values : Ranges) (index : ℕ) (items : List (ℤ × ℕ)) : Type 0 where
+  pub exists : x < length g.domains
+  pub box : box_of g.domains x ≡ values
+  pub value : (a : List ℤ) → IsWorld g a → All (λ t. value_of a index ≡ t.0 → value_of a x ≡ value_of a t.1) items
+
+-- x has this box, and in every world it is the item where the flag is 1, and 0 where that is 0
+pub record IsItemWhere (g : Ground) (x : ℕ) (values : Ranges) (flag item : ℕ) : Type 0 where
+  pub exists : x < length g.domains
+  pub box : box_of g.domains x ≡ values
+  pub one : (a : List ℤ) → IsWorld g a → value_of a flag ≡ pos 1 → value_of a x ≡ value_of a item
+  pub nought : (a : List ℤ) → IsWorld g a → value_of a flag ≡ pos 0 → value_of a x ≡ pos 0
+
+-- no box is empty
+abbrev pub AreSome : Boxes → Type 0
+AreSome boxes = All (λ d. is_nil d ≡ false) boxes
 
 -- ---- how much was added
 

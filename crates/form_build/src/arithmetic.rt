@@ -9,12 +9,12 @@ ghost use Rattle.form_build.specs.Worlds.{IsWorld, Defines, IsFew};
 ghost use Rattle.form_build.specs.Sums.{least_linear, greatest_linear, IsLinear, IsSum};
 
 use crate::form::Linear;
+use crate::maker::Maker;
 use crate::settle::fit;
-use ground_build::Builder;
-use std::alloc::{AllocError, Global};
+use std::alloc::AllocError;
 
 /// Two sums together.
-pub fn plus(b: &mut Builder, alloc: Global, f: &Linear, g: &Linear) -> Result<Linear, AllocError>
+pub fn plus(b: &mut Maker, f: &Linear, g: &Linear) -> Result<Linear, AllocError>
     requires room { HasRoom b.old }
     requires left { IsLinear (2 ^ 58) b.old.domains f.now }
     requires right { IsLinear (2 ^ 58) b.old.domains g.now }
@@ -30,13 +30,13 @@ pub fn plus(b: &mut Builder, alloc: Global, f: &Linear, g: &Linear) -> Result<Li
     ensures adds { IfOk result (λ r. Defines b.old b.new) }
     ensures few { IfOk result (λ r. IsFew 1 b.old b.new) }
 {
-    let both = f.plus(alloc, g)?;
-    let r = fit(b, alloc, both)?;
+    let both = f.plus(b.alloc(), g)?;
+    let r = fit(b, both)?;
     Ok(r)
 }
 
 /// A sum less another.
-pub fn minus(b: &mut Builder, alloc: Global, f: &Linear, g: &Linear) -> Result<Linear, AllocError>
+pub fn minus(b: &mut Maker, f: &Linear, g: &Linear) -> Result<Linear, AllocError>
     requires room { HasRoom b.old }
     requires left { IsLinear (2 ^ 58) b.old.domains f.now }
     requires right { IsLinear (2 ^ 58) b.old.domains g.now }
@@ -52,7 +52,7 @@ pub fn minus(b: &mut Builder, alloc: Global, f: &Linear, g: &Linear) -> Result<L
     ensures adds { IfOk result (λ r. Defines b.old b.new) }
     ensures few { IfOk result (λ r. IsFew 1 b.old b.new) }
 {
-    let less = g.times(alloc, -1)?;
-    let r = plus(b, alloc, f, &less)?;
+    let less = g.times(b.alloc(), -1)?;
+    let r = plus(b, f, &less)?;
     Ok(r)
 }

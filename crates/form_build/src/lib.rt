@@ -4,22 +4,30 @@
 //! - `arithmetic`: plus and minus over a problem.
 //! - `form`: the forms.
 //! - `linear`: sums without a problem: numbers, variables, plus and times.
+//! - `maker`: a problem in the making, in which equal definitions are made once.
 //! - `settle`: sums over a problem: variables, and numbers that fit.
-//! - `shared`: definitions that are made once.
+//! - `shared`: flags that are defined once.
+//! - `sharing`: where definitions may stand.
+//! - `stated`: what is stated of every world.
 //! - `terms`: lists of terms, scaled and merged.
 //! - `truth`: truths turned.
+//! - `values`: values that are defined once.
 #![tactic(auto)]
 
 mod arithmetic;
 mod form;
 mod linear;
+mod maker;
 mod settle;
 mod shared;
+mod sharing;
+mod stated;
 mod terms;
 mod truth;
+mod values;
 
 pub use arithmetic::{minus, plus};
 pub use form::{Linear, Truth};
+pub use maker::Maker;
 pub use settle::{fit, settled, variable};
-pub use shared::member;
 pub use truth::turned;

@@ -13,13 +13,13 @@ ghost use Rattle.form_build.specs.Worlds.{IsInBoxes, IsWorld, Defines, IsFew};
 ghost use Rattle.form_build.specs.Sums.{linear_weight, least_linear, greatest_linear, IsLinear, LiesFrom, IsSum, IsVariable};
 
 use crate::form::Linear;
-use ground_build::Builder;
+use crate::maker::Maker;
 use ground_form::ends_of;
 use signed_clause::IntSet;
 use std::alloc::{AllocError, Global};
 
 /// The ends of a variable's box.
-fn ends_at(boxes: &[IntSet], x: u32) -> (i64, i64)
+pub(crate) fn ends_at(boxes: &[IntSet], x: u32) -> (i64, i64)
     requires { x < length boxes.now }
     ensures { result ≡ (low_of (box_of boxes.now x), high_of (box_of boxes.now x)) }
 {
@@ -36,7 +36,7 @@ fn alone(alloc: Global, x: u32) -> Result<Linear, AllocError>
 }
 
 /// A variable as a sum: a number where its box has one value.
-pub fn variable(alloc: Global, b: &Builder, x: u32) -> Result<Linear, AllocError>
+pub fn variable(b: &Maker, x: u32) -> Result<Linear, AllocError>
     requires exists { x < length b.now.domains }
     ensures value { IfOk result (λ r. (a : List ℤ)
         → IsInBoxes b.now.domains a → linear_at r a ≡ value_of a x) }
@@ -47,10 +47,10 @@ pub fn variable(alloc: Global, b: &Builder, x: u32) -> Result<Linear, AllocError
 {
     let ends = ends_at(b.domains(), x);
     if ends.0 < ends.1 {
-        let r = alone(alloc, x)?;
+        let r = alone(b.alloc(), x)?;
         Ok(r)
     } else {
-        Ok(Linear::number(alloc, ends.0))
+        Ok(Linear::number(b.alloc(), ends.0))
     }
 }
 
@@ -87,7 +87,7 @@ fn is_light(boxes: &[IntSet], f: &Linear) -> bool
 }
 
 /// The same sum with numbers that fit: itself, or a new variable that it is.
-pub fn fit(b: &mut Builder, alloc: Global, f: Linear) -> Result<Linear, AllocError>
+pub fn fit(b: &mut Maker, f: Linear) -> Result<Linear, AllocError>
     requires room { HasRoom b.old }
     requires linear { IsLinear (2 ^ 60) b.old.domains f }
     requires narrow { LiesFrom (neg_ℤ (pos (2 ^ 50))) (pos (2 ^ 50)) b.old.domains f }
@@ -101,8 +101,8 @@ pub fn fit(b: &mut Builder, alloc: Global, f: Linear) -> Result<Linear, AllocErr
     if is_light(b.domains(), &f) {
         return Ok(f);
     }
-    let x = b.linear(f.terms.items(), f.offset)?;
-    let r = alone(alloc, x)?;
+    let x = b.linear(&f)?;
+    let r = alone(b.alloc(), x)?;
     Ok(r)
 }
 
@@ -123,7 +123,7 @@ fn only_variable(f: &Linear) -> Option<u32>
 }
 
 /// A variable that is the sum: its own, where it is one, or a new one.
-pub fn settled(b: &mut Builder, f: &Linear) -> Result<u32, AllocError>
+pub fn settled(b: &mut Maker, f: &Linear) -> Result<u32, AllocError>
     requires room { HasRoom b.old }
     requires linear { IsLinear (2 ^ 60) b.old.domains f.now }
     ensures exists { IfOk result (λ x. x < length b.new.domains) }
@@ -138,6 +138,6 @@ pub fn settled(b: &mut Builder, f: &Linear) -> Result<u32, AllocError>
     if let Some(x) = only_variable(f) {
         return Ok(x);
     }
-    let x = b.linear(f.terms.items(), f.offset)?;
+    let x = b.linear(f)?;
     Ok(x)
 }
