@@ -1,0 +1,4 @@
+pub mod Inserting
+pub mod Pushing
+pub mod Roots
+pub mod Zeros

@@ -1,0 +1,2 @@
+pub mod Disjunctions
+pub mod Lines
