@@ -1,0 +1,4 @@
+pub mod CellLaws
+pub mod BoxFacts
+pub mod MemberLists
+pub mod Shapes

@@ -1,0 +1,3 @@
+pub mod FormValues
+pub mod FormBounds
+pub mod Standing

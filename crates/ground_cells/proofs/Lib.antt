@@ -1,0 +1,2 @@
+pub mod NumberRanges
+pub mod Points

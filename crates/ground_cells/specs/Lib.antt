@@ -1,0 +1,2 @@
+pub mod CellBoxes
+pub mod ExtentBoxes
