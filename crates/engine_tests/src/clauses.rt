@@ -22,10 +22,7 @@ use std::alloc::{AllocError, Global};
 pub(crate) struct Clauses;
 
 /// The words before and behind the bar of a text.
-pub(crate) fn two_lists(
-    alloc: Global,
-    text: &[u8],
-) -> Result<(Vec<&str>, Vec<&str>), Unread> {
+pub(crate) fn two_lists(alloc: Global, text: &[u8]) -> Result<(Vec<&str>, Vec<&str>), Unread> {
     let Some((left, right)) = str::from_utf8(text).unwrap_or("").split_once('|') else {
         return Err(Unread::Form);
     };
@@ -151,10 +148,7 @@ fn told(alloc: Global, ask: &str, text: &[u8]) -> Result<String, Unread> {
 }
 
 /// What came, or that the text is unread.
-pub(crate) fn answer_of(
-    alloc: Global,
-    told: Result<String, Unread>,
-) -> Result<String, AllocError> {
+pub(crate) fn answer_of(alloc: Global, told: Result<String, Unread>) -> Result<String, AllocError> {
     match told {
         Ok(text) => Ok(text),
         Err(Unread::Form) => String::from_str(alloc, "unread"),

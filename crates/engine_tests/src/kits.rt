@@ -66,12 +66,7 @@ fn problem_of(alloc: Global, text: &[u8]) -> Result<Ground, Unread> {
 }
 
 /// The clause of the kit in the boxes.
-fn pruned(
-    alloc: Global,
-    kit: &mut Kit,
-    g: &Ground,
-    boxes: &[IntSet],
-) -> Result<String, Unread> {
+fn pruned(alloc: Global, kit: &mut Kit, g: &Ground, boxes: &[IntSet]) -> Result<String, Unread> {
     if g.cons.items().is_empty() || !is_search_well_made(g, alloc)? {
         return Err(Unread::Form);
     }

@@ -73,11 +73,7 @@ fn load(alloc: Global, running: &mut RunningClause, words: &[&str]) -> Result<Cl
 }
 
 /// The clause on the table, where it is that of the list and leaves the table empty.
-fn taken(
-    alloc: Global,
-    running: &mut RunningClause,
-    list: &Clause,
-) -> Result<String, AllocError> {
+fn taken(alloc: Global, running: &mut RunningClause, list: &Clause) -> Result<String, AllocError> {
     let taken = running.take(alloc)?;
     let left = running.take(alloc)?;
     if !taken.same(list) || !left.is_empty() {
@@ -98,11 +94,7 @@ fn chain(alloc: Global, running: &mut RunningClause, text: &str) -> Result<Strin
 }
 
 /// Which of the variables are on the table.
-fn which(
-    alloc: Global,
-    running: &RunningClause,
-    words: &[&str],
-) -> Result<String, AllocError> {
+fn which(alloc: Global, running: &RunningClause, words: &[&str]) -> Result<String, AllocError> {
     let mut text = String::new(alloc);
     for word in words {
         let x = word.parse::<u32>().unwrap_or(u32::MAX);

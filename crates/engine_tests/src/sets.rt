@@ -60,14 +60,7 @@ fn pair_agrees(alloc: Global, values: &[i64], a: u32, b: u32) -> Result<bool, Al
 /// Six numbers, the first of them and those behind it; the last six where there are fewer.
 fn six_from(first: i64) -> [i64; 6] {
     let first = first.min(i64::MAX - 5);
-    [
-        first,
-        first + 1,
-        first + 2,
-        first + 3,
-        first + 4,
-        first + 5,
-    ]
+    [first, first + 1, first + 2, first + 3, first + 4, first + 5]
 }
 
 /// How many pairs of sets of six numbers, the first of them and those behind it, are as their

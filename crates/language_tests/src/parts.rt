@@ -41,12 +41,7 @@ fn filtered_bodies(model: &TypedModel) -> usize {
 }
 
 /// What a part comes to.
-fn told(
-    alloc: Global,
-    model: &TypedModel,
-    first: u32,
-    second: u32,
-) -> Result<String, AllocError> {
+fn told(alloc: Global, model: &TypedModel, first: u32, second: u32) -> Result<String, AllocError> {
     let Some(part) = part_of(alloc, model, first, second) else {
         return String::from_str(alloc, "none");
     };
@@ -60,7 +55,12 @@ impl Subject for Parts {
     fn answer(&mut self, alloc: Global, case: &Case<'_>) -> Result<String, AllocError> {
         let words = words_of(alloc, &case.text)?;
         match typed_of(alloc, &case.given) {
-            Some(typed) => told(alloc, &typed.model, number_at(&words, 0), number_at(&words, 1)),
+            Some(typed) => told(
+                alloc,
+                &typed.model,
+                number_at(&words, 0),
+                number_at(&words, 1),
+            ),
             None => String::from_str(alloc, "no model"),
         }
     }
