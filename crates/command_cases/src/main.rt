@@ -1,15 +1,21 @@
 //! Runs the command on the cases of files, and prints of each file how many came out as they say.
 //!
-//! The files lie in `data`; `cases` says how they are written. A case that came out otherwise is
-//! printed with its line and what the run printed and how it ended.
+//! The files lie in `data`; `cases` says how they are written, and `desks` what those ask that are
+//! about desks and limits. A case that came out otherwise is printed with its line and what the run
+//! printed and how it ended.
 #![tactic(auto)]
 
 mod cases;
+mod desks;
+mod runs;
 
 use crate::cases::{Case, cases_of};
-use confsolve_run::{Status, line_of, run};
-use desk_io::{RealDesk, SteadyDesk, read_all};
-use std::alloc::{AllocError, Global};
+use crate::runs::run_case;
+use case_files::run_file as run_desks;
+use desk_io::{RealDesk, read_all};
+use desks::Desks;
+use std::alloc::AllocError;
+use std::fs;
 use std::process::ExitCode;
 
 /// The files of cases.
@@ -20,62 +26,16 @@ const FILES: [&str; 4] = [
     "verified.cases",
 ];
 
-/// The words of a command.
-fn words(alloc: Global, texts: &[&str]) -> Result<Vec<String>, AllocError> {
-    texts
-        .iter()
-        .map(|text| String::from_str(alloc, text))
-        .try_collect(alloc)
-}
-
-/// What a run printed, and its status: the number, and the line where it has one.
-#[derive(Drop)]
-struct Outcome {
-    printed: Vec<u8>,
-    status: Vec<u8>,
-}
-
-/// The number of the status, and behind a space its line where it has one.
-fn text_of(alloc: Global, status: &Status) -> Result<Vec<u8>, AllocError> {
-    let number = status.number();
-    let mut text = format!(in alloc; "{number}")?.into_bytes();
-    let line = line_of(alloc, status)?;
-    if !line.is_empty() {
-        text.push(b' ')?;
-        text.extend_from_slice(&line)?;
-    }
-    Ok(text)
-}
-
-/// What comes of a case.
-fn run_case(alloc: Global, case: &Case<'_>) -> Result<Outcome, AllocError> {
-    let model = String::from_str(alloc, "m.conf")?;
-    let mut files = vec![in alloc; (model, case.model.to_vec(alloc)?)]?;
-    let words = match case.config {
-        None => words(alloc, &["solve", "m.conf"])?,
-        Some(config) => {
-            files.push((String::from_str(alloc, "c.json")?, config.to_vec(alloc)?))?;
-            words(alloc, &["verify", "m.conf", "c.json"])?
-        }
-    };
-    let mut desk = SteadyDesk::new(alloc, files);
-    let status = run(alloc, &words, &mut desk);
-    Ok(Outcome {
-        printed: desk.printed().to_vec(alloc)?,
-        status: text_of(alloc, &status)?,
-    })
-}
-
 /// Runs the case, and whether it came out as it says. Where it didn't, what came is printed.
 fn is_as_said(rt: &HostRuntime, file: &str, case: &Case<'_>) -> Result<bool, AllocError> {
     let alloc = rt.alloc();
     let came = run_case(alloc, case)?;
-    if came.printed.as_slice() == case.printed.as_slice() && came.status.as_slice() == case.status {
+    if came.printed.as_slice() == case.printed.as_slice() && came.status.as_bytes() == case.status {
         return Ok(true);
     }
     let line = case.line;
     let printed = String::from_utf8_lossy(alloc, &came.printed)?;
-    let status = String::from_utf8_lossy(alloc, &came.status)?;
+    let status = came.status;
     let _ = println!(rt; "{file}:{line}: printed\n{printed}and ended with '{status}'");
     Ok(false)
 }
@@ -109,6 +69,9 @@ fn run_files(rt: &HostRuntime) -> Result<(), AllocError> {
     for file in FILES {
         run_file(rt, &mut desk, file)?;
     }
+    run_desks(rt, "desks.cases", &mut Desks::new(rt.clone()?))?;
+    run_desks(rt, "limits.cases", &mut Desks::new(rt.clone()?))?;
+    let _ = fs::remove_file(rt, "desk_io.txt");
     Ok(())
 }
 

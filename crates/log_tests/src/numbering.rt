@@ -1,4 +1,7 @@
-//! What no clause says: that the calls succeed.
+//! Clauses by number. `owned` asks whether a clause that is kept is owned twice, and is the same;
+//! `numbers` for the numbers of three clauses, what is found under the numbers 0 to 4, and the steps
+//! of a chain.
+use case_files::push_word;
 use numbered_clauses::{Chain, ChainSteps, Clauses};
 use signed_clause::{Clause, ClauseHandle, IntSet};
 use std::alloc::{AllocError, Global};
@@ -11,48 +14,60 @@ fn clause_of(alloc: Global, x: u32, v: i64) -> Result<ClauseHandle, AllocError> 
     ClauseHandle::of(alloc, clause).map_err(|_| AllocError)
 }
 
-#[test]
-fn a_clause_that_is_kept_twice_is_owned_twice(rt: HostRuntime) -> Result<(), AllocError> {
-    let alloc = rt.alloc();
+/// Whether a clause that is kept is owned twice, one that isn't is owned once, and the one that is
+/// kept is the same.
+pub(crate) fn owned_twice(alloc: Global) -> Result<String, AllocError> {
     let mut clauses = Clauses::new(alloc);
     let clause = clause_of(alloc, 2, 7)?;
     clauses.push(clause.copy()?)?;
     let Err(clause) = clause.into_clause() else {
-        return Err(AllocError);
+        return String::from_str(alloc, "owned once");
     };
-    let of_one = clause_of(alloc, 2, 7)?.into_clause();
-    assert!(rt; of_one.is_ok());
-    for kept in clauses.get(0) {
-        assert!(rt; kept.same(clause.clause()));
-    }
-    Ok(())
+    let alone = clause_of(alloc, 2, 7)?.into_clause().is_ok();
+    let same = match clauses.get(0) {
+        Some(kept) => kept.same(clause.clause()),
+        None => false,
+    };
+    format!(in alloc; "owned twice, the other once {alone}, the same {same}")
 }
 
-#[test]
-fn clauses_are_found_by_number(rt: HostRuntime) -> Result<(), AllocError> {
-    let alloc = rt.alloc();
+/// The variable of the clause of a number, and how many literals it has behind its handle.
+fn found_at(alloc: Global, clauses: &Clauses, k: u64) -> Result<String, AllocError> {
+    let variable = match clauses.get(k) {
+        Some(clause) => clause.literals().first().map(|l| l.0),
+        None => None,
+    };
+    let count = clauses.handle(k).map(|c| c.clause().literals().len());
+    format!(in alloc; "{variable:?}-{count:?}")
+}
+
+/// Three clauses by number, and the steps of a chain.
+pub(crate) fn found(alloc: Global) -> Result<String, AllocError> {
     let mut clauses = Clauses::new(alloc);
+    let mut text = String::new(alloc);
     for k in 0..3u32 {
-        let c = clause_of(alloc, k, 7)?;
-        assert_eq!(rt; clauses.push(c)?, k as u64);
-    }
-    assert_eq!(rt; clauses.count(), 3);
-    for k in 0..5u64 {
-        let variable = clauses.get(k).map(|c| c.literals().first().map(|l| l.0));
-        let expected = if k < 3 { Some(Some(k as u32)) } else { None };
-        assert_eq!(rt; variable, expected, "clause {k}");
+        let clause = clause_of(alloc, k, 7)?;
+        let number = clauses.push(clause)?;
+        push_word(&mut text, &format!(in alloc; "{number}")?)?;
     }
     for k in 0..5u64 {
-        let kept = clauses.handle(k).map(|c| c.clause().literals().len());
-        let expected = if k < 3 { Some(1) } else { None };
-        assert_eq!(rt; kept, expected, "handle of clause {k}");
+        push_word(&mut text, &found_at(alloc, &clauses, k)?)?;
     }
+    let count = clauses.count();
+    push_word(&mut text, &format!(in alloc; "of {count}")?)?;
+    push_word(&mut text, &steps(alloc)?)?;
+    Ok(text)
+}
+
+/// The steps of a chain, and how many a copy has.
+fn steps(alloc: Global) -> Result<String, AllocError> {
     let steps = ChainSteps::of(vec![in alloc; (0u32, 4u64), (2, 1)]?);
     let chain = Chain {
         first: 9,
         steps: steps.copy()?,
     };
-    assert_eq!(rt; chain.steps.items(), [(0, 4), (2, 1)].as_slice());
-    assert_eq!(rt; steps.into_items().len(), 2);
-    Ok(())
+    let items = chain.steps.items();
+    let text = format!(in alloc; "{items:?}")?;
+    let count = steps.into_items().len();
+    format!(in alloc; "{text} {count}")
 }

@@ -5,12 +5,12 @@
 ghost use Rattle.std.specs.Prelude.{◌≡◌, ◌<◌, true, length, IfOk};
 ghost use Rattle.ground_form.specs.WellMade.{IsWellMade};
 
-use crate::prober::Prober;
 use crate::tables::nth_boxes;
+use given_problems::{Prober, Unread};
 use ground_check::is_search_well_made;
 use ground_form::{Con, Cons, Domains, Goals, Ground, copy_sets, kind_of};
 use rule_law::{Propagator, are_boxes_within, justified};
-use signed_clause::IntSet;
+use signed_clause::{Clause, IntSet};
 use std::alloc::{AllocError, Global};
 
 /// The number of the constraint that is asked about.
@@ -81,6 +81,40 @@ pub(crate) fn ask<P: Propagator>(
     }
 }
 
+/// What one call comes to in any boxes; Wrong where the problem may not be asked about.
+pub(crate) fn ask_in<P: Propagator>(
+    p: &mut P,
+    g: &Ground,
+    boxes: &[IntSet],
+    alloc: Global,
+) -> Result<Turn, AllocError> {
+    if !is_askable(g, alloc)? {
+        return Ok(Turn::Wrong);
+    }
+    let turn = ask(p, g, boxes)?;
+    Ok(turn)
+}
+
+/// The clause of one call.
+///
+/// # Errors
+/// `Form` where the problem or the boxes may not be asked about; want of memory.
+pub(crate) fn answer_in<P: Propagator>(
+    p: &mut P,
+    g: &Ground,
+    boxes: &[IntSet],
+    alloc: Global,
+) -> Result<Option<Clause>, Unread> {
+    if !is_askable(g, alloc)? || !are_boxes_within(g.domains.items(), boxes) {
+        return Err(Unread::Form);
+    }
+    if !p.handles(kind_of(&g.cons.items()[ASKED as usize])) {
+        return Err(Unread::Form);
+    }
+    let answer = p.prune(g, ASKED, boxes)?;
+    Ok(answer)
+}
+
 /// What many calls come to.
 #[derive(Drop)]
 pub(crate) enum Settled {
@@ -119,14 +153,6 @@ fn settle<P: Propagator>(
 /// Whether both have the same sets.
 fn are_same(a: &[IntSet], b: &[IntSet]) -> bool {
     a.len() == b.len() && a.iter().zip(b).all(|(s, t)| s.same(t))
-}
-
-/// Whether these sets are left.
-pub(crate) fn is_left(settled: &Settled, wanted: &[IntSet]) -> bool {
-    match settled {
-        Settled::Left(sets) => are_same(sets.as_slice(), wanted),
-        _ => false,
-    }
 }
 
 /// What the propagator leaves of the boxes; Wrong where plain probing leaves something else.

@@ -1,4 +1,5 @@
 //! The boxes of a table, and the kinds of constraints.
+use case_files::push_word;
 use ground_form::Kind;
 use rule_law::Propagator;
 use signed_clause::IntSet;
@@ -31,29 +32,28 @@ pub(crate) fn nth_boxes(
     Ok(boxes)
 }
 
-/// The set of the numbers from the one to the other.
-pub(crate) fn span(alloc: Global, ends: (i64, i64)) -> IntSet {
-    if ends.0 <= ends.1 {
-        IntSet::range(alloc, ends.0, ends.1)
-    } else {
-        IntSet::empty(alloc)
-    }
-}
+/// All kinds.
+const KINDS: [Kind; 11] = [
+    Kind::LinLe,
+    Kind::LinDef,
+    Kind::ReifLe,
+    Kind::AndDef,
+    Kind::MemberDef,
+    Kind::EqDef,
+    Kind::ElementDef,
+    Kind::CondDef,
+    Kind::ClauseCon,
+    Kind::AllDiff,
+    Kind::Pack,
+];
 
-/// How many kinds the propagator handles.
-pub(crate) fn count_handled<P: Propagator>(p: &P) -> usize {
-    let kinds = [
-        Kind::LinLe,
-        Kind::LinDef,
-        Kind::ReifLe,
-        Kind::AndDef,
-        Kind::MemberDef,
-        Kind::EqDef,
-        Kind::ElementDef,
-        Kind::CondDef,
-        Kind::ClauseCon,
-        Kind::AllDiff,
-        Kind::Pack,
-    ];
-    kinds.iter().filter(|k| p.handles(**k)).count()
+/// The kinds that the propagator handles.
+pub(crate) fn handled_kinds<P: Propagator>(alloc: Global, p: &P) -> Result<String, AllocError> {
+    let mut text = String::new(alloc);
+    for kind in KINDS {
+        if p.handles(kind) {
+            push_word(&mut text, &format!(in alloc; "{kind:?}")?)?;
+        }
+    }
+    Ok(text)
 }
