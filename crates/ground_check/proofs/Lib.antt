@@ -1,3 +1,4 @@
 pub mod Making
 pub mod EachKind
 pub mod Problems
+pub mod Definitions
