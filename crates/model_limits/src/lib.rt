@@ -30,7 +30,7 @@ pub const MOST_WEIGHT: u64 = 2_000_000;
 pub const MOST_WIDTH: i64 = 1_125_899_906_842_624;
 
 /// The least number of `int`.
-pub const LEAST_INT: i32 = -1_048_576;
+pub const LEAST_INT: i64 = -1_048_576;
 
 /// The greatest number of `int`.
-pub const GREATEST_INT: i32 = 1_048_575;
+pub const GREATEST_INT: i64 = 1_048_575;
