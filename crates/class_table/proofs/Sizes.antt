@@ -2,6 +2,7 @@
 use Rattle.std.proofs.Common.{ℕ, zero, suc, ◌≤◌, List, [], ◌∷◌, ◌++◌, length, ap, arith, length-append}
 use Rattle.std.specs.Prelude.{Contains}
 use Rattle.std.specs.List.{flat_map}
+use Rattle.model_limits.specs.Limits.{model_bytes}
 use Rattle.conf_syntax.specs.declared.token.Ident.{Ident}
 use Rattle.conf_syntax.specs.declared.token.Key.TheVariants as key
 use Rattle.conf_syntax.specs.declared.token.Mark.TheVariants as mark
@@ -73,7 +74,7 @@ enumerations_le (item.Var x ∷ is) d c = append_le (item_tokens (item.Var x)) (
 enumerations_le (item.Where x ∷ is) d c = append_le (item_tokens (item.Where x)) (flat_map item_tokens is) (length d.values) (enumerations_le is d c)
 enumerations_le (item.Goal x ∷ is) d c = append_le (item_tokens (item.Goal x)) (flat_map item_tokens is) (length d.values) (enumerations_le is d c)
 
-pub small : (items : List Item) → length (flat_map item_tokens items) ≤ 1048576 → IsSmall items
+pub small : (items : List Item) → length (flat_map item_tokens items) ≤ model_bytes → IsSmall items
 small items h =
     record {
       items_few = let a = items_le items in omega arith;

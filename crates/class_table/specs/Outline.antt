@@ -2,6 +2,7 @@
 -- A table is seen as its program's outline.
 use Rattle.std.specs.Prelude.{ℕ, Bool, true, false, List, [], Option, None, Some, ℤ, pos, neg_ℤ, length, map, slice_get}
 use Rattle.std.specs.Option.{option_map_or}
+use Rattle.model_limits.specs.Limits.{least_int, greatest_int}
 use Rattle.conf_syntax.specs.declared.token.Ident.{Ident}
 use Rattle.conf_syntax.specs.declared.tree.Bound.{Bound}
 use Rattle.conf_syntax.specs.declared.tree.ClassDecl.{ClassDecl}
@@ -35,9 +36,9 @@ signed false n = pos n
 abbrev pub bound_value : Bound → ℤ
 bound_value b = signed b.minus b.value
 
--- `int` is from -1048576 to 1048575
+-- `int` has the numbers between two limits
 abbrev pub any_int : Resolved
-any_int = Span (neg_ℤ (pos 1048576)) (pos 1048575)
+any_int = Span least_int greatest_int
 
 -- what a shape is taken for where a fault stands in it
 abbrev pub unresolved : Resolved

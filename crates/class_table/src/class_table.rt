@@ -2,6 +2,7 @@
 //!
 //! `ClassTable::build` makes it. All other methods read it: none takes memory, and none searches a list by a name.
 ghost use Rattle.std.specs.Prelude.{◌≡◌, ◌<◌, ◌≤◌, ◌^◌, ℕ, List, [], None, Some, All, length, map, slice_get, slice_index_or, position, option_copied, IfSome, IfOk, IfErr, OnOk};
+ghost use Rattle.model_limits.specs.Limits.{model_bytes};
 ghost use Rattle.class_table.specs.declared.table.Variable.{Variable as AVariable};
 ghost use Rattle.class_table.specs.declared.table.Class.{Class as AClass};
 ghost use Rattle.class_table.specs.declared.table.Enumeration.{Enumeration as AnEnumeration};
@@ -93,7 +94,7 @@ impl ClassTable {
     /// A fault that stands in the declarations, at its place; `Memory` where there is none left. No
     /// fault is passed over: where one stands, there is no table.
     pub fn build(alloc: Global, program: &Program) -> Result<Self, TableFault>
-        requires tokens { length (program_tokens program.now) ≤ 1048576 }
+        requires tokens { length (program_tokens program.now) ≤ model_bytes }
         requires words { AreWords (program_tokens program.now) }
         ensures table { IfOk result (λ table. table ≡ outline program.now.items) }
         ensures right { OnOk result ((fault : AFault) → Stands program.now.items fault → ⊥) }

@@ -12,6 +12,7 @@ ghost use Rattle.class_table.specs.Faults.{OnFault, is_abstract, abstract_object
 use crate::names::{Meaning, Space};
 use crate::{Class, Enumeration, Resolved, TableFault, Values, Variable, Variables};
 use conf_syntax::{Bound, ClassDecl, EnumDecl, Ident, Member, Name, Shape, VarDecl};
+use model_limits::{GREATEST_INT, LEAST_INT};
 use std::alloc::Global;
 
 /// What a name means.
@@ -132,7 +133,7 @@ fn shape_of(names: &Space, decls: &[&ClassDecl], shape: &Shape) -> Result<Resolv
 {
     match shape {
         Shape::Range(low, high) => span(low, high),
-        Shape::Int => Ok(Resolved::Span(-1_048_576, 1_048_575)),
+        Shape::Int => Ok(Resolved::Span(LEAST_INT, GREATEST_INT)),
         Shape::Bool => Ok(Resolved::Truth),
         Shape::Named(ident) => named(names, decls, ident),
         Shape::Many(ident, count) => many(names, decls, ident, *count),

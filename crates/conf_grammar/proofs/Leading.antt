@@ -1,6 +1,7 @@
 -- How readers of parts are put together.
 use Rattle.std.proofs.Common.{◌≡◌, ◌≤◌, ◌<◌, ◌+◌, ◌-◌, ℕ, true, false, cond, List, [], ◌∷◌, refl, sym, ◌∙◌, ap, subst, arith, max, Option, None, Some, nat_le, length}
 use Rattle.std.proofs.lemmas.Bool.{cond-true, cond-false, le-leb, lt-leb}
+use Rattle.model_limits.specs.Limits.{most_nesting}
 use Rattle.conf_syntax.specs.declared.token.Mark.TheVariants as mark
 use Rattle.conf_syntax.specs.declared.token.Token.{Token}
 use Rattle.conf_syntax.specs.declared.token.Token.TheVariants.{Word, Mark}
@@ -8,7 +9,7 @@ use Rattle.conf_syntax.specs.declared.tree.Op.{Op}
 use Rattle.conf_syntax.specs.Trees.{op_token}
 use Rattle.conf_syntax.specs.Plain.{Sign, Tree, Leaf, Round, Dot, Under, Two, Single, Head, HeadIf, First, Then, Begin, ALeaf, ASign, AParen, NoBegin, begin_by, sign_level, leaf_level, level, right_level, nest, nesting}
 use Rattle.conf_grammar.specs.Machine.{Ground, Frame, InRight, InUnder, InRound, InOver, InFilter, InFirst, InSingle, InThen, State, Need, Have, Dotted, slot, slots, Going, AnOp, ADot, NoGoing, going, left_of, goes, gone_by, gone, closes, have, where_room, need_by, need, dot_name, step, word, completed, ended, hole, filled, opened, close, Wrong, Deep, onward, reading}
-use Rattle.conf_grammar.specs.Leads.{limit, side, base, Fits, Place, at, Leads, Shown, WrongAt, DeepAt, shown, Refuses, goes_on, IsNot, IsNotWord}
+use Rattle.conf_grammar.specs.Leads.{side, base, Fits, Place, at, Leads, Shown, WrongAt, DeepAt, shown, Refuses, goes_on, IsNot, IsNotWord}
 use Rattle.conf_grammar.proofs.Homes.{ground_nest}
 use Rattle.conf_grammar.proofs.Complete.{nest_some, filled_nest, opened_nest}
 use Rattle.conf_grammar.proofs.Steps.{goes_parts, level_most, op_is, dot_is}
@@ -26,29 +27,29 @@ close_nest (InSingle h ∷ fs) p v = close_nest fs p (Single h v) ∙ omega arit
 close_nest (InThen b ∷ fs) p v = close_nest fs p (filled (Then b v)) ∙ omega (arith, filled_nest (Then b v))
 
 -- one step of reading
-pub moves : (token : Token) (rest : List Token) (s s' : State) → step s token ≡ Some s' → nesting (completed s') ≤ limit → reading (token ∷ rest) limit s ≡ reading rest limit s'
+pub moves : (token : Token) (rest : List Token) (s s' : State) → step s token ≡ Some s' → nesting (completed s') ≤ most_nesting → reading (token ∷ rest) most_nesting s ≡ reading rest most_nesting s'
 moves token rest s s' e n =
-    ap (λ (o : Option State). onward limit o (token ∷ rest) (λ y. reading rest limit y)) e
-    ∙ cond-true (nat_le (nesting (completed s')) limit) (reading rest limit s') (Deep (token ∷ rest)) (le-leb (nesting (completed s')) limit n)
+    ap (λ (o : Option State). onward most_nesting o (token ∷ rest) (λ y. reading rest most_nesting y)) e
+    ∙ cond-true (nat_le (nesting (completed s')) most_nesting) (reading rest most_nesting s') (Deep (token ∷ rest)) (le-leb (nesting (completed s')) most_nesting n)
 
-pub sinks : (token : Token) (rest : List Token) (s s' : State) → step s token ≡ Some s' → limit < nesting (completed s') → reading (token ∷ rest) limit s ≡ Deep (token ∷ rest)
+pub sinks : (token : Token) (rest : List Token) (s s' : State) → step s token ≡ Some s' → most_nesting < nesting (completed s') → reading (token ∷ rest) most_nesting s ≡ Deep (token ∷ rest)
 sinks token rest s s' e n =
-    ap (λ (o : Option State). onward limit o (token ∷ rest) (λ y. reading rest limit y)) e
-    ∙ cond-false (nat_le (nesting (completed s')) limit) (reading rest limit s') (Deep (token ∷ rest)) (lt-leb (nesting (completed s')) limit n)
+    ap (λ (o : Option State). onward most_nesting o (token ∷ rest) (λ y. reading rest most_nesting y)) e
+    ∙ cond-false (nat_le (nesting (completed s')) most_nesting) (reading rest most_nesting s') (Deep (token ∷ rest)) (lt-leb (nesting (completed s')) most_nesting n)
 
-pub halts : (token : Token) (rest : List Token) (s : State) → step s token ≡ None → reading (token ∷ rest) limit s ≡ Wrong (token ∷ rest)
-halts token rest s e = ap (λ (o : Option State). onward limit o (token ∷ rest) (λ y. reading rest limit y)) e
+pub halts : (token : Token) (rest : List Token) (s : State) → step s token ≡ None → reading (token ∷ rest) most_nesting s ≡ Wrong (token ∷ rest)
+halts token rest s e = ap (λ (o : Option State). onward most_nesting o (token ∷ rest) (λ y. reading rest most_nesting y)) e
 
 -- where a token leads, two states are as good as one another
-pub same_step : (tokens : List Token) (s s' : State) → ended s ≡ ended s' → ((token : Token) (rest : List Token) → tokens ≡ token ∷ rest → step s token ≡ step s' token) → reading tokens limit s ≡ reading tokens limit s'
+pub same_step : (tokens : List Token) (s s' : State) → ended s ≡ ended s' → ((token : Token) (rest : List Token) → tokens ≡ token ∷ rest → step s token ≡ step s' token) → reading tokens most_nesting s ≡ reading tokens most_nesting s'
 same_step [] s s' e h = e
-same_step (token ∷ rest) s s' e h = ap (λ (o : Option State). onward limit o (token ∷ rest) (λ y. reading rest limit y)) (h token rest refl)
+same_step (token ∷ rest) s s' e h = ap (λ (o : Option State). onward most_nesting o (token ∷ rest) (λ y. reading rest most_nesting y)) (h token rest refl)
 
 module _ (p : Ground) (fs : List Frame) (least room : ℕ) (f : Fits p fs least room) where
-  pub holds : (v : Tree) → nest v ≤ room → nesting (close fs p v) ≤ limit
+  pub holds : (v : Tree) → nest v ≤ room → nesting (close fs p v) ≤ most_nesting
   holds v h = let a = f.deep in let b = f.low in rw (close_nest fs p v) (omega arith)
 
-  pub bursts : (v : Tree) → room < nest v → limit < nesting (close fs p v)
+  pub bursts : (v : Tree) → room < nest v → most_nesting < nesting (close fs p v)
   bursts v h = let a = f.deep in let b = f.low in rw (close_nest fs p v) (omega arith)
 
   pub inside : (x : Frame) → 1 + side x ≤ room → Fits p (x ∷ fs) (slot x) (room - 1)
@@ -145,7 +146,7 @@ paren_unclosed least room v token after rest b h k i g c =
 -- signs
 drops : (least room : ℕ) (x : Frame) (v w : Tree) (tokens : List Token) → ((p : Ground) (fs : List Frame) (token : Token) → have (x ∷ fs) p v token ≡ cond (goes (slot x) (level v) token) (Some (gone p (x ∷ fs) v token)) (have fs p w token)) → goes_on (slot x) (level v) tokens ≡ false → Leads least room (λ p fs. Have p (x ∷ fs) v) tokens (at w) tokens
 drops least room x v w [] e g = record { is = λ p fs f. refl }
-drops least room x v w (token ∷ rest) e g = record { is = λ p fs f. ap (λ (o : Option State). onward limit o (token ∷ rest) (λ y. reading rest limit y)) (e p fs token ∙ cond-false (goes (slot x) (level v) token) (Some (gone p (x ∷ fs) v token)) (have fs p w token) g) }
+drops least room x v w (token ∷ rest) e g = record { is = λ p fs f. ap (λ (o : Option State). onward most_nesting o (token ∷ rest) (λ y. reading rest most_nesting y)) (e p fs token ∙ cond-false (goes (slot x) (level v) token) (Some (gone p (x ∷ fs) v token)) (have fs p w token) g) }
 
 pub sign_leads : (least room : ℕ) (s : Sign) (v : Tree) (token : Token) (after rest : List Token) → begin_by token ≡ ASign s → least ≤ sign_level s → 2 ≤ room → Leads (sign_level s) (room - 1) Need after (at v) rest → goes_on (sign_level s) (level v) rest ≡ false → Leads least room Need (token ∷ after) (at (Under s v)) rest
 sign_leads least room s v token after rest b h k i g =

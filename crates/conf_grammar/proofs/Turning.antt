@@ -1,6 +1,7 @@
 -- How readers of declarations are put together.
 use Rattle.std.proofs.Common.{◌≡◌, ◌≤◌, ℕ, true, false, Bool, cond, ◌&&◌, List, [], ◌∷◌, ◌++◌, refl, sym, ◌∙◌, ap, subst, append_assoc, append-nil, arith, None, Some, length}
 use Rattle.std.proofs.lemmas.Bool.{cond-true, cond-false, and_parts}
+use Rattle.model_limits.specs.Limits.{most_nesting}
 use Rattle.conf_syntax.specs.declared.token.Key.TheVariants as key
 use Rattle.conf_syntax.specs.declared.token.Mark.TheVariants as mark
 use Rattle.conf_syntax.specs.declared.token.Token.{Token}
@@ -9,7 +10,7 @@ use Rattle.conf_syntax.specs.Plain.{Shape, Range, Int, Named, Counted, End, EndO
 use Rattle.conf_grammar.specs.declared.piece.Piece.{Piece}
 use Rattle.conf_grammar.specs.Machine.{Home, Corner, Line, EnumLine, ValueLine, AbstractLine, ClassLine, ParentLine, VarLine, LowLine, DotsLine, HighLine, EndLine, RefLine, CountLine, State, At, Row, takes, takes_all, leasts, pieces_of, home_with, home_done, arrive, settle, step, corner_done, completed, reading}
 use Rattle.conf_grammar.specs.Fronts.{line_done}
-use Rattle.conf_grammar.specs.Leads.{limit, Turns, Fails, Shown, WrongAt, shown, missed}
+use Rattle.conf_grammar.specs.Leads.{Turns, Fails, Shown, WrongAt, shown, missed}
 use Rattle.conf_grammar.proofs.Homes.{with_nest}
 use Rattle.conf_grammar.proofs.Complete.{takes_leasts}
 use Rattle.conf_grammar.proofs.Leading.{moves, halts}
@@ -92,8 +93,8 @@ level_on : (w : Piece) (ws : List Piece) (read : List Token) (l : Line) (token :
 level_on w ws read l token e r = λ ts h. subst (λ (x : List Token). nesting (corner_done (arrive l x)) ≡ nesting (line_done l)) (sym (append_assoc read (token ∷ []) ts)) (r (token ∷ ts) (ap (λ (x : Bool). x && takes_all ws ts) e ∙ h))
 
 -- a row that is read
-row_reads : (ws : List Piece) (read : List Token) (l : Line) (ts rest : List Token) → IsLevel ws read l → takes_all ws ts ≡ true → nesting (line_done l) ≤ limit → reading (ts ++ rest) limit (settle ws read l) ≡ reading rest limit (At (arrive l (read ++ ts)))
-row_reads [] read l [] rest r e n = ap (λ (x : List Token). reading rest limit (At (arrive l x))) (sym (append-nil read))
+row_reads : (ws : List Piece) (read : List Token) (l : Line) (ts rest : List Token) → IsLevel ws read l → takes_all ws ts ≡ true → nesting (line_done l) ≤ most_nesting → reading (ts ++ rest) most_nesting (settle ws read l) ≡ reading rest most_nesting (At (arrive l (read ++ ts)))
+row_reads [] read l [] rest r e n = ap (λ (x : List Token). reading rest most_nesting (At (arrive l x))) (sym (append-nil read))
 row_reads [] read l (t ∷ ts) rest r e n = absurd cc
 row_reads (w ∷ ws) read l [] rest r e n = absurd cc
 row_reads (w ∷ ws) read l (t ∷ ts) rest r e n =
@@ -101,32 +102,32 @@ row_reads (w ∷ ws) read l (t ∷ ts) rest r e n =
     let q = level_on w ws read l t a.0 r in
     moves t (ts ++ rest) (Row (w ∷ ws) read l) (settle ws (read ++ (t ∷ [])) l) (cond-true (takes w t) (Some (settle ws (read ++ (t ∷ [])) l)) None a.0) (omega (arith, settle_level ws (read ++ (t ∷ [])) l q))
     ∙ row_reads ws (read ++ (t ∷ [])) l ts rest q a.1 n
-    ∙ ap (λ (x : List Token). reading rest limit (At (arrive l x))) (append_assoc read (t ∷ []) ts)
+    ∙ ap (λ (x : List Token). reading rest most_nesting (At (arrive l x))) (append_assoc read (t ∷ []) ts)
 
 -- a row that is missed
 some_is : (a b : ℕ) → Some a ≡ Some b → WrongAt a ≡ WrongAt b
 some_is a b e = cc
 
-row_missed : (b : Bool) (w : Piece) (ws : List Piece) (read : List Token) (l : Line) (t : Token) (ts : List Token) (k : ℕ) → takes w t ≡ b → IsLevel (w ∷ ws) read l → cond b (missed ws ts) (Some (length (t ∷ ts))) ≡ Some k → nesting (line_done l) ≤ limit → (IsLevel ws (read ++ (t ∷ [])) l → missed ws ts ≡ Some k → shown (reading ts limit (settle ws (read ++ (t ∷ [])) l)) ≡ WrongAt k) → shown (reading (t ∷ ts) limit (Row (w ∷ ws) read l)) ≡ WrongAt k
+row_missed : (b : Bool) (w : Piece) (ws : List Piece) (read : List Token) (l : Line) (t : Token) (ts : List Token) (k : ℕ) → takes w t ≡ b → IsLevel (w ∷ ws) read l → cond b (missed ws ts) (Some (length (t ∷ ts))) ≡ Some k → nesting (line_done l) ≤ most_nesting → (IsLevel ws (read ++ (t ∷ [])) l → missed ws ts ≡ Some k → shown (reading ts most_nesting (settle ws (read ++ (t ∷ [])) l)) ≡ WrongAt k) → shown (reading (t ∷ ts) most_nesting (Row (w ∷ ws) read l)) ≡ WrongAt k
 row_missed true w ws read l t ts k a r e n next =
     let q = level_on w ws read l t a r in
     ap shown (moves t ts (Row (w ∷ ws) read l) (settle ws (read ++ (t ∷ [])) l) (cond-true (takes w t) (Some (settle ws (read ++ (t ∷ [])) l)) None a) (omega (arith, settle_level ws (read ++ (t ∷ [])) l q)))
     ∙ next q e
 row_missed false w ws read l t ts k a r e n next = ap shown (halts t ts (Row (w ∷ ws) read l) (cond-false (takes w t) (Some (settle ws (read ++ (t ∷ [])) l)) None a)) ∙ some_is (length (t ∷ ts)) k e
 
-row_misses : (ws : List Piece) (read : List Token) (l : Line) (tokens : List Token) (k : ℕ) → IsLevel ws read l → missed ws tokens ≡ Some k → nesting (line_done l) ≤ limit → shown (reading tokens limit (settle ws read l)) ≡ WrongAt k
+row_misses : (ws : List Piece) (read : List Token) (l : Line) (tokens : List Token) (k : ℕ) → IsLevel ws read l → missed ws tokens ≡ Some k → nesting (line_done l) ≤ most_nesting → shown (reading tokens most_nesting (settle ws read l)) ≡ WrongAt k
 row_misses [] read l tokens k r e n = absurd cc
 row_misses (w ∷ ws) read l [] k r e n = some_is 0 k e
 row_misses (w ∷ ws) read l (t ∷ ts) k r e n = row_missed (takes w t) w ws read l t ts k refl r e n (λ q i. row_misses ws (read ++ (t ∷ [])) l ts k q i n)
 
-pub line_reads : (l : Line) (ts rest : List Token) → takes_all (pieces_of l) ts ≡ true → nesting (line_done l) ≤ limit → reading (ts ++ rest) limit (settle (pieces_of l) [] l) ≡ reading rest limit (At (arrive l ts))
+pub line_reads : (l : Line) (ts rest : List Token) → takes_all (pieces_of l) ts ≡ true → nesting (line_done l) ≤ most_nesting → reading (ts ++ rest) most_nesting (settle (pieces_of l) [] l) ≡ reading rest most_nesting (At (arrive l ts))
 line_reads l ts rest e n = row_reads (pieces_of l) [] l ts rest (line_level l) e n
 
-pub line_misses : (l : Line) (tokens : List Token) (k : ℕ) → missed (pieces_of l) tokens ≡ Some k → nesting (line_done l) ≤ limit → shown (reading tokens limit (settle (pieces_of l) [] l)) ≡ WrongAt k
+pub line_misses : (l : Line) (tokens : List Token) (k : ℕ) → missed (pieces_of l) tokens ≡ Some k → nesting (line_done l) ≤ most_nesting → shown (reading tokens most_nesting (settle (pieces_of l) [] l)) ≡ WrongAt k
 line_misses l tokens k e n = row_misses (pieces_of l) [] l tokens k (line_level l) e n
 
 -- a token before a row
-pub to_line : (l : Line) (c : Corner) (token : Token) (rest : List Token) → step (At c) token ≡ Some (settle (pieces_of l) [] l) → nesting (line_done l) ≤ limit → reading (token ∷ rest) limit (At c) ≡ reading rest limit (settle (pieces_of l) [] l)
+pub to_line : (l : Line) (c : Corner) (token : Token) (rest : List Token) → step (At c) token ≡ Some (settle (pieces_of l) [] l) → nesting (line_done l) ≤ most_nesting → reading (token ∷ rest) most_nesting (At c) ≡ reading rest most_nesting (settle (pieces_of l) [] l)
 to_line l c token rest e n = moves token rest (At c) (settle (pieces_of l) [] l) e (omega (arith, settle_level (pieces_of l) [] l (line_level l)))
 
 -- turns and failures, one behind the other
@@ -140,15 +141,15 @@ pub turns_along : {A : Type 0} {low : A → ℕ} {s s' : A → State} {a b c : L
 turns_along {A = A} {low = low} {s = s} {s' = s'} {c = c} e h = subst (λ (x : List Token). Turns low s x s' c) (sym e) h
 
 -- a token that turns, by itself
-pub turns_token : {A : Type 0} (low : A → ℕ) (s s' : A → State) (token : Token) (rest : List Token) → ((a : A) → step (s a) token ≡ Some (s' a)) → ((a : A) → low a ≤ limit → nesting (completed (s' a)) ≤ limit) → Turns low s (token ∷ rest) s' rest
+pub turns_token : {A : Type 0} (low : A → ℕ) (s s' : A → State) (token : Token) (rest : List Token) → ((a : A) → step (s a) token ≡ Some (s' a)) → ((a : A) → low a ≤ most_nesting → nesting (completed (s' a)) ≤ most_nesting) → Turns low s (token ∷ rest) s' rest
 turns_token low s s' token rest e n = record { is = λ a l. moves token rest (s a) (s' a) (e a) (n a l) }
 
 pub fails_token : {A : Type 0} (low : A → ℕ) (s : A → State) (token : Token) (rest : List Token) → ((a : A) → step (s a) token ≡ None) → Fails low s (token ∷ rest) (WrongAt (length (token ∷ rest)))
 fails_token low s token rest e = record { is = λ a l. ap shown (halts token rest (s a) (e a)) }
 
 -- a token and a row
-pub turns_line : {A : Type 0} (low : A → ℕ) (c : A → Corner) (l : A → Line) (token : Token) (ts rest : List Token) → ((a : A) → step (At (c a)) token ≡ Some (settle (pieces_of (l a)) [] (l a))) → ((a : A) → takes_all (pieces_of (l a)) ts ≡ true) → ((a : A) → low a ≤ limit → nesting (line_done (l a)) ≤ limit) → Turns low (λ a. At (c a)) (token ∷ (ts ++ rest)) (λ a. At (arrive (l a) ts)) rest
+pub turns_line : {A : Type 0} (low : A → ℕ) (c : A → Corner) (l : A → Line) (token : Token) (ts rest : List Token) → ((a : A) → step (At (c a)) token ≡ Some (settle (pieces_of (l a)) [] (l a))) → ((a : A) → takes_all (pieces_of (l a)) ts ≡ true) → ((a : A) → low a ≤ most_nesting → nesting (line_done (l a)) ≤ most_nesting) → Turns low (λ a. At (c a)) (token ∷ (ts ++ rest)) (λ a. At (arrive (l a) ts)) rest
 turns_line low c l token ts rest e t n = record { is = λ a k. to_line (l a) (c a) token (ts ++ rest) (e a) (n a k) ∙ line_reads (l a) ts rest (t a) (n a k) }
 
-pub fails_line : {A : Type 0} (low : A → ℕ) (c : A → Corner) (l : A → Line) (token : Token) (after : List Token) (k : ℕ) → ((a : A) → step (At (c a)) token ≡ Some (settle (pieces_of (l a)) [] (l a))) → ((a : A) → missed (pieces_of (l a)) after ≡ Some k) → ((a : A) → low a ≤ limit → nesting (line_done (l a)) ≤ limit) → Fails low (λ a. At (c a)) (token ∷ after) (WrongAt k)
+pub fails_line : {A : Type 0} (low : A → ℕ) (c : A → Corner) (l : A → Line) (token : Token) (after : List Token) (k : ℕ) → ((a : A) → step (At (c a)) token ≡ Some (settle (pieces_of (l a)) [] (l a))) → ((a : A) → missed (pieces_of (l a)) after ≡ Some k) → ((a : A) → low a ≤ most_nesting → nesting (line_done (l a)) ≤ most_nesting) → Fails low (λ a. At (c a)) (token ∷ after) (WrongAt k)
 fails_line low c l token after k e m n = record { is = λ a i. ap shown (to_line (l a) (c a) token after (e a) (n a i)) ∙ line_misses (l a) after k (m a) (n a i) }

@@ -1,13 +1,11 @@
 -- What a reader of a part does, whatever stands around the part.
 use Rattle.std.specs.Prelude.{◌≡◌, ◌≤◌, ◌+◌, ℕ, List, [], ◌∷◌, length, max, Bool, false, cond, Option, None, Some}
+use Rattle.model_limits.specs.Limits.{most_nesting}
 use Rattle.conf_syntax.specs.declared.token.Token.{Token}
 use Rattle.conf_syntax.specs.declared.token.Token.TheVariants.{Word}
 use Rattle.conf_syntax.specs.Plain.{Tree, nest, nesting, exprs_nest}
 use Rattle.conf_grammar.specs.declared.piece.Piece.{Piece}
 use Rattle.conf_grammar.specs.Machine.{Home, Ground, Lone, Inner, GoalOf, Frame, InRight, InUnder, InRound, InOver, InFilter, InFirst, InSingle, InThen, State, Need, Have, Next, slots, goes, takes, home_done, Outcome, Whole, Wrong, Deep, reading}
-
-abbrev pub limit : ℕ
-limit = 200
 
 -- how deep the other parts of a frame's tree are
 abbrev pub side : Frame → ℕ
@@ -33,8 +31,8 @@ base (f ∷ fs) p = max (base fs p) (length fs + 1 + side f)
 -- the hole wants a level of at least `least`, and has room for a nesting of `room`
 pub record Fits (p : Ground) (fs : List Frame) (least room : ℕ) : Type 0 where
   pub slot_is : slots fs ≡ least
-  pub deep : length fs + room ≡ limit
-  pub low : base fs p ≤ limit
+  pub deep : length fs + room ≡ most_nesting
+  pub low : base fs p ≤ most_nesting
 
 abbrev pub Place : Type 0
 Place = Ground → List Frame → State
@@ -56,7 +54,7 @@ next_at b = λ p fs. Next p fs b
 
 -- one place with its tokens is as good as the other with its own
 pub record Leads (least room : ℕ) (s : Place) (tokens : List Token) (s' : Place) (rest : List Token) : Type 0 where
-  pub is : (p : Ground) (fs : List Frame) → Fits p fs least room → reading tokens limit (s p fs) ≡ reading rest limit (s' p fs)
+  pub is : (p : Ground) (fs : List Frame) → Fits p fs least room → reading tokens most_nesting (s p fs) ≡ reading rest most_nesting (s' p fs)
 
 -- an outcome, with the number of tokens that are left
 pub data Shown : Type 0 where
@@ -70,7 +68,7 @@ shown (Wrong rest) = WrongAt (length rest)
 shown (Deep rest) = DeepAt (length rest)
 
 pub record Refuses (least room : ℕ) (s : Place) (tokens : List Token) (out : Shown) : Type 0 where
-  pub is : (p : Ground) (fs : List Frame) → Fits p fs least room → shown (reading tokens limit (s p fs)) ≡ out
+  pub is : (p : Ground) (fs : List Frame) → Fits p fs least room → shown (reading tokens most_nesting (s p fs)) ≡ out
 
 -- whether the rest goes on with a tree
 abbrev pub goes_on : ℕ → ℕ → List Token → Bool
@@ -80,10 +78,10 @@ goes_on least n (token ∷ rest) = goes least n token
 -- Declarations: what stands around them is a home or a program that isn't too deep
 
 pub record Turns {A : Type 0} (low : A → ℕ) (s : A → State) (tokens : List Token) (s' : A → State) (rest : List Token) : Type 0 where
-  pub is : (a : A) → low a ≤ limit → reading tokens limit (s a) ≡ reading rest limit (s' a)
+  pub is : (a : A) → low a ≤ most_nesting → reading tokens most_nesting (s a) ≡ reading rest most_nesting (s' a)
 
 pub record Fails {A : Type 0} (low : A → ℕ) (s : A → State) (tokens : List Token) (out : Shown) : Type 0 where
-  pub is : (a : A) → low a ≤ limit → shown (reading tokens limit (s a)) ≡ out
+  pub is : (a : A) → low a ≤ most_nesting → shown (reading tokens most_nesting (s a)) ≡ out
 
 abbrev pub home_low : Home → ℕ
 home_low h = nesting (home_done h)

@@ -2,6 +2,7 @@
 use Rattle.std.proofs.Common.{◌≡◌, ◌≤◌, ◌-◌, ℕ, zero, suc, List, [], ◌∷◌, ◌++◌, refl, sym, ◌∙◌, ap, subst, arith, length, take, drop, length-append, length-drop, take-append-drop, ◌⊎◌, inl, inr, Result, Ok, Err, IfOk, MatchResult}
 use Rattle.std.proofs.lemmas.List.{take_all}
 use Rattle.std.proofs.Math.Seq.{take-append_seam, drop-append_seam}
+use Rattle.model_limits.specs.Limits.{most_nesting}
 use Rattle.conf_syntax.specs.declared.token.Placed.{Placed}
 use Rattle.conf_syntax.specs.declared.token.Token.{Token}
 use Rattle.conf_syntax.specs.declared.tree.Program as tree
@@ -16,7 +17,7 @@ use Rattle.conf_syntax.proofs.Declared.{nesting_is, all_tokens, all_fit}
 use Rattle.conf_syntax.proofs.Fitting.{all_good}
 use Rattle.conf_syntax.proofs.LocatedItems.{same_places}
 use Rattle.conf_grammar.specs.Fronts.{IsReading}
-use Rattle.conf_grammar.specs.Leads.{limit, WholeAt, WrongAt, DeepAt, shown}
+use Rattle.conf_grammar.specs.Leads.{WholeAt, WrongAt, DeepAt, shown}
 use Rattle.conf_grammar.specs.Machine.{Outcome, Whole, Wrong, Deep, reading, start}
 use Rattle.conf_grammar.proofs.Exact.{all_right, whole_read, one_program}
 use Rattle.conf_parse.specs.declared.parser.ParseError.{ParseError}
@@ -27,10 +28,10 @@ use Rattle.conf_parse.specs.Means.{IsSyntax, IsDeep}
 use Rattle.conf_parse.specs.Turnings.{IsFault}
 use Rattle.conf_parse.proofs.Parts.{bare_length}
 
-pub plain_right : (tokens : List Token) (p : Program) → reading tokens limit start ≡ Whole p → IsProgramIn limit tokens p
-plain_right tokens p e = subst (λ (x : Outcome). IsReading limit tokens x) e (all_right tokens limit)
+pub plain_right : (tokens : List Token) (p : Program) → reading tokens most_nesting start ≡ Whole p → IsProgramIn most_nesting tokens p
+plain_right tokens p e = subst (λ (x : Outcome). IsReading most_nesting tokens x) e (all_right tokens most_nesting)
 
-tree_right : (tokens : List Placed) (p : tree.Program) → reading (bare tokens) limit start ≡ Whole (program_of p.items) → IsTreeOf tokens p
+tree_right : (tokens : List Placed) (p : tree.Program) → reading (bare tokens) most_nesting start ≡ Whole (program_of p.items) → IsTreeOf tokens p
 tree_right tokens p e =
     let r = plain_right (bare tokens) (program_of p.items) e in
     record {
@@ -39,29 +40,29 @@ tree_right tokens p e =
       nested = (let n = r.1 in omega (arith, nesting_is p.items r.0));
     }
 
-pub program_right : (tokens : List Placed) (p : tree.Program) → reading (bare tokens) limit start ≡ Whole (program_of p.items) → ProgramStands tokens p → IsProgramOf tokens p
+pub program_right : (tokens : List Placed) (p : tree.Program) → reading (bare tokens) most_nesting start ≡ Whole (program_of p.items) → ProgramStands tokens p → IsProgramOf tokens p
 program_right tokens p e h = record { tree = tree_right tokens p e; places = h }
 
-pub program_only : (tokens : List Token) (p q : Program) → reading tokens limit start ≡ Whole p → IsProgramIn limit tokens q → p ≡ q
+pub program_only : (tokens : List Token) (p q : Program) → reading tokens most_nesting start ≡ Whole p → IsProgramIn most_nesting tokens q → p ≡ q
 program_only tokens p q e h = let r = plain_right tokens p e in one_program p q r.0 h.0 (sym r.2 ∙ h.2)
 
-read_whole : (tokens : List Token) (q : Program) → IsProgramIn limit tokens q → reading tokens limit start ≡ Whole q
-read_whole tokens q h = ap (λ (x : List Token). reading x limit start) h.2 ∙ whole_read q limit h.0 h.1
+read_whole : (tokens : List Token) (q : Program) → IsProgramIn most_nesting tokens q → reading tokens most_nesting start ≡ Whole q
+read_whole tokens q h = ap (λ (x : List Token). reading x most_nesting start) h.2 ∙ whole_read q most_nesting h.0 h.1
 
-pub syntax_never : (tokens : List Token) (k : ℕ) (q : Program) → IsFault tokens (stop.Syntax k) → IsProgramIn limit tokens q → ⊥
+pub syntax_never : (tokens : List Token) (k : ℕ) (q : Program) → IsFault tokens (stop.Syntax k) → IsProgramIn most_nesting tokens q → ⊥
 syntax_never tokens k q f h = let e : WholeAt ≡ WrongAt k = sym (ap shown (read_whole tokens q h)) ∙ f.is in cc
 
-pub deep_never : (tokens : List Token) (k : ℕ) (q : Program) → IsFault tokens (stop.TooDeep k) → IsProgramIn limit tokens q → ⊥
+pub deep_never : (tokens : List Token) (k : ℕ) (q : Program) → IsFault tokens (stop.TooDeep k) → IsProgramIn most_nesting tokens q → ⊥
 deep_never tokens k q f h = let e : WholeAt ≡ DeepAt k = sym (ap shown (read_whole tokens q h)) ∙ f.is in cc
 
 -- the same for trees of the program
 
-pub plain_of : (tokens : List Placed) (p : tree.Program) → IsTreeOf tokens p → IsProgramIn limit (bare tokens) (program_of p.items)
+pub plain_of : (tokens : List Placed) (p : tree.Program) → IsTreeOf tokens p → IsProgramIn most_nesting (bare tokens) (program_of p.items)
 plain_of tokens p i =
     let g = all_good p.items i.fits in
     (g, (let n = i.nested in omega (arith, nesting_is p.items g)), i.tokens_are ∙ sym (all_tokens p.items g))
 
-pub program_again : (tokens : List Placed) (p : Program) (q : tree.Program) → reading (bare tokens) limit start ≡ Whole p → IsTreeOf tokens q → p ≡ program_of q.items
+pub program_again : (tokens : List Placed) (p : Program) (q : tree.Program) → reading (bare tokens) most_nesting start ≡ Whole p → IsTreeOf tokens q → p ≡ program_of q.items
 program_again tokens p q e i = program_only (bare tokens) p (program_of q.items) e (plain_of tokens q i)
 
 pub syntax_again : (tokens : List Placed) (k : ℕ) (q : tree.Program) → IsFault (bare tokens) (stop.Syntax k) → IsTreeOf tokens q → ⊥
@@ -136,7 +137,7 @@ cut P tokens front rest k e i h =
     subst (λ (x : List Token). P x (bare (drop (length tokens - k) tokens))) (sym (bare_take (length tokens - k) tokens ∙ front_is (bare tokens) front rest (length tokens - k) e n))
     (subst (λ (x : List Token). P front x) (sym (bare_drop (length tokens - k) tokens ∙ rest_is (bare tokens) front rest (length tokens - k) e n)) h)
 
-syntax_by : (tokens : List Placed) (end at k : ℕ) (o : Outcome) → IsReading limit (bare tokens) o → shown o ≡ WrongAt k → at ≡ place_of (drop (length tokens - k) tokens) end → IsSyntax tokens end at
+syntax_by : (tokens : List Placed) (end at k : ℕ) (o : Outcome) → IsReading most_nesting (bare tokens) o → shown o ≡ WrongAt k → at ≡ place_of (drop (length tokens - k) tokens) end → IsSyntax tokens end at
 syntax_by tokens end at k (Whole p) r e i = absurd cc
 syntax_by tokens end at k (Deep rest) r e i = absurd cc
 syntax_by tokens end at k (Wrong rest) r e i = record {
@@ -144,11 +145,11 @@ syntax_by tokens end at k (Wrong rest) r e i = record {
   rest = drop (length tokens - k) tokens;
   whole = sym (take-append-drop (length tokens - k) tokens);
   place = i;
-  begun = cut (λ a b. IsBegunIn limit a) tokens r.0 rest k r.1 (wrong_is (length rest) k e) r.2;
+  begun = cut (λ a b. IsBegunIn most_nesting a) tokens r.0 rest k r.1 (wrong_is (length rest) k e) r.2;
   refused = cut IsRefused tokens r.0 rest k r.1 (wrong_is (length rest) k e) r.3;
 }
 
-deep_by : (tokens : List Placed) (end at k : ℕ) (o : Outcome) → IsReading limit (bare tokens) o → shown o ≡ DeepAt k → at ≡ place_of (drop (length tokens - k) tokens) end → IsDeep tokens end at
+deep_by : (tokens : List Placed) (end at k : ℕ) (o : Outcome) → IsReading most_nesting (bare tokens) o → shown o ≡ DeepAt k → at ≡ place_of (drop (length tokens - k) tokens) end → IsDeep tokens end at
 deep_by tokens end at k (Whole p) r e i = absurd cc
 deep_by tokens end at k (Wrong rest) r e i = absurd cc
 deep_by tokens end at k (Deep rest) r e i = record {
@@ -156,17 +157,17 @@ deep_by tokens end at k (Deep rest) r e i = record {
   rest = drop (length tokens - k) tokens;
   whole = sym (take-append-drop (length tokens - k) tokens);
   place = i;
-  begun = cut (λ a b. IsBegunIn limit a) tokens r.0 rest k r.1 (deep_is (length rest) k e) r.2;
-  deep = cut (λ a b. IsTooDeep limit a b) tokens r.0 rest k r.1 (deep_is (length rest) k e) r.3;
+  begun = cut (λ a b. IsBegunIn most_nesting a) tokens r.0 rest k r.1 (deep_is (length rest) k e) r.2;
+  deep = cut (λ a b. IsTooDeep most_nesting a b) tokens r.0 rest k r.1 (deep_is (length rest) k e) r.3;
 }
 
 pub syntax_means : (tokens : List Placed) (end at k : ℕ) → IsFault (bare tokens) (stop.Syntax k) → at ≡ place_of (drop (length tokens - k) tokens) end → IsSyntax tokens end at
-syntax_means tokens end at k f i = syntax_by tokens end at k (reading (bare tokens) limit start) (all_right (bare tokens) limit) f.is i
+syntax_means tokens end at k f i = syntax_by tokens end at k (reading (bare tokens) most_nesting start) (all_right (bare tokens) most_nesting) f.is i
 
 pub deep_means : (tokens : List Placed) (end at k : ℕ) → IsFault (bare tokens) (stop.TooDeep k) → at ≡ place_of (drop (length tokens - k) tokens) end → IsDeep tokens end at
-deep_means tokens end at k f i = deep_by tokens end at k (reading (bare tokens) limit start) (all_right (bare tokens) limit) f.is i
+deep_means tokens end at k f i = deep_by tokens end at k (reading (bare tokens) most_nesting start) (all_right (bare tokens) most_nesting) f.is i
 
-within_by : (tokens : List Token) (k : ℕ) (o : Outcome) → IsReading limit tokens o → (shown o ≡ WrongAt k) ⊎ (shown o ≡ DeepAt k) → k ≤ length tokens
+within_by : (tokens : List Token) (k : ℕ) (o : Outcome) → IsReading most_nesting tokens o → (shown o ≡ WrongAt k) ⊎ (shown o ≡ DeepAt k) → k ≤ length tokens
 within_by tokens k (Whole p) r (inl e) = absurd cc
 within_by tokens k (Whole p) r (inr e) = absurd cc
 within_by tokens k (Deep rest) r (inl e) = absurd cc
@@ -175,7 +176,7 @@ within_by tokens k (Wrong rest) r (inl e) = let n = wrong_is (length rest) k e i
 within_by tokens k (Deep rest) r (inr e) = let n = deep_is (length rest) k e in let i = r.1 in omega (arith, ap length i, length-append r.0 rest)
 
 pub syntax_within : (tokens : List Placed) (k : ℕ) → IsFault (bare tokens) (stop.Syntax k) → k ≤ length tokens
-syntax_within tokens k f = let a = within_by (bare tokens) k (reading (bare tokens) limit start) (all_right (bare tokens) limit) (inl f.is) in omega (arith, bare_length tokens)
+syntax_within tokens k f = let a = within_by (bare tokens) k (reading (bare tokens) most_nesting start) (all_right (bare tokens) most_nesting) (inl f.is) in omega (arith, bare_length tokens)
 
 pub deep_within : (tokens : List Placed) (k : ℕ) → IsFault (bare tokens) (stop.TooDeep k) → k ≤ length tokens
-deep_within tokens k f = let a = within_by (bare tokens) k (reading (bare tokens) limit start) (all_right (bare tokens) limit) (inr f.is) in omega (arith, bare_length tokens)
+deep_within tokens k f = let a = within_by (bare tokens) k (reading (bare tokens) most_nesting start) (all_right (bare tokens) most_nesting) (inr f.is) in omega (arith, bare_length tokens)

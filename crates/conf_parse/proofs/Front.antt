@@ -3,8 +3,9 @@ use Rattle.std.proofs.Common.{◌≡◌, ℕ, zero, suc, ◌+◌, ◌<◌, ◌�
 use Rattle.std.proofs.lemmas.List.{take-append-drop}
 use Rattle.std.specs.Char.{is_ascii_digit}
 use Rattle.std.specs.List.{list_all}
+use Rattle.model_limits.specs.Limits.{most_literal}
 use Rattle.conf_syntax.specs.declared.token.Token.{Token}
-use Rattle.conf_syntax.specs.Spelling.{Blank, Comment, IsSpelling, is_letter, is_blank, in_line, goes_on, is_word, is_digits, Stops, IsLexeme, IsPiece, BeginsNothing, BeginsTooLarge, piece_bytes, Piece, Spelled, most_literal, number_of}
+use Rattle.conf_syntax.specs.Spelling.{Blank, Comment, IsSpelling, is_letter, is_blank, in_line, goes_on, is_word, is_digits, Stops, IsLexeme, IsPiece, BeginsNothing, BeginsTooLarge, piece_bytes, Piece, Spelled, number_of}
 use Rattle.conf_parse.specs.Marks.{is_pair, is_single}
 use Rattle.conf_parse.specs.Tokens.{IsPairAt, IsTokenAt, IsGapAt, has_gap}
 use Rattle.conf_parse.proofs.Bools.{and_right, and_left_false, or_left, or_false, or_both_false, contrary}

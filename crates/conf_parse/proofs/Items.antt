@@ -1,6 +1,7 @@
 -- Enumerations, classes, and the whole.
 use Rattle.std.proofs.Common.{◌≡◌, ◌≤◌, ℕ, true, false, Bool, cond, List, [], ◌∷◌, ◌++◌, refl, sym, ◌∙◌, ap, subst, arith, Option, None, Some, length, length-append}
 use Rattle.std.proofs.lemmas.List.{nil_from_length}
+use Rattle.model_limits.specs.Limits.{most_nesting}
 use Rattle.conf_syntax.specs.declared.token.Ident.{Ident}
 use Rattle.conf_syntax.specs.declared.token.Key.TheVariants as key
 use Rattle.conf_syntax.specs.declared.token.Mark.TheVariants as mark
@@ -15,7 +16,7 @@ use Rattle.conf_syntax.specs.Views.{values_from, enum_of, members_from, member_o
 use Rattle.conf_grammar.specs.declared.piece.Piece.{Piece}
 use Rattle.conf_grammar.specs.declared.piece.Piece.TheVariants as piece
 use Rattle.conf_grammar.specs.Machine.{Home, Outside, InClass, HomeAt, Enums, ClassHead, EnumLine, ValueLine, AbstractLine, ClassLine, ParentLine, State, At, takes, leasts, enum_step, head_step, class_step, top_step, Whole, reading, start}
-use Rattle.conf_grammar.specs.Leads.{limit, Turns, Fails, WrongAt, shown, IsNot, missed, home_low}
+use Rattle.conf_grammar.specs.Leads.{Turns, Fails, WrongAt, shown, IsNot, missed, home_low}
 use Rattle.conf_grammar.proofs.Turning as t
 use Rattle.conf_parse.specs.declared.stop.Stop.{Stop}
 use Rattle.conf_parse.specs.declared.stop.Stop.TheVariants.{Syntax, TooDeep, Memory}
@@ -161,10 +162,10 @@ members_more : (ms : Members) (xs : List members.Member) (x : members.Member) �
 members_more ms [] x = refl
 members_more ms (y ∷ ys) x = members_more (WithMember ms (member_of y)) ys x
 
-in_low : (p : Program) (a : Bool) (w : List ℕ) (o : Option (List ℕ)) (ms : Members) → nesting p ≤ limit → members_nest ms ≤ limit → home_low (InClass p a w o ms) ≤ limit
+in_low : (p : Program) (a : Bool) (w : List ℕ) (o : Option (List ℕ)) (ms : Members) → nesting p ≤ most_nesting → members_nest ms ≤ most_nesting → home_low (InClass p a w o ms) ≤ most_nesting
 in_low p a w o ms n m = omega arith
 
-module _ (a : Bool) (w : List ℕ) (o : Option (List ℕ)) (tokens rest : List Placed) (xs : List members.Member) (i : Turns nesting (class_at a w) (bare tokens) (in_class a w o (members_from NoMember xs)) (bare rest)) (m : members_nest (members_from NoMember xs) ≤ limit) where
+module _ (a : Bool) (w : List ℕ) (o : Option (List ℕ)) (tokens rest : List Placed) (xs : List members.Member) (i : Turns nesting (class_at a w) (bare tokens) (in_class a w o (members_from NoMember xs)) (bare rest)) (m : members_nest (members_from NoMember xs) ≤ most_nesting) where
   pub member_part : (behind : List Placed) (ys : List members.Member) (x : members.Member) → Turns home_low home_at (bare rest) (home_and (member_of x)) (bare behind) → ys ≡ xs ++ (x ∷ []) → Turns nesting (class_at a w) (bare tokens) (in_class a w o (members_from NoMember ys)) (bare behind)
   member_part behind ys x j q =
       subst (λ (y : Members). Turns nesting (class_at a w) (bare tokens) (in_class a w o y) (bare behind)) (sym (ap (λ (y : List members.Member). members_from NoMember y) q ∙ members_more NoMember xs x))
@@ -180,10 +181,10 @@ module _ (a : Bool) (w : List ℕ) (o : Option (List ℕ)) (tokens rest : List P
       t.turns_on i (turned rest (Mark mark.CloseBrace ∷ bare behind) (bare behind) k.bare_is
       (t.turns_token nesting (in_class a w o (members_from NoMember xs)) (program_and (Class a w o (members_from NoMember xs))) (Mark mark.CloseBrace) (bare behind) (λ p. refl) (λ p n. omega arith)))
 
-pub member_nests : (xs ys : List members.Member) (x : members.Member) → members_nest (members_from NoMember xs) ≤ limit → ys ≡ xs ++ (x ∷ []) → member_nest (member_of x) ≤ limit → members_nest (members_from NoMember ys) ≤ limit
+pub member_nests : (xs ys : List members.Member) (x : members.Member) → members_nest (members_from NoMember xs) ≤ most_nesting → ys ≡ xs ++ (x ∷ []) → member_nest (member_of x) ≤ most_nesting → members_nest (members_from NoMember ys) ≤ most_nesting
 member_nests xs ys x m q k = let a = ap members_nest (ap (λ (y : List members.Member). members_from NoMember y) q ∙ members_more NoMember xs x) in omega (arith, a)
 
-pub members_none : (xs : List members.Member) → xs ≡ [] → members_nest (members_from NoMember xs) ≤ limit
+pub members_none : (xs : List members.Member) → xs ≡ [] → members_nest (members_from NoMember xs) ≤ most_nesting
 members_none xs e = omega (arith, ap (λ (x : List members.Member). members_nest (members_from NoMember x)) e)
 
 class_other : (h : Home) (x : Token) → (x ≡ Key key.Var → ⊥) → (x ≡ Key key.Where → ⊥) → (x ≡ Mark mark.CloseBrace → ⊥) → class_step h x ≡ None
@@ -239,29 +240,29 @@ items_more : (p : Program) (xs : List items.Item) (x : items.Item) → program_f
 items_more p [] x = refl
 items_more p (y ∷ ys) x = items_more (With p (item_of y)) ys x
 
-pub all_more : (tokens rest behind : List Placed) (xs ys : List items.Item) (x : items.Item) → reading (bare tokens) limit start ≡ reading (bare rest) limit (program_at (program_of xs)) → nesting (program_of xs) ≤ limit → Turns nesting program_at (bare rest) (program_and (item_of x)) (bare behind) → ys ≡ xs ++ (x ∷ []) → reading (bare tokens) limit start ≡ reading (bare behind) limit (program_at (program_of ys))
-all_more tokens rest behind xs ys x e n i q = e ∙ i.is (program_of xs) n ∙ ap (λ (y : Program). reading (bare behind) limit (program_at y)) (sym (ap program_of q ∙ items_more Empty xs x))
+pub all_more : (tokens rest behind : List Placed) (xs ys : List items.Item) (x : items.Item) → reading (bare tokens) most_nesting start ≡ reading (bare rest) most_nesting (program_at (program_of xs)) → nesting (program_of xs) ≤ most_nesting → Turns nesting program_at (bare rest) (program_and (item_of x)) (bare behind) → ys ≡ xs ++ (x ∷ []) → reading (bare tokens) most_nesting start ≡ reading (bare behind) most_nesting (program_at (program_of ys))
+all_more tokens rest behind xs ys x e n i q = e ∙ i.is (program_of xs) n ∙ ap (λ (y : Program). reading (bare behind) most_nesting (program_at y)) (sym (ap program_of q ∙ items_more Empty xs x))
 
-pub all_nest : (xs ys : List items.Item) (x : items.Item) → nesting (program_of xs) ≤ limit → ys ≡ xs ++ (x ∷ []) → item_nest (item_of x) ≤ limit → nesting (program_of ys) ≤ limit
+pub all_nest : (xs ys : List items.Item) (x : items.Item) → nesting (program_of xs) ≤ most_nesting → ys ≡ xs ++ (x ∷ []) → item_nest (item_of x) ≤ most_nesting → nesting (program_of ys) ≤ most_nesting
 all_nest xs ys x n q k = let a = ap nesting (ap program_of q ∙ items_more Empty xs x) in omega (arith, a)
 
-pub all_start : (tokens : List Placed) (xs : List items.Item) → xs ≡ [] → reading (bare tokens) limit start ≡ reading (bare tokens) limit (program_at (program_of xs))
-all_start tokens xs e = ap (λ (x : List items.Item). reading (bare tokens) limit (program_at (program_of x))) (sym e)
+pub all_start : (tokens : List Placed) (xs : List items.Item) → xs ≡ [] → reading (bare tokens) most_nesting start ≡ reading (bare tokens) most_nesting (program_at (program_of xs))
+all_start tokens xs e = ap (λ (x : List items.Item). reading (bare tokens) most_nesting (program_at (program_of x))) (sym e)
 
-pub none_nest : (xs : List items.Item) → xs ≡ [] → nesting (program_of xs) ≤ limit
+pub none_nest : (xs : List items.Item) → xs ≡ [] → nesting (program_of xs) ≤ most_nesting
 none_nest xs e = omega (arith, ap (λ (x : List items.Item). nesting (program_of x)) e)
 
 bare_nil : (rest : List Placed) → length rest ≡ 0 → bare rest ≡ []
 bare_nil [] e = refl
 bare_nil (x ∷ xs) e = absurd (omega arith)
 
-pub all_end : (tokens rest : List Placed) (xs : List items.Item) → reading (bare tokens) limit start ≡ reading (bare rest) limit (program_at (program_of xs)) → length rest ≡ 0 → reading (bare tokens) limit start ≡ Whole (program_of xs)
-all_end tokens rest xs e h = e ∙ ap (λ (x : List Token). reading x limit (program_at (program_of xs))) (bare_nil rest h)
+pub all_end : (tokens rest : List Placed) (xs : List items.Item) → reading (bare tokens) most_nesting start ≡ reading (bare rest) most_nesting (program_at (program_of xs)) → length rest ≡ 0 → reading (bare tokens) most_nesting start ≡ Whole (program_of xs)
+all_end tokens rest xs e h = e ∙ ap (λ (x : List Token). reading x most_nesting (program_at (program_of xs))) (bare_nil rest h)
 
-fault_by : (tokens rest : List Token) (p : Program) (e : Stop) → reading tokens limit start ≡ reading rest limit (program_at p) → nesting p ≤ limit → TurnErrs nesting program_at rest e → IsFault tokens e
+fault_by : (tokens rest : List Token) (p : Program) (e : Stop) → reading tokens most_nesting start ≡ reading rest most_nesting (program_at p) → nesting p ≤ most_nesting → TurnErrs nesting program_at rest e → IsFault tokens e
 fault_by tokens rest p (Syntax k) i n h = record { is = ap shown i ∙ (h.is).is p n }
 fault_by tokens rest p (TooDeep k) i n h = record { is = ap shown i ∙ (h.is).is p n }
 fault_by tokens rest p Memory i n h = record { is = tt }
 
-pub all_error : (tokens rest : List Placed) (xs : List items.Item) (e : Stop) → reading (bare tokens) limit start ≡ reading (bare rest) limit (program_at (program_of xs)) → nesting (program_of xs) ≤ limit → TurnErrs nesting program_at (bare rest) e → IsFault (bare tokens) e
+pub all_error : (tokens rest : List Placed) (xs : List items.Item) (e : Stop) → reading (bare tokens) most_nesting start ≡ reading (bare rest) most_nesting (program_at (program_of xs)) → nesting (program_of xs) ≤ most_nesting → TurnErrs nesting program_at (bare rest) e → IsFault (bare tokens) e
 all_error tokens rest xs e i n r = fault_by (bare tokens) (bare rest) (program_of xs) e i n r

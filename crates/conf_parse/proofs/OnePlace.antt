@@ -1,10 +1,11 @@
 -- Tokens are refused at one place at most, for one reason, and not where they are those of a model.
 use Rattle.std.proofs.Common.{◌≡◌, ℕ, Result, Ok, Err, IfOk, IfErr, MatchResult, List, [], ◌∷◌, ◌++◌, refl, sym, ◌∙◌, ap, subst, append_assoc, append-nil}
+use Rattle.model_limits.specs.Limits.{most_nesting}
 use Rattle.conf_syntax.specs.declared.token.Placed.{Placed}
 use Rattle.conf_syntax.specs.declared.token.Token.{Token}
 use Rattle.conf_syntax.specs.declared.tree.Program as tree
 use Rattle.conf_syntax.specs.Begun.{IsProgramIn, IsBegun, IsBegunIn, IsRefused, IsTooDeep}
-use Rattle.conf_syntax.specs.Models.{depth_limit, place_of}
+use Rattle.conf_syntax.specs.Models.{place_of}
 use Rattle.conf_syntax.specs.Places.{bare}
 use Rattle.conf_syntax.specs.Plain.{Program}
 use Rattle.conf_syntax.specs.Views.{program_of}
@@ -49,24 +50,24 @@ begun_of : (front : List Token) (most : ℕ) → IsBegunIn most front → IsBegu
 begun_of front most begun = (begun.0, begun.1, begun.2, begun.4)
 
 -- one token more of a longer front
-next_in : (xs ys : List Placed) (m : Placed) (more : List Placed) → ys ≡ xs ++ m ∷ more → IsBegunIn depth_limit (bare ys) → IsBegunIn depth_limit (bare xs ++ (m.token ∷ []))
+next_in : (xs ys : List Placed) (m : Placed) (more : List Placed) → ys ≡ xs ++ m ∷ more → IsBegunIn most_nesting (bare ys) → IsBegunIn most_nesting (bare xs ++ (m.token ∷ []))
 next_in xs ys m more is begun =
-    front_in (bare xs ++ (m.token ∷ [])) (bare more) depth_limit
-    (subst (IsBegunIn depth_limit) (ap bare is ∙ bare_append xs (m ∷ more) ∙ sym (append_assoc (bare xs) (m.token ∷ []) (bare more))) begun)
+    front_in (bare xs ++ (m.token ∷ [])) (bare more) most_nesting
+    (subst (IsBegunIn most_nesting) (ap bare is ∙ bare_append xs (m ∷ more) ∙ sym (append_assoc (bare xs) (m.token ∷ []) (bare more))) begun)
 
-refused_next : (xs : List Placed) (m : Placed) (more rest back : List Placed) → back ≡ (m ∷ more) ++ rest → IsRefused (bare xs) (bare back) → IsBegunIn depth_limit (bare xs ++ (m.token ∷ [])) → ⊥
+refused_next : (xs : List Placed) (m : Placed) (more rest back : List Placed) → back ≡ (m ∷ more) ++ rest → IsRefused (bare xs) (bare back) → IsBegunIn most_nesting (bare xs ++ (m.token ∷ [])) → ⊥
 refused_next xs m more rest back is refused begun =
     let there = subst (λ b. IsRefused (bare xs) (bare b)) is refused in
-    there (begun_of (bare xs ++ (m.token ∷ [])) depth_limit begun)
+    there (begun_of (bare xs ++ (m.token ∷ [])) most_nesting begun)
 
-deep_next : (xs : List Placed) (m : Placed) (more rest back : List Placed) → back ≡ (m ∷ more) ++ rest → IsTooDeep depth_limit (bare xs) (bare back) → IsBegunIn depth_limit (bare xs ++ (m.token ∷ [])) → ⊥
+deep_next : (xs : List Placed) (m : Placed) (more rest back : List Placed) → back ≡ (m ∷ more) ++ rest → IsTooDeep most_nesting (bare xs) (bare back) → IsBegunIn most_nesting (bare xs ++ (m.token ∷ [])) → ⊥
 deep_next xs m more rest back is deep begun =
-    let there = subst (λ b. IsTooDeep depth_limit (bare xs) (bare b)) is deep in
+    let there = subst (λ b. IsTooDeep most_nesting (bare xs) (bare b)) is deep in
     there.1 begun
 
 -- a refused front is no longer than any other that begins a model
 pub record Stops (front rest : List Placed) : Type 0 where
-  pub stops : (m : Placed) (more behind : List Placed) → rest ≡ (m ∷ more) ++ behind → IsBegunIn depth_limit (bare front ++ (m.token ∷ [])) → ⊥
+  pub stops : (m : Placed) (more behind : List Placed) → rest ≡ (m ∷ more) ++ behind → IsBegunIn most_nesting (bare front ++ (m.token ∷ [])) → ⊥
 
 syntax_stops : {tokens : List Placed} {end at : ℕ} (s : IsSyntax tokens end at) → Stops s.front s.rest
 syntax_stops s = record { stops = λ m more behind is begun. refused_next s.front m more behind s.rest is s.refused begun }
@@ -75,7 +76,7 @@ deep_stops : {tokens : List Placed} {end at : ℕ} (s : IsDeep tokens end at) �
 deep_stops s = record { stops = λ m more behind is begun. deep_next s.front m more behind s.rest is s.deep begun }
 
 -- two such fronts of the same tokens are one
-same_rest : (xs back ys rest : List Placed) → xs ++ back ≡ ys ++ rest → Stops xs back → Stops ys rest → IsBegunIn depth_limit (bare xs) → IsBegunIn depth_limit (bare ys) → (xs ≡ ys) × (back ≡ rest)
+same_rest : (xs back ys rest : List Placed) → xs ++ back ≡ ys ++ rest → Stops xs back → Stops ys rest → IsBegunIn most_nesting (bare xs) → IsBegunIn most_nesting (bare ys) → (xs ≡ ys) × (back ≡ rest)
 same_rest xs back ys rest e stop_x stop_y begun_x begun_y = by (cut_of xs back ys rest e)
   where
     by : IsCut xs back ys rest → (xs ≡ ys) × (back ≡ rest)
@@ -93,7 +94,7 @@ one_deep tokens end at other s t =
     let same = same_rest s.front s.rest t.front t.rest (sym s.whole ∙ t.whole) (deep_stops s) (deep_stops t) s.begun t.begun in
     s.place ∙ ap (λ r. place_of r end) same.1 ∙ sym t.place
 
-deep_not_refused : (front rest : List Token) → IsRefused front rest → IsTooDeep depth_limit front rest → ⊥
+deep_not_refused : (front rest : List Token) → IsRefused front rest → IsTooDeep most_nesting front rest → ⊥
 deep_not_refused front [] refused deep = deep
 deep_not_refused front (token ∷ rest) refused deep = refused deep.0
 
@@ -106,32 +107,32 @@ syntax_or_deep tokens end at other s t =
 
 -- the tokens of a model are not refused
 
-begun_at : (front : List Token) (token : Token) (rest all : List Token) (p : Program) → IsProgramIn depth_limit all p → all ≡ front ++ (token ∷ rest) → IsBegunIn depth_limit (front ++ (token ∷ []))
+begun_at : (front : List Token) (token : Token) (rest all : List Token) (p : Program) → IsProgramIn most_nesting all p → all ≡ front ++ (token ∷ rest) → IsBegunIn most_nesting (front ++ (token ∷ []))
 begun_at front token rest all p h e = (p, rest, h.0, h.1, sym h.2 ∙ e ∙ sym (append_assoc front (token ∷ []) rest))
 
-refused_no_model : (front rest all : List Token) (p : Program) → IsProgramIn depth_limit all p → all ≡ front ++ rest → IsRefused front rest → ⊥
+refused_no_model : (front rest all : List Token) (p : Program) → IsProgramIn most_nesting all p → all ≡ front ++ rest → IsRefused front rest → ⊥
 refused_no_model front [] all p h e refused = refused p h.0 (sym h.2 ∙ e ∙ append-nil front)
-refused_no_model front (token ∷ rest) all p h e refused = refused (begun_of (front ++ (token ∷ [])) depth_limit (begun_at front token rest all p h e))
+refused_no_model front (token ∷ rest) all p h e refused = refused (begun_of (front ++ (token ∷ [])) most_nesting (begun_at front token rest all p h e))
 
-deep_no_model : (front rest all : List Token) (p : Program) → IsProgramIn depth_limit all p → all ≡ front ++ rest → IsTooDeep depth_limit front rest → ⊥
+deep_no_model : (front rest all : List Token) (p : Program) → IsProgramIn most_nesting all p → all ≡ front ++ rest → IsTooDeep most_nesting front rest → ⊥
 deep_no_model front [] all p h e deep = deep
 deep_no_model front (token ∷ rest) all p h e deep = deep.1 (begun_at front token rest all p h e)
 
-pub syntax_or_model : (tokens : List Placed) (end at : ℕ) (p : Program) → IsProgramIn depth_limit (bare tokens) p → IsSyntax tokens end at → ⊥
+pub syntax_or_model : (tokens : List Placed) (end at : ℕ) (p : Program) → IsProgramIn most_nesting (bare tokens) p → IsSyntax tokens end at → ⊥
 syntax_or_model tokens end at p h s = refused_no_model (bare s.front) (bare s.rest) (bare tokens) p h (ap bare s.whole ∙ bare_append s.front s.rest) s.refused
 
-pub deep_or_model : (tokens : List Placed) (end at : ℕ) (p : Program) → IsProgramIn depth_limit (bare tokens) p → IsDeep tokens end at → ⊥
+pub deep_or_model : (tokens : List Placed) (end at : ℕ) (p : Program) → IsProgramIn most_nesting (bare tokens) p → IsDeep tokens end at → ⊥
 deep_or_model tokens end at p h s = deep_no_model (bare s.front) (bare s.rest) (bare tokens) p h (ap bare s.whole ∙ bare_append s.front s.rest) s.deep
 
 -- what is answered, by what the answers mean
 module _ (tokens : List Placed) (end : ℕ) where
-  pub syntax_exact : (r : Result tree.Program ParseError) → IfOk r (λ p. IsProgramIn depth_limit (bare tokens) (program_of p.items)) → IfErr r (λ e. Means tokens end e) → (at : ℕ) → IsSyntax tokens end at → MatchResult r (λ p. ⊥) (IsSameOrMemory (Syntax at))
+  pub syntax_exact : (r : Result tree.Program ParseError) → IfOk r (λ p. IsProgramIn most_nesting (bare tokens) (program_of p.items)) → IfErr r (λ e. Means tokens end e) → (at : ℕ) → IsSyntax tokens end at → MatchResult r (λ p. ⊥) (IsSameOrMemory (Syntax at))
   syntax_exact (Ok p) model means at s = syntax_or_model tokens end at (program_of p.items) model s
   syntax_exact (Err (Syntax other)) model means at s = ap (λ (k : ℕ). Syntax k) (one_syntax tokens end other at means s)
   syntax_exact (Err (TooDeep other)) model means at s = absurd (syntax_or_deep tokens end at other s means)
   syntax_exact (Err Memory) model means at s = tt
 
-  pub deep_exact : (r : Result tree.Program ParseError) → IfOk r (λ p. IsProgramIn depth_limit (bare tokens) (program_of p.items)) → IfErr r (λ e. Means tokens end e) → (at : ℕ) → IsDeep tokens end at → MatchResult r (λ p. ⊥) (IsSameOrMemory (TooDeep at))
+  pub deep_exact : (r : Result tree.Program ParseError) → IfOk r (λ p. IsProgramIn most_nesting (bare tokens) (program_of p.items)) → IfErr r (λ e. Means tokens end e) → (at : ℕ) → IsDeep tokens end at → MatchResult r (λ p. ⊥) (IsSameOrMemory (TooDeep at))
   deep_exact (Ok p) model means at s = deep_or_model tokens end at (program_of p.items) model s
   deep_exact (Err (Syntax other)) model means at s = absurd (syntax_or_deep tokens end other at means s)
   deep_exact (Err (TooDeep other)) model means at s = ap (λ (k : ℕ). TooDeep k) (one_deep tokens end other at means s)

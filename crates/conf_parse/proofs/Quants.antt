@@ -1,6 +1,7 @@
 -- Quantifiers, in the words of their readers.
 use Rattle.std.proofs.Common.{◌≡◌, ◌≤◌, ◌<◌, ◌-◌, ℕ, true, false, Bool, List, [], ◌∷◌, ◌++◌, refl, sym, ◌∙◌, ap, subst, arith, Option, None, Some, length}
 use Rattle.std.proofs.lemmas.Bool.{cond-false, cond-true}
+use Rattle.model_limits.specs.Limits.{most_nesting}
 use Rattle.conf_syntax.specs.declared.token.Key.TheVariants as key
 use Rattle.conf_syntax.specs.declared.token.Mark.TheVariants as mark
 use Rattle.conf_syntax.specs.declared.token.Placed.{Placed}
@@ -14,7 +15,7 @@ use Rattle.conf_syntax.specs.Plain.{Tree, Many, Single, Head, HeadIf, First, The
 use Rattle.conf_syntax.specs.Views.{tree_of, chain, filtered, grown, closed}
 use Rattle.conf_syntax.proofs.Tied.{grown_first, grown_then}
 use Rattle.conf_grammar.specs.Machine.{Ground, Frame, InOver, InFilter, InFirst, InSingle, InThen, State, Need, Have, VarAt, NamedAt, Next, Closing, Other, closing, slots, slot, have, over, filters, next, single, need, again_by, var_name, in_path, body_frame, body, word, hole, opened, filled, onward, reading, where_room}
-use Rattle.conf_grammar.specs.Leads.{limit, side, Place, at, Leads, WrongAt, DeepAt, shown, Refuses, IsNot, IsNotWord, need_in, have_in, next_at, goes_on}
+use Rattle.conf_grammar.specs.Leads.{side, Place, at, Leads, WrongAt, DeepAt, shown, Refuses, IsNot, IsNotWord, need_in, have_in, next_at, goes_on}
 use Rattle.conf_grammar.proofs.Complete.{opened_nest, filled_nest}
 use Rattle.conf_grammar.proofs.Again.{room_is, if_is}
 use Rattle.conf_grammar.proofs.Leading as l
@@ -219,7 +220,7 @@ closing_other _ rest h = refl
 
 to_again : (least room : ℕ) (b : Tree) (rest : List Token) → IsNot (Mark mark.CloseBrace) rest → may_more (quant b) (bodies b) ≡ true → Leads least room (next_at b) rest (need_in (InThen b)) rest
 to_again least room b [] h m = record { is = λ p fs f. refl }
-to_again least room b (token ∷ rest) h m = record { is = λ p fs f. ap (λ (o : Option State). onward limit o (token ∷ rest) (λ y. reading rest limit y)) (ap (λ (x : Closing). again_by p fs b token x) (closing_other token rest h) ∙ cond-true (may_more (quant b) (bodies b)) (need p (InThen b ∷ fs) token) None m) }
+to_again least room b (token ∷ rest) h m = record { is = λ p fs f. ap (λ (o : Option State). onward most_nesting o (token ∷ rest) (λ y. reading rest most_nesting y)) (ap (λ (x : Closing). again_by p fs b token x) (closing_other token rest h) ∙ cond-true (may_more (quant b) (bodies b)) (need p (InThen b ∷ fs) token) None m) }
 
 no_more : (least room : ℕ) (b : Tree) (rest : List Token) → IsNot (Mark mark.CloseBrace) rest → may_more (quant b) (bodies b) ≡ false → Refuses least room (next_at b) rest (WrongAt (length rest))
 no_more least room b [] h m = record { is = λ p fs f. refl }

@@ -1,6 +1,7 @@
 -- Bytes spell at most one token.
 use Rattle.std.proofs.Common.{◌≡◌, ℕ, ◌<◌, arith, Option, Some, None, true, false, if◌then◌else◌, ◌||◌, List, [], ◌∷◌, inl, inr, refl, ◌∙◌, ap}
 use Rattle.std.specs.Str.{bytes_eq}
+use Rattle.model_limits.specs.Limits.{most_literal}
 use Rattle.conf_syntax.specs.declared.token.Key.{Key}
 use Rattle.conf_syntax.specs.declared.token.Key.TheVariants as key
 use Rattle.conf_syntax.specs.declared.token.Mark.{Mark}
@@ -8,7 +9,7 @@ use Rattle.conf_syntax.specs.declared.token.Mark.TheVariants as mark
 use Rattle.conf_syntax.specs.declared.token.Token.{Token}
 use Rattle.conf_syntax.specs.declared.token.Token.TheVariants as token
 use Rattle.conf_syntax.specs.Lexis.{key_text, mark_text}
-use Rattle.conf_syntax.specs.Spelling.{is_word, is_digits, number_of, most_literal, key_text_too, mark_text_too, IsKeySpelling, IsMarkSpelling, IsSpelling}
+use Rattle.conf_syntax.specs.Spelling.{is_word, is_digits, number_of, key_text_too, mark_text_too, IsKeySpelling, IsMarkSpelling, IsSpelling}
 use Rattle.conf_parse.proofs.Bools.{and_left, and_left_false, or_second, contrary}
 use Rattle.conf_parse.proofs.Keywords.{keys}
 use Rattle.conf_parse.proofs.Lexemes.{is_symbol, is_fixed, no_symbol, digit_no_letter, letter_other, digit_other, key_is_fixed, mark_is_symbol}

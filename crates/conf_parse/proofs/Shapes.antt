@@ -1,5 +1,6 @@
 -- Variables and their shapes.
 use Rattle.std.proofs.Common.{◌≡◌, ◌≤◌, ℕ, true, false, Bool, List, [], ◌∷◌, refl, sym, ◌∙◌, ap, subst, arith, None, Some, length}
+use Rattle.model_limits.specs.Limits.{most_nesting}
 use Rattle.conf_syntax.specs.declared.token.Key.TheVariants as key
 use Rattle.conf_syntax.specs.declared.token.Mark.TheVariants as mark
 use Rattle.conf_syntax.specs.declared.token.Placed.{Placed}
@@ -9,7 +10,7 @@ use Rattle.conf_syntax.specs.Places.{bare}
 use Rattle.conf_syntax.specs.Plain.{End, EndOf, Shape, Range, Int, Truth, Named, Counted, Var, nesting}
 use Rattle.conf_grammar.specs.declared.piece.Piece.TheVariants as piece
 use Rattle.conf_grammar.specs.Machine.{Home, HomeAt, ShapeAt, HighAt, CountAt, VarLine, LowLine, DotsLine, HighLine, EndLine, RefLine, CountLine, State, home_with, leasts, shape_step, high_step, count_step, home_done, step, ended, Wrong}
-use Rattle.conf_grammar.specs.Leads.{limit, Turns, Fails, WrongAt, DeepAt, Shown, shown, IsNot, IsNotWord, missed, home_low}
+use Rattle.conf_grammar.specs.Leads.{Turns, Fails, WrongAt, DeepAt, Shown, shown, IsNot, IsNotWord, missed, home_low}
 use Rattle.conf_grammar.proofs.Homes.{with_nest}
 use Rattle.conf_grammar.proofs.Turning as t
 use Rattle.conf_grammar.proofs.Whole.{home_var}
@@ -48,7 +49,7 @@ not_at token tokens x rest e h = subst (λ (y : List Token). IsNot token y) e h
 
 -- behind a name
 
-var_low : (a : Naming) (s : Shape) → naming_low a ≤ limit → nesting (home_done (home_with a.home (Var a.name s))) ≤ limit
+var_low : (a : Naming) (s : Shape) → naming_low a ≤ most_nesting → nesting (home_done (home_with a.home (Var a.name s))) ≤ most_nesting
 var_low a s n = omega (arith, with_nest a.home (Var a.name s))
 
 pub count_plain : (r : Bool) (v : List ℕ) (s : Shape) (tokens rest : List Placed) → Takes tokens (Mark mark.Semicolon) rest → s ≡ Named r v → Turns naming_low (count_at r v) (bare tokens) (var_end s) (bare rest)

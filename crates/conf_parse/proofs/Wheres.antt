@@ -1,6 +1,7 @@
 -- Constraints and goals.
 use Rattle.std.proofs.Common.{◌≡◌, ◌≤◌, ℕ, true, false, Bool, List, [], ◌∷◌, ◌++◌, refl, sym, ◌∙◌, ap, subst, arith, None, Some, length}
 use Rattle.std.proofs.lemmas.Bool.{cond-false}
+use Rattle.model_limits.specs.Limits.{most_nesting}
 use Rattle.conf_syntax.specs.declared.token.Key.TheVariants as key
 use Rattle.conf_syntax.specs.declared.token.Mark.TheVariants as mark
 use Rattle.conf_syntax.specs.declared.token.Placed.{Placed}
@@ -12,7 +13,7 @@ use Rattle.conf_syntax.specs.Plain.{Tree, Exprs, NoExpr, WithExpr, Where, Braces
 use Rattle.conf_syntax.specs.Trees.{goal_key}
 use Rattle.conf_syntax.specs.Views.{tree_of, exprs_from, where_of}
 use Rattle.conf_grammar.specs.Machine.{Home, Ground, Lone, Inner, GoalOf, WhereAt, BracesAt, At, Need, Have, closing, goes, gone, ends, need, home_with, home_done, ground_ends, where_step, braces_by, step, completed, hole}
-use Rattle.conf_grammar.specs.Leads.{limit, ground_base, Fits, Leads, at, Turns, Fails, WrongAt, IsNot, home_low, goes_on}
+use Rattle.conf_grammar.specs.Leads.{ground_base, Fits, Leads, at, Turns, Fails, WrongAt, IsNot, home_low, goes_on}
 use Rattle.conf_grammar.proofs.Homes.{with_nest, ground_nest}
 use Rattle.conf_grammar.proofs.Leading as l
 use Rattle.conf_grammar.proofs.Turning as t
@@ -24,22 +25,22 @@ use Rattle.conf_parse.specs.Parts.{Errs}
 use Rattle.conf_parse.specs.Turnings.{TurnErrs, home_at, home_and, braces_at, need_at, ground_and, program_at, program_and}
 use Rattle.conf_parse.proofs.Shapes.{turn_errs, turn_errs_on, fails_here, turned, not_at}
 
-outside : (p : Ground) → ground_base p ≤ limit → Fits p [] 1 limit
+outside : (p : Ground) → ground_base p ≤ most_nesting → Fits p [] 1 most_nesting
 outside p h = record { slot_is = refl; deep = omega arith; low = h }
 
 -- an expression of its own
-whole_leads : (tokens behind : List Token) (v : Tree) → Leads 1 limit Need tokens (at v) behind → Turns ground_base need_at tokens (λ p. Have p [] v) behind
+whole_leads : (tokens behind : List Token) (v : Tree) → Leads 1 most_nesting Need tokens (at v) behind → Turns ground_base need_at tokens (λ p. Have p [] v) behind
 whole_leads tokens behind v i = record { is = λ p h. i.is p [] (outside p h) }
 
-home_ends_low : (h : Home) (v : Tree) → home_low h ≤ limit → nest v ≤ limit → nesting (home_done (home_with h (Where v))) ≤ limit
+home_ends_low : (h : Home) (v : Tree) → home_low h ≤ most_nesting → nest v ≤ most_nesting → nesting (home_done (home_with h (Where v))) ≤ most_nesting
 home_ends_low h v n m = omega (arith, with_nest h (Where v))
 
-ends_low : (p : Ground) (v : Tree) → ground_base p ≤ limit → nest v ≤ limit → nesting (completed (At (ground_ends p v))) ≤ limit
+ends_low : (p : Ground) (v : Tree) → ground_base p ≤ most_nesting → nest v ≤ most_nesting → nesting (completed (At (ground_ends p v))) ≤ most_nesting
 ends_low (Lone h) v n m = home_ends_low h v n m
 ends_low (Inner h es) v n m = omega (arith, with_nest h (Braces (WithExpr es v)))
 ends_low (GoalOf p q) v n m = omega arith
 
-pub expr_part : (tokens behind rest : List Placed) (v : Tree) → Leads 1 limit Need (bare tokens) (at v) (bare behind) → nest v ≤ limit → Takes behind (Mark mark.Semicolon) rest → Turns ground_base need_at (bare tokens) (ground_and v) (bare rest)
+pub expr_part : (tokens behind rest : List Placed) (v : Tree) → Leads 1 most_nesting Need (bare tokens) (at v) (bare behind) → nest v ≤ most_nesting → Takes behind (Mark mark.Semicolon) rest → Turns ground_base need_at (bare tokens) (ground_and v) (bare rest)
 expr_part tokens behind rest v i n k =
     t.turns_on (whole_leads (bare tokens) (bare behind) v i)
     (turned behind (Mark mark.Semicolon ∷ bare rest) (bare rest) k.bare_is
@@ -53,19 +54,19 @@ unended : (v : Tree) (tokens : List Token) → goes_on 1 (level v) tokens ≡ fa
 unended v [] g n = record { is = λ p h. refl }
 unended v (x ∷ rest) g n = t.fails_token ground_base (λ p. Have p [] v) x rest (λ p. cond-false (goes 1 (level v) x) (Some (gone p [] v x)) (ends p v x) g ∙ ends_none p v x n)
 
-pub expr_open : (tokens behind : List Placed) (v : Tree) (m : ℕ) → Leads 1 limit Need (bare tokens) (at v) (bare behind) → m ≡ level v → goes_on 1 m (bare behind) ≡ false → IsNot (Mark mark.Semicolon) (bare behind) → TurnErrs ground_base need_at (bare tokens) (Syntax (length behind))
+pub expr_open : (tokens behind : List Placed) (v : Tree) (m : ℕ) → Leads 1 most_nesting Need (bare tokens) (at v) (bare behind) → m ≡ level v → goes_on 1 m (bare behind) ≡ false → IsNot (Mark mark.Semicolon) (bare behind) → TurnErrs ground_base need_at (bare tokens) (Syntax (length behind))
 expr_open tokens behind v m i e g n =
     turn_errs_on ground_base need_at (λ p. Have p [] v) (bare tokens) (bare behind) (Syntax (length behind)) (whole_leads (bare tokens) (bare behind) v i)
     (fails_here ground_base (λ p. Have p [] v) behind (unended v (bare behind) (subst (λ (x : ℕ). goes_on 1 x (bare behind) ≡ false) e g) n))
 
-pub expr_error : (tokens : List Token) (e : Stop) → Errs 1 limit Need tokens e → TurnErrs ground_base need_at tokens e
+pub expr_error : (tokens : List Token) (e : Stop) → Errs 1 most_nesting Need tokens e → TurnErrs ground_base need_at tokens e
 expr_error tokens (Syntax k) r = record { is = record { is = λ p h. (r.is).is p [] (outside p h) } }
 expr_error tokens (TooDeep k) r = record { is = record { is = λ p h. (r.is).is p [] (outside p h) } }
 expr_error tokens Memory r = record { is = tt }
 
 -- `where`
 
-where_low : (h : Home) → home_low h ≤ limit → nesting (completed (At (WhereAt h))) ≤ limit
+where_low : (h : Home) → home_low h ≤ most_nesting → nesting (completed (At (WhereAt h))) ≤ most_nesting
 where_low h n = omega (arith, with_nest h (Braces NoExpr))
 
 where_turns : (tokens after : List Placed) → Takes tokens (Key key.Where) after → Turns home_low home_at (bare tokens) (λ h. At (WhereAt h)) (bare after)
@@ -91,8 +92,8 @@ lone_error tokens after e k n r =
     turn_errs home_low ground_base home_at need_at (bare tokens) (bare after) e
     (λ out x. t.turns_fail (t.turns_on (where_turns tokens after k) (to_lone (bare after) n)) (record { is = λ h m. x.is (Lone h) m })) r
 
-pub lone_nest : (xs : List Expr) (e : Expr) (n : ℕ) → xs ≡ e ∷ [] → n ≡ nest (tree_of e.node) → n ≤ limit → member_nest (where_of false xs) ≤ limit
-lone_nest xs e n q i h = subst (λ (x : List Expr). member_nest (where_of false x) ≤ limit) (sym q) (omega (arith, i))
+pub lone_nest : (xs : List Expr) (e : Expr) (n : ℕ) → xs ≡ e ∷ [] → n ≡ nest (tree_of e.node) → n ≤ most_nesting → member_nest (where_of false xs) ≤ most_nesting
+lone_nest xs e n q i h = subst (λ (x : List Expr). member_nest (where_of false x) ≤ most_nesting) (sym q) (omega (arith, i))
 
 -- braces
 
@@ -113,10 +114,10 @@ braces_step h es _ n = refl
 to_inner : (es : Exprs) (tokens : List Token) → IsNot (Mark mark.CloseBrace) tokens → Turns home_low (braces_at es) tokens (λ h. Need (Inner h es) []) tokens
 to_inner es tokens n = record { is = λ h k. l.same_step tokens (At (BracesAt h es)) (Need (Inner h es) []) refl (λ x rest e. braces_step h es x (not_at (Mark mark.CloseBrace) tokens x rest e n)) }
 
-inner_low : (es : Exprs) (h : Home) → exprs_nest es ≤ limit → home_low h ≤ limit → ground_base (Inner h es) ≤ limit
+inner_low : (es : Exprs) (h : Home) → exprs_nest es ≤ most_nesting → home_low h ≤ most_nesting → ground_base (Inner h es) ≤ most_nesting
 inner_low es h n m = omega arith
 
-module _ (tokens rest : List Placed) (xs : List Expr) (i : Turns home_low home_at (bare tokens) (braces_at (exprs_from NoExpr xs)) (bare rest)) (m : exprs_nest (exprs_from NoExpr xs) ≤ limit) where
+module _ (tokens rest : List Placed) (xs : List Expr) (i : Turns home_low home_at (bare tokens) (braces_at (exprs_from NoExpr xs)) (bare rest)) (m : exprs_nest (exprs_from NoExpr xs) ≤ most_nesting) where
   pub braces_more : (behind : List Placed) (ys : List Expr) (e : Expr) → IsNot (Mark mark.CloseBrace) (bare rest) → Turns ground_base need_at (bare rest) (ground_and (tree_of e.node)) (bare behind) → ys ≡ xs ++ (e ∷ []) → Turns home_low home_at (bare tokens) (braces_at (exprs_from NoExpr ys)) (bare behind)
   braces_more behind ys e n j q =
       subst (λ (x : Exprs). Turns home_low home_at (bare tokens) (braces_at x) (bare behind)) (sym (ap (λ (x : List Expr). exprs_from NoExpr x) q ∙ exprs_more NoExpr xs e))
@@ -132,10 +133,10 @@ module _ (tokens rest : List Placed) (xs : List Expr) (i : Turns home_low home_a
       t.turns_on i (turned rest (Mark mark.CloseBrace ∷ bare behind) (bare behind) k.bare_is
       (t.turns_token home_low (braces_at (exprs_from NoExpr xs)) (home_and (Braces (exprs_from NoExpr xs))) (Mark mark.CloseBrace) (bare behind) (λ h. refl) (λ h n. omega (arith, with_nest h (Braces (exprs_from NoExpr xs))))))
 
-pub braces_nest : (xs ys : List Expr) (e : Expr) (n : ℕ) → exprs_nest (exprs_from NoExpr xs) ≤ limit → ys ≡ xs ++ (e ∷ []) → n ≡ nest (tree_of e.node) → n ≤ limit → exprs_nest (exprs_from NoExpr ys) ≤ limit
+pub braces_nest : (xs ys : List Expr) (e : Expr) (n : ℕ) → exprs_nest (exprs_from NoExpr xs) ≤ most_nesting → ys ≡ xs ++ (e ∷ []) → n ≡ nest (tree_of e.node) → n ≤ most_nesting → exprs_nest (exprs_from NoExpr ys) ≤ most_nesting
 braces_nest xs ys e n m q i k = let a = ap exprs_nest (ap (λ (x : List Expr). exprs_from NoExpr x) q ∙ exprs_more NoExpr xs e) in omega (arith, a, i)
 
-pub braces_none : (xs : List Expr) → xs ≡ [] → exprs_nest (exprs_from NoExpr xs) ≤ limit
+pub braces_none : (xs : List Expr) → xs ≡ [] → exprs_nest (exprs_from NoExpr xs) ≤ most_nesting
 braces_none xs e = omega (arith, ap (λ (x : List Expr). exprs_nest (exprs_from NoExpr x)) e)
 
 -- goals

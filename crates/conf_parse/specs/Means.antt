@@ -1,8 +1,9 @@
 -- What the parser's errors mean.
 use Rattle.std.specs.Prelude.{◌≡◌, ℕ, List, ◌++◌}
+use Rattle.model_limits.specs.Limits.{most_nesting}
 use Rattle.conf_syntax.specs.declared.token.Placed.{Placed}
 use Rattle.conf_syntax.specs.Begun.{IsBegunIn, IsRefused, IsTooDeep}
-use Rattle.conf_syntax.specs.Models.{depth_limit, place_of}
+use Rattle.conf_syntax.specs.Models.{place_of}
 use Rattle.conf_syntax.specs.Places.{bare}
 use Rattle.conf_parse.specs.declared.parser.ParseError.{ParseError}
 use Rattle.conf_parse.specs.declared.parser.ParseError.TheVariants.{Syntax, TooDeep, Memory}
@@ -14,7 +15,7 @@ pub record IsSyntax (tokens : List Placed) (end at : ℕ) : Type 0 where
   pub rest : List Placed
   pub whole : tokens ≡ front ++ rest
   pub place : at ≡ place_of rest end
-  pub begun : IsBegunIn depth_limit (bare front)
+  pub begun : IsBegunIn most_nesting (bare front)
   pub refused : IsRefused (bare front) (bare rest)
 
 -- The tokens before the place begin a model whose nesting is allowed. With the next token they begin a model, but none
@@ -24,8 +25,8 @@ pub record IsDeep (tokens : List Placed) (end at : ℕ) : Type 0 where
   pub rest : List Placed
   pub whole : tokens ≡ front ++ rest
   pub place : at ≡ place_of rest end
-  pub begun : IsBegunIn depth_limit (bare front)
-  pub deep : IsTooDeep depth_limit (bare front) (bare rest)
+  pub begun : IsBegunIn most_nesting (bare front)
+  pub deep : IsTooDeep most_nesting (bare front) (bare rest)
 
 abbrev pub Means : List Placed → ℕ → ParseError → Type 0
 Means tokens end (Syntax at) = IsSyntax tokens end at

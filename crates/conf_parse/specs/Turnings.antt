@@ -1,5 +1,6 @@
 -- What the readers of declarations answer: from one state of the machine to another, whatever stands around them.
 use Rattle.std.specs.Prelude.{◌≡◌, ℕ, List, [], Bool, Option}
+use Rattle.model_limits.specs.Limits.{most_nesting}
 use Rattle.conf_syntax.specs.declared.token.Key.TheVariants as key
 use Rattle.conf_syntax.specs.declared.token.Token.{Token}
 use Rattle.conf_syntax.specs.declared.token.Token.TheVariants.{Key}
@@ -7,7 +8,7 @@ use Rattle.conf_syntax.specs.declared.tree.VarDecl.{VarDecl}
 use Rattle.conf_syntax.specs.Plain.{End, Shape, Values, Exprs, Member, Members, Var, Item, Program, With, Tree}
 use Rattle.conf_syntax.specs.Views.{shape_of}
 use Rattle.conf_grammar.specs.Machine.{Home, Outside, InClass, Ground, HomeAt, Enums, ClassHead, ShapeAt, HighAt, CountAt, BracesAt, State, At, Need, home_with, ground_ends, reading, start}
-use Rattle.conf_grammar.specs.Leads.{limit, Shown, shown, Fails, WrongAt, DeepAt, IsNot, home_low}
+use Rattle.conf_grammar.specs.Leads.{Shown, shown, Fails, WrongAt, DeepAt, IsNot, home_low}
 use Rattle.conf_parse.specs.declared.stop.Stop.{Stop}
 use Rattle.conf_parse.specs.declared.stop.Stop.TheVariants.{Syntax, TooDeep, Memory}
 
@@ -27,7 +28,7 @@ OnStop s Memory = Unit {0}
 
 -- the error of the whole
 pub record IsFault (tokens : List Token) (e : Stop) : Type 0 where
-  pub is : OnStop (shown (reading tokens limit start)) e
+  pub is : OnStop (shown (reading tokens most_nesting start)) e
 
 -- a home and the name that is declared in it
 pub record Naming : Type 0 where

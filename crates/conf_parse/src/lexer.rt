@@ -1,6 +1,7 @@
 //! Takes a text apart into tokens. `lex` goes through the text once, from piece to piece: a blank byte, a comment, or the
 //! longest token that begins where it stands.
 ghost use Rattle.std.specs.Prelude.{◌≡◌, ◌<◌, ◌≤◌, ℕ, List, false, length, IfOk, IfErr, MatchOption, MatchResult};
+ghost use Rattle.model_limits.specs.Limits.{model_bytes};
 ghost use Rattle.conf_syntax.specs.declared.token.Placed.{Placed};
 ghost use Rattle.conf_syntax.specs.Places.{bare};
 ghost use Rattle.conf_syntax.specs.Spelling.{Spells, IsStuckAtByte, IsStuckAtNumber, IsReadOneWay, is_blank};
@@ -19,7 +20,7 @@ use std::alloc::{AllocError, AllocFailed, Global};
 pub enum LexError {
     /// At this place no blank, comment, word, number or mark begins.
     BadByte(u32),
-    /// At this place a number above 1,000,000,000 begins.
+    /// At this place a number above `MOST_LITERAL` begins.
     LiteralTooLarge(u32),
     /// There was no memory for the tokens.
     Memory,
@@ -81,13 +82,13 @@ fn token_at(alloc: Global, text: &[u8], at: u32) -> Result<(Token, usize), LexEr
     mark_at(text).ok_or(LexError::BadByte(at))
 }
 
-/// The tokens of a text of at most 1,048,576 bytes, each with the place of its first byte. At each place the longest
+/// The tokens of a text of at most `MODEL_BYTES` bytes, each with the place of its first byte. At each place the longest
 /// token is taken.
 ///
 /// A text that spells no tokens is refused at the first place that cannot be passed: `BadByte` where nothing begins,
-/// `LiteralTooLarge` where a number above 1,000,000,000 begins. `Memory` says only that there was none.
+/// `LiteralTooLarge` where a number above `MOST_LITERAL` begins. `Memory` says only that there was none.
 pub fn lex(alloc: Global, text: &[u8]) -> Result<Vec<Placed>, LexError>
-    requires size { length text.now ≤ 1048576 }
+    requires size { length text.now ≤ model_bytes }
     ensures tokens { IfOk result (λ tokens. Spells text.now tokens.items) }
     ensures few { IfOk result (λ tokens. length tokens.items ≤ length text.now) }
     ensures words { IfOk result (λ tokens. AreWords (bare tokens.items)) }

@@ -1,9 +1,9 @@
 //! The values of numbers.
 ghost use Rattle.std.specs.Prelude.{◌≡◌, ◌<◌, ◌≤◌, MatchOption};
-ghost use Rattle.conf_syntax.specs.Spelling.{number_of, most_literal};
+ghost use Rattle.model_limits.specs.Limits.{most_literal};
+ghost use Rattle.conf_syntax.specs.Spelling.{number_of};
 
-/// The greatest value of a number in a text.
-const MOST: u64 = 1_000_000_000;
+use model_limits::MOST_LITERAL;
 
 /// The value of a row of digits, if it is at most the greatest.
 pub(crate) fn literal(digits: &[u8]) -> Option<u32>
@@ -11,9 +11,9 @@ pub(crate) fn literal(digits: &[u8]) -> Option<u32>
 {
     let mut value = 0u64;
     for digit in digits {
-        value = (10 * value + u64::from(digit.saturating_sub(b'0'))).min(MOST + 1);
+        value = (10 * value + u64::from(digit.saturating_sub(b'0'))).min(MOST_LITERAL + 1);
     }
-    if value > MOST {
+    if value > MOST_LITERAL {
         None
     } else {
         Some(value as u32)

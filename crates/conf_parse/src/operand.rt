@@ -1,9 +1,10 @@
 //! Reads expressions.
 //!
 //! `operand` is the entry point: it reads an operand of at least a level, up to the first token that doesn't go on with
-//! it. `room` is how deep the operand may be; it goes down with each node, so the readers call one another at most 200
-//! deep, and what stands in a row (operators to the left, bodies) is read in a loop.
+//! it. `room` is how deep the operand may be; it goes down with each node, so the readers call one another at most
+//! `MOST_NESTING` deep, and what stands in a row (operators to the left, bodies) is read in a loop.
 ghost use Rattle.std.specs.Prelude.{◌≡◌, ◌+◌, ◌-◌, ◌<◌, ◌≤◌, length, IfOk, IfErr, MatchResult, true, false};
+ghost use Rattle.model_limits.specs.Limits.{most_nesting};
 ghost use Rattle.conf_syntax.specs.Places.{bare, first_at};
 ghost use Rattle.conf_syntax.specs.Plain as plain;
 ghost use Rattle.conf_syntax.specs.Plain.{begin_by, part, nest, Many};
@@ -47,7 +48,7 @@ struct Opening {
 #[cycle(read)]
 fn first(alloc: Global, tokens: &[Placed], least: u32, room: u32) -> Result<(Part, &[Placed]), Stop>
     requires room { 1 ≤ room }
-    requires most { room ≤ 200 }
+    requires most { room ≤ most_nesting }
     ensures operand { IfOk result (λ x. IsPart room x.0) }
     ensures places { IfOk result (λ x. Reads tokens.now x.0.tree x.1.now) }
     ensures read { MatchResult result (λ x. Leads least room Need (bare tokens.now) (at (tree_of x.0.tree.node)) (bare x.1.now)) (λ e. Errs least room Need (bare tokens.now) e) }
@@ -116,7 +117,7 @@ fn paren<'a>(
     room: u32,
 ) -> Result<(Part, &'a [Placed]), Stop>
     requires room { 1 ≤ room }
-    requires most { room ≤ 200 }
+    requires most { room ≤ most_nesting }
     requires tokens { Splits tokens.now token.now after.now }
     requires begin { begin_by token.now.token ≡ plain.AParen }
     ensures operand { IfOk result (λ x. IsPart room x.0) }
@@ -178,7 +179,7 @@ fn signed<'a>(
     room: u32,
 ) -> Result<(Part, &'a [Placed]), Stop>
     requires room { 1 ≤ room }
-    requires most { room ≤ 200 }
+    requires most { room ≤ most_nesting }
     requires tokens { Splits tokens.now token.now after.now }
     requires begin { begin_by token.now.token ≡ plain.ASign (sign_of sign) }
     ensures operand { IfOk result (λ x. IsPart room x.0) }
@@ -221,7 +222,7 @@ fn head<'a>(
     room: u32,
 ) -> Result<(Ident, Part, &'a [Placed]), Stop>
     requires room { 1 ≤ room }
-    requires most { room ≤ 200 }
+    requires most { room ≤ most_nesting }
     requires tokens { Splits tokens.now token.now after.now }
     requires begin { begin_by token.now.token ≡ plain.AQuant kind }
     ensures fits { IfOk result (λ x. (least ≤ 10) × (2 ≤ room)) }
@@ -264,7 +265,7 @@ fn before_body<'a>(
     room: u32,
 ) -> Result<(Opening, &'a [Placed]), Stop>
     requires room { 1 ≤ room }
-    requires most { room ≤ 200 }
+    requires most { room ≤ most_nesting }
     requires tokens { Splits tokens.now token.now after.now }
     requires begin { begin_by token.now.token ≡ plain.AQuant kind }
     ensures fits { IfOk result (λ x. (least ≤ 10) × (2 ≤ room)) }
@@ -321,7 +322,7 @@ fn before_body<'a>(
 #[cycle(read)]
 fn item(alloc: Global, tokens: &[Placed], room: u32) -> Result<(Part, &[Placed]), Stop>
     requires room { 2 ≤ room }
-    requires most { room ≤ 200 }
+    requires most { room ≤ most_nesting }
     ensures operand { IfOk result (λ x. IsPart (room - 1) x.0) }
     ensures places { IfOk result (λ x. ItemReads tokens.now x.0.tree x.1.now) }
     ensures read { MatchResult result (λ x. IsItem room (bare tokens.now) (tree_of x.0.tree.node) (bare x.1.now)) (λ e. ItemErrs room (bare tokens.now) e) }
@@ -367,7 +368,7 @@ fn quant<'a>(
     room: u32,
 ) -> Result<(Part, &'a [Placed]), Stop>
     requires room { 1 ≤ room }
-    requires most { room ≤ 200 }
+    requires most { room ≤ most_nesting }
     requires tokens { Splits tokens.now token.now after.now }
     requires begin { begin_by token.now.token ≡ plain.AQuant kind }
     ensures operand { IfOk result (λ x. IsPart room x.0) }
@@ -401,7 +402,7 @@ fn single<'a>(
     requires kind { plain.semicolons start.kind ≡ false }
     requires fits { least ≤ 10 }
     requires room { 2 ≤ room }
-    requires most { room ≤ 200 }
+    requires most { room ≤ most_nesting }
     requires nest { start.nest ≡ nest (opening_tree start) }
     requires nested { start.nest < room }
     requires read { Leads least room Need (bare tokens.now) (need_in (body (opening_tree start))) (bare inside.now) }
@@ -449,7 +450,7 @@ fn many<'a>(
     requires kind { plain.semicolons start.kind ≡ true }
     requires fits { least ≤ 10 }
     requires room { 2 ≤ room }
-    requires most { room ≤ 200 }
+    requires most { room ≤ most_nesting }
     requires nest { start.nest ≡ nest (opening_tree start) }
     requires nested { start.nest < room }
     requires read { Leads least room Need (bare tokens.now) (need_in (body (opening_tree start))) (bare inside.now) }
@@ -510,7 +511,7 @@ fn grow<'a>(
     room: u32,
 ) -> Result<(Part, &'a [Placed], bool), Stop>
     requires room { 1 ≤ room }
-    requires most { room ≤ 200 }
+    requires most { room ≤ most_nesting }
     requires left { IsPart room left }
     requires places { Reads start.now left.tree tokens.now }
     ensures operand { IfOk result (λ x. IsPart room x.0) }
@@ -556,7 +557,7 @@ fn named<'a>(
     least: u32,
     room: u32,
 ) -> Result<(Part, &'a [Placed]), Stop>
-    requires most { room ≤ 200 }
+    requires most { room ≤ most_nesting }
     requires left { IsPart room left }
     requires places { Reads start.now left.tree tokens.now }
     requires tokens { Splits tokens.now token.now after.now }
@@ -600,7 +601,7 @@ fn pair<'a>(
     least: u32,
     room: u32,
 ) -> Result<(Part, &'a [Placed]), Stop>
-    requires most { room ≤ 200 }
+    requires most { room ≤ most_nesting }
     requires left { IsPart room left }
     requires places { Reads start.now left.tree tokens.now }
     requires tokens { Splits tokens.now token.now after.now }
@@ -643,7 +644,7 @@ pub fn operand(
     room: u32,
 ) -> Result<(Part, &[Placed]), Stop>
     requires room { 1 ≤ room }
-    requires most { room ≤ 200 }
+    requires most { room ≤ most_nesting }
     ensures operand { IfOk result (λ x. IsPart room x.0) }
     ensures places { IfOk result (λ x. Reads tokens.now x.0.tree x.1.now) }
     ensures read { MatchResult result (λ x. Leads least room Need (bare tokens.now) (at (tree_of x.0.tree.node)) (bare x.1.now)) (λ e. Errs least room Need (bare tokens.now) e) }

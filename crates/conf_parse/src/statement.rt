@@ -1,5 +1,6 @@
 //! Reads constraints and goals.
 ghost use Rattle.std.specs.Prelude.{◌≡◌, ◌≤◌, ◌<◌, length, IfOk, MatchResult};
+ghost use Rattle.model_limits.specs.Limits.{most_nesting};
 ghost use Rattle.conf_syntax.specs.Places.{bare};
 ghost use Rattle.conf_syntax.specs.Plain.{Goal, nest, member_nest, nesting};
 ghost use Rattle.conf_syntax.specs.Trees.{goal_key};
@@ -13,6 +14,7 @@ use crate::cursor::{after_mark, first_at};
 use crate::operand::{Part, operand};
 use crate::stop::Stop;
 use conf_syntax::{Exprs, GoalDecl, Key, Mark, Placed, Token, WhereDecl};
+use model_limits::MOST_NESTING;
 use std::alloc::Global;
 
 /// Reads an expression and its semicolon.
@@ -21,10 +23,10 @@ fn statement(alloc: Global, tokens: &[Placed]) -> Result<(Part, &[Placed]), Stop
     ensures places { IfOk result (λ x. StatementReads tokens.now x.0.tree x.1.now) }
     ensures read { MatchResult result (λ x. Turns ground_base need_at (bare tokens.now) (ground_and (tree_of x.0.tree.node)) (bare x.1.now)) (λ e. TurnErrs ground_base need_at (bare tokens.now) e) }
     ensures nest { IfOk result (λ x. x.0.nest ≡ nest (tree_of x.0.tree.node)) }
-    ensures nested { IfOk result (λ x. x.0.nest ≤ 200) }
+    ensures nested { IfOk result (λ x. x.0.nest ≤ most_nesting) }
     ensures shorter { IfOk result (λ x. length x.1.now < length tokens.now) }
 {
-    let (part, behind) = match operand(alloc, tokens, 1, 200) {
+    let (part, behind) = match operand(alloc, tokens, 1, MOST_NESTING) {
         Ok(found) => found,
         Err(e) => return Err(e),
     };
@@ -47,7 +49,7 @@ fn braces<'a>(
     ensures places { IfOk result (λ x. WhereReads tokens.now x.0 x.1.now) }
     ensures read { MatchResult result (λ x. Turns home_low home_at (bare tokens.now) (home_and (where_of x.0.braces x.0.list)) (bare x.1.now)) (λ e. TurnErrs home_low home_at (bare tokens.now) e) }
     ensures shorter { IfOk result (λ x. length x.1.now < length tokens.now) }
-    ensures nested { IfOk result (λ x. member_nest (where_of x.0.braces x.0.list) ≤ 200) }
+    ensures nested { IfOk result (λ x. member_nest (where_of x.0.braces x.0.list) ≤ most_nesting) }
 {
     let mut list = Vec::new(alloc);
     let mut rest = inside;
@@ -81,7 +83,7 @@ fn lone<'a>(
     ensures places { IfOk result (λ x. WhereReads tokens.now x.0 x.1.now) }
     ensures read { MatchResult result (λ x. Turns home_low home_at (bare tokens.now) (home_and (where_of x.0.braces x.0.list)) (bare x.1.now)) (λ e. TurnErrs home_low home_at (bare tokens.now) e) }
     ensures shorter { IfOk result (λ x. length x.1.now < length tokens.now) }
-    ensures nested { IfOk result (λ x. member_nest (where_of x.0.braces x.0.list) ≤ 200) }
+    ensures nested { IfOk result (λ x. member_nest (where_of x.0.braces x.0.list) ≤ most_nesting) }
 {
     let (part, rest) = match statement(alloc, after) {
         Ok(found) => found,
@@ -107,7 +109,7 @@ pub fn where_decl<'a>(
     ensures places { IfOk result (λ x. WhereReads tokens.now x.0 x.1.now) }
     ensures read { MatchResult result (λ x. Turns home_low home_at (bare tokens.now) (home_and (where_of x.0.braces x.0.list)) (bare x.1.now)) (λ e. TurnErrs home_low home_at (bare tokens.now) e) }
     ensures shorter { IfOk result (λ x. length x.1.now < length tokens.now) }
-    ensures nested { IfOk result (λ x. member_nest (where_of x.0.braces x.0.list) ≤ 200) }
+    ensures nested { IfOk result (λ x. member_nest (where_of x.0.braces x.0.list) ≤ most_nesting) }
 {
     match after_mark(after, Mark::OpenBrace) {
         Some(inside) => braces(alloc, tokens, after, inside),
@@ -127,7 +129,7 @@ pub fn goal_decl<'a>(
     ensures places { IfOk result (λ x. GoalReads tokens.now x.0 x.1.now) }
     ensures read { MatchResult result (λ x. Turns nesting program_at (bare tokens.now) (program_and (Goal x.0.max (tree_of x.0.expr.node))) (bare x.1.now)) (λ e. TurnErrs nesting program_at (bare tokens.now) e) }
     ensures shorter { IfOk result (λ x. length x.1.now < length tokens.now) }
-    ensures nested { IfOk result (λ x. nest (tree_of x.0.expr.node) ≤ 200) }
+    ensures nested { IfOk result (λ x. nest (tree_of x.0.expr.node) ≤ most_nesting) }
 {
     let (part, rest) = match statement(alloc, after) {
         Ok(found) => found,

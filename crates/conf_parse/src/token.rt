@@ -1,7 +1,8 @@
 //! The token at the front of a text: the longest word, row of digits or mark that begins there.
 ghost use Rattle.std.specs.Prelude.{◌≡◌, ◌<◌, true, false, length, slice_index, IfOk, MatchOption};
 ghost use Rattle.std.specs.Char.{is_ascii_digit};
-ghost use Rattle.conf_syntax.specs.Spelling.{is_letter, is_word, is_digits, number_of, most_literal, IsSpelling, Stops, BeginsNothing, BeginsTooLarge};
+ghost use Rattle.model_limits.specs.Limits.{most_literal};
+ghost use Rattle.conf_syntax.specs.Spelling.{is_letter, is_word, is_digits, number_of, IsSpelling, Stops, BeginsNothing, BeginsTooLarge};
 ghost use Rattle.conf_parse.specs.Marks.{is_pair};
 ghost use Rattle.conf_parse.specs.Tokens.{IsPairAt, IsTokenAt, has_gap};
 

@@ -5,6 +5,7 @@
 use Rattle.std.specs.Prelude.{ℕ, ◌+◌, ◌-◌, ◌*◌, ◌≡◌, ◌<◌, ◌≤◌, ◌≢◌, Bool, true, false, ◌||◌, ◌&&◌, ◌==◌, not, nat_le, List, [], ◌∷◌, ◌++◌, ◌⊎◌, codes, fold, length}
 use Rattle.std.specs.List.{list_all}
 use Rattle.std.specs.Char.{is_ascii_digit}
+use Rattle.model_limits.specs.Limits.{most_literal}
 use Rattle.conf_syntax.specs.Lexis.{key_text, mark_text}
 use Rattle.conf_syntax.specs.declared.token.Key.{Key}
 use Rattle.conf_syntax.specs.declared.token.Key.TheVariants as key
@@ -13,10 +14,6 @@ use Rattle.conf_syntax.specs.declared.token.Mark.TheVariants as mark
 use Rattle.conf_syntax.specs.declared.token.Token.{Token}
 use Rattle.conf_syntax.specs.declared.token.Token.TheVariants as token
 use Rattle.conf_syntax.specs.declared.token.Placed.{Placed}
-
--- the greatest value of a number in a text
-abbrev pub most_literal : ℕ
-most_literal = 1000000000
 
 -- space, tab, LF and CR
 abbrev pub is_blank : ℕ → Bool

@@ -61,7 +61,7 @@ pub enum Mark {
 #[derive(Debug, Drop)]
 pub enum Token {
     Word(Name),
-    /// A number of at most 1,000,000,000.
+    /// A number of at most `MOST_LITERAL`.
     Number(u32),
     Key(Key),
     Mark(Mark),

@@ -1,7 +1,7 @@
 -- The limits of models. What a reader believes after this file: how long their texts, how deep
 -- their expressions, how many their objects and cells, how heavy their expressions and how large
 -- their numbers may be.
-use Rattle.std.specs.Prelude.{ℕ}
+use Rattle.std.specs.Prelude.{ℕ, ℤ, pos, neg_ℤ}
 
 -- bytes of a model's text, and of a configuration's
 abbrev pub model_bytes : ℕ
@@ -34,3 +34,10 @@ most_weight = 2000000
 -- how far from 0 a number lies: 2 to the 50th
 abbrev pub most_width : ℕ
 most_width = 1125899906842624
+
+-- the numbers of `int`
+abbrev pub least_int : ℤ
+least_int = neg_ℤ (pos 1048576)
+
+abbrev pub greatest_int : ℤ
+greatest_int = pos 1048575

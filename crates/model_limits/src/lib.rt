@@ -9,7 +9,7 @@ pub const MODEL_BYTES: u64 = 1_048_576;
 pub const CONFIG_BYTES: u64 = 16_777_216;
 
 /// The greatest number that a text may spell.
-pub const MOST_LITERAL: u32 = 1_000_000_000;
+pub const MOST_LITERAL: u64 = 1_000_000_000;
 
 /// How deep expressions may nest.
 pub const MOST_NESTING: u32 = 200;
@@ -28,3 +28,9 @@ pub const MOST_WEIGHT: u64 = 2_000_000;
 
 /// How far from 0 a number may lie: 2 to the 50th.
 pub const MOST_WIDTH: i64 = 1_125_899_906_842_624;
+
+/// The least number of `int`.
+pub const LEAST_INT: i64 = -1_048_576;
+
+/// The greatest number of `int`.
+pub const GREATEST_INT: i64 = 1_048_575;

@@ -22,7 +22,7 @@ pub record IsWithinLimits (o : Outline) : Type 0 where
   pub depths : IsShallow o
   pub cells : HasFewCells o
 
--- some object has a path of more than 60 names
+-- some object has a path of more than `most_names` names
 pub record HasDeepObject (o : Outline) : Type 0 where
   pub deep : Object
   pub has : Contains (objects o) deep

@@ -4,11 +4,11 @@ use std::alloc::{AllocError, AllocFailed};
 /// Why a model's objects are refused. Where several limits are broken, the first in this order is named.
 #[derive(Clone, Copy, Debug, PartialEq, Eq)]
 pub enum AllocFault {
-    /// There would be more than 10,000 objects.
+    /// There would be more than `MOST_OBJECTS` objects.
     TooManyObjects,
-    /// An object's path would have more than 60 names.
+    /// An object's path would have more than `MOST_NAMES` names.
     TooDeep,
-    /// There would be more than 20,000 cells.
+    /// There would be more than `MOST_CELLS` cells.
     TooManyCells,
     /// There was no memory.
     Memory,

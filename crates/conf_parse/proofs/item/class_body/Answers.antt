@@ -1,4 +1,5 @@
 use Rattle.std.proofs.Common.{arith, ◌≤◌, ◌<◌, length, drop}
+use Rattle.model_limits.specs.Limits.{most_nesting}
 use Rattle.conf_syntax.specs.Places.{bare}
 use Rattle.conf_syntax.specs.Plain.{member_nest}
 use Rattle.conf_syntax.specs.Standing.{MemberStands, member_size}
@@ -17,7 +18,7 @@ returns-in_default-clause-places c = class_stands c.args.is_abstract c.args.name
 pub members-preserved : goal.members-preserved
 members-preserved c =
     let turns : Turns home_low home_at (bare c.members.rest.now) (home_and (member_of c.in-Some.next)) (bare c.in-Some.behind.now) = rw c.in-Some.is at c.in-Ok-member.ensures.read in
-    let nest : member_nest (member_of c.in-Some.next) ≤ 200 = rw c.in-Some.is at c.in-Ok-member.ensures.nested in
+    let nest : member_nest (member_of c.in-Some.next) ≤ most_nesting = rw c.in-Some.is at c.in-Ok-member.ensures.nested in
     let short : length c.in-Some.behind.now < length c.members.rest.now = rw c.in-Some.is at c.in-Ok-member.ensures.shorter in
     let reads : MemberReads c.members.rest.now c.in-Some.next c.in-Some.behind.now = rw c.in-Some.is at c.in-Ok-member.ensures.places in
     record {

@@ -1,4 +1,5 @@
 use Rattle.std.proofs.Common.{◌≤◌, ◌<◌, length, drop}
+use Rattle.model_limits.specs.Limits.{most_nesting}
 use Rattle.conf_syntax.specs.Places.{bare}
 use Rattle.conf_syntax.specs.Plain.{NoMember, members_nest, nesting}
 use Rattle.conf_syntax.specs.Views.{members_from, parent_of}
@@ -13,7 +14,7 @@ abbrev pub invariant-members : goal.invariant-members
 invariant-members l =
     record {
       leads : Turns nesting (class_at l.is_abstract l.name.name) (bare l.tokens) (in_class l.is_abstract l.name.name (parent_of l.parent) (members_from NoMember l.list.items)) (bare l.rest);
-      nested : members_nest (members_from NoMember l.list.items) ≤ 200;
+      nested : members_nest (members_from NoMember l.list.items) ≤ most_nesting;
       shorter : length l.rest < length l.tokens;
       parent : ParentStands l.tokens l.parent;
       places : MembersRead (drop (parent_end l.parent) l.tokens) l.list.items l.rest;

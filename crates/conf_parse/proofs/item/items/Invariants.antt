@@ -1,4 +1,5 @@
 use Rattle.std.proofs.Common.{◌≡◌, ◌≤◌, length}
+use Rattle.model_limits.specs.Limits.{most_nesting}
 use Rattle.conf_syntax.specs.Places.{bare}
 use Rattle.conf_syntax.specs.Plain.{nesting}
 use Rattle.conf_syntax.specs.Views.{program_of}
@@ -11,8 +12,8 @@ use Rattle.conf_parse.proofs.item.items.Given as goal
 abbrev pub invariant-loop-rest : goal.invariant-loop-rest
 invariant-loop-rest l =
     record {
-      leads : reading (bare l.tokens) 200 start ≡ reading (bare l.rest) 200 (program_at (program_of l.list.items));
-      nested : nesting (program_of l.list.items) ≤ 200;
+      leads : reading (bare l.tokens) most_nesting start ≡ reading (bare l.rest) most_nesting (program_at (program_of l.list.items));
+      nested : nesting (program_of l.list.items) ≤ most_nesting;
       places : ItemsRead l.tokens l.list.items l.rest;
     }
 

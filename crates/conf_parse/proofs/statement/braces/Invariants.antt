@@ -1,4 +1,5 @@
 use Rattle.std.proofs.Common.{◌≤◌, ◌<◌, length}
+use Rattle.model_limits.specs.Limits.{most_nesting}
 use Rattle.conf_syntax.specs.Places.{bare}
 use Rattle.conf_syntax.specs.Plain.{NoExpr, exprs_nest}
 use Rattle.conf_syntax.specs.Views.{exprs_from}
@@ -12,7 +13,7 @@ abbrev pub invariant-constraints : goal.invariant-constraints
 invariant-constraints l =
     record {
       leads : Turns home_low home_at (bare l.tokens) (braces_at (exprs_from NoExpr l.list.items)) (bare l.rest);
-      nested : exprs_nest (exprs_from NoExpr l.list.items) ≤ 200;
+      nested : exprs_nest (exprs_from NoExpr l.list.items) ≤ most_nesting;
       shorter : length l.rest < length l.tokens;
       places : StatementsRead l.inside l.list.items l.rest;
     }
