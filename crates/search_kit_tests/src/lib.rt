@@ -1,0 +1,20 @@
+//! Tests of the parts of a search that ask constraints, with the propagators that come with the
+//! product, on generated problems. There is no code here.
+//!
+//! - `given`: random numbers and sets.
+//! - `problems`: generated problems over all kinds of constraints.
+//! - `queue_tests`: the queue of constraints, against a scan of all of them.
+//! - `walks`: the walk back from a conflict, written out with whole boxes.
+//! - `conflict_tests`: conflicts that propagators make, and what they show, against those walks.
+#![tactic(auto)]
+
+#[cfg(test)]
+mod conflict_tests;
+#[cfg(test)]
+mod given;
+#[cfg(test)]
+mod problems;
+#[cfg(test)]
+mod queue_tests;
+#[cfg(test)]
+mod walks;
