@@ -2,3 +2,5 @@ pub mod Inserting
 pub mod Pushing
 pub mod Roots
 pub mod Zeros
+pub mod Singles
+pub mod PartLaws

@@ -1,2 +1,3 @@
 pub mod Disjunctions
 pub mod Lines
+pub mod Parts
