@@ -17,3 +17,5 @@ pub mod SoundLaws
 pub mod ClosedLaws
 pub mod DifferLaws
 pub mod WordNames
+pub mod BareItems
+pub mod BareFaults

@@ -12,6 +12,7 @@ mod cycle;
 mod cycles;
 mod fault;
 mod graphs;
+mod law;
 mod name_text;
 mod names;
 mod own_names;
@@ -22,5 +23,6 @@ mod walk;
 
 pub use class_table::{Attribute, ClassTable};
 pub use fault::TableFault;
+pub use law::one_model_declares_the_same;
 pub use names::Meaning;
 pub use table::{Class, Enumeration, Resolved, Values, Variable, Variables};

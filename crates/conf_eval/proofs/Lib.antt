@@ -16,3 +16,4 @@ pub mod EvalLaws
 pub mod PackingLaws
 pub mod CallLaws
 pub mod PublicLaws
+pub mod PartLaws

@@ -17,6 +17,7 @@ mod measuring;
 mod members;
 mod operators;
 mod packing;
+mod parts;
 mod scene;
 mod value;
 
@@ -24,4 +25,5 @@ pub use broken::{BrokenAt, satisfied};
 pub use calls::{Numbers, eval, objectives};
 pub use laws::{full_sets_are_hints, values_keep_to_measures};
 pub use limit::{LimitFault, limits, model_weight};
+pub use parts::part_is_within_limits;
 pub use value::{Env, Value};

@@ -3,4 +3,6 @@ pub mod Declared
 pub mod Fitting
 pub mod Located
 pub mod LocatedItems
+pub mod WholeTrees
+pub mod WholeItems
 pub mod SpelledWords

@@ -9,3 +9,4 @@ pub mod Places
 pub mod Standing
 pub mod AllPlaces
 pub mod Models
+pub mod OneModel

@@ -8,3 +8,5 @@ pub mod TypedParts
 pub mod CopyLaws
 pub mod TypeNeeds
 pub mod FewConstraints
+pub mod WholeReadings
+pub mod WholePrograms

@@ -8,6 +8,7 @@ mod checker;
 mod copies;
 mod expressions;
 mod fault;
+mod law;
 mod list;
 mod rules;
 mod scope;
@@ -16,6 +17,7 @@ mod types;
 
 pub use checker::{TypedModel, check};
 pub use fault::TypeFault;
+pub use law::one_model_states_the_same;
 pub use list::{Constraints, Goals};
 pub use scope::Found;
 pub use tree::{Constraint, Goal, RExpr, RNode, RQuant};

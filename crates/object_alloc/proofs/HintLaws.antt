@@ -29,7 +29,7 @@ pub record AreParted (o : Outline) (cs ds : List Cell) (vs : List ℤ) : Type 0 
   pub of_front : AreValues o cs front
   pub of_back : AreValues o ds back
 
-parted : (o : Outline) (cs ds : List Cell) (vs : List ℤ) → AreValues o (cs ++ ds) vs → AreParted o cs ds vs
+pub parted : (o : Outline) (cs ds : List Cell) (vs : List ℤ) → AreValues o (cs ++ ds) vs → AreParted o cs ds vs
 parted o [] ds vs h = record { front = []; back = vs; are = refl; of_front = tt; of_back = h }
 parted o (c ∷ cs) ds [] h = absurd h
 parted o (c ∷ cs) ds (v ∷ vs) (h, hs) =
@@ -52,7 +52,7 @@ nil_of : {X : Type 0} (xs : List X) → length xs ≡ 0 → xs ≡ []
 nil_of [] e = refl
 nil_of (x ∷ xs) e = absurd (omega (arith, e))
 
-only_one : (l : Leaf) (before behind : List Leaf) → filter (is_leaf_of l.owner l.attribute) (before ++ l ∷ behind) ≡ l ∷ [] → is_leaf_of l.owner l.attribute l ≡ true → IsOnly l before behind
+pub only_one : (l : Leaf) (before behind : List Leaf) → filter (is_leaf_of l.owner l.attribute) (before ++ l ∷ behind) ≡ l ∷ [] → is_leaf_of l.owner l.attribute l ≡ true → IsOnly l before behind
 only_one l before behind e itself =
     let test = is_leaf_of l.owner l.attribute in
     let split : filter test before ++ cond (test l) (l ∷ filter test behind) (filter test behind) ≡ l ∷ [] = sym (filter-append test before (l ∷ behind)) ∙ e in
@@ -61,7 +61,7 @@ only_one l before behind e itself =
     record { none_before = nil_of (filter test before) (omega (arith, size)); itself = itself; none_behind = nil_of (filter test behind) (omega (arith, size)) }
 
 -- nothing is picked for an attribute from cells of other leaves
-picks_none : (o : Outline) (owner : Option ℕ) (k : ℕ) (ls : List Leaf) (vs : List ℤ) → AreValues o (flat_map (leaf_cells o) ls) vs → filter (is_leaf_of owner k) ls ≡ [] → picks (is_cell_of owner k) (flat_map (leaf_cells o) ls) vs ≡ []
+pub picks_none : (o : Outline) (owner : Option ℕ) (k : ℕ) (ls : List Leaf) (vs : List ℤ) → AreValues o (flat_map (leaf_cells o) ls) vs → filter (is_leaf_of owner k) ls ≡ [] → picks (is_cell_of owner k) (flat_map (leaf_cells o) ls) vs ≡ []
 picks_none o owner k [] vs h e = refl
 picks_none o owner k (l ∷ ls) vs h e =
     let r = parted o (leaf_cells o l) (flat_map (leaf_cells o) ls) vs h in
@@ -76,7 +76,7 @@ picks_none o owner k (l ∷ ls) vs h e =
 leaf_at : (P : Leaf → Type 0) (ls : List Leaf) (k : ℕ) (l : Leaf) → All P ls → slice_get ls k ≡ Some l → P l
 leaf_at P ls k l all g = subst P (get_or_from_slice_get ls k l l g) (all k l (slice_get_within ls k l g))
 
-itself : (l : Leaf) → is_leaf_of l.owner l.attribute l ≡ true
+pub itself : (l : Leaf) → is_leaf_of l.owner l.attribute l ≡ true
 itself l = rw (same_itself l.owner, eq-eqb l.attribute l.attribute refl) refl
 
 pub sized_by : (s : Resolved) (vs : List ℤ) → ((c n : ℕ) → s ≡ RefSet c n → ones vs ≡ n) → IsSized s vs

@@ -28,3 +28,5 @@ pub mod PathsDiffer
 pub mod HeldCells
 pub mod PickedMembers
 pub mod HintLaws
+pub mod OwnValues
+pub mod ChangeLaws

@@ -112,7 +112,7 @@ picks_ones o l (n ∷ ns) (v ∷ vs) (h, hs) = by (is_one v) (picks_ones o l ns 
     by false e = e
 
 -- the leaves that are met as an attribute
-kept_leaves : (owner : Option ℕ) (k : ℕ) (ms : List Met) → leaves_in (kept owner k ms) ≡ filter (is_leaf_of owner k) (leaves_in ms)
+pub kept_leaves : (owner : Option ℕ) (k : ℕ) (ms : List Met) → leaves_in (kept owner k ms) ≡ filter (is_leaf_of owner k) (leaves_in ms)
 kept_leaves owner k [] = refl
 kept_leaves owner k (Made x ∷ ms) = by (is_part_of owner k x) (kept_leaves owner k ms)
   where

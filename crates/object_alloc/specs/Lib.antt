@@ -15,3 +15,4 @@ pub mod Paths
 pub mod Named
 pub mod Parts
 pub mod Leaves
+pub mod Changes

@@ -6,6 +6,7 @@
 #![tactic(auto)]
 
 mod cells;
+mod changes;
 mod extents;
 mod fault;
 mod finding;
@@ -20,6 +21,7 @@ mod queue;
 mod shapes;
 mod spots;
 
+pub use changes::own_values_are_no_changes;
 pub use fault::AllocFault;
 pub use hints::{configuration_is_hints, hints_lie_in_domains};
 pub use object::{Cell, Config, Domain, Hints, Leaf, Object, ObjectList};
