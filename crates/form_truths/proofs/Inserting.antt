@@ -6,7 +6,7 @@ use Rattle.signed_clause.specs.Ranges.{Ranges, has, is_nil, IsValid}
 use Rattle.signed_clause.specs.SetAlgebra.{join}
 use Rattle.signed_clause.specs.Clauses.{Literal, Literals, clause_true, clause_from, IsClauseFrom, IsClause}
 use Rattle.signed_clause.proofs.RangeLaws.{Ascends-join, has-join}
-use Rattle.signed_clause.proofs.ClauseLaws.{join-some, IsClauseFrom-weaken}
+use Rattle.signed_clause.proofs.ClauseLaws.{join-some}
 use Rattle.form_truths.specs.Disjunctions.{with_literal}
 
 less_true : (m n : ℕ) → m < n → nat_lt m n ≡ true

@@ -4,3 +4,4 @@ pub mod Roots
 pub mod Zeros
 pub mod Singles
 pub mod PartLaws
+pub mod Stating

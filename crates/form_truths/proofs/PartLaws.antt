@@ -1,5 +1,5 @@
 -- Parts of conjunctions.
-use Rattle.std.proofs.Common.{◌≡◌, ℕ, zero, suc, ◌<◌, ◌≤◌, Bool, true, false, not, ◌&&◌, ◌||◌, List, [], ◌∷◌, ◌++◌, take, get_or, ◌+◌, ℤ, pos, ◌≤ℤ◌, length, All, refl, sym, ap, ◌∙◌, subst, arith}
+use Rattle.std.proofs.Common.{◌≡◌, ℕ, zero, suc, ◌<◌, Bool, true, false, not, ◌&&◌, ◌||◌, List, [], ◌∷◌, ◌++◌, take, get_or, ◌+◌, ℤ, pos, ◌≤ℤ◌, length, All, refl, sym, ap, ◌∙◌, subst, arith}
 use Rattle.std.specs.Ordering.{int_eq}
 use Rattle.std.proofs.lemmas.Int.{ints}
 use Rattle.signed_clause.specs.Ranges.{Ranges, has, IsValid}
@@ -9,7 +9,7 @@ use Rattle.ground_form.specs.Meaning.{value_of, bit, parts_true}
 use Rattle.ground_form.specs.Bounds.{LiesWithin}
 use Rattle.ground_build.specs.Growing.{IsFlag}
 use Rattle.ground_form.proofs.Ends.{low_le, le_high}
-use Rattle.form_build.specs.Worlds.{IsWorld, Grows, IsFlagOf}
+use Rattle.form_build.specs.Worlds.{Grows, IsFlagOf}
 use Rattle.form_build.proofs.Growth.{no_less, box_kept, world_before}
 use Rattle.form_truths.specs.Disjunctions.{disjunction_at, IsWithin}
 use Rattle.form_truths.specs.Parts.{IsOwnPart, IsPartOf, ArePartsOf}

@@ -158,7 +158,7 @@ pub fn is_nought(alloc: Global, flag: u32) -> Truth
 }
 
 /// The number with the other sign.
-fn minus(f: &Linear) -> i64
+pub(crate) fn minus(f: &Linear) -> i64
     requires { unsigned_abs f.now.offset ≤ 2 ^ 60 }
     ensures { result ≡ pos 0 -ℤ f.now.offset }
 {
