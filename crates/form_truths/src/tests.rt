@@ -1,5 +1,5 @@
 //! Comparisons before they are stated, pushed into a disjunction, or made a truth.
-ghost use Rattle.std.specs.Prelude.{◌≡◌, ◌<◌, ◌≤◌, ◌^◌, ◌+ℤ◌, ◌||◌, ℕ, ℤ, Bool, List, [], true, int_le, length, pos, IfOk, OnOk};
+ghost use Rattle.std.specs.Prelude.{◌≡◌, ◌<◌, ◌≤◌, ◌^◌, ◌+ℤ◌, ◌+◌, ◌||◌, ℕ, ℤ, Bool, List, [], true, int_le, length, pos, IfOk, OnOk};
 ghost use Rattle.std.specs.Ordering.{int_eq};
 ghost use Rattle.ground_form.specs.Meaning.{value_of};
 ghost use Rattle.ground_build.specs.Growing.{HasRoom};
@@ -137,6 +137,7 @@ pub fn push_test(m: &mut Maker, d: &mut Disjunction, test: &Test) -> Result<(), 
         → disjunction_at d.new a ≡ (test_at test.now a || disjunction_at d.old a)) }
     ensures exist { OnOk result (IsWithin (length m.old.domains) d.old.1
         → IsWithin (length m.new.domains) d.new.1) }
+    ensures length { OnOk result (length d.new.1 ≤ length d.old.1 + 1) }
     ensures adds { OnOk result (Defines m.old m.new) }
     ensures few { OnOk result (IsFew 1 m.old m.new) }
 {
