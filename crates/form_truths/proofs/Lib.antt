@@ -5,3 +5,5 @@ pub mod Zeros
 pub mod Singles
 pub mod PartLaws
 pub mod Stating
+pub mod CountedSums
+pub mod NumberTerms

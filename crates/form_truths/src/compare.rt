@@ -166,7 +166,7 @@ pub(crate) fn minus(f: &Linear) -> i64
 }
 
 /// Whether the sum names no variable.
-fn is_number(f: &Linear) -> bool
+pub(crate) fn is_number(f: &Linear) -> bool
     ensures { result ≡ true → f.now.terms ≡ [] }
 {
     f.terms.items().is_empty()

@@ -4,14 +4,15 @@ ghost use Rattle.std.specs.Int.{int_max, int_min};
 ghost use Rattle.signed_clause.specs.Ranges.{has};
 ghost use Rattle.signed_clause.specs.Clauses.{Boxes, box_of};
 ghost use Rattle.ground_form.specs.Meaning.{value_of, bit};
-ghost use Rattle.ground_build.specs.Growing.{HasRoom};
+ghost use Rattle.ground_build.specs.Growing.{HasRoom, IsFlag};
 ghost use Rattle.form_build.specs.Forms.{linear_at, truth_at, HasVariable};
 ghost use Rattle.form_build.specs.Worlds.{IsWorld, Defines, IsFew, IsFlagOf, HasRoomFor};
 ghost use Rattle.form_build.specs.Sums.{IsLinear, IsSum, LiesFrom, least_linear, greatest_linear};
 ghost use Rattle.form_truths.specs.Parts.{IsOwnPart};
 
+use crate::compare::is_number;
 use crate::flags::own_want_at;
-use form_build::{Linear, Maker, Truth};
+use form_build::{Linear, Maker, Truth, settled, variable};
 use signed_clause::IntSet;
 use std::alloc::{AllocError, Global};
 
@@ -84,4 +85,69 @@ fn flag_in(m: &mut Maker, x: u32, set: &IntSet) -> Result<u32, AllocError>
     }
     let f = m.member(x, set.copy()?)?;
     Ok(f)
+}
+
+/// A sum where the flag is 1, and 0 where it is 0.
+pub fn counted(m: &mut Maker, flag: u32, f: &Linear) -> Result<Linear, AllocError>
+    requires room { HasRoomFor 2 m.old }
+    requires exists { flag < length m.old.domains }
+    requires flag { IsFlag m.old flag }
+    requires linear { IsLinear (2 ^ 58) m.old.domains f.now }
+    requires low { neg_ℤ (pos (2 ^ 50)) ≤ℤ least_linear f.now m.old.domains }
+    requires high { greatest_linear f.now m.old.domains ≤ℤ pos (2 ^ 50) }
+    ensures value { IfOk result (λ r. (a : List ℤ) (b : Bool) → IsWorld m.new a
+        → value_of a flag ≡ bit b → linear_at r a ≡ cond b (linear_at f.now a) (pos 0)) }
+    ensures sum { IfOk result (λ r. IsSum m.new.domains
+        (int_min (pos 0) (least_linear f.now m.old.domains))
+        (int_max (pos 0) (greatest_linear f.now m.old.domains)) r) }
+    ensures adds { IfOk result (λ r. Defines m.old m.new) }
+    ensures few { IfOk result (λ r. IsFew 2 m.old m.new) }
+{
+    let item = settled(m, f)?;
+    let x = m.when(flag, item)?;
+    let _domains = m.domains();
+    let r = variable(m, x)?;
+    Ok(r)
+}
+
+/// A number where the flag is 1, and 0 where it is 0: a term of the flag, and no new variable.
+fn number_where(m: &Maker, flag: u32, f: &Linear) -> Result<Linear, AllocError>
+    requires exists { flag < length m.now.domains }
+    requires flag { IsFlag m.now flag }
+    requires number { f.now.terms ≡ [] }
+    requires small { unsigned_abs f.now.offset ≤ 2 ^ 58 }
+    ensures value { IfOk result (λ r. (a : List ℤ) (b : Bool) → IsWorld m.now a
+        → value_of a flag ≡ bit b → linear_at r a ≡ cond b (linear_at f.now a) (pos 0)) }
+    ensures sum { IfOk result (λ r. IsSum m.now.domains
+        (int_min (pos 0) (least_linear f.now m.now.domains))
+        (int_max (pos 0) (greatest_linear f.now m.now.domains)) r) }
+{
+    let _domains = m.domains();
+    let one = variable(m, flag)?;
+    let r = one.times(m.alloc(), f.offset)?;
+    Ok(r)
+}
+
+/// A sum where the truth holds, and 0 where it doesn't.
+pub fn times_truth(m: &mut Maker, f: &Linear, t: &Truth) -> Result<Linear, AllocError>
+    requires room { HasRoomFor 3 m.old }
+    requires variable { HasVariable (length m.old.domains) t.now }
+    requires linear { IsLinear (2 ^ 58) m.old.domains f.now }
+    requires low { neg_ℤ (pos (2 ^ 50)) ≤ℤ least_linear f.now m.old.domains }
+    requires high { greatest_linear f.now m.old.domains ≤ℤ pos (2 ^ 50) }
+    ensures value { IfOk result (λ r. (a : List ℤ) → IsWorld m.new a
+        → linear_at r a ≡ cond (truth_at t.now a) (linear_at f.now a) (pos 0)) }
+    ensures sum { IfOk result (λ r. IsSum m.new.domains
+        (int_min (pos 0) (least_linear f.now m.old.domains))
+        (int_max (pos 0) (greatest_linear f.now m.old.domains)) r) }
+    ensures adds { IfOk result (λ r. Defines m.old m.new) }
+    ensures few { IfOk result (λ r. IsFew 3 m.old m.new) }
+{
+    let flag = flag_of(m, t)?;
+    if is_number(f) {
+        let r = number_where(m, flag, f)?;
+        return Ok(r);
+    }
+    let r = counted(m, flag, f)?;
+    Ok(r)
 }
