@@ -14,4 +14,5 @@ pub mod Joins
 pub mod ValuesMade
 pub mod Statements
 pub mod Keeping
+pub mod Picked
 pub mod OwnVariables
