@@ -13,4 +13,6 @@ pub mod Fitting
 pub mod Joins
 pub mod ValuesMade
 pub mod Statements
+pub mod Keeping
+pub mod Picked
 pub mod OwnVariables

@@ -1,12 +1,12 @@
 -- Literals in order, with one more.
-use Rattle.std.proofs.Common.{◌≡◌, ◌≢◌, ℕ, zero, suc, ◌<◌, ◌≤◌, Bool, true, false, ◌||◌, cond, List, [], ◌∷◌, ℤ, pos, length, All, refl, sym, ap, ◌∙◌, subst, arith, get_or}
+use Rattle.std.proofs.Common.{◌≡◌, ◌≢◌, ◌+◌, ℕ, zero, suc, ◌<◌, ◌≤◌, Bool, true, false, ◌||◌, cond, List, [], ◌∷◌, ℤ, pos, length, All, refl, sym, ap, ◌∙◌, subst, arith, get_or}
 use Rattle.std.specs.Prelude.{nat_le, nat_lt, insert, slice_set, slice_index_or}
 use Rattle.std.proofs.lemmas.Bool.Decides.{nat_tests}
 use Rattle.signed_clause.specs.Ranges.{Ranges, has, is_nil, IsValid}
 use Rattle.signed_clause.specs.SetAlgebra.{join}
 use Rattle.signed_clause.specs.Clauses.{Literal, Literals, clause_true, clause_from, IsClauseFrom, IsClause}
 use Rattle.signed_clause.proofs.RangeLaws.{Ascends-join, has-join}
-use Rattle.signed_clause.proofs.ClauseLaws.{join-some, IsClauseFrom-weaken}
+use Rattle.signed_clause.proofs.ClauseLaws.{join-some}
 use Rattle.form_truths.specs.Disjunctions.{with_literal}
 
 less_true : (m n : ℕ) → m < n → nat_lt m n ≡ true
@@ -98,6 +98,15 @@ with_literal_there x n s (l ∷ ls) lt h = by (with_literal_there x n s ls lt (r
     by more (before e) = subst (λ (z : Literals). All (λ m. m.0 < n) z) (sym (with_before x s l ls e)) (both_there n l (with_literal x s ls) (h 0 l (omega arith)) more)
     by more (behind e) = subst (λ (z : Literals). All (λ m. m.0 < n) z) (sym (with_behind x s l ls e)) (both_there n (x, s) (l ∷ ls) lt h)
     by more (here e) = subst (λ (z : Literals). All (λ m. m.0 < n) z) (sym (with_same x s l ls e)) (both_there n (l.0, join l.1 s) ls (h 0 l (omega arith)) (rest_there n l ls h))
+
+pub with_literal_length : (x : ℕ) (s : Ranges) (ls : Literals) → length (with_literal x s ls) ≤ length ls + 1
+with_literal_length x s [] = omega arith
+with_literal_length x s (l ∷ ls) = by (with_literal_length x s ls) (place x l)
+  where
+    by : length (with_literal x s ls) ≤ length ls + 1 → Place x l → length (with_literal x s (l ∷ ls)) ≤ length (l ∷ ls) + 1
+    by more (before lt) = let e = ap (λ (z : Literals). length z) (with_before x s l ls lt) in omega (arith, e, more)
+    by more (behind lt) = let e = ap (λ (z : Literals). length z) (with_behind x s l ls lt) in omega (arith, e)
+    by more (here f) = let e = ap (λ (z : Literals). length z) (with_same x s l ls f) in omega (arith, e)
 
 -- ---- where the code puts it
 

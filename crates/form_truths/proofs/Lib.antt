@@ -4,3 +4,6 @@ pub mod Roots
 pub mod Zeros
 pub mod Singles
 pub mod PartLaws
+pub mod Stating
+pub mod CountedSums
+pub mod NumberTerms

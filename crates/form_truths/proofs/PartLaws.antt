@@ -1,15 +1,18 @@
 -- Parts of conjunctions.
-use Rattle.std.proofs.Common.{◌≡◌, ℕ, zero, suc, ◌<◌, ◌≤◌, Bool, true, false, not, ◌&&◌, ◌||◌, List, [], ◌∷◌, ◌++◌, take, get_or, ◌+◌, ℤ, pos, ◌≤ℤ◌, length, All, refl, sym, ap, ◌∙◌, subst, arith}
+use Rattle.std.proofs.Common.{◌≡◌, ℕ, zero, suc, ◌<◌, Bool, true, false, not, ◌&&◌, ◌||◌, List, [], ◌∷◌, ◌++◌, take, get_or, ◌+◌, ℤ, pos, ◌≤ℤ◌, length, All, refl, sym, ap, ◌∙◌, subst, arith}
 use Rattle.std.specs.Ordering.{int_eq}
 use Rattle.std.proofs.lemmas.Int.{ints}
 use Rattle.signed_clause.specs.Ranges.{Ranges, has, IsValid}
-use Rattle.signed_clause.specs.Clauses.{Literal, Literals, box_of, clause_true}
+use Rattle.signed_clause.specs.Clauses.{Boxes, Literal, Literals, box_of, clause_true}
 use Rattle.ground_form.specs.declared.ground.Ground.{Ground}
 use Rattle.ground_form.specs.Meaning.{value_of, bit, parts_true}
 use Rattle.ground_form.specs.Bounds.{LiesWithin}
 use Rattle.ground_build.specs.Growing.{IsFlag}
 use Rattle.ground_form.proofs.Ends.{low_le, le_high}
-use Rattle.form_build.specs.Worlds.{IsWorld, Grows, IsFlagOf}
+use Rattle.form_build.specs.declared.form.Linear.{Linear}
+use Rattle.form_build.specs.Forms.{linear_at}
+use Rattle.form_build.specs.Worlds.{Grows, IsFlagOf, IsVariableOf}
+use Rattle.form_build.specs.Sums.{least_linear, greatest_linear, LiesFrom}
 use Rattle.form_build.proofs.Growth.{no_less, box_kept, world_before}
 use Rattle.form_truths.specs.Disjunctions.{disjunction_at, IsWithin}
 use Rattle.form_truths.specs.Parts.{IsOwnPart, IsPartOf, ArePartsOf}
@@ -133,3 +136,33 @@ take_more k ls d lt e = let one : suc k ≡ k + 1 = omega arith in take_next k l
 
 pub exist_kept : (old new : Ground) (ls : Literals) → Grows old new → IsWithin (length old.domains) ls → IsWithin (length new.domains) ls
 exist_kept old new ls g h k d lt = let more = no_less old new g in let there = h k d lt in omega (arith, more, there)
+
+-- ---- flags
+
+own_value : (v : ℤ) (b : Bool) → pos 0 ≤ℤ v → v ≤ℤ pos 1 → int_eq v (pos 1) ≡ b → v ≡ bit b
+own_value v true h k e = grind (arith, ints)
+own_value v false h k e = grind (arith, ints)
+
+-- a flag of its own is this truth
+pub own_flag : (g : Ground) (x : ℕ) (set : Ranges) → All (λ d. IsValid d) g.domains → x < length g.domains → IsOwnPart (box_of g.domains x) set true → IsFlagOf g x (λ a. has set (value_of a x))
+own_flag g x set valid lt h = record {
+  exists = lt;
+  flag = h.flag;
+  value = λ a w.
+      let two = flag_value (box_of g.domains x) (value_of a x) (valid x [] lt) h.flag (w.within x lt) in
+      own_value (value_of a x) (has set (value_of a x)) two.0 two.1 (h.value (value_of a x) (w.within x lt));
+}
+
+bit_within : (b : Bool) → (pos 0 ≤ℤ bit b) × (bit b ≤ℤ pos 1)
+bit_within true = (omega (arith, ints), omega (arith, ints))
+bit_within false = (omega (arith, ints), omega (arith, ints))
+
+-- a number that is a truth's is a flag
+pub fixed_flag_of : (g : Ground) (x : ℕ) (b : Bool) (boxes : Boxes) (f : Linear) → IsVariableOf g x (least_linear f boxes) (greatest_linear f boxes) (λ a. linear_at f a) → LiesFrom (bit b) (bit b) boxes f → ((a : List ℤ) → linear_at f a ≡ bit b) → IsFlagOf g x (λ a. b)
+fixed_flag_of g x b boxes f v lies value = record {
+  exists = v.exists;
+  flag =
+      let two = bit_within b in
+      (omega (arith, ints, two.0, v.low, lies.low_is), omega (arith, ints, two.1, v.high, lies.high_is));
+  value = λ a w. v.value a w ∙ value a;
+}

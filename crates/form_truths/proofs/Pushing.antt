@@ -1,13 +1,13 @@
 -- A disjunction with a truth more.
-use Rattle.std.proofs.Common.{◌≡◌, ◌≢◌, ℕ, ◌<◌, Bool, true, false, ◌||◌, List, [], ◌∷◌, ℤ, pos, All, refl, sym, ap, ◌∙◌, subst, arith}
+use Rattle.std.proofs.Common.{◌≡◌, ℕ, ◌<◌, Bool, true, false, ◌||◌, List, ℤ, refl, sym, ap, ◌∙◌, subst}
 use Rattle.signed_clause.specs.Ranges.{Ranges, has, IsValid}
-use Rattle.signed_clause.specs.Clauses.{Literals, clause_true, clause_from, IsClause}
+use Rattle.signed_clause.specs.Clauses.{Literals, clause_true, IsClause}
 use Rattle.ground_form.specs.Meaning.{value_of}
 use Rattle.form_build.specs.declared.form.Truth.{Truth}
 use Rattle.form_build.specs.declared.form.Truth.TheVariants.{In}
 use Rattle.form_build.specs.Forms.{truth_at, HasVariable}
 use Rattle.form_truths.specs.Disjunctions.{with_literal, disjunction_at, IsWithin}
-use Rattle.form_truths.proofs.Inserting.{with_literal_true, with_literal_there, form_true}
+use Rattle.form_truths.proofs.Inserting.{with_literal_true, with_literal_there, with_literal_length}
 
 or_middle : (h p q : Bool) → (h || (p || q)) ≡ (p || (h || q))
 or_middle true true q = refl
@@ -28,6 +28,9 @@ push_there h ls ms d x s t n e f g there w =
     let old : IsWithin n ls = subst (λ (z : Bool × Literals). IsWithin n z.1) (sym e) w in
     subst (λ (z : Literals). IsWithin n z) (sym g) (with_literal_there x n s ls lt old)
 
--- literals in order are taken
-pub clause_made : (ls : Literals) → IsClause ls → (false ≡ true → ⊥) → clause_from 0 ls ≡ true
-clause_made ls h n = form_true 0 ls h
+pub push_few : (h : Bool) (ls ms : Literals) (d : Bool × Literals) (x : ℕ) (s : Ranges) → (h, ls) ≡ d → ms ≡ with_literal x s ls → length ms ≤ length d.1 + 1
+push_few h ls ms d x s e g =
+    let more = with_literal_length x s ls in
+    let here = ap (λ (z : Literals). length z) g in
+    let there = ap (λ (z : Bool × Literals). length z.1) e in
+    omega (arith, more, here, there)

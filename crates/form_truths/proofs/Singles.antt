@@ -1,5 +1,5 @@
 -- Sums of one term, as lines over the values of their variable.
-use Rattle.std.proofs.Common.{◌≡◌, ◌≢◌, ℕ, zero, suc, ◌+◌, ◌*◌, ◌^◌, ◌<◌, ◌≤◌, max, true, Bool, List, [], ◌∷◌, ℤ, pos, ◌+ℤ◌, ◌-ℤ◌, ◌*ℤ◌, ◌≤ℤ◌, ◌<ℤ◌, unsigned_abs, length, refl, sym, ap, ◌∙◌, subst, arith}
+use Rattle.std.proofs.Common.{◌≡◌, ◌≢◌, ℕ, ◌*◌, ◌^◌, ◌<◌, ◌≤◌, true, List, [], ◌∷◌, ℤ, pos, ◌+ℤ◌, ◌-ℤ◌, unsigned_abs, length, refl, ap, subst, arith}
 use Rattle.std.specs.Prelude.{int_le}
 use Rattle.std.specs.Ordering.{int_eq}
 use Rattle.std.proofs.lemmas.Int.{ints}
@@ -15,7 +15,7 @@ use Rattle.form_build.specs.Sums.{IsOpen, AreTerms, IsLinear}
 use Rattle.form_build.proofs.Singles.{ends_ordered}
 use Rattle.form_truths.specs.declared.lines.Line.{Line}
 use Rattle.form_truths.specs.declared.lines.Span.{Span}
-use Rattle.form_truths.specs.Lines.{line_at, IsSpan, LiesIn, IsLine, IsLineOf, IsLineOver}
+use Rattle.form_truths.specs.Lines.{line_at, IsSpan, LiesIn, IsLineOf, IsLineOver}
 
 pub span_ordered : (s : Span) (box : Ranges) → s.low ≡ low_of box → s.high ≡ high_of box → IsValid box → IsSpan s
 span_ordered s box e f v = let o = ends_ordered box v in omega (arith, ints, e, f, o)

@@ -4,7 +4,7 @@ use Rattle.std.specs.Prelude.{◌≡◌, ℕ, ◌<◌, Bool, true, not, List, �
 use Rattle.std.specs.List.{All}
 use Rattle.std.specs.Ordering.{int_eq}
 use Rattle.signed_clause.specs.Ranges.{Ranges, has}
-use Rattle.signed_clause.specs.Clauses.{Literals, box_of, clause_true}
+use Rattle.signed_clause.specs.Clauses.{Literals, clause_true}
 use Rattle.ground_form.specs.declared.ground.Ground.{Ground}
 use Rattle.ground_form.specs.Meaning.{value_of, bit, parts_true}
 use Rattle.ground_form.specs.Bounds.{LiesWithin}

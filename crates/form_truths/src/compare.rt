@@ -158,7 +158,7 @@ pub fn is_nought(alloc: Global, flag: u32) -> Truth
 }
 
 /// The number with the other sign.
-fn minus(f: &Linear) -> i64
+pub(crate) fn minus(f: &Linear) -> i64
     requires { unsigned_abs f.now.offset ≤ 2 ^ 60 }
     ensures { result ≡ pos 0 -ℤ f.now.offset }
 {
@@ -166,7 +166,7 @@ fn minus(f: &Linear) -> i64
 }
 
 /// Whether the sum names no variable.
-fn is_number(f: &Linear) -> bool
+pub(crate) fn is_number(f: &Linear) -> bool
     ensures { result ≡ true → f.now.terms ≡ [] }
 {
     f.terms.items().is_empty()

@@ -49,6 +49,7 @@ impl Disjunction {
             → disjunction_at self.new a ≡ (truth_at t a || disjunction_at self.old a)) }
         ensures variables { OnOk result ((n : ℕ) → HasVariable n t
             → IsWithin n self.old.1 → IsWithin n self.new.1) }
+        ensures few { OnOk result (length self.new.1 ≤ length self.old.1 + 1) }
     {
         match t {
             Truth::Fixed(b) => {

@@ -36,7 +36,7 @@ fn own_want(at: &IntSet, set: &IntSet) -> Option<bool>
 }
 
 /// The same of a variable's box.
-fn own_want_at(boxes: &[IntSet], x: u32, set: &IntSet) -> Option<bool>
+pub(crate) fn own_want_at(boxes: &[IntSet], x: u32, set: &IntSet) -> Option<bool>
     requires { x < length boxes.now }
     ensures { IfSome result (λ w. IsOwnPart (box_of boxes.now x) set.now w) }
 {

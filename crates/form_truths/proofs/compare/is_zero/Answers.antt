@@ -1,7 +1,6 @@
-use Rattle.std.proofs.Common.{[], pos, sym, subst, ◌∙◌}
-use Rattle.std.specs.Ordering.{int_eq}
+use Rattle.std.proofs.Common.{[], sym, subst, ◌∙◌}
 use Rattle.signed_clause.specs.Clauses.{Boxes}
-use Rattle.form_build.specs.Forms.{linear_at, truth_at}
+use Rattle.form_build.specs.Forms.{linear_at}
 use Rattle.form_build.specs.Worlds.{IsInBoxes}
 use Rattle.form_build.proofs.Growth.{adds_nothing}
 use Rattle.form_truths.proofs.Singles.{line_over, only_nought}

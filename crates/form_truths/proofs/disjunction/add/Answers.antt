@@ -1,6 +1,5 @@
-use Rattle.std.proofs.Common.{◌≡◌, ◌∙◌, ◌<◌, ◌≤◌, ap, sym, subst, length, List, ℕ, arith}
-use Rattle.signed_clause.specs.Clauses.{Literals, IsClause}
-use Rattle.form_truths.specs.Disjunctions.{with_literal}
+use Rattle.std.proofs.Common.{◌∙◌, sym, subst, arith}
+use Rattle.signed_clause.specs.Clauses.{IsClause}
 use Rattle.form_truths.proofs.Inserting.{inserted_at, joined_at, with_literal_form}
 use Rattle.form_truths.proofs.disjunction.add.Goals as goal
 

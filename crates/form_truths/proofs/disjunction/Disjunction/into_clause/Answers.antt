@@ -1,4 +1,3 @@
-use Rattle.std.proofs.Common.{◌≡◌, true, false}
 use Rattle.form_truths.proofs.Inserting.{form_true}
 use Rattle.form_truths.proofs.disjunction.Disjunction.into_clause.Goals as goal
 
