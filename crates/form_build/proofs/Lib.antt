@@ -13,4 +13,5 @@ pub mod Fitting
 pub mod Joins
 pub mod ValuesMade
 pub mod Statements
+pub mod Keeping
 pub mod OwnVariables

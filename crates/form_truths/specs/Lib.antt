@@ -1,0 +1,4 @@
+pub mod Disjunctions
+pub mod Lines
+pub mod Parts
+pub mod Tests
