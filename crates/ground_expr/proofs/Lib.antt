@@ -1,0 +1,4 @@
+pub mod Nodes
+pub mod NameForms
+pub mod Steps
+pub mod AskedLaws
