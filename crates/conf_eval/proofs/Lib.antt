@@ -1,7 +1,3 @@
-mod CapLaws
-mod BodyLaws
-mod TotalLaws
-mod TypedLaws
 pub mod LawsClasses
 pub mod LawsSums
 pub mod LawsCells

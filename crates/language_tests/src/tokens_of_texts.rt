@@ -1,5 +1,6 @@
 //! Tokens of texts, and the refusals of texts that have none.
 ghost use Rattle.std.specs.Prelude.{◌≤◌, length};
+ghost use Rattle.model_limits.specs.Limits.{model_bytes};
 
 use conf_parse::{LexError, lex};
 use conf_syntax::Token;
@@ -7,7 +8,7 @@ use std::alloc::{AllocError, Global};
 
 /// The tokens of a text in words, or why it has none.
 fn shown(alloc: Global, text: &[u8]) -> Result<String, AllocError>
-    requires { length text.now ≤ 1048576 }
+    requires { length text.now ≤ model_bytes }
 {
     let tokens = match lex(alloc, text) {
         Ok(tokens) => tokens,

@@ -1,6 +1,6 @@
 //! Best configurations of models that are given as texts.
-ghost use Rattle.std.specs.Prelude.{◌≤◌, length, map};
-ghost use Rattle.conf_types.specs.Programs.{constraint_view, goal_view};
+ghost use Rattle.std.specs.Prelude.{◌≤◌, length};
+ghost use Rattle.model_limits.specs.Limits.{model_bytes};
 ghost use Rattle.conf_types.specs.Typing.{IsTypedModel};
 
 use conf_eval::limits;
@@ -28,8 +28,8 @@ fn trial_of_typed(
     m: &TypedModel,
     objects: &Objects<'_>,
 ) -> Result<Option<Trial>, AllocError>
-    requires typed { IsTypedModel objects.now (map constraint_view m.now.constraints) (map goal_view m.now.goals) }
-    requires few { length m.now.constraints ≤ 1048576 }
+    requires typed { IsTypedModel objects.now m.now.constraints m.now.goals }
+    requires few { length m.now.constraints ≤ model_bytes }
 {
     if limits(m, objects).is_err() {
         return Ok(None);

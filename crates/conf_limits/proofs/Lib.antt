@@ -1,0 +1,4 @@
+mod CapLaws
+mod BodyLaws
+mod TotalLaws
+mod TypedLaws
