@@ -9,7 +9,7 @@ use Rattle.signed_clause.specs.Clauses.{Boxes, box_of}
 use Rattle.signed_clause.specs.SetAlgebra.{piece}
 use Rattle.ground_form.specs.Bounds.{low_of, high_of, reach_of}
 use Rattle.conf_eval.specs.Meaning.{int_same}
-use Rattle.conf_eval.specs.Measures.{is_narrow, is_near, widest, between}
+use Rattle.conf_limits.specs.Measures.{is_narrow, is_near, widest, between}
 use Rattle.form_build.specs.Worlds.{AreSome}
 use Rattle.attribute_forms.specs.Attributes.{IsOnly}
 use Rattle.form_build.proofs.Singles.{fixed_value}

@@ -16,7 +16,7 @@ use Rattle.object_alloc.proofs.OwnParts.{parts_count, part_is, members_are}
 use Rattle.conf_eval.specs.declared.value.Value.TheVariants.{Int, Truth, Choice, Object, Objects}
 use Rattle.conf_eval.specs.Fitting.{HasShape}
 use Rattle.conf_eval.specs.Meaning.{first_object, chosen, int_same}
-use Rattle.conf_eval.specs.Measures.{is_narrow, between}
+use Rattle.conf_limits.specs.Measures.{is_narrow, between}
 use Rattle.conf_eval.proofs.LawsClasses.{in_own_extent}
 use Rattle.signed_clause.specs.Ranges.{Ranges, has, is_nil, IsValid}
 use Rattle.signed_clause.specs.Clauses.{box_of}

@@ -9,7 +9,7 @@ use Rattle.object_alloc.specs.declared.object.Cell.{Cell}
 use Rattle.object_alloc.specs.declared.object.Domain.{Domain}
 use Rattle.object_alloc.specs.Groups.{own_cells}
 use Rattle.conf_eval.specs.Meaning.{attribute_value}
-use Rattle.conf_eval.specs.Measures.{shape_interval, shape_reach}
+use Rattle.conf_limits.specs.Measures.{shape_interval, shape_reach}
 use Rattle.signed_clause.specs.Ranges.{has}
 use Rattle.signed_clause.specs.Clauses.{Boxes, box_of}
 use Rattle.ground_form.specs.declared.ground.Ground.{Ground}

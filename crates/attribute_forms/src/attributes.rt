@@ -4,7 +4,7 @@ ghost use Rattle.object_alloc.specs.declared.object.Domain.{Domain as ADomain};
 ghost use Rattle.object_alloc.specs.Cells.{domain_of};
 ghost use Rattle.conf_eval.specs.Fitting.{HasShape};
 ghost use Rattle.conf_eval.specs.Meaning.{first_object};
-ghost use Rattle.conf_eval.specs.Measures.{shape_interval, is_narrow};
+ghost use Rattle.conf_limits.specs.Measures.{shape_interval, is_narrow};
 ghost use Rattle.expr_forms.specs.Standing.{HasCells};
 ghost use Rattle.attribute_forms.specs.Attributes.{IsCellOf, IsAttributeForm};
 

@@ -22,7 +22,7 @@ use Rattle.object_alloc.proofs.OwnParts.{one_cell, parts_count, part_is, member_
 use Rattle.conf_eval.specs.declared.value.Value.{Value}
 use Rattle.conf_eval.specs.Fitting.{IsValueOf, IsReached, IsWithin}
 use Rattle.conf_eval.specs.Meaning.{attribute_value, first_value, first_object, chosen, int_of, int_same}
-use Rattle.conf_eval.specs.Measures.{shape_reach, shape_interval}
+use Rattle.conf_limits.specs.Measures.{shape_reach, shape_interval}
 use Rattle.conf_eval.proofs.LawsClasses.{in_own_extent}
 
 -- the value of a cell is in its domain

@@ -33,7 +33,8 @@ use Rattle.conf_eval.specs.declared.value.Value.TheVariants.{Int}
 use Rattle.conf_eval.specs.Fitting.{IsThis, AreVars, IsValueOf, IsWithin}
 use Rattle.conf_eval.specs.Meaning.{Setting, attribute_value, object_of, objects_of, int_of, first_of, total, operate, quantified, values_of, Item, item_of, same_value, load}
 use Rattle.conf_eval.specs.Meaning as meaning
-use Rattle.conf_eval.specs.Measures.{Interval, between, none, reach, shape_interval, many, operator_interval, quantifier_interval, interval, body_interval}
+use Rattle.conf_limits.specs.declared.interval.Interval.{Interval}
+use Rattle.conf_limits.specs.Measures.{between, none, reach, shape_interval, many, operator_interval, quantifier_interval, interval, body_interval}
 use Rattle.conf_eval.proofs.LawsClasses.{object_low, has_attribute}
 use Rattle.conf_eval.proofs.LawsCells.{attribute_there}
 use Rattle.conf_eval.proofs.LawsSums.{IsTerm, term_if, times_within, zero_within, total_within}

@@ -1,4 +1,4 @@
--- The numbers of an expression that may be evaluated stay between -2^50 and 2^50, partial sums and loads included; and what stands
+-- The numbers of an expression that may be evaluated stay within the limit on width, partial sums and loads included; and what stands
 -- in such an expression may be evaluated.
 use Rattle.std.proofs.Common.{◌≡◌, ℕ, zero, suc, ◌+◌, ◌<◌, ◌≤◌, true, ◌&&◌, List, [], ◌∷◌, Option, None, Some, length, map, take, drop, ℤ, pos, neg_ℤ, ◌≤ℤ◌, refl, ap, sym, ◌∙◌, subst, arith, ◌+ℤ◌, length-take, length-drop}
 use Rattle.std.specs.Prelude.{All, Contains, slice_get, slice_index_or, int_le}
@@ -6,6 +6,7 @@ use Rattle.std.proofs.lemmas.Bool.{and_parts}
 use Rattle.std.proofs.lemmas.Int.{ints}
 use Rattle.std.proofs.lemmas.List.{length-map}
 use Rattle.std.proofs.lemmas.List.Elements.{All-weaker, All-map, All-take, All-drop, All-contains, All-contains_itself}
+use Rattle.model_limits.specs.Limits.{most_width}
 use Rattle.class_table.specs.declared.table.Resolved.{Resolved}
 use Rattle.class_table.specs.declared.table.Variable.{Variable}
 use Rattle.class_table.specs.Outline.{Outline, attributes}
@@ -30,7 +31,8 @@ use Rattle.conf_eval.specs.declared.value.Value.{Value}
 use Rattle.conf_eval.specs.declared.value.Value.TheVariants.{Int}
 use Rattle.conf_eval.specs.Fitting.{IsThis, HasShape, Fits, IsEvaluable, IsEvaluableFilter, AreEvaluable, IsValueOf, IsReached, IsWithin, IsNarrow, term, packed}
 use Rattle.conf_eval.specs.Meaning.{Setting, bind, value, values_of, keeps, int_of, object_of, objects_of, total, load, Item}
-use Rattle.conf_eval.specs.Measures.{Interval, interval, body_interval, many, is_near, is_narrow, narrow, filter_narrow, bodies_narrow, reach, shape_interval, widest}
+use Rattle.conf_limits.specs.declared.interval.Interval.{Interval}
+use Rattle.conf_limits.specs.Measures.{interval, body_interval, many, is_near, is_narrow, narrow, filter_narrow, bodies_narrow, reach, shape_interval}
 use Rattle.conf_eval.proofs.LawsClasses.{object_low, has_attribute}
 use Rattle.conf_eval.proofs.LawsValues.{if_typed, IsVariable, variable_typed, is_object, local_low, dotted, quantifier_typed, vars_more, AreListed, value_right_at}
 use Rattle.conf_eval.proofs.LawsIntervals.{typed_of_has, members_listed, value_within_at, bodies_at, sum_within, load_within}
@@ -41,8 +43,8 @@ at_most a b h = grind (arith, ints)
 narrow_is : (i : Interval) (v : ℤ) → is_narrow i ≡ true → IsWithin i v → IsNarrow v
 narrow_is i v h w =
     let p = and_parts (is_near i.low) (is_near i.high) h in
-    let l = at_most (neg_ℤ widest) i.low (and_parts (int_le (neg_ℤ widest) i.low) (int_le i.low widest) p.0).0 in
-    let g = at_most i.high widest (and_parts (int_le (neg_ℤ widest) i.high) (int_le i.high widest) p.1).1 in
+    let l = at_most (neg_ℤ (pos most_width)) i.low (and_parts (int_le (neg_ℤ (pos most_width)) i.low) (int_le i.low (pos most_width)) p.0).0 in
+    let g = at_most i.high (pos most_width) (and_parts (int_le (neg_ℤ (pos most_width)) i.high) (int_le i.high (pos most_width)) p.1).1 in
     let x = w.low in
     let y = w.high in
     record { low = omega (arith, ints, l, x); high = omega (arith, ints, g, y) }

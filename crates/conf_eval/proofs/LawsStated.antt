@@ -10,7 +10,7 @@ use Rattle.conf_types.specs.Programs.{ResolvedConstraint, ResolvedGoal}
 use Rattle.conf_types.specs.Typing.{outermost, IsTypedConstraint, IsTypedGoal, IsTypedModel}
 use Rattle.object_alloc.specs.Cells.{extent}
 use Rattle.conf_eval.specs.Fitting.{IsThis, IsEvaluable}
-use Rattle.conf_eval.specs.Measures.{constraint_narrow, goal_narrow, model_narrow}
+use Rattle.conf_limits.specs.Measures.{constraint_narrow, goal_narrow, model_narrow}
 use Rattle.conf_eval.specs.Satisfying.{setting, stated_for}
 
 module _ (o : Outline) (vs : List ℤ) where

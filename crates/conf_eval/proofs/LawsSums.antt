@@ -8,7 +8,8 @@ use Rattle.std.proofs.Math.IntN.{pos-*ℤ-pos, pos-*ℤ-negsuc, negsuc-*ℤ-pos,
 use Rattle.std.proofs.Math.Nat.{mul-le-mul_left}
 use Rattle.conf_eval.specs.Fitting.{IsWithin}
 use Rattle.conf_eval.specs.Meaning.{total}
-use Rattle.conf_eval.specs.Measures.{Interval, times, many}
+use Rattle.conf_limits.specs.declared.interval.Interval.{Interval}
+use Rattle.conf_limits.specs.Measures.{times, many}
 
 -- Products
 

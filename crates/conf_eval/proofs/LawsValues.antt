@@ -33,7 +33,7 @@ use Rattle.conf_eval.specs.declared.value.Value.TheVariants as value
 use Rattle.conf_eval.specs.Fitting.{IsThis, AreVars, IsValueOf, IsReached}
 use Rattle.conf_eval.specs.Meaning.{Setting, attribute_value, local_object, object_of, objects_of, int_of, operate, quantified}
 use Rattle.conf_eval.specs.Meaning as meaning
-use Rattle.conf_eval.specs.Measures.{reach, shape_reach}
+use Rattle.conf_limits.specs.Measures.{reach, shape_reach}
 use Rattle.conf_eval.proofs.LawsClasses.{object_low, has_attribute}
 use Rattle.conf_eval.proofs.LawsCells.{attribute_there}
 

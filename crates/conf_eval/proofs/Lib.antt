@@ -1,7 +1,3 @@
-mod CapLaws
-mod BodyLaws
-mod TotalLaws
-mod TypedLaws
 pub mod LawsClasses
 pub mod LawsSums
 pub mod LawsCells
@@ -16,4 +12,3 @@ pub mod EvalLaws
 pub mod PackingLaws
 pub mod CallLaws
 pub mod PublicLaws
-pub mod PartLaws

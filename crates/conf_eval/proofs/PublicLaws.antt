@@ -12,7 +12,7 @@ use Rattle.object_alloc.specs.Members.{HasItsSize}
 use Rattle.object_alloc.specs.Walk.{leaves_in, walk}
 use Rattle.conf_eval.specs.Fitting.{IsReached, IsValueOf, IsWithin}
 use Rattle.conf_eval.specs.Meaning.{Setting, attribute_value, int_of, objects_of, value}
-use Rattle.conf_eval.specs.Measures.{interval, reach}
+use Rattle.conf_limits.specs.Measures.{interval, reach}
 use Rattle.conf_eval.specs.Satisfying.{IsFull}
 use Rattle.conf_eval.specs.TypedValues.{HasType}
 use Rattle.conf_eval.proofs.LawsNarrow.{value_reached, value_typed, value_within}

@@ -1,5 +1,6 @@
 -- What the code that evaluates is given.
-use Rattle.std.specs.Prelude.{◌≡◌, ℕ, zero, suc, ◌<◌, ◌≤◌, ◌^◌, max, Bool, cond, List, [], ◌∷◌, ◌++◌, Option, None, Some, ℤ, pos, neg_ℤ, ◌≤ℤ◌, All, length, slice_index_or}
+use Rattle.std.specs.Prelude.{◌≡◌, ℕ, zero, suc, ◌*◌, ◌<◌, ◌≤◌, ◌^◌, max, Bool, cond, List, [], ◌∷◌, ◌++◌, Option, None, Some, ℤ, pos, neg_ℤ, ◌≤ℤ◌, All, length, slice_index_or}
+use Rattle.model_limits.specs.Limits.{most_width}
 use Rattle.class_table.specs.Outline.{Outline}
 use Rattle.class_table.specs.Sound.{IsSound}
 use Rattle.class_table.specs.Tables.{IsFew}
@@ -83,10 +84,10 @@ number_of bs n s = int_of (slice_index_or (values_of bs s) n (Int (pos 0)))
 abbrev pub term_of : Filter → Bodies → Setting → ℤ
 term_of f bs s = cond (keeps f s) (int_of (first_of (values_of bs s))) (pos 0)
 
--- the number is from -2^51 to 2^51
+-- the number is no further from 0 than twice the limit on width
 pub record IsSmall (v : ℤ) : Type 0 where
-  pub low : neg_ℤ (pos 2251799813685248) ≤ℤ v
-  pub high : v ≤ℤ pos 2251799813685248
+  pub low : neg_ℤ (pos (2 * most_width)) ≤ℤ v
+  pub high : v ≤ℤ pos (2 * most_width)
 
 -- where an expression is evaluated that stands in these objects' scope
 abbrev pub env_setting : Outline → List ℤ → Env → Setting

@@ -1,6 +1,7 @@
 -- What holds of the values of typed expressions: each is of its expression's type, lists no more objects than the expression
 -- reaches, and lies in the expression's interval.
 use Rattle.std.specs.Prelude.{◌≡◌, ℕ, ◌<◌, ◌≤◌, true, cond, List, [], ◌∷◌, Option, None, Some, ℤ, pos, neg_ℤ, ◌≤ℤ◌, length, slice_get, All, Contains}
+use Rattle.model_limits.specs.Limits.{most_width}
 use Rattle.class_table.specs.declared.table.Resolved.{Resolved}
 use Rattle.class_table.specs.declared.table.Variable.{Variable}
 use Rattle.class_table.specs.Outline.{Outline}
@@ -15,7 +16,8 @@ use Rattle.object_alloc.specs.Own.{IsOwner}
 use Rattle.conf_eval.specs.declared.value.Value.{Value}
 use Rattle.conf_eval.specs.declared.value.Value.TheVariants.{Int, Truth, Choice, Object, Objects}
 use Rattle.conf_eval.specs.Meaning.{Setting, bind, int_of, objects_of, first_of, keeps, values_of, Item, item_of}
-use Rattle.conf_eval.specs.Measures.{Interval, widest, narrow, filter_narrow, bodies_narrow}
+use Rattle.conf_limits.specs.declared.interval.Interval.{Interval}
+use Rattle.conf_limits.specs.Measures.{narrow, filter_narrow, bodies_narrow}
 
 -- Settings
 
@@ -97,10 +99,10 @@ pub record IsWithin (i : Interval) (v : ℤ) : Type 0 where
   pub low : i.low ≤ℤ v
   pub high : v ≤ℤ i.high
 
--- the number is from -2^50 to 2^50
+-- the number is no further from 0 than the limit
 pub record IsNarrow (v : ℤ) : Type 0 where
-  pub low : neg_ℤ widest ≤ℤ v
-  pub high : v ≤ℤ widest
+  pub low : neg_ℤ (pos most_width) ≤ℤ v
+  pub high : v ≤ℤ pos most_width
 
 -- Quantifiers, member by member
 

@@ -3,11 +3,8 @@ pub mod Evaluating
 pub mod Fitting
 pub mod Listing
 pub mod Meaning
-pub mod Measures
 pub mod Packing
 pub mod Satisfying
 pub mod TypedValues
 pub mod Best
-pub mod Limits
-pub mod Counting
 pub mod Finding

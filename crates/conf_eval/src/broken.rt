@@ -1,7 +1,5 @@
 //! Which configurations satisfy a model, and what is broken first where one doesn't.
-ghost use Rattle.std.specs.Prelude.{◌≡◌, ◌<◌, ◌^◌, All, Contains, Some, None, true, length, map, IfOk, IfNone, IfSome};
-ghost use Rattle.conf_types.specs.Programs.{constraint_view, goal_view};
-ghost use Rattle.conf_types.specs.Trees.{tree_of};
+ghost use Rattle.std.specs.Prelude.{◌≡◌, ◌<◌, ◌^◌, All, Contains, Some, None, true, length, IfOk, IfNone, IfSome};
 ghost use Rattle.conf_types.specs.Typing.{IsTypedModel};
 ghost use Rattle.object_alloc.specs.Cells.{extent, leaf_cells};
 ghost use Rattle.object_alloc.specs.Configurations.{IsConfiguration};
@@ -11,8 +9,7 @@ ghost use Rattle.conf_eval.specs.Evaluating.{IsGiven};
 ghost use Rattle.conf_eval.specs.Finding.{first_failing, holds_for, is_full, wrong_set, wrong_object, wrong_constraint, IsStated, IsStatedFor};
 ghost use Rattle.conf_eval.specs.Fitting.{IsEvaluable};
 ghost use Rattle.conf_eval.specs.Listing.{members};
-ghost use Rattle.conf_eval.specs.Meaning.{truth_of, value};
-ghost use Rattle.conf_eval.specs.Measures.{model_narrow};
+ghost use Rattle.conf_limits.specs.Measures.{model_narrow};
 ghost use Rattle.conf_eval.specs.Satisfying.{Satisfies, setting, stated_for};
 
 use crate::evaluate::value_at;
@@ -20,7 +17,7 @@ use crate::members::{Members, listed, slot, slot_count};
 use crate::scene::Scene;
 use crate::value::truth_of;
 use class_table::Resolved;
-use conf_types::{Constraint, RExpr, TypedModel};
+use conf_types::{Constraint, TypedModel};
 use object_alloc::{Config, Leaf, Objects};
 use std::alloc::{AllocError, Global};
 
@@ -89,23 +86,23 @@ fn wrong_set(scene: &Scene<'_, '_>) -> Option<u32>
     None
 }
 
-/// Whether an expression is true where this object is `this`.
-fn is_true(
+/// Whether a constraint holds where this object is `this`.
+fn holds_for(
     alloc: Global,
     scene: &Scene<'_, '_>,
+    constraint: &Constraint,
     this: Option<u32>,
-    e: &RExpr,
 ) -> Result<bool, AllocError>
     requires given { IsGiven scene.now.objects.now scene.now.values.now }
-    requires expr { IsEvaluable scene.now.objects.now scene.now.values.now (tree_of e.now) (setting scene.now.objects.now scene.now.values.now this) }
-    ensures truth { IfOk result (λ b. b ≡ truth_of (value (tree_of e.now) (setting scene.now.objects.now scene.now.values.now this))) }
+    requires expr { IsEvaluable scene.now.objects.now scene.now.values.now constraint.now.tree (setting scene.now.objects.now scene.now.values.now this) }
+    ensures holds { IfOk result (λ b. b ≡ holds_for scene.now.objects.now scene.now.values.now constraint.now this) }
 {
     let there = Scene {
         objects: scene.objects,
         values: scene.values,
         this,
     };
-    let v = value_at(alloc, &there, &[], e)?;
+    let v = value_at(alloc, &there, &[], &constraint.expr)?;
     Ok(truth_of(&v))
 }
 
@@ -117,15 +114,15 @@ fn wrong_member(
     class: u32,
 ) -> Result<Option<u32>, AllocError>
     requires given { IsGiven scene.now.objects.now scene.now.values.now }
-    requires stated { IsStatedFor scene.now.objects.now scene.now.values.now (tree_of constraint.now.expr) (stated_for scene.now.objects.now (Some class)) }
-    ensures member { IfOk result (λ found. found ≡ first_failing (λ n. holds_for scene.now.objects.now scene.now.values.now (constraint_view constraint.now) (Some n)) (extent scene.now.objects.now class)) }
+    requires stated { IsStatedFor scene.now.objects.now scene.now.values.now constraint.now.tree (stated_for scene.now.objects.now (Some class)) }
+    ensures member { IfOk result (λ found. found ≡ first_failing (λ n. holds_for scene.now.objects.now scene.now.values.now constraint.now (Some n)) (extent scene.now.objects.now class)) }
 {
     let list = Members::Extent(class);
     for i in 0..slot_count(scene, &list) {
         let Some(x) = slot(scene, &list, i) else {
             continue;
         };
-        if !is_true(alloc, scene, Some(x), &constraint.expr)? {
+        if !holds_for(alloc, scene, constraint, Some(x))? {
             return Ok(Some(x));
         }
     }
@@ -139,8 +136,8 @@ fn wrong_object(
     constraint: &Constraint,
 ) -> Result<Option<Option<u32>>, AllocError>
     requires given { IsGiven scene.now.objects.now scene.now.values.now }
-    requires stated { IsStated scene.now.objects.now scene.now.values.now (constraint_view constraint.now) }
-    ensures object { IfOk result (λ found. found ≡ wrong_object scene.now.objects.now scene.now.values.now (constraint_view constraint.now)) }
+    requires stated { IsStated scene.now.objects.now scene.now.values.now constraint.now }
+    ensures object { IfOk result (λ found. found ≡ wrong_object scene.now.objects.now scene.now.values.now constraint.now) }
 {
     match constraint.class {
         Some(class) => {
@@ -151,7 +148,7 @@ fn wrong_object(
             }
         }
         None => {
-            let right = is_true(alloc, scene, None, &constraint.expr)?;
+            let right = holds_for(alloc, scene, constraint, None)?;
             Ok(if right { None } else { Some(None) })
         }
     }
@@ -165,8 +162,8 @@ fn wrong_constraint(
 ) -> Result<Option<BrokenAt>, AllocError>
     requires given { IsGiven scene.now.objects.now scene.now.values.now }
     requires few { length constraints.now < 2 ^ 32 }
-    requires stated { All (λ k. IsStated scene.now.objects.now scene.now.values.now (constraint_view k)) constraints.now }
-    ensures constraint { IfOk result (λ found. found ≡ wrong_constraint scene.now.objects.now scene.now.values.now 0 (map constraint_view constraints.now)) }
+    requires stated { All (IsStated scene.now.objects.now scene.now.values.now) constraints.now }
+    ensures constraint { IfOk result (λ found. found ≡ wrong_constraint scene.now.objects.now scene.now.values.now 0 constraints.now) }
 {
     for i in 0..constraints.len() {
         if let Some(object) = wrong_object(alloc, scene, &constraints[i])? {
@@ -188,12 +185,12 @@ pub fn satisfied(
     objects: &Objects<'_>,
     config: &Config,
 ) -> Result<Option<BrokenAt>, AllocError>
-    requires typed { IsTypedModel objects.now (map constraint_view m.now.constraints) (map goal_view m.now.goals) }
-    requires narrow { model_narrow objects.now (map constraint_view m.now.constraints) (map goal_view m.now.goals) ≡ true }
+    requires typed { IsTypedModel objects.now m.now.constraints m.now.goals }
+    requires narrow { model_narrow objects.now m.now.constraints m.now.goals ≡ true }
     requires config { IsConfiguration objects.now config.now }
     requires few { length m.now.constraints < 2 ^ 32 }
-    ensures none { IfOk result (λ found. IfNone found (Satisfies objects.now (map constraint_view m.now.constraints) config.now)) }
-    ensures broken { IfOk result (λ found. IfSome found (IsFirstBroken objects.now (map constraint_view m.now.constraints) config.now)) }
+    ensures none { IfOk result (λ found. IfNone found (Satisfies objects.now m.now.constraints config.now)) }
+    ensures broken { IfOk result (λ found. IfSome found (IsFirstBroken objects.now m.now.constraints config.now)) }
 {
     let _count = objects.count();
     let scene = Scene {

@@ -1,13 +1,12 @@
 //! The calls that evaluate: an expression, and the objectives of a model.
-ghost use Rattle.std.specs.Prelude.{◌≡◌, ◌++◌, ◌∷◌, [], None, true, drop, map, IfOk, OnOk};
-ghost use Rattle.conf_types.specs.Programs.{constraint_view, goal_view};
+ghost use Rattle.std.specs.Prelude.{◌≡◌, ◌++◌, ◌∷◌, [], None, true, drop, IfOk, OnOk};
 ghost use Rattle.conf_types.specs.Trees.{tree_of};
 ghost use Rattle.conf_types.specs.Typing.{IsTypedModel};
 ghost use Rattle.object_alloc.specs.Configurations.{IsConfiguration};
 ghost use Rattle.conf_eval.specs.Evaluating.{IsGiven, env_setting, setting_at};
 ghost use Rattle.conf_eval.specs.Fitting.{IsEvaluable};
 ghost use Rattle.conf_eval.specs.Meaning.{value, int_of};
-ghost use Rattle.conf_eval.specs.Measures.{model_narrow};
+ghost use Rattle.conf_limits.specs.Measures.{model_narrow};
 ghost use Rattle.conf_eval.specs.Satisfying.{objectives};
 
 use crate::evaluate::value_at;
@@ -87,10 +86,10 @@ pub fn objectives(
     objects: &Objects<'_>,
     config: &Config,
 ) -> Result<Numbers, AllocError>
-    requires typed { IsTypedModel objects.now (map constraint_view model.now.constraints) (map goal_view model.now.goals) }
-    requires narrow { model_narrow objects.now (map constraint_view model.now.constraints) (map goal_view model.now.goals) ≡ true }
+    requires typed { IsTypedModel objects.now model.now.constraints model.now.goals }
+    requires narrow { model_narrow objects.now model.now.constraints model.now.goals ≡ true }
     requires config { IsConfiguration objects.now config.now }
-    ensures values { IfOk result (λ numbers. numbers ≡ objectives objects.now (map goal_view model.now.goals) config.now) }
+    ensures values { IfOk result (λ numbers. numbers ≡ objectives objects.now model.now.goals config.now) }
 {
     let _count = objects.count();
     let scene = Scene {

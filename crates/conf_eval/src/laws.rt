@@ -7,7 +7,7 @@ ghost use Rattle.object_alloc.specs.Hints.{AreHints};
 ghost use Rattle.object_alloc.specs.Walk.{leaves_in, walk};
 ghost use Rattle.conf_eval.specs.Fitting.{IsReached, IsValueOf, IsWithin};
 ghost use Rattle.conf_eval.specs.Meaning.{Setting, int_of, value};
-ghost use Rattle.conf_eval.specs.Measures.{interval, reach};
+ghost use Rattle.conf_limits.specs.Measures.{interval, reach};
 ghost use Rattle.conf_eval.specs.Satisfying.{IsFull};
 ghost use Rattle.conf_eval.specs.TypedValues.{HasType};
 

@@ -1,14 +1,12 @@
 -- Copies of quantifiers and of rows of bodies have the same trees.
 use Rattle.std.proofs.Common.{◌≡◌, ℕ, ◌+◌, ◌<◌, ◌≤◌, Option, List, [], ◌∷◌, ◌++◌, All, map, length, get_or, drop, refl, ap, sym, subst, ◌∙◌}
-use Rattle.std.proofs.lemmas.List.{drop_all, length-map}
+use Rattle.std.proofs.lemmas.List.{drop_all}
 use Rattle.std.proofs.lemmas.List.Elements.{All-map, All-nil}
 use Rattle.class_table.specs.Outline.{Outline}
-use Rattle.conf_types.specs.declared.tree.Constraint.{Constraint}
-use Rattle.conf_types.specs.declared.tree.Goal.{Goal}
 use Rattle.conf_types.specs.declared.tree.RExpr.{RExpr}
 use Rattle.conf_types.specs.declared.tree.RQuant as rquant
 use Rattle.conf_types.specs.Checked.{trees_onto}
-use Rattle.conf_types.specs.Programs.{ResolvedGoal, constraint_view, goal_view, constraint_at}
+use Rattle.conf_types.specs.Programs.{ResolvedConstraint, ResolvedGoal, constraint_at}
 use Rattle.conf_types.specs.Trees.{Bodies, NoBody, Body, tree_of, trees_of, optional_tree, quant_tree}
 use Rattle.conf_types.specs.Trees as tree
 use Rattle.conf_types.specs.Typing.{IsTypedConstraint, IsTypedGoal, IsTypedModel}
@@ -45,13 +43,13 @@ bodies_copied body xs i end h = sym (onto_none xs) ∙ sym (ap (λ es. trees_ont
 
 -- Constraints by their numbers
 
-constraint_typed : (o : Outline) (xs : List Constraint) (k : ℕ) → k < length xs → All (IsTypedConstraint o) (map constraint_view xs) → IsTypedConstraint o (constraint_at (map constraint_view xs) k)
-constraint_typed o xs k h a = a k _ (subst (λ n. k < n) (sym (length-map xs constraint_view)) h)
+constraint_typed : (o : Outline) (xs : List ResolvedConstraint) (k : ℕ) → k < length xs → All (IsTypedConstraint o) xs → IsTypedConstraint o (constraint_at xs k)
+constraint_typed o xs k h a = a k _ h
 
 -- constraints of a typed model make a typed model
-pub only_typed : (o : Outline) (xs ys : List Constraint) (gs : List ResolvedGoal) (hs : List Goal) (keep : List ℕ) → All (λ k. k < length xs) keep → map constraint_view ys ≡ map (constraint_at (map constraint_view xs)) keep → hs ≡ [] → IsTypedModel o (map constraint_view xs) gs → IsTypedModel o (map constraint_view ys) (map goal_view hs)
+pub only_typed : (o : Outline) (xs ys : List ResolvedConstraint) (gs : List ResolvedGoal) (hs : List ResolvedGoal) (keep : List ℕ) → All (λ k. k < length xs) keep → ys ≡ map (constraint_at xs) keep → hs ≡ [] → IsTypedModel o xs gs → IsTypedModel o ys hs
 only_typed o xs ys gs hs keep there is none t =
     record {
-      constraints = subst (All (IsTypedConstraint o)) (sym is) (All-map (IsTypedConstraint o) (constraint_at (map constraint_view xs)) keep (λ i d h. constraint_typed o xs (get_or keep i d) (there i d h) t.constraints));
-      goals = subst (λ l. All (IsTypedGoal o) (map goal_view l)) (sym none) (All-nil (IsTypedGoal o));
+      constraints = subst (All (IsTypedConstraint o)) (sym is) (All-map (IsTypedConstraint o) (constraint_at xs) keep (λ i d h. constraint_typed o xs (get_or keep i d) (there i d h) t.constraints));
+      goals = subst (All (IsTypedGoal o)) (sym none) (All-nil (IsTypedGoal o));
     }

@@ -14,8 +14,7 @@ use Rattle.conf_syntax.specs.declared.tree.Member.{Member}
 use Rattle.conf_syntax.specs.declared.tree.Member.TheVariants as member
 use Rattle.conf_syntax.specs.declared.tree.Program.{Program}
 use Rattle.conf_syntax.specs.Trees.{expr_tokens, statement_tokens, where_body, member_tokens, abstract_tokens, parent_tokens, class_tokens, item_tokens, program_tokens}
-use Rattle.conf_types.specs.declared.tree.Constraint.{Constraint}
-use Rattle.conf_types.specs.Programs.{stated, member_exprs, item_constraints, next_class, constraints_from, constraints, constraint_view, resolved_constraint}
+use Rattle.conf_types.specs.Programs.{stated, member_exprs, item_constraints, next_class, constraints_from, constraints, ResolvedConstraint, resolved_constraint}
 
 append_le : {X : Type 0} (a b : List X) (n : ℕ) → n ≤ length b → n ≤ length (a ++ b)
 append_le a b n h = omega (arith, length-append a b)
@@ -70,5 +69,5 @@ pub few_constraints : (p : Program) → length (constraints p.items) ≤ length 
 few_constraints p = items_few p.items 0
 
 -- so few are the resolved ones too
-pub few_resolved : (o : Outline) (p : Program) (most : ℕ) (ks : List Constraint) → length (program_tokens p) ≤ most → map constraint_view ks ≡ map (resolved_constraint o) (constraints p.items) → length ks ≤ most
-few_resolved o p most ks few is = omega (arith, few, few_constraints p, ap length is, length-map ks constraint_view, length-map (constraints p.items) (resolved_constraint o))
+pub few_resolved : (o : Outline) (p : Program) (most : ℕ) (ks : List ResolvedConstraint) → length (program_tokens p) ≤ most → ks ≡ map (resolved_constraint o) (constraints p.items) → length ks ≤ most
+few_resolved o p most ks few is = omega (arith, few, few_constraints p, ap length is, length-map (constraints p.items) (resolved_constraint o))

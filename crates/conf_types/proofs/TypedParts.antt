@@ -2,7 +2,6 @@
 use Rattle.std.proofs.Common.{◌≡◌, ℕ, ◌<◌, true, Option, None, Some, IfSome, List, [], ◌∷◌, ◌++◌, All, map, nat_lt, refl, ap, sym, subst, ◌∙◌, arith}
 use Rattle.std.specs.Option.{option_map_or}
 use Rattle.std.proofs.lemmas.Bool.{lt-ltb}
-use Rattle.std.proofs.lemmas.List.{map-append}
 use Rattle.std.proofs.lemmas.List.Elements.{All-push}
 use Rattle.class_table.specs.Outline.{Outline}
 use Rattle.class_table.specs.Tables.{IsClosed}
@@ -12,9 +11,7 @@ use Rattle.conf_types.specs.declared.types.ExprType.{ExprType}
 use Rattle.conf_types.specs.declared.types.ExprType.TheVariants.{Int, Truth, Choice, Object, Objects, Class}
 use Rattle.conf_types.specs.declared.types.Need.TheVariants as need
 use Rattle.conf_types.specs.Checked.{IsRead}
-use Rattle.conf_types.specs.declared.tree.Constraint.{Constraint}
-use Rattle.conf_types.specs.declared.tree.Goal.{Goal}
-use Rattle.conf_types.specs.Programs.{outside, constraint_view, goal_view}
+use Rattle.conf_types.specs.Programs.{outside, ResolvedConstraint, ResolvedGoal}
 use Rattle.conf_types.specs.Readings.{read}
 use Rattle.conf_types.specs.Trees.{tree_of}
 use Rattle.conf_types.specs.Types.{meets, is_truth, is_int}
@@ -56,11 +53,11 @@ class_there n (Some d) h = lt-ltb d n h
 
 -- Lists of them
 
-pub constraints_typed : (o : Outline) (xs ys : List Constraint) (k : Constraint) → ys ≡ xs ++ k ∷ [] → IsTypedConstraint o (constraint_view k) → All (IsTypedConstraint o) (map constraint_view xs) → All (IsTypedConstraint o) (map constraint_view ys)
-constraints_typed o xs ys k grown h a = subst (All (IsTypedConstraint o)) (sym (ap (map constraint_view) grown ∙ map-append constraint_view xs (k ∷ []))) (All-push (IsTypedConstraint o) (map constraint_view xs) (constraint_view k) a h)
+pub constraints_typed : (o : Outline) (xs ys : List ResolvedConstraint) (k : ResolvedConstraint) → ys ≡ xs ++ k ∷ [] → IsTypedConstraint o k → All (IsTypedConstraint o) xs → All (IsTypedConstraint o) ys
+constraints_typed o xs ys k grown h a = subst (All (IsTypedConstraint o)) (sym grown) (All-push (IsTypedConstraint o) xs k a h)
 
-pub goals_typed : (o : Outline) (xs ys : List Goal) (k : Goal) → ys ≡ xs ++ k ∷ [] → IsTypedGoal o (goal_view k) → All (IsTypedGoal o) (map goal_view xs) → All (IsTypedGoal o) (map goal_view ys)
-goals_typed o xs ys k grown h a = subst (All (IsTypedGoal o)) (sym (ap (map goal_view) grown ∙ map-append goal_view xs (k ∷ []))) (All-push (IsTypedGoal o) (map goal_view xs) (goal_view k) a h)
+pub goals_typed : (o : Outline) (xs ys : List ResolvedGoal) (k : ResolvedGoal) → ys ≡ xs ++ k ∷ [] → IsTypedGoal o k → All (IsTypedGoal o) xs → All (IsTypedGoal o) ys
+goals_typed o xs ys k grown h a = subst (All (IsTypedGoal o)) (sym grown) (All-push (IsTypedGoal o) xs k a h)
 
 pub none_typed : (o : Outline) → IsTypedModel o [] []
 none_typed o = record { constraints = λ k d h. absurd (omega (arith, h)); goals = λ k d h. absurd (omega (arith, h)) }

@@ -1,6 +1,8 @@
 pub mod Types
 pub mod Typing
 pub mod Trees
+pub mod Resolved
+pub mod TreeCodes
 pub mod Scopes
 pub mod Readings
 pub mod Programs

@@ -10,12 +10,11 @@ use Rattle.conf_syntax.specs.declared.tree.Member.{Member}
 use Rattle.conf_syntax.specs.declared.tree.Member.TheVariants as member
 use Rattle.conf_types.specs.declared.fault.TypeFault.{TypeFault}
 use Rattle.conf_types.specs.declared.fault.TypeFault.TheVariants.{Unknown, WrongType, NonLinear, Shadow, Memory}
-use Rattle.conf_types.specs.declared.tree.Constraint.{Constraint}
-use Rattle.conf_types.specs.declared.tree.Goal.{Goal}
 use Rattle.conf_types.specs.declared.types.Need.TheVariants as need
 use Rattle.conf_types.specs.Readings.{Reading, read, needed}
+pub use Rattle.conf_types.specs.Resolved.{ResolvedConstraint, ResolvedGoal}
 use Rattle.conf_types.specs.Scopes.{Scope}
-use Rattle.conf_types.specs.Trees.{Tree, Missing, tree_of}
+use Rattle.conf_types.specs.Trees.{Missing}
 
 -- a constraint as it is stated: the class for whose objects, or none at the top level, and its expression
 pub record Stated : Type 0 where
@@ -86,29 +85,12 @@ goal_faults o g = needed need.Int (goal_reading o g)
 abbrev pub faults : Outline → List Item → List TypeFault
 faults o items = flat_map (constraint_faults o) (constraints items) ++ flat_map (goal_faults o) (goals items)
 
--- Resolved constraints and objectives, without pointers
-
-pub record ResolvedConstraint : Type 0 where
-  pub class : Option ℕ
-  pub place : ℕ
-  pub tree : Tree
-
-pub record ResolvedGoal : Type 0 where
-  pub max : Bool
-  pub tree : Tree
-
--- the place is that of the expression's first token
+-- Resolved, each name of them: the place is that of the expression's first token
 abbrev pub resolved_constraint : Outline → Stated → ResolvedConstraint
 resolved_constraint o k = record { class = k.class; place = (constraint_reading o k).first; tree = (constraint_reading o k).tree }
 
 abbrev pub resolved_goal : Outline → GoalDecl → ResolvedGoal
 resolved_goal o g = record { max = g.max; tree = (goal_reading o g).tree }
-
-abbrev pub constraint_view : Constraint → ResolvedConstraint
-constraint_view k = record { class = k.class; place = k.place; tree = tree_of k.expr }
-
-abbrev pub goal_view : Goal → ResolvedGoal
-goal_view g = record { max = g.max; tree = tree_of g.expr }
 
 -- constraint number k of these
 abbrev pub constraint_at : List ResolvedConstraint → ℕ → ResolvedConstraint

@@ -1,12 +1,13 @@
 //! A whole model: its constraints and objectives, each typed and resolved, in order of place.
 ghost use Rattle.std.specs.Prelude.{◌≡◌, ◌≤◌, ◌<◌, ◌+◌, ◌-◌, ◌^◌, ◌++◌, [], map, length, All, AllPairs, Contains, None, Some, IfOk, IfErr, IfSome, OnOk};
 ghost use Rattle.std.specs.List.{flat_map};
+ghost use Rattle.model_limits.specs.Limits.{model_bytes, most_nesting};
 ghost use Rattle.class_table.specs.Names.{item_class};
 ghost use Rattle.class_table.specs.Outline.{Outline, outline};
 ghost use Rattle.class_table.specs.Sound.{IsSound};
 ghost use Rattle.conf_syntax.specs.Trees.{depth, depth_of_all, depth_of_items, depth_of_members, item_depth, nesting, program_tokens};
 ghost use Rattle.conf_types.specs.Checked.{scope_of};
-ghost use Rattle.conf_types.specs.Programs.{OnFault, constraint_view, constraint_at, goal_view, resolved_constraint, resolved_goal, constraint_faults, goal_faults, faults, constraints, goals, stated, member_exprs, item_constraints, item_goal, next_class, outside};
+ghost use Rattle.conf_types.specs.Programs.{OnFault, constraint_at, resolved_constraint, resolved_goal, constraint_faults, goal_faults, faults, constraints, goals, stated, member_exprs, item_constraints, item_goal, next_class, outside};
 ghost use Rattle.conf_types.specs.Typing.{IsTypedConstraint, IsTypedGoal, IsTypedModel};
 
 use crate::copies::copy_constraints;
@@ -43,9 +44,9 @@ impl TypedModel {
     pub fn only(&self, alloc: Global, keep: &[u32]) -> Result<TypedModel, AllocError>
         requires ascend { AllPairs ◌<◌ keep.now }
         requires exist { All (λ k. k < length self.now.constraints) keep.now }
-        ensures constraints { IfOk result (λ m. map constraint_view m.constraints ≡ map (constraint_at (map constraint_view self.now.constraints)) keep.now) }
+        ensures constraints { IfOk result (λ m. m.constraints ≡ map (constraint_at self.now.constraints) keep.now) }
         ensures goals { IfOk result (λ m. m.goals ≡ []) }
-        ensures typed { (o : Outline) → IsTypedModel o (map constraint_view self.now.constraints) (map goal_view self.now.goals) → IfOk result (λ m. IsTypedModel o (map constraint_view m.constraints) (map goal_view m.goals)) }
+        ensures typed { (o : Outline) → IsTypedModel o self.now.constraints self.now.goals → IfOk result (λ m. IsTypedModel o m.constraints m.goals) }
     {
         let constraints = copy_constraints(alloc, self.constraints.items(), keep)?;
         Ok(TypedModel {
@@ -83,10 +84,10 @@ fn check_constraint(
 ) -> Result<Constraint, TypeFault>
     requires sound { IsSound table.now }
     requires class { IfSome class (λ c. c < length table.now.classes) }
-    requires depth { depth expr.now.node ≤ 200 }
-    ensures constraint { IfOk result (λ k. constraint_view k ≡ resolved_constraint table.now (stated class expr.now)) }
+    requires depth { depth expr.now.node ≤ most_nesting }
+    ensures constraint { IfOk result (λ k. k ≡ resolved_constraint table.now (stated class expr.now)) }
     ensures right { OnOk result (constraint_faults table.now (stated class expr.now) ≡ []) }
-    ensures typed { IfOk result (λ k. IsTypedConstraint table.now (constraint_view k)) }
+    ensures typed { IfOk result (λ k. IsTypedConstraint table.now k) }
     ensures fault { IfErr result (λ f. OnFault f (λ g. Contains (constraint_faults table.now (stated class expr.now)) g)) }
 {
     let scope = outside(alloc, class);
@@ -103,10 +104,10 @@ fn check_constraint(
 /// An objective.
 fn check_goal(alloc: Global, table: &ClassTable, decl: &GoalDecl) -> Result<Goal, TypeFault>
     requires sound { IsSound table.now }
-    requires depth { depth decl.now.expr.node ≤ 200 }
-    ensures goal { IfOk result (λ k. goal_view k ≡ resolved_goal table.now decl.now) }
+    requires depth { depth decl.now.expr.node ≤ most_nesting }
+    ensures goal { IfOk result (λ k. k ≡ resolved_goal table.now decl.now) }
     ensures right { OnOk result (goal_faults table.now decl.now ≡ []) }
-    ensures typed { IfOk result (λ k. IsTypedGoal table.now (goal_view k)) }
+    ensures typed { IfOk result (λ k. IsTypedGoal table.now k) }
     ensures fault { IfErr result (λ f. OnFault f (λ g. Contains (goal_faults table.now decl.now) g)) }
 {
     let scope = outside(alloc, None);
@@ -129,10 +130,10 @@ fn check_list(
 ) -> Result<(), TypeFault>
     requires sound { IsSound table.now }
     requires class { IfSome class (λ c. c < length table.now.classes) }
-    requires depth { depth_of_all list.now ≤ 200 }
-    ensures constraints { OnOk result (map constraint_view found.new.items ≡ map constraint_view found.old.items ++ map (resolved_constraint table.now) (map (stated class) list.now)) }
+    requires depth { depth_of_all list.now ≤ most_nesting }
+    ensures constraints { OnOk result (found.new.items ≡ found.old.items ++ map (resolved_constraint table.now) (map (stated class) list.now)) }
     ensures right { OnOk result (flat_map (constraint_faults table.now) (map (stated class) list.now) ≡ []) }
-    ensures typed { OnOk result (All (IsTypedConstraint table.now) (map constraint_view found.old.items) → All (IsTypedConstraint table.now) (map constraint_view found.new.items)) }
+    ensures typed { OnOk result (All (IsTypedConstraint table.now) found.old.items → All (IsTypedConstraint table.now) found.new.items) }
     ensures fault { IfErr result (λ f. OnFault f (λ g. Contains (flat_map (constraint_faults table.now) (map (stated class) list.now)) g)) }
 {
     for expr in list {
@@ -154,10 +155,10 @@ fn check_members(
 ) -> Result<(), TypeFault>
     requires sound { IsSound table.now }
     requires class { class < length table.now.classes }
-    requires depth { depth_of_members members.now ≤ 200 }
-    ensures constraints { OnOk result (map constraint_view found.new.items ≡ map constraint_view found.old.items ++ map (resolved_constraint table.now) (map (stated (Some class)) (flat_map member_exprs members.now))) }
+    requires depth { depth_of_members members.now ≤ most_nesting }
+    ensures constraints { OnOk result (found.new.items ≡ found.old.items ++ map (resolved_constraint table.now) (map (stated (Some class)) (flat_map member_exprs members.now))) }
     ensures right { OnOk result (flat_map (constraint_faults table.now) (map (stated (Some class)) (flat_map member_exprs members.now)) ≡ []) }
-    ensures typed { OnOk result (All (IsTypedConstraint table.now) (map constraint_view found.old.items) → All (IsTypedConstraint table.now) (map constraint_view found.new.items)) }
+    ensures typed { OnOk result (All (IsTypedConstraint table.now) found.old.items → All (IsTypedConstraint table.now) found.new.items) }
     ensures fault { IfErr result (λ f. OnFault f (λ g. Contains (flat_map (constraint_faults table.now) (map (stated (Some class)) (flat_map member_exprs members.now))) g)) }
 {
     for member in members {
@@ -181,12 +182,12 @@ fn check_item(
 ) -> Result<(), TypeFault>
     requires sound { IsSound table.now }
     requires class { class + length (item_class item.now) ≤ length table.now.classes }
-    requires depth { item_depth item.now ≤ 200 }
-    ensures constraints { OnOk result (map constraint_view found.new.constraints.items ≡ map constraint_view found.old.constraints.items ++ map (resolved_constraint table.now) (item_constraints item.now class)) }
-    ensures goals { OnOk result (map goal_view found.new.goals.items ≡ map goal_view found.old.goals.items ++ map (resolved_goal table.now) (item_goal item.now)) }
+    requires depth { item_depth item.now ≤ most_nesting }
+    ensures constraints { OnOk result (found.new.constraints.items ≡ found.old.constraints.items ++ map (resolved_constraint table.now) (item_constraints item.now class)) }
+    ensures goals { OnOk result (found.new.goals.items ≡ found.old.goals.items ++ map (resolved_goal table.now) (item_goal item.now)) }
     ensures right_constraints { OnOk result (flat_map (constraint_faults table.now) (item_constraints item.now class) ≡ []) }
     ensures right_goals { OnOk result (flat_map (goal_faults table.now) (item_goal item.now) ≡ []) }
-    ensures typed { OnOk result (IsTypedModel table.now (map constraint_view found.old.constraints.items) (map goal_view found.old.goals.items) → IsTypedModel table.now (map constraint_view found.new.constraints.items) (map goal_view found.new.goals.items)) }
+    ensures typed { OnOk result (IsTypedModel table.now found.old.constraints.items found.old.goals.items → IsTypedModel table.now found.new.constraints.items found.new.goals.items) }
     ensures fault { IfErr result (λ f. OnFault f (λ g. Contains (flat_map (constraint_faults table.now) (item_constraints item.now class) ++ flat_map (goal_faults table.now) (item_goal item.now)) g)) }
 {
     match item {
@@ -231,11 +232,11 @@ fn check_items(alloc: Global, table: &ClassTable, items: &[Item]) -> Result<Part
     requires table { table.now ≡ outline items.now }
     requires sound { IsSound table.now }
     requires few { length items.now < 2 ^ 32 - 1 }
-    requires depth { depth_of_items items.now ≤ 200 }
-    ensures constraints { IfOk result (λ m. map constraint_view m.constraints.items ≡ map (resolved_constraint table.now) (constraints items.now)) }
-    ensures goals { IfOk result (λ m. map goal_view m.goals.items ≡ map (resolved_goal table.now) (goals items.now)) }
+    requires depth { depth_of_items items.now ≤ most_nesting }
+    ensures constraints { IfOk result (λ m. m.constraints.items ≡ map (resolved_constraint table.now) (constraints items.now)) }
+    ensures goals { IfOk result (λ m. m.goals.items ≡ map (resolved_goal table.now) (goals items.now)) }
     ensures right { OnOk result (faults table.now items.now ≡ []) }
-    ensures typed { IfOk result (λ m. IsTypedModel table.now (map constraint_view m.constraints.items) (map goal_view m.goals.items)) }
+    ensures typed { IfOk result (λ m. IsTypedModel table.now m.constraints.items m.goals.items) }
     ensures fault { IfErr result (λ f. OnFault f (λ g. Contains (faults table.now items.now) g)) }
 {
     let mut found = Parts {
@@ -260,13 +261,13 @@ fn check_items(alloc: Global, table: &ClassTable, items: &[Item]) -> Result<Part
 /// one stands, there is no typed model.
 pub fn check(alloc: Global, program: &Program, table: &ClassTable) -> Result<TypedModel, TypeFault>
     requires table { table.now ≡ outline program.now.items }
-    requires tokens { length (program_tokens program.now) ≤ 1048576 }
-    requires nesting { nesting program.now ≤ 200 }
-    ensures constraints { IfOk result (λ m. map constraint_view m.constraints ≡ map (resolved_constraint table.now) (constraints program.now.items)) }
-    ensures few { IfOk result (λ m. length m.constraints ≤ 1048576) }
-    ensures goals { IfOk result (λ m. map goal_view m.goals ≡ map (resolved_goal table.now) (goals program.now.items)) }
+    requires tokens { length (program_tokens program.now) ≤ model_bytes }
+    requires nesting { nesting program.now ≤ most_nesting }
+    ensures constraints { IfOk result (λ m. m.constraints ≡ map (resolved_constraint table.now) (constraints program.now.items)) }
+    ensures few { IfOk result (λ m. length m.constraints ≤ model_bytes) }
+    ensures goals { IfOk result (λ m. m.goals ≡ map (resolved_goal table.now) (goals program.now.items)) }
     ensures right { OnOk result (faults table.now program.now.items ≡ []) }
-    ensures typed { IfOk result (λ m. IsTypedModel table.now (map constraint_view m.constraints) (map goal_view m.goals)) }
+    ensures typed { IfOk result (λ m. IsTypedModel table.now m.constraints m.goals) }
     ensures fault { IfErr result (λ f. OnFault f (λ g. Contains (faults table.now program.now.items) g)) }
 {
     let _classes = table.class_count();

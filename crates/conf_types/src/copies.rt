@@ -1,8 +1,8 @@
 //! Copies of resolved expressions and of constraints.
 //!
-//! `RExpr::copy` is the entry. The recursion is on the tree, which nests at most 200.
+//! `RExpr::copy` is the entry. The recursion is on the tree, which nests at most `MOST_NESTING`.
 ghost use Rattle.std.specs.Prelude.{◌≡◌, ◌<◌, ℕ, All, length, map, IfOk};
-ghost use Rattle.conf_types.specs.Programs.{constraint_view, constraint_at};
+ghost use Rattle.conf_types.specs.Programs.{constraint_at};
 ghost use Rattle.conf_types.specs.Trees.{tree_of, node_tree, quant_tree, optional_tree, trees_of};
 
 use crate::{Constraint, RExpr, RNode, RQuant};
@@ -102,7 +102,7 @@ fn copy_constraint(
     k: u32,
 ) -> Result<Constraint, AllocError>
     requires exists { k < length constraints.now }
-    ensures constraint { IfOk result (λ c. constraint_view c ≡ constraint_at (map constraint_view constraints.now) k) }
+    ensures constraint { IfOk result (λ c. c ≡ constraint_at constraints.now k) }
 {
     let constraint = &constraints[k as usize];
     let expr = copy_expr(alloc, &constraint.expr)?;
@@ -120,7 +120,7 @@ pub(crate) fn copy_constraints(
     keep: &[u32],
 ) -> Result<Vec<Constraint>, AllocError>
     requires exist { All (λ k. k < length constraints.now) keep.now }
-    ensures constraints { IfOk result (λ found. map constraint_view found.items ≡ map (constraint_at (map constraint_view constraints.now)) keep.now) }
+    ensures constraints { IfOk result (λ found. found.items ≡ map (constraint_at constraints.now) keep.now) }
 {
     let mut found = Vec::with_capacity(alloc, keep.len())?;
     for k in keep {

@@ -1,8 +1,9 @@
 //! Expressions, walked once from left to right: each is typed and resolved, or the walk stops at the first fault that it meets.
 //!
 //! `check_expr` is the entry, with one part for each kind of expression; what a kind makes of its typed parts stands in `rules`.
-//! The recursion is on the tree, which nests at most 200.
+//! The recursion is on the tree, which nests at most `MOST_NESTING`.
 ghost use Rattle.std.specs.Prelude.{◌≡◌, ◌≤◌, ◌+◌, true, length, Contains, IfOk, IfErr};
+ghost use Rattle.model_limits.specs.Limits.{most_nesting};
 ghost use Rattle.conf_syntax.specs.Trees.{depth, depth_of_all, quant_depth};
 ghost use Rattle.conf_types.specs.Checked.{scope_of, told, IsScope, IsRead, IsTypeOf, IsFilter, AreBodies, optional_reading, optional_depth, readings, quantifier_at};
 ghost use Rattle.conf_types.specs.Programs.{OnFault};
@@ -29,7 +30,7 @@ pub(crate) fn check_expr<'a>(
     expr: &'a Expr,
 ) -> Result<Checked, TypeFault>
     requires scope { IsScope table.now scope.now }
-    requires room { length scope.now.locals.items + depth expr.now.node ≤ 200 }
+    requires room { length scope.now.locals.items + depth expr.now.node ≤ most_nesting }
     ensures read { IfOk result (λ x. IsRead x (read table.now (scope_of scope.now) expr.now)) }
     ensures exists { IfOk result (λ x. IsTypeOf table.now x.kind) }
     ensures fault { IfErr result (λ f. OnFault f (λ g. Contains (faults_of table.now (scope_of scope.now) expr.now) g)) }
@@ -58,7 +59,7 @@ pub(crate) fn check_needed<'a>(
     need: Need,
 ) -> Result<Checked, TypeFault>
     requires scope { IsScope table.now scope.now }
-    requires room { length scope.now.locals.items + depth expr.now.node ≤ 200 }
+    requires room { length scope.now.locals.items + depth expr.now.node ≤ most_nesting }
     ensures read { IfOk result (λ x. IsRead x (read table.now (scope_of scope.now) expr.now)) }
     ensures exists { IfOk result (λ x. IsTypeOf table.now x.kind) }
     ensures met { IfOk result (λ x. meets need x.kind ≡ true) }
@@ -84,7 +85,7 @@ fn check_paren<'a>(
     inner: &'a Expr,
 ) -> Result<Checked, TypeFault>
     requires scope { IsScope table.now scope.now }
-    requires room { length scope.now.locals.items + depth inner.now.node ≤ 200 }
+    requires room { length scope.now.locals.items + depth inner.now.node ≤ most_nesting }
     ensures read { IfOk result (λ x. IsRead x (paren_reading at (read table.now (scope_of scope.now) inner.now))) }
     ensures exists { IfOk result (λ x. IsTypeOf table.now x.kind) }
     ensures fault { IfErr result (λ f. OnFault f (λ g. Contains (paren_reading at (read table.now (scope_of scope.now) inner.now)).faults g)) }
@@ -105,7 +106,7 @@ fn check_minus<'a>(
     inner: &'a Expr,
 ) -> Result<Checked, TypeFault>
     requires scope { IsScope table.now scope.now }
-    requires room { length scope.now.locals.items + depth inner.now.node ≤ 200 }
+    requires room { length scope.now.locals.items + depth inner.now.node ≤ most_nesting }
     ensures read { IfOk result (λ x. IsRead x (minus_reading at (read table.now (scope_of scope.now) inner.now))) }
     ensures exists { IfOk result (λ x. IsTypeOf table.now x.kind) }
     ensures fault { IfErr result (λ f. OnFault f (λ g. Contains (minus_reading at (read table.now (scope_of scope.now) inner.now)).faults g)) }
@@ -126,7 +127,7 @@ fn check_not<'a>(
     inner: &'a Expr,
 ) -> Result<Checked, TypeFault>
     requires scope { IsScope table.now scope.now }
-    requires room { length scope.now.locals.items + depth inner.now.node ≤ 200 }
+    requires room { length scope.now.locals.items + depth inner.now.node ≤ most_nesting }
     ensures read { IfOk result (λ x. IsRead x (not_reading at (read table.now (scope_of scope.now) inner.now))) }
     ensures exists { IfOk result (λ x. IsTypeOf table.now x.kind) }
     ensures fault { IfErr result (λ f. OnFault f (λ g. Contains (not_reading at (read table.now (scope_of scope.now) inner.now)).faults g)) }
@@ -148,7 +149,7 @@ fn check_attribute<'a>(
     name: &Ident,
 ) -> Result<Checked, TypeFault>
     requires scope { IsScope table.now scope.now }
-    requires room { length scope.now.locals.items + depth inner.now.node ≤ 200 }
+    requires room { length scope.now.locals.items + depth inner.now.node ≤ most_nesting }
     ensures read { IfOk result (λ x. IsRead x (attribute_reading table.now at (read table.now (scope_of scope.now) inner.now) name.now (read table.now (scope_of scope.now) inner.now).type)) }
     ensures exists { IfOk result (λ x. IsTypeOf table.now x.kind) }
     ensures fault { IfErr result (λ f. OnFault f (λ g. Contains (attribute_reading table.now at (read table.now (scope_of scope.now) inner.now) name.now (read table.now (scope_of scope.now) inner.now).type).faults g)) }
@@ -170,7 +171,7 @@ fn check_dot<'a>(
     name: &Ident,
 ) -> Result<Checked, TypeFault>
     requires scope { IsScope table.now scope.now }
-    requires room { length scope.now.locals.items + depth inner.now.node ≤ 200 }
+    requires room { length scope.now.locals.items + depth inner.now.node ≤ most_nesting }
     ensures read { IfOk result (λ x. IsRead x (dot_reading table.now at (alone table.now inner.now.node (scope_of scope.now)) (read table.now (scope_of scope.now) inner.now) name.now)) }
     ensures exists { IfOk result (λ x. IsTypeOf table.now x.kind) }
     ensures fault { IfErr result (λ f. OnFault f (λ g. Contains (dot_reading table.now at (alone table.now inner.now.node (scope_of scope.now)) (read table.now (scope_of scope.now) inner.now) name.now).faults g)) }
@@ -194,7 +195,7 @@ fn check_over<'a>(
     expr: &'a Expr,
 ) -> Result<Checked, TypeFault>
     requires scope { IsScope table.now scope.now }
-    requires room { length scope.now.locals.items + depth expr.now.node ≤ 200 }
+    requires room { length scope.now.locals.items + depth expr.now.node ≤ most_nesting }
     ensures read { IfOk result (λ x. IsRead x (over_reading expr.now.at (alone table.now expr.now.node (scope_of scope.now)) (read table.now (scope_of scope.now) expr.now))) }
     ensures exists { IfOk result (λ x. IsTypeOf table.now x.kind) }
     ensures met { IfOk result (λ x. meets Need.List x.kind ≡ true) }
@@ -220,7 +221,7 @@ fn check_right<'a>(
     expr: &'a Expr,
 ) -> Result<Checked, TypeFault>
     requires scope { IsScope table.now scope.now }
-    requires room { length scope.now.locals.items + depth expr.now.node ≤ 200 }
+    requires room { length scope.now.locals.items + depth expr.now.node ≤ most_nesting }
     ensures read { IfOk result (λ x. IsRead x (right_reading op expr.now.at (alone table.now expr.now.node (scope_of scope.now)) (read table.now (scope_of scope.now) expr.now))) }
     ensures exists { IfOk result (λ x. IsTypeOf table.now x.kind) }
     ensures met { IfOk result (λ x. meets (right_need op) x.kind ≡ true) }
@@ -245,8 +246,8 @@ fn check_pair<'a>(
     right: &'a Expr,
 ) -> Result<Checked, TypeFault>
     requires scope { IsScope table.now scope.now }
-    requires left { length scope.now.locals.items + depth left.now.node ≤ 200 }
-    requires right { length scope.now.locals.items + depth right.now.node ≤ 200 }
+    requires left { length scope.now.locals.items + depth left.now.node ≤ most_nesting }
+    requires right { length scope.now.locals.items + depth right.now.node ≤ most_nesting }
     ensures read { IfOk result (λ x. IsRead x (pair_reading at op (read table.now (scope_of scope.now) left.now) (right_reading op right.now.at (alone table.now right.now.node (scope_of scope.now)) (read table.now (scope_of scope.now) right.now)))) }
     ensures exists { IfOk result (λ x. IsTypeOf table.now x.kind) }
     ensures fault { IfErr result (λ f. OnFault f (λ g. Contains (pair_reading at op (read table.now (scope_of scope.now) left.now) (right_reading op right.now.at (alone table.now right.now.node (scope_of scope.now)) (read table.now (scope_of scope.now) right.now))).faults g)) }
@@ -271,7 +272,7 @@ fn check_filter<'a>(
     filter: &'a Option<Expr>,
 ) -> Result<Option<RExpr>, TypeFault>
     requires scope { IsScope table.now scope.now }
-    requires room { length scope.now.locals.items + optional_depth filter.now ≤ 200 }
+    requires room { length scope.now.locals.items + optional_depth filter.now ≤ most_nesting }
     ensures read { IfOk result (λ x. IsFilter x (optional_reading table.now (scope_of scope.now) filter.now)) }
     ensures fault { IfErr result (λ f. OnFault f (λ g. Contains (filter_faults (optional_reading table.now (scope_of scope.now) filter.now)) g)) }
 {
@@ -294,7 +295,7 @@ fn check_bodies<'a>(
     body: &'a [Expr],
 ) -> Result<Vec<RExpr>, TypeFault>
     requires scope { IsScope table.now scope.now }
-    requires room { length scope.now.locals.items + depth_of_all body.now ≤ 200 }
+    requires room { length scope.now.locals.items + depth_of_all body.now ≤ most_nesting }
     ensures read { IfOk result (λ xs. AreBodies kind xs.items (readings table.now (scope_of scope.now) body.now) 0) }
     ensures fault { IfErr result (λ f. OnFault f (λ g. Contains (bodies_faults kind (readings table.now (scope_of scope.now) body.now) 0) g)) }
 {
@@ -318,7 +319,7 @@ fn check_parts<'a>(
     quant: &'a Quant,
 ) -> Result<Checked, TypeFault>
     requires scope { IsScope table.now scope.now }
-    requires room { length scope.now.locals.items + 1 + quant_depth quant.now ≤ 200 }
+    requires room { length scope.now.locals.items + 1 + quant_depth quant.now ≤ most_nesting }
     ensures read { IfOk result (λ x. IsRead x (quantifier_at table.now at (scope_of scope.now) quant.now)) }
     ensures exists { IfOk result (λ x. IsTypeOf table.now x.kind) }
     ensures fault { IfErr result (λ f. OnFault f (λ g. Contains (quantifier_at table.now at (scope_of scope.now) quant.now).faults g)) }
@@ -352,7 +353,7 @@ fn check_quant<'a>(
     quant: &'a Quant,
 ) -> Result<Checked, TypeFault>
     requires scope { IsScope table.now scope.now }
-    requires room { length scope.now.locals.items + 1 + quant_depth quant.now ≤ 200 }
+    requires room { length scope.now.locals.items + 1 + quant_depth quant.now ≤ most_nesting }
     ensures read { IfOk result (λ x. IsRead x (quant_reading table.now quant.now at (scope_of scope.now))) }
     ensures exists { IfOk result (λ x. IsTypeOf table.now x.kind) }
     ensures fault { IfErr result (λ f. OnFault f (λ g. Contains (quant_reading table.now quant.now at (scope_of scope.now)).faults g)) }

@@ -12,13 +12,13 @@ pub struct Constraints {
 
 impl Model for Constraints {
     ghost use Rattle.std.specs.Prelude.{List};
-    ghost use Rattle.conf_types.specs.declared.tree.Constraint.{Constraint};
-    ghost use Rattle.conf_types.specs.contracts.tree.RExpr as expr;
-    ghost use Rattle.std.specs.Coded.{codes};
+    ghost use Rattle.std.specs.Coded.{coded_list};
+    ghost use Rattle.conf_types.specs.Resolved.{ResolvedConstraint};
+    ghost use Rattle.conf_types.specs.TreeCodes.{coded_constraint};
 
-    ghost Value = { List Constraint };
+    ghost Value = { List ResolvedConstraint };
 
-    ghost coded = { Prim.hlevel (codes, expr.the_row.coded) };
+    ghost coded = { coded_list coded_constraint };
 
     ghost view = { λ list. list.items.items };
 }
@@ -47,13 +47,13 @@ pub struct Goals {
 
 impl Model for Goals {
     ghost use Rattle.std.specs.Prelude.{List};
-    ghost use Rattle.conf_types.specs.declared.tree.Goal.{Goal};
-    ghost use Rattle.conf_types.specs.contracts.tree.RExpr as expr;
-    ghost use Rattle.std.specs.Coded.{codes};
+    ghost use Rattle.std.specs.Coded.{coded_list};
+    ghost use Rattle.conf_types.specs.Resolved.{ResolvedGoal};
+    ghost use Rattle.conf_types.specs.TreeCodes.{coded_goal};
 
-    ghost Value = { List Goal };
+    ghost Value = { List ResolvedGoal };
 
-    ghost coded = { Prim.hlevel (codes, expr.the_row.coded) };
+    ghost coded = { coded_list coded_goal };
 
     ghost view = { λ list. list.items.items };
 }

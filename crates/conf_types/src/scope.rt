@@ -3,6 +3,7 @@
 //! `sense_of` is the entry. The look-ups are by hash but for the variables of the quantifiers round an expression, which are
 //! fewer than the nodes that it may nest.
 ghost use Rattle.std.specs.Prelude.{◌≡◌, ◌<◌, ◌≤◌, ◌+◌, ℕ, Some, cond, length, IfOk, IfSome};
+ghost use Rattle.model_limits.specs.Limits.{most_nesting};
 ghost use Rattle.class_table.specs.Names.{means};
 ghost use Rattle.class_table.specs.Outline.{Outline};
 ghost use Rattle.class_table.specs.Same.{same_name};
@@ -127,7 +128,7 @@ fn own_or(other: Sense, own: Option<Found>) -> Sense
 
 /// The variable, where it has this name. So many variables stand behind it.
 fn local_or(other: Sense, name: &Name, local: &Local<'_>, behind: usize) -> Sense
-    requires few { behind < 200 }
+    requires few { behind < most_nesting }
     ensures sense { told result ≡ cond (same_name name.now local.now.name.now) (ALocal behind (Some local.now.class)) (told other) }
     ensures exists { (o : Outline) → IsSenseOf o other → local.now.class < length o.classes → IsSenseOf o result }
 {
@@ -140,7 +141,7 @@ fn local_or(other: Sense, name: &Name, local: &Local<'_>, behind: usize) -> Sens
 
 /// The innermost variable of this name, where there is one.
 fn nearest(other: Sense, name: &Name, locals: &[Local<'_>]) -> Sense
-    requires few { length locals.now ≤ 200 }
+    requires few { length locals.now ≤ most_nesting }
     ensures sense { told result ≡ local_or (told other) name.now (locals_of locals.now) }
     ensures exists { (o : Outline) → IsSenseOf o other → AreLocals (length o.classes) locals.now → IsSenseOf o result }
 {
@@ -154,7 +155,7 @@ fn nearest(other: Sense, name: &Name, locals: &[Local<'_>]) -> Sense
 /// What a word means in a scope.
 pub(crate) fn sense_of(table: &ClassTable, scope: &Scope<'_>, name: &Name) -> Sense
     requires scope { IsScope table.now scope.now }
-    requires few { length scope.now.locals.items ≤ 200 }
+    requires few { length scope.now.locals.items ≤ most_nesting }
     ensures sense { told result ≡ sense table.now (scope_of scope.now) name.now }
     ensures exists { IsSenseOf table.now result }
 {
@@ -166,7 +167,7 @@ pub(crate) fn sense_of(table: &ClassTable, scope: &Scope<'_>, name: &Name) -> Se
 /// What a whole expression means, where it is a word alone.
 pub(crate) fn alone(table: &ClassTable, scope: &Scope<'_>, expr: &Expr) -> Sense
     requires scope { IsScope table.now scope.now }
-    requires few { length scope.now.locals.items ≤ 200 }
+    requires few { length scope.now.locals.items ≤ most_nesting }
     ensures sense { told result ≡ alone table.now expr.now.node (scope_of scope.now) }
     ensures exists { IsSenseOf table.now result }
 {

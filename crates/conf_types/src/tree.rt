@@ -1,8 +1,10 @@
 //! Resolved expressions: no name stands in them, each is a number of the class table.
 //!
-//! Each `at` is the place that the expression has in the model's tree.
+//! Each `at` is the place that the expression has in the model's tree. Constraints and objectives are
+//! seen by clauses without their pointers.
 use class_table::Resolved;
 use conf_syntax::{Op, QuantKind};
+use std::marker::Model;
 
 /// A resolved expression with its place.
 #[cycle(resolved)]
@@ -56,9 +58,33 @@ pub struct Constraint {
     pub expr: RExpr,
 }
 
+impl Model for Constraint {
+    ghost use Rattle.conf_types.specs.Resolved.{ResolvedConstraint};
+    ghost use Rattle.conf_types.specs.TreeCodes.{coded_constraint};
+    ghost use Rattle.conf_types.specs.Trees.{tree_of};
+
+    ghost Value = { ResolvedConstraint };
+
+    ghost coded = { coded_constraint };
+
+    ghost view = { λ k. record { class = k.class; place = k.place; tree = tree_of k.expr } };
+}
+
 /// An objective.
 #[derive(Drop)]
 pub struct Goal {
     pub max: bool,
     pub expr: RExpr,
+}
+
+impl Model for Goal {
+    ghost use Rattle.conf_types.specs.Resolved.{ResolvedGoal};
+    ghost use Rattle.conf_types.specs.TreeCodes.{coded_goal};
+    ghost use Rattle.conf_types.specs.Trees.{tree_of};
+
+    ghost Value = { ResolvedGoal };
+
+    ghost coded = { coded_goal };
+
+    ghost view = { λ g. record { max = g.max; tree = tree_of g.expr } };
 }

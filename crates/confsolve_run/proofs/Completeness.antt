@@ -1,10 +1,11 @@
 -- Where no fault came and the files that a request names are there and within their limits, the run ends with one of its statuses.
 use Rattle.std.proofs.Common.{◌≡◌, ◌⊎◌, inl, inr, ℕ, ◌≤◌, ◌<◌, List, Option, None, Some, sym, subst, length, ◌∙◌}
+use Rattle.model_limits.specs.Limits.{config_bytes}
 use native.Mathlib.Omega.{arith}
 use Rattle.desk_io.specs.Desk.{Files}
 use Rattle.desk_io.specs.Fault.{HasRisen}
 use Rattle.confsolve_run.specs.Ending.{Change, EndsText}
-use Rattle.confsolve_run.specs.Request.{IsRestGiven, config_limit}
+use Rattle.confsolve_run.specs.Request.{IsRestGiven}
 use Rattle.confsolve_run.specs.Status.{IsOfRequest}
 use Rattle.confsolve_run.specs.declared.request.Request.{Request}
 use Rattle.confsolve_run.specs.declared.request.Request.TheVariants.{Solve, Verify}
@@ -15,8 +16,8 @@ use Rattle.confsolve_run.specs.declared.status.Status.TheVariants as status
 some_same : (x y : List ℕ) → Some x ≡ Some y → x ≡ y
 some_same x y e = cc
 
-too_long : (o : Option (List ℕ)) (x y : List ℕ) → o ≡ Some x → o ≡ Some y → length x ≤ config_limit → config_limit < length y → ⊥
-too_long o x y there here few many = absurd (omega (arith, few, subst (λ z. config_limit < length z) (some_same y x (sym here ∙ there)) many))
+too_long : (o : Option (List ℕ)) (x y : List ℕ) → o ≡ Some x → o ≡ Some y → length x ≤ config_bytes → config_bytes < length y → ⊥
+too_long o x y there here few many = absurd (omega (arith, few, subst (λ z. config_bytes < length z) (some_same y x (sym here ∙ there)) many))
 
 module _ (files : Files) (d : Change) (text : List ℕ) (no_read : HasRisen d.reads d.reads_now → ⊥) (no_write : HasRisen d.writes d.writes_now → ⊥) where
   of_solve : (model : List ℕ) → IsRestGiven files (Solve model) → (s : Status) → EndsText (Some files) (Solve model) d text s → IsOfRequest (Solve model) s

@@ -6,7 +6,7 @@ use Rattle.desk_io.specs.Fault.{HasRisen}
 use Rattle.confsolve_run.specs.Answer.{IsAnswer, Prints, PrintsSome}
 use Rattle.confsolve_run.specs.Ending.{Refuses, Change, Ends, EndsText, IsTextRefusal}
 use Rattle.confsolve_run.specs.Refusal.{IsRefusedFor, IsRefusedOf, IsRefusedAs}
-use Rattle.confsolve_run.specs.Request.{Asked, Best, Satisfied, OfAsked, HasModel, IsRestGiven, config_limit}
+use Rattle.confsolve_run.specs.Request.{Asked, Best, Satisfied, OfAsked, HasModel, IsRestGiven}
 use Rattle.confsolve_run.specs.Status.{OnAnswer, OnRefusal, OnTooLong, OnText, OnAsked, IsOfText, IsOfRequest}
 use Rattle.confsolve_run.specs.declared.request.Request.{Request}
 use Rattle.confsolve_run.specs.declared.request.Request.TheVariants.{Solve, Verify}

@@ -1,5 +1,6 @@
 -- Errors of the lexer and the parser as errors of a text.
 use Rattle.std.proofs.Common.{◌≡◌, ◌≤◌, ◌⊎◌, inl, inr, ℕ, List, Result, Ok, Err, MatchResult, IfOk, sym, ap, subst, ◌∙◌, length, refl, suc, [], ◌∷◌}
+use Rattle.model_limits.specs.Limits.{model_bytes}
 use native.Mathlib.Omega.{arith}
 use Rattle.conf_parse.specs.Means.{IsSyntax, IsDeep}
 use Rattle.conf_parse.specs.declared.lexer.LexError.{LexError}
@@ -89,9 +90,9 @@ length-bare [] = refl
 length-bare (x ∷ xs) = ap suc (length-bare xs)
 
 -- a model has no more tokens than its text has bytes
-pub few_tokens : (tokens : List Placed) (text : List ℕ) (r : Result Program TextError) → length tokens ≤ length text → length text ≤ 1048576 → IfOk r (λ p. IsProgramOf tokens p) → IfOk r (λ p. length (program_tokens p) ≤ 1048576)
+pub few_tokens : (tokens : List Placed) (text : List ℕ) (r : Result Program TextError) → length tokens ≤ length text → length text ≤ model_bytes → IfOk r (λ p. IsProgramOf tokens p) → IfOk r (λ p. length (program_tokens p) ≤ model_bytes)
 few_tokens tokens text (Ok p) few short made =
-    subst (λ n. n ≤ 1048576) (sym (length-bare tokens) ∙ ap length made.tree.tokens_are) (omega (arith, few, short))
+    subst (λ n. n ≤ model_bytes) (sym (length-bare tokens) ∙ ap length made.tree.tokens_are) (omega (arith, few, short))
 few_tokens tokens text (Err e) few short made = tt
 
 -- the words of a model are those of its tokens

@@ -10,8 +10,7 @@ use Rattle.conf_eval.specs.Meaning.{attribute_value, objects_of}
 use Rattle.conf_eval.specs.Breaking.{IsWrongConstraint, IsWrongSet}
 use Rattle.conf_eval.specs.Satisfying.{IsFull, stated_for}
 use Rattle.conf_eval.proofs.LawsClasses.{object_low}
-use Rattle.conf_types.specs.declared.tree.Constraint.{Constraint as AConstraint}
-use Rattle.conf_types.specs.Programs.{ResolvedConstraint, constraint_view}
+use Rattle.conf_types.specs.Programs.{ResolvedConstraint}
 use Rattle.object_alloc.specs.declared.object.Leaf.{Leaf}
 use Rattle.object_alloc.specs.Configurations.{IsConfiguration}
 use Rattle.object_alloc.specs.Cells.{extent}
@@ -72,23 +71,23 @@ object_there o ks t index object w = mid (IsThere o) (stated_for o w.constraint.
 pub no_wrong_set : (o : Outline) (t : List ℤ) (cell : ℕ) → HasFullSets o t → IsWrongSet o t cell → ⊥
 no_wrong_set o t cell sets w = w.first.not (mid (IsFull o t) (leaves_in (walk o)) w.before w.first.after w.set sets w.first.split)
 
-place_at : (cs : List AConstraint) (before : List ResolvedConstraint) (k : ResolvedConstraint) (after : List ResolvedConstraint) (d : AConstraint) → map constraint_view cs ≡ before ++ k ∷ after → (slice_index_or cs (length before) d).place ≡ k.place
+place_at : (cs : List ResolvedConstraint) (before : List ResolvedConstraint) (k : ResolvedConstraint) (after : List ResolvedConstraint) (d : ResolvedConstraint) → cs ≡ before ++ k ∷ after → (slice_index_or cs (length before) d).place ≡ k.place
 place_at [] [] k after d e = absurd cc
 place_at [] (b ∷ bs) k after d e = absurd cc
 place_at (x ∷ xs) [] k after d e =
-    let first : constraint_view x ≡ k = cc in
+    let first : x ≡ k = cc in
     ap (λ (z : ResolvedConstraint). z.place) first
 place_at (x ∷ xs) (b ∷ bs) k after d e =
-    let rest : map constraint_view xs ≡ bs ++ k ∷ after = cc in
+    let rest : xs ≡ bs ++ k ∷ after = cc in
     place_at xs bs k after d rest
 
-some_constraint : (cs : List AConstraint) (before : List ResolvedConstraint) (k : ResolvedConstraint) (after : List ResolvedConstraint) → map constraint_view cs ≡ before ++ k ∷ after → AConstraint
+some_constraint : (cs : List ResolvedConstraint) (before : List ResolvedConstraint) (k : ResolvedConstraint) (after : List ResolvedConstraint) → cs ≡ before ++ k ∷ after → ResolvedConstraint
 some_constraint [] [] k after e = absurd cc
 some_constraint [] (b ∷ bs) k after e = absurd cc
 some_constraint (x ∷ xs) before k after e = x
 
-module _ (o : Outline) (cs : List AConstraint) (bytes : List ℕ) (t : List ℤ) (index : ℕ) (object : Option ℕ) (is : IsConfigOf o bytes t) (w : IsWrongConstraint o (map constraint_view cs) t index object) where
-  named_place : (d : AConstraint) (place : ℕ) (text : List ℕ) → IsBrokenStatus (slice_index_or cs index d).place (stated_path o object) (status.Broken (Some place) text) → IsBroken o (map constraint_view cs) bytes place text
+module _ (o : Outline) (cs : List ResolvedConstraint) (bytes : List ℕ) (t : List ℤ) (index : ℕ) (object : Option ℕ) (is : IsConfigOf o bytes t) (w : IsWrongConstraint o cs t index object) where
+  named_place : (d : ResolvedConstraint) (place : ℕ) (text : List ℕ) → IsBrokenStatus (slice_index_or cs index d).place (stated_path o object) (status.Broken (Some place) text) → IsBroken o cs bytes place text
   named_place d place text p =
       record {
         config = t;
@@ -102,7 +101,7 @@ module _ (o : Outline) (cs : List AConstraint) (bytes : List ℕ) (t : List ℤ)
         };
       }
 
-  at_constraint : (d : AConstraint) (s : Status) → IsBrokenStatus (slice_index_or cs index d).place (stated_path o object) s → IsUnsatisfied o (map constraint_view cs) bytes s
+  at_constraint : (d : ResolvedConstraint) (s : Status) → IsBrokenStatus (slice_index_or cs index d).place (stated_path o object) s → IsUnsatisfied o cs bytes s
   at_constraint d (status.Broken (Some place) text) p = named_place d place text p
   at_constraint d (status.Broken None text) p = absurd p
   at_constraint d status.Memory p = tt
@@ -117,5 +116,5 @@ module _ (o : Outline) (cs : List AConstraint) (bytes : List ℕ) (t : List ℤ)
   at_constraint d (status.Former why) p = absurd p
   at_constraint d status.NotBuilt p = absurd p
 
-  pub broken_refused : (s : Status) → ((d : AConstraint) → IsBrokenStatus (slice_index_or cs index d).place (stated_path o object) s) → IsUnsatisfied o (map constraint_view cs) bytes s
+  pub broken_refused : (s : Status) → ((d : ResolvedConstraint) → IsBrokenStatus (slice_index_or cs index d).place (stated_path o object) s) → IsUnsatisfied o cs bytes s
   broken_refused s p = let d = some_constraint cs w.before w.constraint w.first.after w.first.split in at_constraint d s (p d)

@@ -3,8 +3,8 @@ use Rattle.std.specs.Prelude.{ℕ, ◌≡◌, ◌<◌, ◌≤◌, false, List, N
 use Rattle.class_table.specs.Faults.{Stands}
 use Rattle.class_table.specs.Outline.{Outline}
 use Rattle.class_table.specs.declared.fault.TableFault.{TableFault}
-use Rattle.conf_eval.specs.Limits.{IsLimitRefused}
-use Rattle.conf_eval.specs.declared.limit.LimitFault.TheVariants as measure
+use Rattle.conf_limits.specs.Limits.{IsLimitRefused}
+use Rattle.conf_limits.specs.declared.limit.LimitFault.TheVariants as measure
 use Rattle.conf_syntax.specs.declared.tree.Program.{Program}
 use Rattle.conf_types.specs.Programs.{ResolvedConstraint, ResolvedGoal}
 use Rattle.object_alloc.specs.Limits.{IsRefused}

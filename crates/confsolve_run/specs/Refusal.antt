@@ -1,7 +1,8 @@
 -- What a refusal says of the texts that it refuses.
 use Rattle.std.specs.Prelude.{ℕ, ◌≡◌, ◌⊎◌, ◌<◌, ◌≤◌, false, List, [], None, Option, Some, ℤ, length}
+use Rattle.model_limits.specs.Limits.{config_bytes, most_weight}
 use Rattle.conf_eval.specs.Breaking.{IsWrongConstraint}
-use Rattle.conf_eval.specs.Measures.{model_weight, model_narrow}
+use Rattle.conf_limits.specs.Measures.{model_weight, model_narrow}
 use Rattle.conf_parse.specs.Means.{IsSyntax, IsDeep}
 use Rattle.conf_syntax.specs.Spelling.{Spells, IsStuckAtByte, IsStuckAtNumber}
 use Rattle.conf_syntax.specs.declared.token.Placed.{Placed}
@@ -19,8 +20,8 @@ use Rattle.object_alloc.specs.Counts.{configuration_count}
 use Rattle.try_all.specs.Choices.{most}
 use Rattle.confsolve_run.specs.Answer.{IsConfigOf}
 use Rattle.confsolve_run.specs.Meaning.{IsFaultOf, IsTyped}
-use Rattle.confsolve_run.specs.Models.{IsWithin, outline_of, constraints_of, goals_of, weight_limit}
-use Rattle.confsolve_run.specs.Request.{Asked, Best, Satisfied, HasModel, IsShort, config_limit}
+use Rattle.confsolve_run.specs.Models.{IsWithin, outline_of, constraints_of, goals_of}
+use Rattle.confsolve_run.specs.Request.{Asked, Best, Satisfied, HasModel, IsShort}
 use Rattle.confsolve_run.specs.declared.status.FormerKind.TheVariants as former
 use Rattle.confsolve_run.specs.declared.status.LimitKind.TheVariants as kind
 use Rattle.confsolve_run.specs.declared.status.Status.{Status}
@@ -41,7 +42,7 @@ abbrev pub IsAllocated : Program → Type 0
 IsAllocated p = IsTyped p × IsWithinLimits (outline_of p)
 
 abbrev pub IsHeavy : Program → Type 0
-IsHeavy p = weight_limit < model_weight (outline_of p) (constraints_of p) (goals_of p)
+IsHeavy p = most_weight < model_weight (outline_of p) (constraints_of p) (goals_of p)
 
 abbrev pub IsRefusedFor : Status → Program → Type 0
 IsRefusedFor (status.Meaning fault place) p = IsFaultOf p fault place
@@ -49,7 +50,7 @@ IsRefusedFor (status.Limit kind.Objects None) p = IsTyped p × objects.IsRefused
 IsRefusedFor (status.Limit kind.Depth None) p = IsTyped p × objects.IsRefused (outline_of p) fault.TooDeep
 IsRefusedFor (status.Limit kind.Cells None) p = IsTyped p × objects.IsRefused (outline_of p) fault.TooManyCells
 IsRefusedFor (status.Limit kind.Weight None) p = IsAllocated p × IsHeavy p
-IsRefusedFor (status.Limit kind.Width None) p = IsAllocated p × (model_weight (outline_of p) (constraints_of p) (goals_of p) ≤ weight_limit) × (model_narrow (outline_of p) (constraints_of p) (goals_of p) ≡ false)
+IsRefusedFor (status.Limit kind.Width None) p = IsAllocated p × (model_weight (outline_of p) (constraints_of p) (goals_of p) ≤ most_weight) × (model_narrow (outline_of p) (constraints_of p) (goals_of p) ≡ false)
 IsRefusedFor status.Memory p = Unit {0}
 IsRefusedFor status p = ⊥
 
@@ -89,7 +90,7 @@ pub record IsBroken (o : Outline) (ks : List ResolvedConstraint) (bytes : List �
 abbrev pub IsRefusedOf : Asked → Program → Status → Type 0
 IsRefusedOf Best p status.NotBuilt = IsWithin p × (most < configuration_count (outline_of p))
 IsRefusedOf Best p status = ⊥
-IsRefusedOf (Satisfied bytes) p (status.Limit kind.Former None) = IsWithin p × (config_limit < length bytes)
+IsRefusedOf (Satisfied bytes) p (status.Limit kind.Former None) = IsWithin p × (config_bytes < length bytes)
 IsRefusedOf (Satisfied bytes) p (status.Former former.NotJson) = IsWithin p × IsShort bytes × (value_read bytes ≡ None)
 IsRefusedOf (Satisfied bytes) p (status.Former former.NotObject) = IsWithin p × IsShort bytes × IsOther bytes
 IsRefusedOf (Satisfied bytes) p (status.Broken None path_text) = IsWithin p × IsShort bytes × IsMissing (outline_of p) bytes path_text

@@ -2,8 +2,8 @@
 use Rattle.std.specs.Prelude.{None, Some}
 use Rattle.class_table.specs.declared.fault.TableFault.{TableFault}
 use Rattle.class_table.specs.declared.fault.TableFault.TheVariants as table
-use Rattle.conf_eval.specs.declared.limit.LimitFault.{LimitFault}
-use Rattle.conf_eval.specs.declared.limit.LimitFault.TheVariants as measure
+use Rattle.conf_limits.specs.declared.limit.LimitFault.{LimitFault}
+use Rattle.conf_limits.specs.declared.limit.LimitFault.TheVariants as measure
 use Rattle.conf_types.specs.declared.fault.TypeFault.{TypeFault}
 use Rattle.conf_types.specs.declared.fault.TypeFault.TheVariants as type
 use Rattle.object_alloc.specs.declared.fault.AllocFault.{AllocFault}

@@ -2,6 +2,7 @@
 use Rattle.std.specs.Prelude.{ℕ, ◌≡◌, ◌⊎◌, ◌≤◌, length, Bool, not, ◌&&◌, if◌then◌else◌, List, [], ◌∷◌, Option, Some, None, IfSome, IsSomeAnd, String, string_bytes, codes, bytes_eq, nat_eq}
 use Rattle.std.specs.List.{starts_with}
 use Rattle.std.specs.declared.alloc.Global.{Global}
+use Rattle.model_limits.specs.Limits.{config_bytes}
 use Rattle.conf_syntax.specs.Spelling.{Spells}
 use Rattle.conf_syntax.specs.Models.{IsProgramOf}
 use Rattle.conf_syntax.specs.declared.token.Placed.{Placed}
@@ -10,17 +11,9 @@ use Rattle.confsolve_run.specs.declared.request.Request.{Request}
 use Rattle.confsolve_run.specs.declared.request.Request.TheVariants.{Solve, Verify}
 use Rattle.desk_io.specs.Desk.{Files, OfFile}
 
--- the greatest length of a model's text
-abbrev pub model_limit : ℕ
-model_limit = 1048576
-
--- the greatest length of a configuration's text
-abbrev pub config_limit : ℕ
-config_limit = 16777216
-
 -- these bytes aren't too long for a configuration's text
 abbrev pub IsShort : List ℕ → Type 0
-IsShort bytes = length bytes ≤ config_limit
+IsShort bytes = length bytes ≤ config_bytes
 
 -- a word that is no option
 abbrev pub is_plain : List ℕ → Bool
@@ -84,4 +77,4 @@ pub record IsGiven (told : Option Files) (words : List (String Global)) (files :
 -- the further files of the request are there, and none is too long
 abbrev pub IsRestGiven : Files → Request → Type 0
 IsRestGiven files (Solve model) = Unit {0}
-IsRestGiven files (Verify model config) = (bytes : List ℕ) × (files config ≡ Some bytes) × (length bytes ≤ config_limit)
+IsRestGiven files (Verify model config) = (bytes : List ℕ) × (files config ≡ Some bytes) × (length bytes ≤ config_bytes)

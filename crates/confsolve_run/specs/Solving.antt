@@ -1,7 +1,8 @@
 -- What is known of a model that is within the limits, by its outline and its resolved constraints and objectives.
 use Rattle.std.specs.Prelude.{◌≡◌, ◌<◌, ◌^◌, ℕ, true, List, [], Option, None, Some, ℤ, length, map, All}
+use Rattle.model_limits.specs.Limits.{config_bytes}
 use Rattle.class_table.specs.Outline.{Outline}
-use Rattle.conf_eval.specs.Measures.{model_narrow}
+use Rattle.conf_limits.specs.Measures.{model_narrow}
 use Rattle.conf_types.specs.Programs.{ResolvedConstraint, ResolvedGoal}
 use Rattle.conf_types.specs.Typing.{IsTypedModel}
 use Rattle.conf_eval.specs.Satisfying.{IsFull}
@@ -14,7 +15,7 @@ use Rattle.object_alloc.specs.Walk.{walk, leaves_in}
 use Rattle.object_alloc.specs.Counts.{configuration_count}
 use Rattle.try_all.specs.Choices.{most}
 use Rattle.confsolve_run.specs.Refusal.{IsMissing, IsBroken}
-use Rattle.confsolve_run.specs.Request.{IsShort, config_limit}
+use Rattle.confsolve_run.specs.Request.{IsShort}
 use Rattle.confsolve_run.specs.declared.request.Request.{Request}
 use Rattle.confsolve_run.specs.declared.request.Request.TheVariants.{Solve, Verify}
 use Rattle.confsolve_run.specs.declared.status.FormerKind.TheVariants as former
@@ -65,7 +66,7 @@ IsUngiven o bytes status = ⊥
 abbrev pub IsUnverified : Option Files → List ℕ → Outline → List ResolvedConstraint → ℕ → ℕ → Status → Type 0
 IsUnverified told name o ks before after status.ReadFault = HasRisen before after
 IsUnverified told name o ks before after status.Memory = Unit {0}
-IsUnverified told name o ks before after (status.Limit kind.Former None) = OfFile told name (λ bytes. config_limit < length bytes)
+IsUnverified told name o ks before after (status.Limit kind.Former None) = OfFile told name (λ bytes. config_bytes < length bytes)
 IsUnverified told name o ks before after (status.Former why) = OfFile told name (λ bytes. IsShort bytes × IsUnsatisfied o ks bytes (status.Former why))
 IsUnverified told name o ks before after (status.Broken place path) = OfFile told name (λ bytes. IsShort bytes × IsUnsatisfied o ks bytes (status.Broken place path))
 IsUnverified told name o ks before after status = ⊥

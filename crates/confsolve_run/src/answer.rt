@@ -1,8 +1,7 @@
 //! The texts that answer what is asked of a model.
-ghost use Rattle.std.specs.Prelude.{◌≡◌, ◌++◌, ◌∷◌, [], map, true, IfOk, OnOk, codes};
-ghost use Rattle.conf_eval.specs.Measures.{model_narrow};
+ghost use Rattle.std.specs.Prelude.{◌≡◌, ◌++◌, ◌∷◌, [], true, IfOk, OnOk, codes};
+ghost use Rattle.conf_limits.specs.Measures.{model_narrow};
 ghost use Rattle.conf_eval.specs.Satisfying.{objectives};
-ghost use Rattle.conf_types.specs.Programs.{constraint_view, goal_view};
 ghost use Rattle.conf_types.specs.Typing.{IsTypedModel};
 ghost use Rattle.object_alloc.specs.Configurations.{IsConfiguration};
 ghost use Rattle.confsolve_run.specs.Answer.{best_text, none_text, satisfied_text, objective_line, objective_lines};
@@ -60,10 +59,10 @@ pub(crate) fn best_answer(
     objects: &Objects<'_>,
     config: &Config,
 ) -> Result<Answer, AllocError>
-    requires ready { IsReady table.now objects.now (map constraint_view model.now.constraints) (map goal_view model.now.goals) }
+    requires ready { IsReady table.now objects.now model.now.constraints model.now.goals }
     requires config { IsConfiguration objects.now config.now }
     ensures status { IfOk result (λ answer. answer.status ≡ Status.Done) }
-    ensures text { IfOk result (λ answer. answer.text.items ≡ best_text objects.now (map goal_view model.now.goals) config.now) }
+    ensures text { IfOk result (λ answer. answer.text.items ≡ best_text objects.now model.now.goals config.now) }
 {
     let mut text = config_text(alloc, table, objects, config)?;
     text.push(b'\n')?;
@@ -82,11 +81,11 @@ pub(crate) fn satisfied_answer(
     objects: &Objects<'_>,
     config: &Config,
 ) -> Result<Answer, AllocError>
-    requires typed { IsTypedModel objects.now (map constraint_view model.now.constraints) (map goal_view model.now.goals) }
-    requires narrow { model_narrow objects.now (map constraint_view model.now.constraints) (map goal_view model.now.goals) ≡ true }
+    requires typed { IsTypedModel objects.now model.now.constraints model.now.goals }
+    requires narrow { model_narrow objects.now model.now.constraints model.now.goals ≡ true }
     requires config { IsConfiguration objects.now config.now }
     ensures status { IfOk result (λ answer. answer.status ≡ Status.Done) }
-    ensures text { IfOk result (λ answer. answer.text.items ≡ satisfied_text objects.now (map goal_view model.now.goals) config.now) }
+    ensures text { IfOk result (λ answer. answer.text.items ≡ satisfied_text objects.now model.now.goals config.now) }
 {
     let mut text = b"satisfied\n".to_vec(alloc)?;
     let values = objectives(alloc, model, objects, config)?;

@@ -1,11 +1,11 @@
 //! From a model's text and a request to what is printed.
 //!
 //! `answer_text` is the entry: it reads the text's model, builds it, answers what is asked of it, and prints the answer.
-ghost use Rattle.std.specs.Prelude.{◌≡◌, ◌≤◌, IsTrue, ℕ, List, Some, length, map, IfOk, IfErr};
+ghost use Rattle.std.specs.Prelude.{◌≡◌, ◌≤◌, IsTrue, ℕ, List, Some, length, IfOk, IfErr};
+ghost use Rattle.model_limits.specs.Limits.{model_bytes, most_nesting};
 ghost use Rattle.conf_syntax.specs.Spelling.{IsStuckAtNumber};
 ghost use Rattle.conf_syntax.specs.Trees.{program_tokens, nesting};
 ghost use Rattle.conf_syntax.specs.Words.{AreWords};
-ghost use Rattle.conf_types.specs.Programs.{constraint_view, goal_view};
 ghost use Rattle.desk_io.specs.Desk.{OfFile};
 ghost use Rattle.confsolve_run.specs.Answer.{IsSatisfiedAnswer, IsModelAnswer};
 ghost use Rattle.confsolve_run.specs.Ending.{Answers, Refuses, Ends, EndsText, change};
@@ -26,11 +26,9 @@ use class_table::ClassTable;
 use conf_syntax::Program;
 use conf_types::TypedModel;
 use desk_io::{Desk, ReadError, WriteError, print_all, read_all};
+use model_limits::CONFIG_BYTES;
 use object_alloc::Objects;
 use std::alloc::Global;
-
-/// The greatest length of a configuration's text, in bytes.
-const CONFIG_LIMIT: u64 = 16_777_216;
 
 /// The status of a text that gave no model.
 fn refusal_of(error: TextError) -> Status
@@ -60,16 +58,16 @@ fn verify<D: Desk>(
     objects: &Objects<'_>,
 ) -> Result<Answer, Status>
     requires may_read { IsTrue (D.may_read desk.old config.now) }
-    requires ready { IsReady table.now objects.now (map constraint_view model.now.constraints) (map goal_view model.now.goals) }
+    requires ready { IsReady table.now objects.now model.now.constraints model.now.goals }
     ensures status { IfOk result (λ a. a.status ≡ Status.Done) }
-    ensures answer { IfOk result (λ a. OfFile (D.files desk.old) config.now (λ bytes. IsShort bytes × IsSatisfiedAnswer objects.now (map constraint_view model.now.constraints) (map goal_view model.now.goals) bytes a.status a.text.items)) }
-    ensures refused { IfErr result (IsUnverified (D.files desk.old) config.now objects.now (map constraint_view model.now.constraints) (D.read_faults desk.old) (D.read_faults desk.new)) }
+    ensures answer { IfOk result (λ a. OfFile (D.files desk.old) config.now (λ bytes. IsShort bytes × IsSatisfiedAnswer objects.now model.now.constraints model.now.goals bytes a.status a.text.items)) }
+    ensures refused { IfErr result (IsUnverified (D.files desk.old) config.now objects.now model.now.constraints (D.read_faults desk.old) (D.read_faults desk.new)) }
     ensures files { D.files desk.new ≡ D.files desk.old }
     ensures printed { D.printed desk.new ≡ D.printed desk.old }
     ensures read_faults { D.read_faults desk.old ≤ D.read_faults desk.new }
     ensures write_faults { D.write_faults desk.new ≡ D.write_faults desk.old }
 {
-    let bytes = match read_all(alloc, desk, config.as_str(), CONFIG_LIMIT) {
+    let bytes = match read_all(alloc, desk, config.as_str(), CONFIG_BYTES) {
         Ok(bytes) => bytes,
         Err(ReadError::ReadFault) => return Err(Status::ReadFault),
         Err(ReadError::TooLong) => {
@@ -93,10 +91,10 @@ fn asked<D: Desk>(
     objects: &Objects<'_>,
 ) -> Result<Answer, Status>
     requires may_read { (name : List ℕ) → IsConfigFile request.now name → IsTrue (D.may_read desk.old name) }
-    requires ready { IsReady table.now objects.now (map constraint_view model.now.constraints) (map goal_view model.now.goals) }
+    requires ready { IsReady table.now objects.now model.now.constraints model.now.goals }
     ensures status { IfOk result (λ a. IsAnswered request.now a.status) }
-    ensures answer { IfOk result (λ a. OfAsked (D.files desk.old) request.now (λ asked. IsModelAnswer objects.now (map constraint_view model.now.constraints) (map goal_view model.now.goals) asked a.status a.text.items)) }
-    ensures refused { IfErr result (IsUnanswered (D.files desk.old) request.now objects.now (map constraint_view model.now.constraints) (D.read_faults desk.old) (D.read_faults desk.new)) }
+    ensures answer { IfOk result (λ a. OfAsked (D.files desk.old) request.now (λ asked. IsModelAnswer objects.now model.now.constraints model.now.goals asked a.status a.text.items)) }
+    ensures refused { IfErr result (IsUnanswered (D.files desk.old) request.now objects.now model.now.constraints (D.read_faults desk.old) (D.read_faults desk.new)) }
     ensures files { D.files desk.new ≡ D.files desk.old }
     ensures printed { D.printed desk.new ≡ D.printed desk.old }
     ensures read_faults { D.read_faults desk.old ≤ D.read_faults desk.new }
@@ -116,8 +114,8 @@ fn outcome<D: Desk>(
     request: &Request,
 ) -> Result<Answer, Status>
     requires words { AreWords (program_tokens program.now) }
-    requires nested { nesting program.now ≤ 200 }
-    requires few { length (program_tokens program.now) ≤ 1048576 }
+    requires nested { nesting program.now ≤ most_nesting }
+    requires few { length (program_tokens program.now) ≤ model_bytes }
     requires may_read { (name : List ℕ) → IsConfigFile request.now name → IsTrue (D.may_read desk.old name) }
     ensures answer { IfOk result (λ a. Answers (D.files desk.old) request.now program.now a.status a.text.items) }
     ensures refused { IfErr result (Refuses (D.files desk.old) request.now program.now (D.read_faults desk.old) (D.read_faults desk.new)) }
@@ -152,8 +150,8 @@ fn answer_model<D: Desk>(
     request: &Request,
 ) -> Status
     requires words { AreWords (program_tokens program.now) }
-    requires nested { nesting program.now ≤ 200 }
-    requires few { length (program_tokens program.now) ≤ 1048576 }
+    requires nested { nesting program.now ≤ most_nesting }
+    requires few { length (program_tokens program.now) ≤ model_bytes }
     requires may_read { (name : List ℕ) → IsConfigFile request.now name → IsTrue (D.may_read desk.old name) }
     ensures ends { Ends (D.files desk.old) request.now (change (D.printed desk.old) (D.printed desk.new) (D.read_faults desk.old) (D.read_faults desk.new) (D.write_faults desk.old) (D.write_faults desk.new)) program.now result }
     ensures files { D.files desk.new ≡ D.files desk.old }
@@ -169,14 +167,14 @@ fn answer_model<D: Desk>(
     }
 }
 
-/// Answers what is asked of the model that a text of at most 1,048,576 bytes is, or names what keeps it from being one.
+/// Answers what is asked of the model that a text of at most `MODEL_BYTES` bytes is, or names what keeps it from being one.
 pub(crate) fn answer_text<D: Desk>(
     alloc: Global,
     desk: &mut D,
     text: &[u8],
     request: &Request,
 ) -> Status
-    requires short { length text.now ≤ 1048576 }
+    requires short { length text.now ≤ model_bytes }
     requires may_read { (name : List ℕ) → IsConfigFile request.now name → IsTrue (D.may_read desk.old name) }
     ensures ends { EndsText (D.files desk.old) request.now (change (D.printed desk.old) (D.printed desk.new) (D.read_faults desk.old) (D.read_faults desk.new) (D.write_faults desk.old) (D.write_faults desk.new)) text.now result }
     ensures syntax { (place : ℕ) → IsSyntaxAt text.now place → IsUnlessFault (Status.Syntax place) result }

@@ -1,10 +1,10 @@
 //! From a model's tree to its table, its resolved expressions and its objects, each with its refusals.
-ghost use Rattle.std.specs.Prelude.{◌≡◌, ◌≤◌, [], map, length, IfOk, IfErr, OnOk};
+ghost use Rattle.std.specs.Prelude.{◌≡◌, ◌≤◌, [], length, IfOk, IfErr, OnOk};
+ghost use Rattle.model_limits.specs.Limits.{model_bytes, most_nesting};
 ghost use Rattle.conf_syntax.specs.Trees.{program_tokens, nesting};
 ghost use Rattle.conf_syntax.specs.Words.{AreWords};
-ghost use Rattle.conf_types.specs.Programs.{constraint_view, goal_view};
 ghost use Rattle.conf_types.specs.Typing.{IsTypedModel};
-ghost use Rattle.conf_eval.specs.Limits.{IsWithinMeasures, IsLimitRefused};
+ghost use Rattle.conf_limits.specs.Limits.{IsWithinMeasures, IsLimitRefused};
 ghost use Rattle.object_alloc.specs.Limits.{IsWithinLimits, IsRefused};
 ghost use Rattle.confsolve_run.specs.Building.{IsDeclared, IsUnallocated, IsUnmeasured};
 ghost use Rattle.confsolve_run.specs.Meaning.{IsTyped};
@@ -77,7 +77,7 @@ fn measured(fault: LimitFault) -> Status
 
 /// The table of a model.
 pub(crate) fn table_of(alloc: Global, program: &Program) -> Result<ClassTable, Status>
-    requires tokens { length (program_tokens program.now) ≤ 1048576 }
+    requires tokens { length (program_tokens program.now) ≤ model_bytes }
     requires words { AreWords (program_tokens program.now) }
     ensures table { IfOk result (λ table. table ≡ outline_of program.now) }
     ensures declared { OnOk result (IsDeclared program.now) }
@@ -97,12 +97,12 @@ pub(crate) fn typed_model(
 ) -> Result<TypedModel, Status>
     requires table { table.now ≡ outline_of program.now }
     requires declared { IsDeclared program.now }
-    requires tokens { length (program_tokens program.now) ≤ 1048576 }
-    requires nested { nesting program.now ≤ 200 }
-    ensures constraints { IfOk result (λ m. map constraint_view m.constraints ≡ constraints_of program.now) }
-    ensures goals { IfOk result (λ m. map goal_view m.goals ≡ goals_of program.now) }
-    ensures typed { IfOk result (λ m. IsTypedModel table.now (map constraint_view m.constraints) (map goal_view m.goals)) }
-    ensures few { IfOk result (λ m. length m.constraints ≤ 1048576) }
+    requires tokens { length (program_tokens program.now) ≤ model_bytes }
+    requires nested { nesting program.now ≤ most_nesting }
+    ensures constraints { IfOk result (λ m. m.constraints ≡ constraints_of program.now) }
+    ensures goals { IfOk result (λ m. m.goals ≡ goals_of program.now) }
+    ensures typed { IfOk result (λ m. IsTypedModel table.now m.constraints m.goals) }
+    ensures few { IfOk result (λ m. length m.constraints ≤ model_bytes) }
     ensures right { OnOk result (IsTyped program.now) }
     ensures refused { IfErr result (λ s. IsRefusedFor s program.now) }
 {
@@ -126,9 +126,9 @@ pub(crate) fn objects_of<'t>(alloc: Global, table: &'t ClassTable) -> Result<Obj
 
 /// Whether the expressions of a model are within the limits, or the status of the first that isn't.
 pub(crate) fn within(model: &TypedModel, objects: &Objects<'_>) -> Result<(), Status>
-    requires typed { IsTypedModel objects.now (map constraint_view model.now.constraints) (map goal_view model.now.goals) }
-    ensures within { OnOk result (IsWithinMeasures objects.now (map constraint_view model.now.constraints) (map goal_view model.now.goals)) }
-    ensures refused { IfErr result (IsUnmeasured objects.now (map constraint_view model.now.constraints) (map goal_view model.now.goals)) }
+    requires typed { IsTypedModel objects.now model.now.constraints model.now.goals }
+    ensures within { OnOk result (IsWithinMeasures objects.now model.now.constraints model.now.goals) }
+    ensures refused { IfErr result (IsUnmeasured objects.now model.now.constraints model.now.goals) }
 {
     match limits(model, objects) {
         Ok(()) => Ok(()),

@@ -1,11 +1,12 @@
 //! From words to what is printed: `run` reads the file of the model that the words name, and hands its text on.
 ghost use Rattle.std.specs.Prelude.{◌≡◌, ◌↔◌, ◌⊎◌, ◌<◌, ◌≤◌, ℕ, List, None, Some, length, IsTrue};
+ghost use Rattle.model_limits.specs.Limits.{model_bytes};
 ghost use Rattle.conf_syntax.specs.Spelling.{IsStuckAtNumber};
 ghost use Rattle.desk_io.specs.Desk.{Files};
 ghost use Rattle.desk_io.specs.Fault.{HasRisen};
 ghost use Rattle.confsolve_run.specs.Answer.{Prints, PrintsSome};
 ghost use Rattle.confsolve_run.specs.Refusal.{IsRefusedAs, IsRefusedOf, IsSyntaxAt, IsNestingAt};
-ghost use Rattle.confsolve_run.specs.Request.{request, model_limit, IsFileOf, OfModel, OfText, IsGiven, IsRestGiven};
+ghost use Rattle.confsolve_run.specs.Request.{request, IsFileOf, OfModel, OfText, IsGiven, IsRestGiven};
 ghost use Rattle.confsolve_run.specs.Status.{OnAnswer, OnRefusal, OnTooLong, OnText, OnAsked, IsOfLong, IsOfRequest, IsUnlessFault};
 ghost use Rattle.confsolve_run.specs.declared.request.Request.{Request as ARequest};
 
@@ -13,10 +14,8 @@ use crate::answering::answer_text;
 use crate::request::request_of;
 use crate::status::{LimitKind, Status};
 use desk_io::{Desk, ReadError, read_all};
+use model_limits::MODEL_BYTES;
 use std::alloc::Global;
-
-/// The greatest length of a model's text, in bytes.
-const MODEL_LIMIT: u64 = 1_048_576;
 
 /// Runs the command that the words behind the program's name are.
 pub fn run<D: Desk>(alloc: Global, words: &[String], desk: &mut D) -> Status
@@ -34,17 +33,17 @@ pub fn run<D: Desk>(alloc: Global, words: &[String], desk: &mut D) -> Status
     ensures refused { OnText result (OfText (D.files desk.old) words.now (IsRefusedAs result)) }
     // a refusal of what is asked of a model within the limits stands
     ensures asked { OnAsked result (OfModel (D.files desk.old) words.now (λ asked p. IsRefusedOf asked p result)) }
-    ensures too_long { OnTooLong result (OfText (D.files desk.old) words.now (λ text. model_limit < length text)) }
-    ensures limit { (files : Files) (r : ARequest) (text : List ℕ) → IsGiven (D.files desk.old) words.now files r text → model_limit < length text → IsOfLong result }
+    ensures too_long { OnTooLong result (OfText (D.files desk.old) words.now (λ text. model_bytes < length text)) }
+    ensures limit { (files : Files) (r : ARequest) (text : List ℕ) → IsGiven (D.files desk.old) words.now files r text → model_bytes < length text → IsOfLong result }
     // a refusal that stands in the text is answered, unless reading failed or there was no memory
-    ensures syntax { (files : Files) (r : ARequest) (text : List ℕ) (place : ℕ) → IsGiven (D.files desk.old) words.now files r text → length text ≤ model_limit
+    ensures syntax { (files : Files) (r : ARequest) (text : List ℕ) (place : ℕ) → IsGiven (D.files desk.old) words.now files r text → length text ≤ model_bytes
         → IsSyntaxAt text place → IsUnlessFault (Status.Syntax place) result }
-    ensures literal { (files : Files) (r : ARequest) (text : List ℕ) (place : ℕ) → IsGiven (D.files desk.old) words.now files r text → length text ≤ model_limit
+    ensures literal { (files : Files) (r : ARequest) (text : List ℕ) (place : ℕ) → IsGiven (D.files desk.old) words.now files r text → length text ≤ model_bytes
         → IsStuckAtNumber text place → IsUnlessFault (Status.Limit LimitKind.Literal (Some place)) result }
-    ensures nesting { (files : Files) (r : ARequest) (text : List ℕ) (place : ℕ) → IsGiven (D.files desk.old) words.now files r text → length text ≤ model_limit
+    ensures nesting { (files : Files) (r : ARequest) (text : List ℕ) (place : ℕ) → IsGiven (D.files desk.old) words.now files r text → length text ≤ model_bytes
         → IsNestingAt text place → IsUnlessFault (Status.Limit LimitKind.Nesting (Some place)) result }
     // where no fault came, a request whose files are within their limits is answered
-    ensures complete { (files : Files) (r : ARequest) (text : List ℕ) → IsGiven (D.files desk.old) words.now files r text → length text ≤ model_limit → IsRestGiven files r
+    ensures complete { (files : Files) (r : ARequest) (text : List ℕ) → IsGiven (D.files desk.old) words.now files r text → length text ≤ model_bytes → IsRestGiven files r
         → (HasRisen (D.read_faults desk.old) (D.read_faults desk.new) → ⊥) → (HasRisen (D.write_faults desk.old) (D.write_faults desk.new) → ⊥) → IsOfRequest r result }
     ensures read_fault { result ≡ Status.ReadFault → HasRisen (D.read_faults desk.old) (D.read_faults desk.new) }
     ensures write_fault { result ≡ Status.WriteFault → HasRisen (D.write_faults desk.old) (D.write_faults desk.new) }
@@ -55,7 +54,7 @@ pub fn run<D: Desk>(alloc: Global, words: &[String], desk: &mut D) -> Status
         Ok(None) => return Status::Usage,
         Err(_) => return Status::Memory,
     };
-    let text = match read_all(alloc, desk, request.model().as_str(), MODEL_LIMIT) {
+    let text = match read_all(alloc, desk, request.model().as_str(), MODEL_BYTES) {
         Ok(text) => text,
         Err(ReadError::ReadFault) => return Status::ReadFault,
         Err(ReadError::TooLong) => {

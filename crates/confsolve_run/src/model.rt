@@ -1,5 +1,6 @@
 //! The model that a text is.
 ghost use Rattle.std.specs.Prelude.{◌≡◌, ◌≤◌, ℕ, List, length, IfOk, IfErr, MatchResult};
+ghost use Rattle.model_limits.specs.Limits.{model_bytes, most_nesting};
 ghost use Rattle.conf_parse.specs.Means.{IsSyntax, IsDeep};
 ghost use Rattle.conf_syntax.specs.Models.{IsProgramOf};
 ghost use Rattle.conf_syntax.specs.Places.{bare};
@@ -30,7 +31,7 @@ pub(crate) enum TextError {
 
 /// The tokens of a text.
 fn tokens_of(alloc: Global, text: &[u8]) -> Result<Vec<Placed>, TextError>
-    requires { length text.now ≤ 1048576 }
+    requires { length text.now ≤ model_bytes }
     ensures tokens { IfOk result (λ tokens. Spells text.now tokens.items) }
     ensures few { IfOk result (λ tokens. length tokens.items ≤ length text.now) }
     ensures words { IfOk result (λ tokens. AreWords (bare tokens.items)) }
@@ -62,12 +63,12 @@ fn tree_of(alloc: Global, tokens: &[Placed], end: u32) -> Result<Program, TextEr
     }
 }
 
-/// The model of a text of at most 1,048,576 bytes.
+/// The model of a text of at most `MODEL_BYTES` bytes.
 pub(crate) fn model_of(alloc: Global, text: &[u8]) -> Result<Program, TextError>
-    requires { length text.now ≤ 1048576 }
+    requires { length text.now ≤ model_bytes }
     ensures model { IfOk result (λ p. IsModelOf text.now p) }
-    ensures nested { IfOk result (λ p. nesting p ≤ 200) }
-    ensures few { IfOk result (λ p. length (program_tokens p) ≤ 1048576) }
+    ensures nested { IfOk result (λ p. nesting p ≤ most_nesting) }
+    ensures few { IfOk result (λ p. length (program_tokens p) ≤ model_bytes) }
     ensures words { IfOk result (λ p. AreWords (program_tokens p)) }
     ensures refusal { IfErr result (IsTextError text.now) }
     ensures syntax { (at : ℕ) → IsSyntaxAt text.now at → MatchResult result (λ _. ⊥) (IsSameOrMemory (TextError.Syntax at)) }

@@ -1,6 +1,5 @@
 //! `solve`: a best configuration of a model.
-ghost use Rattle.std.specs.Prelude.{◌≡◌, map, Ok, Err, IfOk, IfErr, MatchResult};
-ghost use Rattle.conf_types.specs.Programs.{constraint_view, goal_view};
+ghost use Rattle.std.specs.Prelude.{◌≡◌, Ok, Err, IfOk, IfErr, MatchResult};
 ghost use Rattle.confsolve_run.specs.Answer.{IsBestAnswer};
 ghost use Rattle.confsolve_run.specs.Solving.{IsReady, IsUntried};
 
@@ -29,8 +28,8 @@ pub(crate) fn solve(
     model: &TypedModel,
     objects: &Objects<'_>,
 ) -> Result<Answer, Status>
-    requires ready { IsReady table.now objects.now (map constraint_view model.now.constraints) (map goal_view model.now.goals) }
-    ensures answer { IfOk result (λ a. IsBestAnswer objects.now (map constraint_view model.now.constraints) (map goal_view model.now.goals) a.status a.text.items) }
+    requires ready { IsReady table.now objects.now model.now.constraints model.now.goals }
+    ensures answer { IfOk result (λ a. IsBestAnswer objects.now model.now.constraints model.now.goals a.status a.text.items) }
     ensures refused { IfErr result (IsUntried objects.now) }
 {
     match best_of(alloc, model, objects) {

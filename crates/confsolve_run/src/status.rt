@@ -73,23 +73,23 @@ pub enum Fault {
 /// A quantity that has a limit.
 #[derive(Clone, Copy, Debug, PartialEq, Eq)]
 pub enum LimitKind {
-    /// The length of a model's text: 1,048,576 bytes.
+    /// The length of a model's text: `MODEL_BYTES`.
     Model,
-    /// A number in the text: 1,000,000,000. It has a place.
+    /// A number in the text: `MOST_LITERAL`. It has a place.
     Literal,
-    /// The depth of an expression: 200. It has a place.
+    /// The depth of an expression: `MOST_NESTING`. It has a place.
     Nesting,
-    /// The number of objects: 10,000.
+    /// The number of objects: `MOST_OBJECTS`.
     Objects,
-    /// The number of names in an object's path: 60.
+    /// The number of names in an object's path: `MOST_NAMES`.
     Depth,
-    /// The number of cells: 20,000.
+    /// The number of cells: `MOST_CELLS`.
     Cells,
-    /// The weight of the constraints and objectives: 2,000,000.
+    /// The weight of the constraints and objectives: `MOST_WEIGHT`.
     Weight,
-    /// The ends of each interval: 1,125,899,906,842,624 either side of 0.
+    /// The ends of each interval: `MOST_WIDTH` either side of 0.
     Width,
-    /// The length of a configuration's text: 16,777,216 bytes.
+    /// The length of a configuration's text: `CONFIG_BYTES`.
     Former,
 }
 

@@ -1,8 +1,7 @@
 //! `verify`: whether the configuration that some bytes are satisfies a model.
 ghost use Rattle.std.specs.Prelude.{◌≡◌, ◌<◌, map, true, length, is_some, None, Some, IfOk, IfErr, IfSome, slice_index_or};
 ghost use Rattle.std.specs.List.{list_all};
-ghost use Rattle.conf_types.specs.declared.tree.Constraint.{Constraint as AConstraint};
-ghost use Rattle.conf_types.specs.Programs.{constraint_view, goal_view};
+ghost use Rattle.conf_types.specs.Resolved.{ResolvedConstraint};
 ghost use Rattle.config_json.specs.Former.{hints, missing};
 ghost use Rattle.config_json.specs.Reading.{json_of};
 ghost use Rattle.object_alloc.specs.Configurations.{IsConfiguration};
@@ -16,7 +15,7 @@ use crate::status::{FormerKind, Status};
 use class_table::ClassTable;
 use conf_eval::{BrokenAt, satisfied};
 use conf_syntax::PathText;
-use conf_types::TypedModel;
+use conf_types::{Constraint, TypedModel};
 use config_json::{Former, FormerError, hints_of, missing, read_config};
 use object_alloc::{Config, Objects};
 use std::alloc::{AllocError, Global};
@@ -109,6 +108,13 @@ fn stated_path(
     }
 }
 
+/// The place of a constraint.
+fn place_of(constraint: &Constraint) -> u32
+    ensures place { result ≡ constraint.now.place }
+{
+    constraint.place
+}
+
 /// The status of a constraint that is broken for an object.
 fn broken_status(
     alloc: Global,
@@ -119,11 +125,11 @@ fn broken_status(
 ) -> Status
     requires index { index < length model.now.constraints }
     requires object { IfSome object (λ n. n < length (all_objects objects.now)) }
-    ensures status { (d : AConstraint) → IsBrokenStatus (slice_index_or model.now.constraints index d).place (stated_path objects.now object) result }
+    ensures status { (d : ResolvedConstraint) → IsBrokenStatus (slice_index_or model.now.constraints index d).place (stated_path objects.now object) result }
 {
     match stated_path(alloc, objects, object) {
         Ok(path) => Status::Broken {
-            place: Some(model.constraints()[index as usize].place),
+            place: Some(place_of(&model.constraints()[index as usize])),
             path,
         },
         Err(_) => Status::Memory,
@@ -138,10 +144,10 @@ pub(crate) fn verify_bytes(
     model: &TypedModel,
     objects: &Objects<'_>,
 ) -> Result<Answer, Status>
-    requires ready { IsReady table.now objects.now (map constraint_view model.now.constraints) (map goal_view model.now.goals) }
+    requires ready { IsReady table.now objects.now model.now.constraints model.now.goals }
     ensures status { IfOk result (λ a. a.status ≡ Status.Done) }
-    ensures answer { IfOk result (λ a. IsSatisfiedAnswer objects.now (map constraint_view model.now.constraints) (map goal_view model.now.goals) bytes.now a.status a.text.items) }
-    ensures refused { IfErr result (IsUnsatisfied objects.now (map constraint_view model.now.constraints) bytes.now) }
+    ensures answer { IfOk result (λ a. IsSatisfiedAnswer objects.now model.now.constraints model.now.goals bytes.now a.status a.text.items) }
+    ensures refused { IfErr result (IsUnsatisfied objects.now model.now.constraints bytes.now) }
 {
     let config = match config_of(alloc, bytes, table, objects) {
         Ok(config) => config,

@@ -21,7 +21,7 @@ use Rattle.object_alloc.specs.Cells.{extent}
 use Rattle.object_alloc.specs.Laid.{variables_of}
 use Rattle.object_alloc.specs.Own.{IsOwner}
 use Rattle.conf_eval.specs.Fitting.{IsThis, HasShape}
-use Rattle.conf_eval.specs.Measures.{narrow}
+use Rattle.conf_limits.specs.Measures.{narrow}
 use Rattle.conf_eval.proofs.LawsClasses.{object_low, has_attribute}
 use Rattle.conf_eval.proofs.LawsIntervals.{typed_of_has}
 use Rattle.conf_eval.proofs.LawsValues.{if_typed, IsVariable, variable_typed, local_low, dotted}

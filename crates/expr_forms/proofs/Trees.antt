@@ -8,7 +8,7 @@ use Rattle.conf_types.specs.Trees.{Tree}
 use Rattle.conf_types.specs.Typing.{Place, tree_type}
 use Rattle.conf_eval.specs.declared.value.Value.TheVariants.{Int, Truth}
 use Rattle.conf_eval.specs.Meaning.{value}
-use Rattle.conf_eval.specs.Measures.{interval}
+use Rattle.conf_limits.specs.Measures.{interval}
 use Rattle.signed_clause.specs.Clauses.{Boxes}
 use Rattle.ground_form.specs.declared.ground.Ground.{Ground}
 use Rattle.form_build.specs.declared.form.Linear.{Linear}

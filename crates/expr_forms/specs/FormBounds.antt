@@ -16,7 +16,7 @@ use Rattle.form_build.specs.Forms.{HasVariable}
 use Rattle.form_build.specs.Sums.{IsSum}
 use Rattle.object_alloc.specs.Cells.{extent, value_count}
 use Rattle.conf_eval.specs.Fitting.{Fits}
-use Rattle.conf_eval.specs.Measures.{interval, reach}
+use Rattle.conf_limits.specs.Measures.{interval, reach}
 use Rattle.expr_forms.specs.declared.form.Choice.{Choice}
 use Rattle.expr_forms.specs.declared.form.Choice.TheVariants as choice
 use Rattle.expr_forms.specs.declared.form.Member.{Member}

@@ -1,8 +1,8 @@
 //! Models that are given as texts.
-ghost use Rattle.std.specs.Prelude.{◌≡◌, ◌≤◌, length, map, IfSome};
+ghost use Rattle.std.specs.Prelude.{◌≡◌, ◌≤◌, length, IfSome};
+ghost use Rattle.model_limits.specs.Limits.{model_bytes, most_nesting};
 ghost use Rattle.conf_syntax.specs.Trees.{nesting, program_tokens};
 ghost use Rattle.conf_syntax.specs.Words.{AreWords};
-ghost use Rattle.conf_types.specs.Programs.{constraint_view, goal_view};
 ghost use Rattle.conf_types.specs.Typing.{IsTypedModel};
 
 use class_table::ClassTable;
@@ -20,8 +20,8 @@ pub struct TypedText {
 
 /// The tree of a text; None where the text is no model.
 pub fn model_of(alloc: Global, text: &[u8]) -> Option<Program>
-    ensures tokens { IfSome result (λ p. length (program_tokens p) ≤ 1048576) }
-    ensures nesting { IfSome result (λ p. nesting p ≤ 200) }
+    ensures tokens { IfSome result (λ p. length (program_tokens p) ≤ model_bytes) }
+    ensures nesting { IfSome result (λ p. nesting p ≤ most_nesting) }
     ensures words { IfSome result (λ p. AreWords (program_tokens p)) }
 {
     if text.len() > 1_000_000 {
@@ -47,8 +47,8 @@ pub fn table_of(alloc: Global, text: &[u8]) -> Option<ClassTable> {
 
 /// The typed model of a text; None where the text is no model or has a fault.
 pub fn typed_of(alloc: Global, text: &[u8]) -> Option<TypedText>
-    ensures typed { IfSome result (λ t. IsTypedModel t.table (map constraint_view t.model.constraints) (map goal_view t.model.goals)) }
-    ensures few { IfSome result (λ t. length t.model.constraints ≤ 1048576) }
+    ensures typed { IfSome result (λ t. IsTypedModel t.table t.model.constraints t.model.goals) }
+    ensures few { IfSome result (λ t. length t.model.constraints ≤ model_bytes) }
 {
     let program = model_of(alloc, text)?;
     let Ok(table) = ClassTable::build(alloc, &program) else {

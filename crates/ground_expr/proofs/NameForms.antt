@@ -22,7 +22,7 @@ use Rattle.conf_eval.specs.declared.value.Value.{Value}
 use Rattle.conf_eval.specs.declared.value.Value.TheVariants.{Object, Objects}
 use Rattle.conf_eval.specs.Fitting.{IsThis, AreVars, Fits}
 use Rattle.conf_eval.specs.Meaning.{local_object, object_of, attribute_value}
-use Rattle.conf_eval.specs.Measures.{reach}
+use Rattle.conf_limits.specs.Measures.{reach}
 use Rattle.conf_eval.proofs.LawsClasses.{object_low}
 use Rattle.conf_eval.proofs.LawsValues.{some_is, if_typed, variable_typed, dotted}
 use Rattle.ground_form.specs.declared.ground.Ground.{Ground}

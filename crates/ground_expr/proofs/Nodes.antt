@@ -9,7 +9,7 @@ use Rattle.conf_types.specs.Trees as tree
 use Rattle.conf_eval.specs.declared.value.Value.{Value}
 use Rattle.conf_eval.specs.declared.value.Value.TheVariants.{Int, Truth}
 use Rattle.conf_eval.specs.Meaning.{value, int_of, truth_of}
-use Rattle.conf_eval.specs.Measures.{interval}
+use Rattle.conf_limits.specs.Measures.{interval}
 use Rattle.conf_eval.proofs.LawsValues.{some_is, if_typed}
 use Rattle.signed_clause.specs.Clauses.{Boxes}
 use Rattle.ground_form.specs.declared.ground.Ground.{Ground}

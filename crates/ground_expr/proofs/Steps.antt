@@ -8,7 +8,7 @@ use Rattle.conf_syntax.specs.declared.tree.Op.{Op}
 use Rattle.conf_syntax.specs.declared.tree.Op.TheVariants as op
 use Rattle.conf_types.specs.Trees.{Tree}
 use Rattle.conf_types.specs.Trees as tree
-use Rattle.conf_eval.specs.Measures.{interval, weight, is_near, narrow, widest}
+use Rattle.conf_limits.specs.Measures.{interval, weight, is_near, narrow, widest}
 use Rattle.conf_eval.proofs.LawsNarrow.{narrow_interval}
 use Rattle.ground_form.specs.declared.ground.Ground.{Ground}
 use Rattle.form_build.specs.declared.form.Linear.{Linear}

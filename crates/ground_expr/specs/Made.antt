@@ -4,7 +4,7 @@
 use Rattle.std.specs.Prelude.{ℕ, ◌*◌, List, [], Option}
 use Rattle.class_table.specs.Outline.{Outline}
 use Rattle.conf_types.specs.Trees.{Tree}
-use Rattle.conf_eval.specs.Measures.{weight}
+use Rattle.conf_limits.specs.Measures.{weight}
 use Rattle.ground_form.specs.declared.ground.Ground.{Ground}
 use Rattle.form_build.specs.Worlds.{Defines, IsFew}
 use Rattle.expr_forms.specs.declared.form.Form.{Form}

@@ -2,7 +2,7 @@
 ghost use Rattle.std.specs.Prelude.{◌≡◌, ◌*◌, ◌+◌, true, IfOk};
 ghost use Rattle.conf_types.specs.Trees.{tree_of};
 ghost use Rattle.conf_types.specs.Trees as tree;
-ghost use Rattle.conf_eval.specs.Measures.{weight};
+ghost use Rattle.conf_limits.specs.Measures.{weight};
 ghost use Rattle.form_build.specs.Worlds.{HasRoomFor};
 ghost use Rattle.expr_forms.specs.Standing.{IsStanding, HasCells};
 ghost use Rattle.ground_expr.specs.Made.{IsMade, allowed};

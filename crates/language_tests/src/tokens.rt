@@ -2,6 +2,7 @@
 //! each with its place; `mebibyte BYTE` asks how many tokens a text of the greatest size has that
 //! is one byte again and again.
 ghost use Rattle.std.specs.Prelude.{◌≤◌, length};
+ghost use Rattle.model_limits.specs.Limits.{model_bytes};
 
 use case_files::{Case, Subject, push_word};
 use conf_parse::lex;
@@ -38,7 +39,7 @@ fn words_of(alloc: Global, tokens: &[Placed]) -> Result<String, AllocError> {
 
 /// The tokens of a text in words, or why it has none.
 fn shown(alloc: Global, text: &[u8]) -> Result<String, AllocError>
-    requires { length text.now ≤ 1048576 }
+    requires { length text.now ≤ model_bytes }
 {
     match lex(alloc, text) {
         Ok(tokens) => words_of(alloc, &tokens),

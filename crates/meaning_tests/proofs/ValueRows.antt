@@ -1,11 +1,10 @@
 -- Values that fit their cells one after the other, and a model's first objective.
-use Rattle.std.proofs.Common.{◌≡◌, ℕ, zero, suc, pos, refl, ◌+◌, ◌<◌, List, [], ◌∷◌, ℤ, map, length, drop, get_or, slice_index_or, sym, subst, arith}
+use Rattle.std.proofs.Common.{◌≡◌, ℕ, zero, suc, pos, refl, ◌+◌, ◌<◌, List, [], ◌∷◌, ℤ, length, drop, get_or, slice_index_or, sym, subst, arith}
 use Rattle.std.specs.Prelude.{All}
 use Rattle.std.proofs.lemmas.List.Elements.{All-head}
 use Rattle.class_table.proofs.ListLaws.{drop_next}
 use Rattle.class_table.specs.Outline.{Outline}
-use Rattle.conf_types.specs.declared.tree.Goal.{Goal}
-use Rattle.conf_types.specs.Programs.{ResolvedGoal, goal_view}
+use Rattle.conf_types.specs.Programs.{ResolvedGoal}
 use Rattle.object_alloc.specs.declared.object.Cell.{Cell}
 use Rattle.object_alloc.specs.Configurations.{AreValues, IsInDomain}
 
@@ -22,6 +21,6 @@ one_more o cs vs i d lt same h rest =
     next : {X : Type 0} (xs : List X) (e : X) → i < length xs → drop i xs ≡ get_or xs i e ∷ drop (i + 1) xs
     next xs e lt = drop_next xs i (get_or xs i e) lt (again xs i e)
 
-pub first_of_all : (P : ResolvedGoal → Type 0) (gs : List Goal) (d : Goal) → 0 < length gs → All P (map goal_view gs) → P (goal_view (slice_index_or gs 0 d))
+pub first_of_all : (P : ResolvedGoal → Type 0) (gs : List ResolvedGoal) (d : ResolvedGoal) → 0 < length gs → All P gs → P (slice_index_or gs 0 d)
 first_of_all P [] d lt h = absurd (omega (arith, lt))
-first_of_all P (g ∷ gs) d lt h = All-head P (goal_view g) (map goal_view gs) h
+first_of_all P (g ∷ gs) d lt h = All-head P g gs h

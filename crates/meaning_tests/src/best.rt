@@ -1,7 +1,7 @@
 //! Best configurations of models. `best MODEL` asks for the values of the best one, or whether
 //! there is none, or there are more than are tried.
-ghost use Rattle.std.specs.Prelude.{◌≤◌, length, map};
-ghost use Rattle.conf_types.specs.Programs.{constraint_view, goal_view};
+ghost use Rattle.std.specs.Prelude.{◌≤◌, length};
+ghost use Rattle.model_limits.specs.Limits.{model_bytes};
 ghost use Rattle.conf_types.specs.Typing.{IsTypedModel};
 
 use case_files::{Case, Subject, push_word};
@@ -23,8 +23,8 @@ fn trial_of_typed(
     m: &TypedModel,
     objects: &Objects<'_>,
 ) -> Result<Option<Trial>, AllocError>
-    requires typed { IsTypedModel objects.now (map constraint_view m.now.constraints) (map goal_view m.now.goals) }
-    requires few { length m.now.constraints ≤ 1048576 }
+    requires typed { IsTypedModel objects.now m.now.constraints m.now.goals }
+    requires few { length m.now.constraints ≤ model_bytes }
 {
     if limits(m, objects).is_err() {
         return Ok(None);

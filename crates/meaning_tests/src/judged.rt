@@ -1,11 +1,10 @@
 //! Configurations of the model that is given. `at VALUE ..` asks what is broken first, for the two
 //! objectives, and for the value of the first one's expression.
-ghost use Rattle.std.specs.Prelude.{◌≡◌, ◌<◌, ◌^◌, true, length, map, pos, slice_index_or};
+ghost use Rattle.std.specs.Prelude.{◌≡◌, ◌<◌, ◌^◌, true, length, pos, slice_index_or};
 ghost use Rattle.class_table.specs.Outline.{Outline};
-ghost use Rattle.conf_types.specs.Programs.{constraint_view, goal_view};
 ghost use Rattle.conf_types.specs.Typing.{IsTypedModel};
 ghost use Rattle.object_alloc.specs.Configurations.{IsConfiguration, IsInDomain};
-ghost use Rattle.conf_eval.specs.Measures.{model_narrow};
+ghost use Rattle.conf_limits.specs.Measures.{model_narrow};
 
 use case_files::{Case, Subject, numbers_of};
 use conf_eval::{BrokenAt, Env, Value, eval, limits, objectives, satisfied};
@@ -56,8 +55,8 @@ fn first_value(
     objects: &Objects<'_>,
     config: &Config,
 ) -> Result<i64, AllocError>
-    requires typed { IsTypedModel objects.now (map constraint_view m.now.constraints) (map goal_view m.now.goals) }
-    requires narrow { model_narrow objects.now (map constraint_view m.now.constraints) (map goal_view m.now.goals) ≡ true }
+    requires typed { IsTypedModel objects.now m.now.constraints m.now.goals }
+    requires narrow { model_narrow objects.now m.now.constraints m.now.goals ≡ true }
     requires config { IsConfiguration objects.now config.now }
 {
     let env = Env {
@@ -68,7 +67,8 @@ fn first_value(
     if goals.len() == 0 {
         return Ok(0);
     }
-    let value = eval(alloc, m, objects, config, &env, &goals[0].expr)?;
+    let goal = &goals[0];
+    let value = eval(alloc, m, objects, config, &env, &goal.expr)?;
     match value {
         Value::Int(number) => Ok(number),
         _ => Ok(0),
@@ -83,7 +83,7 @@ fn found_at(
     objects: &Objects<'_>,
     values: &[i64],
 ) -> Result<Option<Found>, AllocError>
-    requires typed { IsTypedModel objects.now (map constraint_view m.now.constraints) (map goal_view m.now.goals) }
+    requires typed { IsTypedModel objects.now m.now.constraints m.now.goals }
     requires few { length m.now.constraints < 2 ^ 32 }
 {
     if limits(m, objects).is_err() {

@@ -1,8 +1,7 @@
 //! Which of two configurations is better, by the values of their objectives.
-ghost use Rattle.std.specs.Prelude.{◌≡◌, ◌<◌, ℤ, cond, int_lt, length, map, slice_index_or};
+ghost use Rattle.std.specs.Prelude.{◌≡◌, ◌<◌, ℤ, cond, int_lt, length, slice_index_or};
 ghost use Rattle.conf_eval.specs.Meaning.{int_same};
 ghost use Rattle.conf_eval.specs.Satisfying.{better};
-ghost use Rattle.conf_types.specs.Programs.{goal_view};
 
 use conf_types::Goal;
 
@@ -37,7 +36,7 @@ fn is_ahead(goal: &Goal, pair: (i64, i64)) -> bool
 /// Whether the first list of the objectives' values is better than the second: at the first objective where they differ its value
 /// is greater for `maximize`, less for `minimize`.
 pub fn is_better(goals: &[Goal], first: &[i64], second: &[i64]) -> bool
-    ensures better { result ≡ better (map goal_view goals.now) first.now second.now }
+    ensures better { result ≡ better goals.now first.now second.now }
 {
     for k in 0..goals.len() {
         if k >= first.len() || k >= second.len() {

@@ -1,9 +1,8 @@
 //! The best configuration of a model with few configurations.
-ghost use Rattle.std.specs.Prelude.{◌≡◌, ◌≤◌, ◌<◌, ◌+◌, ◌^◌, ◌↔◌, true, length, map, IfOk};
+ghost use Rattle.std.specs.Prelude.{◌≡◌, ◌≤◌, ◌<◌, ◌+◌, ◌^◌, ◌↔◌, true, length, IfOk};
 ghost use Rattle.conf_eval.specs.Best.{IsBest, HasNone};
-ghost use Rattle.conf_eval.specs.Measures.{model_narrow};
+ghost use Rattle.conf_limits.specs.Measures.{model_narrow};
 ghost use Rattle.conf_eval.specs.Satisfying.{Satisfies};
-ghost use Rattle.conf_types.specs.Programs.{constraint_view, goal_view};
 ghost use Rattle.conf_types.specs.Typing.{IsTypedModel};
 ghost use Rattle.object_alloc.specs.Configurations.{IsConfiguration};
 ghost use Rattle.object_alloc.specs.Counts.{configuration_count};
@@ -41,7 +40,7 @@ pub(crate) struct Leader {
 
 /// Whether objectives with these values are better than the best so far.
 fn beats(goals: &[Goal], values: &[i64], leader: &Option<Leader>) -> bool
-    ensures beats { result ≡ beats (map goal_view goals.now) values.now leader.now }
+    ensures beats { result ≡ beats goals.now values.now leader.now }
 {
     match leader {
         Some(leader) => is_better(goals, values, leader.objectives.items()),
@@ -58,13 +57,13 @@ fn try_one(
     n: u64,
     leader: Option<Leader>,
 ) -> Result<Option<Leader>, AllocError>
-    requires typed { IsTypedModel objects.now (map constraint_view m.now.constraints) (map goal_view m.now.goals) }
-    requires narrow { model_narrow objects.now (map constraint_view m.now.constraints) (map goal_view m.now.goals) ≡ true }
+    requires typed { IsTypedModel objects.now m.now.constraints m.now.goals }
+    requires narrow { model_narrow objects.now m.now.constraints m.now.goals ≡ true }
     requires few { length m.now.constraints < 2 ^ 32 }
     requires lists { lists.now ≡ choices objects.now }
     requires some { 1 ≤ choice_count objects.now }
-    requires leads { Leads objects.now (map constraint_view m.now.constraints) (map goal_view m.now.goals) n leader }
-    ensures leads { IfOk result (λ now. Leads objects.now (map constraint_view m.now.constraints) (map goal_view m.now.goals) (n + 1) now) }
+    requires leads { Leads objects.now m.now.constraints m.now.goals n leader }
+    ensures leads { IfOk result (λ now. Leads objects.now m.now.constraints m.now.goals (n + 1) now) }
 {
     let config = Config::of(pick(alloc, lists, n)?);
     if satisfied(alloc, m, objects, &config)?.is_some() {
@@ -94,14 +93,14 @@ fn answer_of(leader: Option<Leader>) -> Trial
 /// The best configuration of a typed model, by trying every configuration. Each costs its cells and its evaluation. Memory is taken
 /// for the cells and for at most 100,000 values beyond one for each.
 pub fn best_of(alloc: Global, m: &TypedModel, objects: &Objects<'_>) -> Result<Trial, AllocError>
-    requires typed { IsTypedModel objects.now (map constraint_view m.now.constraints) (map goal_view m.now.goals) }
-    requires narrow { model_narrow objects.now (map constraint_view m.now.constraints) (map goal_view m.now.goals) ≡ true }
+    requires typed { IsTypedModel objects.now m.now.constraints m.now.goals }
+    requires narrow { model_narrow objects.now m.now.constraints m.now.goals ≡ true }
     requires few { length m.now.constraints < 2 ^ 32 }
     ensures many { IfOk result (λ t. (t ≡ trial.TooMany) ↔ (most < configuration_count objects.now)) }
-    ensures none { IfOk result (λ t. t ≡ trial.None → HasNone objects.now (map constraint_view m.now.constraints)) }
+    ensures none { IfOk result (λ t. t ≡ trial.None → HasNone objects.now m.now.constraints) }
     ensures configuration { IfOk result (λ t. IfBest t (IsConfiguration objects.now)) }
-    ensures satisfies { IfOk result (λ t. IfBest t (Satisfies objects.now (map constraint_view m.now.constraints))) }
-    ensures best { IfOk result (λ t. IfBest t (IsBest objects.now (map constraint_view m.now.constraints) (map goal_view m.now.goals))) }
+    ensures satisfies { IfOk result (λ t. IfBest t (Satisfies objects.now m.now.constraints)) }
+    ensures best { IfOk result (λ t. IfBest t (IsBest objects.now m.now.constraints m.now.goals)) }
 {
     let Some(count) = count_configurations(objects) else {
         return Ok(Trial::TooMany);

@@ -4,7 +4,7 @@ use Rattle.std.specs.Prelude.{filter_map}
 use Rattle.object_alloc.specs.Cells.{domain_of, cells}
 use Rattle.conf_eval.specs.Fitting.{HasShape}
 use Rattle.conf_eval.specs.Meaning.{first_object, chosen}
-use Rattle.conf_eval.specs.Measures.{shape_interval, is_narrow}
+use Rattle.conf_limits.specs.Measures.{shape_interval, is_narrow}
 use Rattle.attribute_forms.specs.Attributes.{element_at}
 use Rattle.attribute_forms.proofs.CellLaws.{shape_there}
 use Rattle.attribute_forms.proofs.Shapes.{at_shape, span_form, truth_form, choice_form, ref_form, one_form, many_form, set_form}

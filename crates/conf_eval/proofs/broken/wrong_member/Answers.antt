@@ -1,7 +1,5 @@
 use Rattle.std.proofs.Common.{◌≡◌, ℕ, Bool, Some, sym, ap, ◌∙◌, subst}
 use Rattle.std.specs.Prelude.{All}
-use Rattle.conf_types.specs.Programs.{constraint_view}
-use Rattle.conf_types.specs.Trees.{tree_of}
 use Rattle.object_alloc.specs.Cells.{extent}
 use Rattle.object_alloc.specs.Walk.{objects}
 use Rattle.conf_eval.specs.Finding.{first_failing, holds_for}
@@ -15,13 +13,13 @@ use Rattle.conf_eval.proofs.broken.wrong_member.Goals as goal
 pub loop-i-init : goal.loop-i-init
 loop-i-init c =
     let o = c.args.scene.now.objects.now in
-    ap (first_failing (λ n. holds_for o c.args.scene.now.values.now (constraint_view c.args.constraint.now) (Some n))) (extent_held o.classes c.args.class 0 (objects o))
+    ap (first_failing (λ n. holds_for o c.args.scene.now.values.now c.args.constraint.now (Some n))) (extent_held o.classes c.args.class 0 (objects o))
 
-pub is_true-requires-clause-expr : goal.is_true-requires-clause-expr
-is_true-requires-clause-expr c =
+pub holds_for-requires-clause-expr : goal.holds_for-requires-clause-expr
+holds_for-requires-clause-expr c =
     let o = c.args.scene.now.objects.now in
     let vs = c.args.scene.now.values.now in
-    let e = tree_of c.args.constraint.now.expr in
+    let e = c.args.constraint.now.tree in
     let all : All (λ n. IsEvaluable o vs e (setting o vs (Some n))) (extent o c.args.class) = all_mapped (λ this. IsEvaluable o vs e (setting o vs this)) Some (extent o c.args.class) c.requires.stated in
     slot_has (λ n. IsEvaluable o vs e (setting o vs (Some n))) (extent_slots o.classes c.args.class 0 (objects o)) c.loop-i.i c.in-Some.x (sym c.slot.ensures.slot ∙ c.in-Some.is)
     (subst (All (λ n. IsEvaluable o vs e (setting o vs (Some n)))) (sym (extent_held o.classes c.args.class 0 (objects o))) all)

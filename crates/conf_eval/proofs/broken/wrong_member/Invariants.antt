@@ -1,5 +1,4 @@
 use Rattle.std.proofs.Common.{◌≡◌, drop, Some, ℕ, Bool}
-use Rattle.conf_types.specs.Programs.{constraint_view}
 use Rattle.object_alloc.specs.Cells.{extent}
 use Rattle.conf_eval.specs.Finding.{first_failing, holds_for}
 use Rattle.conf_eval.specs.Listing.{slots, held}
@@ -9,5 +8,5 @@ use Rattle.conf_eval.proofs.broken.wrong_member.Given as goal
 abbrev pub invariant-loop-i : goal.invariant-loop-i
 invariant-loop-i l =
     let o = l.scene.objects.now in
-    let holds : ℕ → Bool = λ n. holds_for o l.scene.values.now (constraint_view l.constraint) (Some n) in
+    let holds : ℕ → Bool = λ n. holds_for o l.scene.values.now l.constraint (Some n) in
     first_failing holds (held (drop l.i (slots o l.scene.values.now l.list))) ≡ first_failing holds (extent o l.class)

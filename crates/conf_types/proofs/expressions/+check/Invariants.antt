@@ -1,4 +1,5 @@
 use Rattle.std.proofs.Common.{◌≡◌, ◌≤◌, ◌+◌, ◌*◌, max, drop, length}
+use Rattle.model_limits.specs.Limits.{most_nesting}
 use Rattle.conf_syntax.specs.Trees.{depth, depth_of_all, quant_depth}
 use Rattle.conf_types.specs.Checked.{scope_of, readings, trees_onto, optional_depth}
 use Rattle.conf_types.specs.Readings.{bodies_faults, bodies_hold, bodies_tree}
@@ -56,5 +57,5 @@ invariant-check_bodies-loop-k l =
       right : bodies_faults l.kind left l.k ≡ bodies_faults l.kind all 0;
       hold : bodies_hold l.kind left l.k ≡ bodies_hold l.kind all 0;
       trees : trees_onto l.found.items (bodies_tree left) ≡ bodies_tree all;
-      room : length l.scope.locals.items + depth_of_all (drop l.k l.body) ≤ 200;
+      room : length l.scope.locals.items + depth_of_all (drop l.k l.body) ≤ most_nesting;
     }

@@ -1,7 +1,6 @@
-use Rattle.std.proofs.Common.{map, sym, subst, IfSome}
+use Rattle.std.proofs.Common.{sym, subst, IfSome}
 use Rattle.class_table.specs.Outline.{Outline}
 use Rattle.conf_eval.specs.Breaking.{IsFirstBroken}
-use Rattle.conf_types.specs.Programs.{constraint_view}
 use Rattle.object_alloc.specs.Configurations.{IsConfiguration}
 use Rattle.confsolve_run.specs.Answer.{IsConfigOf}
 use Rattle.confsolve_run.specs.Solving.{HasFullSets}
@@ -17,7 +16,7 @@ satisfied_answer-requires-clause-config c = subst (λ (o : Outline). IsConfigura
 pub broken_status-requires-clause-object : goal.broken_status-requires-clause-object
 broken_status-requires-clause-object c =
     let o = c.args.objects.now in
-    let ks = map constraint_view c.args.model.now.constraints in
+    let ks = c.args.model.now.constraints in
     let some = subst (λ f. IfSome f (IsFirstBroken o ks c.in-Ok.config)) c.in-Ok-Some-Constraint.field-0-is c.in-Ok-Some-Constraint.ensures.broken in
     let wrong = subst (IsFirstBroken o ks c.in-Ok.config) c.in-Ok-Some-Constraint.field-0-0-is some in
     object_there o ks c.in-Ok.config c.in-Ok-Some-Constraint.index c.in-Ok-Some-Constraint.object wrong
@@ -25,7 +24,7 @@ broken_status-requires-clause-object c =
 pub returns-in-Ok-Some-Constraint-clause-refused : goal.returns-in-Ok-Some-Constraint-clause-refused
 returns-in-Ok-Some-Constraint-clause-refused c =
     let o = c.args.objects.now in
-    let ks = map constraint_view c.args.model.now.constraints in
+    let ks = c.args.model.now.constraints in
     let some = subst (λ f. IfSome f (IsFirstBroken o ks c.in-Ok.config)) c.in-Ok-Some-Constraint.field-0-is c.in-Ok-Some-Constraint.ensures.broken in
     let wrong = subst (IsFirstBroken o ks c.in-Ok.config) c.in-Ok-Some-Constraint.field-0-0-is some in
     let is = subst (λ (x : Outline). IsConfigOf x c.args.bytes.now c.in-Ok.config) (sym c.requires.ready.one) c.in-Ok.ensures.config in
@@ -34,7 +33,7 @@ returns-in-Ok-Some-Constraint-clause-refused c =
 pub unreachable-requires : goal.unreachable-requires
 unreachable-requires c =
     let o = c.args.objects.now in
-    let ks = map constraint_view c.args.model.now.constraints in
+    let ks = c.args.model.now.constraints in
     let some = subst (λ f. IfSome f (IsFirstBroken o ks c.in-Ok.config)) c.in-Ok-Some-SetSize.field-0-is c.in-Ok-Some-SetSize.ensures.broken in
     let wrong = subst (IsFirstBroken o ks c.in-Ok.config) c.in-Ok-Some-SetSize.field-0-0-is some in
     let sets = subst (λ (x : Outline). HasFullSets x c.in-Ok.config) (sym c.requires.ready.one) c.in-Ok.ensures.sets in

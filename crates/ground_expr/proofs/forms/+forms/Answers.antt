@@ -4,7 +4,7 @@ use Rattle.conf_syntax.specs.declared.tree.Op.{Op}
 use Rattle.conf_types.specs.Trees.{Tree, tree_of, node_tree}
 use Rattle.conf_types.specs.Trees as tree
 use Rattle.object_alloc.specs.Walk.{objects}
-use Rattle.conf_eval.specs.Measures.{narrow}
+use Rattle.conf_limits.specs.Measures.{narrow}
 use Rattle.conf_eval.proofs.EvalLaws.{quant_is}
 use Rattle.expr_forms.specs.declared.form.Choice.TheVariants as choice
 use Rattle.expr_forms.specs.declared.form.Form.{Form}

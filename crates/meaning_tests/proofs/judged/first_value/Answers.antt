@@ -1,6 +1,6 @@
-use Rattle.std.proofs.Common.{◌∙◌, None, [], map, refl, sym, subst, slice_index_or, arith}
+use Rattle.std.proofs.Common.{◌∙◌, None, [], refl, sym, subst, arith}
 use Rattle.std.specs.Prelude.{All}
-use Rattle.conf_types.specs.Programs.{ResolvedGoal, constraint_view, goal_view}
+use Rattle.conf_types.specs.Programs.{ResolvedGoal}
 use Rattle.conf_types.specs.Trees.{tree_of}
 use Rattle.conf_eval.specs.Fitting.{IsEvaluable}
 use Rattle.conf_eval.specs.Satisfying.{setting}
@@ -16,7 +16,8 @@ eval-requires-clause-expr c =
     let gs = c.goals-goals.result.now in
     let d = c.index-goals-0.result in
     let same = c.goals-goals.ensures.goals in
-    let stated = model_evaluable o vs (map constraint_view c.args.m.now.constraints) (map goal_view c.args.m.now.goals) c.requires.typed c.requires.narrow in
-    let all = subst (λ hs. All (λ (g : ResolvedGoal). IsEvaluable o vs g.tree (setting o vs None)) (map goal_view hs)) (sym same) stated.goals in
-    let here = first_of_all (λ (g : ResolvedGoal). IsEvaluable o vs g.tree (setting o vs None)) gs d (omega (arith, c.if-goals-eq0.false)) all in
-    evaluable_there o None (tree_of (slice_index_or gs 0 d).expr) vs vs [] c.of.result refl (c.of.ensures.items ∙ c.new.ensures.items) here
+    let stated = model_evaluable o vs c.args.m.now.constraints c.args.m.now.goals c.requires.typed c.requires.narrow in
+    let Fits : ResolvedGoal → Type 0 = λ g. IsEvaluable o vs g.tree (setting o vs None) in
+    let there = first_of_all Fits gs d (omega (arith, c.if-goals-eq0.false)) (subst (All Fits) (sym same) stated.goals) in
+    let here = subst Fits (sym c.goal.view_is) (subst Fits (sym c.index-goals-0.is) there) in
+    evaluable_there o None (tree_of c.goal.inside.expr) vs vs [] c.of.result refl (c.of.ensures.items ∙ c.new.ensures.items) here

@@ -1,16 +1,15 @@
-use Rattle.std.proofs.Common.{rules, ◌≡◌, ◌<◌, ◌≤◌, map, drop, length, cond, int_lt, false, true, sym, ap, ◌∙◌, arith, get_or, pos}
+use Rattle.std.proofs.Common.{rules, ◌≡◌, ◌<◌, ◌≤◌, drop, length, cond, int_lt, false, true, sym, ap, ◌∙◌, arith, get_or, pos}
 use Rattle.std.proofs.lemmas.List.{drop_all}
 use Rattle.conf_eval.specs.Meaning.{int_same}
 use Rattle.conf_eval.specs.Satisfying.{better}
-use Rattle.conf_types.specs.declared.tree.Goal.{Goal}
-use Rattle.conf_types.specs.Programs.{goal_view}
+use Rattle.conf_types.specs.Resolved.{ResolvedGoal}
 use Rattle.try_all.proofs.Betters.{none_first, none_second, goes_on, decides}
 use Rattle.try_all.proofs.order.is_better.Goals.{then-k-first-via-then-k-first, then-k-first-via-else-k-first+then-k-second}
 use Rattle.try_all.proofs.order.is_better.Goals as goal
 
 pub returns-then-k-first : goal.returns-then-k-first
 returns-then-k-first c =
-    let gs = map goal_view (drop c.loop-k.k c.args.goals.now) in
+    let gs = drop c.loop-k.k c.args.goals.now in
     let vs = c.args.first.now in
     let ws = c.args.second.now in
     let k = c.loop-k.k in
@@ -40,4 +39,4 @@ returns-then-not-is_same c =
     let v = c.pair_at-pair.result.0 in
     let w = c.pair_at-pair.result.1 in
     let all = decides gs vs ws k c.index-goals-k.result v w c.loop-k-test.true c.if-k-first.false c.if-k-second.false (c.pair_at-pair.ensures.first v) (c.pair_at-pair.ensures.second w) (sym c.is_same.ensures.same ∙ c.if-not-is_same.true) in
-    record { better = c.is_ahead.ensures.ahead ∙ ap (λ (g : Goal). cond g.max (int_lt w v) (int_lt v w)) c.index-goals-k.is ∙ all ∙ c.loop-k.invariant }
+    record { better = c.is_ahead.ensures.ahead ∙ ap (λ (g : ResolvedGoal). cond g.max (int_lt w v) (int_lt v w)) c.index-goals-k.is ∙ all ∙ c.loop-k.invariant }

@@ -1,5 +1,4 @@
-use Rattle.std.proofs.Common.{rules, ◌≡◌, ◌≤◌, ◌+◌, true, false, map, List, ℤ, sym, ap, ◌∙◌, subst, is_some}
-use Rattle.conf_types.specs.Programs.{constraint_view, goal_view}
+use Rattle.std.proofs.Common.{rules, ◌≡◌, ◌≤◌, ◌+◌, true, false, List, ℤ, sym, ap, ◌∙◌, subst, is_some}
 use Rattle.conf_eval.specs.Satisfying.{Satisfies, objectives}
 use Rattle.object_alloc.specs.Configurations.{IsConfiguration}
 use Rattle.try_all.specs.Choices.{choices}
@@ -25,8 +24,8 @@ objectives-requires-clause-config c =
 pub returns-then-is_some : goal.returns-then-is_some
 returns-then-is_some c =
     let o = c.args.objects.now in
-    let ks = map constraint_view c.args.m.now.constraints in
-    let gs = map goal_view c.args.m.now.goals in
+    let ks = c.args.m.now.constraints in
+    let gs = c.args.m.now.goals in
     let is = c.of-config.ensures.values ∙ c.in_ok-pick.ensures.values ∙ ap (λ lists. pick lists c.args.n) c.requires.lists in
     let some : is_some c.in_ok-satisfied.field-0 ≡ true = search rules in
     let fails = found_broken o ks c.of-config.result (pick (choices o) c.args.n) c.in_ok-satisfied.field-0 is some c.in_ok-satisfied.ensures.broken in
@@ -35,8 +34,8 @@ returns-then-is_some c =
 pub returns-then-beats : goal.returns-then-beats
 returns-then-beats c =
     let o = c.args.objects.now in
-    let ks = map constraint_view c.args.m.now.constraints in
-    let gs = map goal_view c.args.m.now.goals in
+    let ks = c.args.m.now.constraints in
+    let gs = c.args.m.now.goals in
     let is = c.of-config.ensures.values ∙ c.in_ok-pick.ensures.values ∙ ap (λ lists. pick lists c.args.n) c.requires.lists in
     let none : is_some c.in_ok-satisfied.field-0 ≡ false = search rules in
     let holds = none_broken o ks c.of-config.result (pick (choices o) c.args.n) c.in_ok-satisfied.field-0 is none c.in_ok-satisfied.ensures.none in
@@ -46,8 +45,8 @@ returns-then-beats c =
 pub returns-else-beats : goal.returns-else-beats
 returns-else-beats c =
     let o = c.args.objects.now in
-    let ks = map constraint_view c.args.m.now.constraints in
-    let gs = map goal_view c.args.m.now.goals in
+    let ks = c.args.m.now.constraints in
+    let gs = c.args.m.now.goals in
     let is = c.of-config.ensures.values ∙ c.in_ok-pick.ensures.values ∙ ap (λ lists. pick lists c.args.n) c.requires.lists in
     let less : beats gs c.in_ok-values.values c.args.leader ≡ false = search rules in
     let values = c.in_ok-values.ensures.values ∙ ap (objectives o gs) is in

@@ -1,5 +1,5 @@
 use Rattle.std.proofs.Common.{map, ap, ◌∙◌}
-use Rattle.conf_types.specs.Programs.{constraint_view, constraint_at, goal_view}
+use Rattle.conf_types.specs.Programs.{constraint_at}
 use Rattle.conf_types.proofs.CopyLaws.{only_typed}
 use Rattle.conf_types.proofs.checker.TypedModel.only.Goals as goal
 
@@ -7,5 +7,5 @@ pub returns-clause-typed : goal.returns-clause-typed
 returns-clause-typed c = λ o t.
     let keep = c.args.keep.now in
     let self = c.args.self.now in
-    let is = ap (map constraint_view) c.of.ensures.items ∙ c.in_ok-constraints.ensures.constraints ∙ ap (λ xs. map (constraint_at (map constraint_view xs)) keep) c.items.ensures.items in
-    only_typed o self.constraints c.of.result (map goal_view self.goals) c.of-2.result keep c.requires.exist is (c.of-2.ensures.items ∙ c.new.ensures.items) t
+    let is = c.of.ensures.items ∙ c.in_ok-constraints.ensures.constraints ∙ ap (λ xs. map (constraint_at xs) keep) c.items.ensures.items in
+    only_typed o self.constraints c.of.result self.goals c.of-2.result keep c.requires.exist is (c.of-2.ensures.items ∙ c.new.ensures.items) t

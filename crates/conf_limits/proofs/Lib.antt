@@ -1,0 +1,5 @@
+mod CapLaws
+mod BodyLaws
+mod TotalLaws
+mod TypedLaws
+pub mod PartLaws
