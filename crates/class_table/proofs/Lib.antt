@@ -19,3 +19,4 @@ pub mod DifferLaws
 pub mod WordNames
 pub mod BareItems
 pub mod BareFaults
+pub mod WordOutline

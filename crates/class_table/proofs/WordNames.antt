@@ -57,10 +57,10 @@ both_plain w e = rw (plain_word dot w refl e, plain_word bracket w refl e) refl
 
 -- The words of parts of a model
 
-left : (xs ys : List Token) → AreWords (xs ++ ys) → AreWords xs
+pub left : (xs ys : List Token) → AreWords (xs ++ ys) → AreWords xs
 left xs ys a = (and_parts (list_all is_worded xs) (list_all is_worded ys) (sym (list_all-append is_worded xs ys) ∙ a)).0
 
-right : (xs ys : List Token) → AreWords (xs ++ ys) → AreWords ys
+pub right : (xs ys : List Token) → AreWords (xs ++ ys) → AreWords ys
 right xs ys a = (and_parts (list_all is_worded xs) (list_all is_worded ys) (sym (list_all-append is_worded xs ys) ∙ a)).1
 
 -- The names of variables and attributes
@@ -88,7 +88,7 @@ class_named d a =
     let inner = right (parent_tokens d.parent) opened words.1 in
     members_named d.members (left body (token.Mark mark.CloseBrace ∷ []) inner)
 
-roots_named : (is : List Item) → AreWords (flat_map item_tokens is) → AllByRecursion IsWordNamed (flat_map item_root is)
+pub roots_named : (is : List Item) → AreWords (flat_map item_tokens is) → AllByRecursion IsWordNamed (flat_map item_root is)
 roots_named [] a = tt
 roots_named (item.Var v ∷ is) a = (variable_named v (flat_map item_tokens is) a, roots_named is (right (var_tokens v) (flat_map item_tokens is) a))
 roots_named (item.Class d ∷ is) a = roots_named is (right (item_tokens (item.Class d)) (flat_map item_tokens is) a)
@@ -96,7 +96,7 @@ roots_named (item.Enum d ∷ is) a = roots_named is (right (item_tokens (item.En
 roots_named (item.Where w ∷ is) a = roots_named is (right (item_tokens (item.Where w)) (flat_map item_tokens is) a)
 roots_named (item.Goal g ∷ is) a = roots_named is (right (item_tokens (item.Goal g)) (flat_map item_tokens is) a)
 
-classes_named : (is : List Item) → AreWords (flat_map item_tokens is) → AllByRecursion AreOwnNamed (flat_map item_class is)
+pub classes_named : (is : List Item) → AreWords (flat_map item_tokens is) → AllByRecursion AreOwnNamed (flat_map item_class is)
 classes_named [] a = tt
 classes_named (item.Class d ∷ is) a = (class_named d (left (item_tokens (item.Class d)) (flat_map item_tokens is) a), classes_named is (right (item_tokens (item.Class d)) (flat_map item_tokens is) a))
 classes_named (item.Var v ∷ is) a = classes_named is (right (item_tokens (item.Var v)) (flat_map item_tokens is) a)

@@ -11,3 +11,4 @@ pub mod Scopes
 pub mod Tables
 pub mod Named
 pub mod Sound
+pub mod Worded

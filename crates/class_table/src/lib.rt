@@ -23,6 +23,6 @@ mod walk;
 
 pub use class_table::{Attribute, ClassTable};
 pub use fault::TableFault;
-pub use law::one_model_declares_the_same;
+pub use law::{names_are_words, one_model_declares_the_same};
 pub use names::Meaning;
 pub use table::{Class, Enumeration, Resolved, Values, Variable, Variables};

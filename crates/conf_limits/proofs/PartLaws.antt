@@ -1,5 +1,5 @@
 -- What some constraints of a model, in order, keep of its limits.
-use Rattle.std.proofs.Common.{◌≡◌, ℕ, zero, suc, ◌+◌, ◌-◌, ◌<◌, ◌≤◌, Bool, true, false, ◌&&◌, List, [], ◌∷◌, refl, sym, ◌∙◌, ap, subst, arith, length, map, drop, All}
+use Rattle.std.proofs.Common.{◌≡◌, ℕ, zero, suc, ◌+◌, ◌<◌, ◌≤◌, Bool, true, List, [], ◌∷◌, refl, sym, ◌∙◌, ap, subst, arith, length, map, drop, All}
 use Rattle.std.specs.Prelude.{slice_index_or, AllPairs}
 use Rattle.std.specs.List.{list_all, sum_by}
 use Rattle.std.proofs.lemmas.Bool.{and_from, and_parts}
@@ -8,7 +8,7 @@ use Rattle.std.proofs.lemmas.List.Elements.{All-head, All-tail}
 use Rattle.class_table.specs.Outline.{Outline}
 use Rattle.conf_types.specs.Programs.{ResolvedConstraint, ResolvedGoal, constraint_at}
 use Rattle.conf_limits.specs.Limits.{IsWithinMeasures}
-use Rattle.conf_limits.specs.Measures.{constraint_weight, constraint_narrow, goal_weight, goal_narrow, model_weight, model_narrow}
+use Rattle.conf_limits.specs.Measures.{constraint_weight, constraint_narrow, goal_narrow}
 
 -- the first number is at least `from`, and each further one is greater than the one before
 abbrev Ascends : ℕ → List ℕ → Type 0

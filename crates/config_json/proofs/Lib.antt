@@ -11,3 +11,10 @@ pub mod HintLaws
 pub mod TreeLaws
 pub mod ObjectLaws
 pub mod FloatFree
+pub mod Texts
+pub mod OwnLeafValues
+pub mod OwnMembers
+pub mod OwnPlaces
+pub mod OwnText
+pub mod WordTexts
+pub mod NestLaws

@@ -1,5 +1,5 @@
 //! Configurations as JSON values and as texts.
-ghost use Rattle.std.specs.Prelude.{◌≡◌, ◌++◌, ◌<◌, [], length, slice_get, slice_index_or, filter_map, IfOk, OnOk, IfSome};
+ghost use Rattle.std.specs.Prelude.{◌≡◌, ◌++◌, ◌<◌, [], Some, length, slice_get, slice_index_or, filter_map, IfOk, OnOk, IfSome};
 ghost use Rattle.class_table.specs.Sound.{IsSound};
 ghost use Rattle.class_table.specs.Tables.{IsShapeOf};
 ghost use Rattle.object_alloc.specs.Cells.{cells as all_cells};
@@ -11,6 +11,7 @@ ghost use Rattle.serde_json.specs.Data.{string, put, no_members};
 ghost use Rattle.serde_json.specs.View.{view, items_view, members_view};
 ghost use Rattle.config_json.specs.Contained.{AreContained};
 ghost use Rattle.config_json.specs.Keys.{text_of, value_name, class_name};
+ghost use Rattle.config_json.specs.Reading.{value_read};
 ghost use Rattle.object_alloc.specs.Members.{member_at, value_at};
 ghost use Rattle.config_json.specs.Tree.{all_data, attribute_data, first_data, class_member, config_bytes, config_data, leaf_data, object_data, only_value, path_data, paths_data, with_variables};
 
@@ -348,7 +349,8 @@ pub fn to_json(
     Ok(Value::Object(members))
 }
 
-/// A configuration as a text: no spaces, keys in byte order.
+/// A configuration as a text: no spaces, keys in byte order. It is read as the tree that `to_json`
+/// makes.
 pub fn config_text(
     alloc: Global,
     table: &ClassTable,
@@ -357,7 +359,9 @@ pub fn config_text(
 ) -> Result<Vec<u8>, AllocError>
     requires same { objects.now ≡ table.now }
     ensures text { IfOk result (λ text. text.items ≡ config_bytes table.now config.now) }
+    ensures read { IfOk result (λ text. value_read text.items ≡ Some (config_data table.now config.now)) }
 {
+    let _count = objects.count();
     let value = to_json(alloc, table, objects, config)?;
     let text = value.to_vec(alloc)?;
     Ok(text)

@@ -7,3 +7,5 @@ pub mod VerifyingLaws
 pub mod OutcomeLaws
 pub mod GivenTexts
 pub mod RunLaws
+pub mod OneModel
+pub mod OneStatus

@@ -9,6 +9,7 @@ mod answer;
 mod answering;
 mod building;
 mod command;
+mod laws;
 mod model;
 mod request;
 mod solving;
@@ -16,5 +17,6 @@ mod status;
 mod verifying;
 
 pub use command::run;
+pub use laws::text_has_one_model;
 pub use request::{FileName, Request, request_of};
 pub use status::{Fault, FormerKind, LimitKind, Status, line_of};
