@@ -5,7 +5,7 @@ use Rattle.class_table.specs.Outline.{Outline, outline}
 use Rattle.class_table.specs.Worded.{HasWords}
 use Rattle.class_table.proofs.WordOutline.{outline_worded}
 use Rattle.class_table.proofs.BareFaults.{one_outline, one_faults}
-use Rattle.conf_eval.specs.Measures.{model_weight, model_narrow}
+use Rattle.conf_limits.specs.Measures.{model_weight, model_narrow}
 use Rattle.conf_parse.specs.Means.{IsSyntax, IsDeep}
 use Rattle.conf_parse.proofs.Ends.{one_model, plain_of}
 use Rattle.conf_parse.proofs.OnePlace.{syntax_or_model, deep_or_model}

@@ -2,7 +2,7 @@
 use Rattle.std.proofs.Common.{◌≡◌, ◌↔◌, ◌⊎◌, inl, inr, ℕ, ◌≤◌, ◌<◌, true, false, List, Option, None, Some, All, Contains, refl, sym, ◌∙◌, ap, subst, length}
 use Rattle.std.proofs.lemmas.List.Elements.{All-contains}
 use native.Mathlib.Omega.{arith}
-use Rattle.conf_eval.specs.Measures.{model_weight, model_narrow}
+use Rattle.conf_limits.specs.Measures.{model_weight, model_narrow}
 use Rattle.conf_syntax.specs.declared.tree.Program.{Program}
 use Rattle.desk_io.specs.Whole.{PrintsFront}
 use Rattle.desk_io.specs.Desk.{with_printed}
