@@ -38,9 +38,9 @@ picked_within low high items boxes values e valid some sets there h =
     within_ends low high values valid some
     (λ v m. picked_all (λ w. (low ≤ℤ w) × (w ≤ℤ high)) [] items boxes (omega (arith, ints)) sets there (λ w n. absurd cc)
     (λ k d lt w n.
-        let own = sets _ [] (there k d lt) in
-        let least = low_le _ w own n in
-        let greatest = le_high _ w own n in
-        let lies = h k d lt in
-        (omega (arith, ints, lies.0, least), omega (arith, ints, lies.1, greatest)))
+    let own = sets _ [] (there k d lt) in
+    let least = low_le _ w own n in
+    let greatest = le_high _ w own n in
+    let lies = h k d lt in
+    (omega (arith, ints, lies.0, least), omega (arith, ints, lies.1, greatest)))
     v (subst (λ (z : Ranges). has z v ≡ true) e m))
