@@ -1,5 +1,5 @@
 -- A disjunction with a truth more.
-use Rattle.std.proofs.Common.{◌≡◌, ℕ, ◌<◌, Bool, true, false, ◌||◌, List, ℤ, refl, sym, ap, ◌∙◌, subst}
+use Rattle.std.proofs.Common.{length, ◌+◌, ◌≤◌, ◌≡◌, ℕ, ◌<◌, Bool, true, false, ◌||◌, List, ℤ, refl, sym, ap, ◌∙◌, subst, arith}
 use Rattle.signed_clause.specs.Ranges.{Ranges, has, IsValid}
 use Rattle.signed_clause.specs.Clauses.{Literals, clause_true, IsClause}
 use Rattle.ground_form.specs.Meaning.{value_of}
