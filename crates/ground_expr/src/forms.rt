@@ -8,6 +8,7 @@ ghost use Rattle.expr_forms.specs.Standing.{IsStanding, HasCells};
 ghost use Rattle.ground_expr.specs.Made.{IsMade, allowed};
 ghost use Rattle.ground_expr.specs.Parts.{is_part};
 
+use crate::compare::{is_at_most, is_less};
 use crate::names::{class_objects, local_object, number_sum, object_form};
 use crate::scene::Scene;
 use attribute_forms::attribute_form;
@@ -95,18 +96,32 @@ fn pair_at(
 {
     let l = form_at(maker, scene, left)?;
     let r = form_at(maker, scene, right)?;
+    let f = number_of(maker.alloc(), l);
+    let g = number_of(maker.alloc(), r);
     match op {
         Op::Add => {
-            let f = number_of(maker.alloc(), l);
-            let g = number_of(maker.alloc(), r);
             let sum = plus(maker, &f, &g)?;
             Ok(Form::Number(sum))
         }
         Op::Sub => {
-            let f = number_of(maker.alloc(), l);
-            let g = number_of(maker.alloc(), r);
             let rest = minus(maker, &f, &g)?;
             Ok(Form::Number(rest))
+        }
+        Op::Le => {
+            let truth = is_at_most(maker, &f, &g)?;
+            Ok(Form::Truth(truth))
+        }
+        Op::Ge => {
+            let truth = is_at_most(maker, &g, &f)?;
+            Ok(Form::Truth(truth))
+        }
+        Op::Lt => {
+            let truth = is_less(maker, &f, &g)?;
+            Ok(Form::Truth(truth))
+        }
+        Op::Gt => {
+            let truth = is_less(maker, &g, &f)?;
+            Ok(Form::Truth(truth))
         }
         _ => unreachable!(),
     }
