@@ -21,11 +21,15 @@ use std::alloc::AllocError;
 /// The form of an expression.
 #[cycle(forms)]
 pub fn form_at(maker: &mut Maker, scene: &Scene<'_, '_>, e: &RExpr) -> Result<Form, AllocError>
-    requires standing { IsStanding scene.now.objects.now (tree_of e.now) scene.now.this scene.now.vars.now }
+    requires standing { IsStanding scene.now.objects.now
+        (tree_of e.now)
+        scene.now.this scene.now.vars.now }
     requires part { is_part (tree_of e.now) ≡ true }
     requires cells { HasCells scene.now.objects.now maker.old }
     requires room { HasRoomFor (allowed (weight scene.now.objects.now (tree_of e.now))) maker.old }
-    ensures made { IfOk result (λ f. IsMade scene.now.objects.now maker.old maker.new (tree_of e.now) scene.now.this scene.now.vars.now f) }
+    ensures made { IfOk result (λ f. IsMade scene.now.objects.now maker.old maker.new
+        (tree_of e.now)
+        scene.now.this scene.now.vars.now f) }
 {
     let _count = scene.objects.count();
     match &e.node {
@@ -52,11 +56,16 @@ pub fn form_at(maker: &mut Maker, scene: &Scene<'_, '_>, e: &RExpr) -> Result<Fo
 /// `- ..`.
 #[cycle(forms)]
 fn minus_at(maker: &mut Maker, scene: &Scene<'_, '_>, inner: &RExpr) -> Result<Form, AllocError>
-    requires standing { IsStanding scene.now.objects.now (tree.Minus 0 (tree_of inner.now)) scene.now.this scene.now.vars.now }
+    requires standing { IsStanding scene.now.objects.now
+        (tree.Minus 0 (tree_of inner.now))
+        scene.now.this scene.now.vars.now }
     requires part { is_part (tree_of inner.now) ≡ true }
     requires cells { HasCells scene.now.objects.now maker.old }
-    requires room { HasRoomFor (allowed (weight scene.now.objects.now (tree_of inner.now) + 1)) maker.old }
-    ensures made { IfOk result (λ f. IsMade scene.now.objects.now maker.old maker.new (tree.Minus 0 (tree_of inner.now)) scene.now.this scene.now.vars.now f) }
+    requires room { HasRoomFor (allowed (weight scene.now.objects.now
+        (tree_of inner.now) + 1)) maker.old }
+    ensures made { IfOk result (λ f. IsMade scene.now.objects.now maker.old maker.new
+        (tree.Minus 0 (tree_of inner.now))
+        scene.now.this scene.now.vars.now f) }
 {
     let f = form_at(maker, scene, inner)?;
     let number = number_of(maker.alloc(), f);
@@ -68,11 +77,16 @@ fn minus_at(maker: &mut Maker, scene: &Scene<'_, '_>, inner: &RExpr) -> Result<F
 /// `not ..`.
 #[cycle(forms)]
 fn not_at(maker: &mut Maker, scene: &Scene<'_, '_>, inner: &RExpr) -> Result<Form, AllocError>
-    requires standing { IsStanding scene.now.objects.now (tree.Not 0 (tree_of inner.now)) scene.now.this scene.now.vars.now }
+    requires standing { IsStanding scene.now.objects.now
+        (tree.Not 0 (tree_of inner.now))
+        scene.now.this scene.now.vars.now }
     requires part { is_part (tree_of inner.now) ≡ true }
     requires cells { HasCells scene.now.objects.now maker.old }
-    requires room { HasRoomFor (allowed (weight scene.now.objects.now (tree_of inner.now) + 1)) maker.old }
-    ensures made { IfOk result (λ f. IsMade scene.now.objects.now maker.old maker.new (tree.Not 0 (tree_of inner.now)) scene.now.this scene.now.vars.now f) }
+    requires room { HasRoomFor (allowed (weight scene.now.objects.now
+        (tree_of inner.now) + 1)) maker.old }
+    ensures made { IfOk result (λ f. IsMade scene.now.objects.now maker.old maker.new
+        (tree.Not 0 (tree_of inner.now))
+        scene.now.this scene.now.vars.now f) }
 {
     let f = form_at(maker, scene, inner)?;
     let truth = turned(maker.alloc(), maker.domains(), &truth_of(f))?;
@@ -88,11 +102,16 @@ fn pair_at(
     left: &RExpr,
     right: &RExpr,
 ) -> Result<Form, AllocError>
-    requires standing { IsStanding scene.now.objects.now (tree.Pair 0 op (tree_of left.now) (tree_of right.now)) scene.now.this scene.now.vars.now }
+    requires standing { IsStanding scene.now.objects.now
+        (tree.Pair 0 op (tree_of left.now) (tree_of right.now))
+        scene.now.this scene.now.vars.now }
     requires part { is_part (tree.Pair 0 op (tree_of left.now) (tree_of right.now)) ≡ true }
     requires cells { HasCells scene.now.objects.now maker.old }
-    requires room { HasRoomFor (allowed (weight scene.now.objects.now (tree.Pair 0 op (tree_of left.now) (tree_of right.now)))) maker.old }
-    ensures made { IfOk result (λ f. IsMade scene.now.objects.now maker.old maker.new (tree.Pair 0 op (tree_of left.now) (tree_of right.now)) scene.now.this scene.now.vars.now f) }
+    requires room { HasRoomFor (allowed (weight scene.now.objects.now
+        (tree.Pair 0 op (tree_of left.now) (tree_of right.now)))) maker.old }
+    ensures made { IfOk result (λ f. IsMade scene.now.objects.now maker.old maker.new
+        (tree.Pair 0 op (tree_of left.now) (tree_of right.now))
+        scene.now.this scene.now.vars.now f) }
 {
     let l = form_at(maker, scene, left)?;
     let r = form_at(maker, scene, right)?;
