@@ -31,8 +31,10 @@ fn push_member(
     cell: u32,
 ) -> Result<(), AllocError>
     requires cells { HasCells objects.now maker.now }
-    requires variables { All (λ (m : AMember). HasVariable (length maker.now.domains) m.is) members.old.items }
-    ensures members { OnOk result ((a : List ℤ) → IsWorld maker.now a → members_at members.new.items a
+    requires variables { All (λ (m : AMember). HasVariable (length maker.now.domains) m.is)
+        members.old.items }
+    ensures members { OnOk result ((a : List ℤ) → IsWorld maker.now a
+        → members_at members.new.items a
         ≡ members_at members.old.items a
         ++ cons_option (chosen (cells objects.now) (take maker.now.search a) cell) []) }
     ensures objects { OnOk result (map (λ (m : AMember). m.object) members.new.items

@@ -109,7 +109,8 @@ pub fn cell_boxes(alloc: Global, objects: &Objects<'_>) -> Result<Vec<IntSet>, A
 
 /// The points of the cells' boxes are the configurations: a law, the call does nothing.
 pub fn configurations_are_points(objects: &Objects<'_>)
-    ensures points { (t : List ℤ) → IsPoint (cell_boxes objects.now) t ↔ IsConfiguration objects.now t }
+    ensures points { (t : List ℤ)
+        → IsPoint (cell_boxes objects.now) t ↔ IsConfiguration objects.now t }
 {
     let _count = objects.count();
 }

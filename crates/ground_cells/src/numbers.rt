@@ -14,7 +14,8 @@ fn absorb(
     n: u32,
 ) -> Result<(i64, i64), AllocError>
     ensures { IfOk result (λ p. (rs : List (ℤ × ℤ))
-        → out.old.items ++ fuse_pending pending (single n ∷ rs) ≡ out.new.items ++ fuse p.0 p.1 rs) }
+        → out.old.items ++ fuse_pending pending (single n ∷ rs)
+        ≡ out.new.items ++ fuse p.0 p.1 rs) }
 {
     let v = i64::from(n);
     match pending {

@@ -1,5 +1,5 @@
 -- From the forms of parts to the form of a node, with what was made on the way.
-use Rattle.std.proofs.Common.{◌≡◌, ℕ, ◌+◌, ◌≤◌, ◌^◌, true, not, ◌&&◌, List, [], ℤ, pos, neg_ℤ, ◌+ℤ◌, ◌-ℤ◌, ◌≤ℤ◌, Option, None, Some, int_le, length, refl, sym, ap, ◌∙◌, subst, arith}
+use Rattle.std.proofs.Common.{◌≡◌, ℕ, ◌+◌, ◌≤◌, ◌^◌, true, not, ◌&&◌, List, [], ℤ, pos, neg_ℤ, ◌+ℤ◌, ◌-ℤ◌, ◌≤ℤ◌, Option, None, Some, int_le, int_lt, length, refl, sym, ap, ◌∙◌, subst, arith}
 use Rattle.std.specs.Prelude.{unwrap_or}
 use Rattle.std.proofs.lemmas.Bool.{and_parts}
 use Rattle.std.proofs.lemmas.Int.{ints}
@@ -27,7 +27,7 @@ use Rattle.expr_forms.proofs.Growing.{ground_still}
 use Rattle.ground_expr.specs.Made.{IsMade, allowed}
 use Rattle.ground_expr.specs.Parts.{is_part, is_part_operator}
 use Rattle.ground_expr.proofs.NameForms.{no_this}
-use Rattle.ground_expr.proofs.Nodes.{paren_is, not_is, minus_is, add_is, sub_is}
+use Rattle.ground_expr.proofs.Nodes.{paren_is, not_is, minus_is, add_is, sub_is, le_is, ge_is, lt_is, gt_is}
 
 pub few_wider : (m n : ℕ) (old new : Ground) → m ≤ n → IsFew m old new → IsFew n old new
 few_wider m n old new h f = record { variables = omega (arith, h, f.variables); constraints = omega (arith, h, f.constraints) }
@@ -169,6 +169,34 @@ module _ (o : Outline) (this : Option ℕ) (vars : List ℕ) where
             adds = all_adds;
             few = all_few;
           }
+
+      pub made_le : (u : ATruth) → HasVariable (length new.domains) u → ((a : List ℤ) → IsWorld new a → truth_at u a ≡ int_le (linear_at m a) (linear_at n a)) → IsMade o old new (tree.Pair i op.Le l r) this vars (form.Truth u)
+      made_le u variable value = record {
+        form = le_is o new [] this vars i l r f h left_new right_new u variable (λ v w. value v w ∙ ap (λ (z : Linear). int_le (linear_at z v) (linear_at n v)) em ∙ ap (λ (z : Linear). int_le (linear_at (number_part f) v) (linear_at z v)) en);
+        adds = all_adds;
+        few = all_few;
+      }
+
+      pub made_ge : (u : ATruth) → HasVariable (length new.domains) u → ((a : List ℤ) → IsWorld new a → truth_at u a ≡ int_le (linear_at n a) (linear_at m a)) → IsMade o old new (tree.Pair i op.Ge l r) this vars (form.Truth u)
+      made_ge u variable value = record {
+        form = ge_is o new [] this vars i l r f h left_new right_new u variable (λ v w. value v w ∙ ap (λ (z : Linear). int_le (linear_at n v) (linear_at z v)) em ∙ ap (λ (z : Linear). int_le (linear_at z v) (linear_at (number_part f) v)) en);
+        adds = all_adds;
+        few = all_few;
+      }
+
+      pub made_lt : (u : ATruth) → HasVariable (length new.domains) u → ((a : List ℤ) → IsWorld new a → truth_at u a ≡ int_lt (linear_at m a) (linear_at n a)) → IsMade o old new (tree.Pair i op.Lt l r) this vars (form.Truth u)
+      made_lt u variable value = record {
+        form = lt_is o new [] this vars i l r f h left_new right_new u variable (λ v w. value v w ∙ ap (λ (z : Linear). int_lt (linear_at z v) (linear_at n v)) em ∙ ap (λ (z : Linear). int_lt (linear_at (number_part f) v) (linear_at z v)) en);
+        adds = all_adds;
+        few = all_few;
+      }
+
+      pub made_gt : (u : ATruth) → HasVariable (length new.domains) u → ((a : List ℤ) → IsWorld new a → truth_at u a ≡ int_lt (linear_at n a) (linear_at m a)) → IsMade o old new (tree.Pair i op.Gt l r) this vars (form.Truth u)
+      made_gt u variable value = record {
+        form = gt_is o new [] this vars i l r f h left_new right_new u variable (λ v w. value v w ∙ ap (λ (z : Linear). int_lt (linear_at n v) (linear_at z v)) em ∙ ap (λ (z : Linear). int_lt (linear_at z v) (linear_at (number_part f) v)) en);
+        adds = all_adds;
+        few = all_few;
+      }
 
   -- ---- trees that are equal
 

@@ -15,10 +15,10 @@ is_part_operator op.Or = false
 is_part_operator op.And = false
 is_part_operator op.Eq = false
 is_part_operator op.Ne = false
-is_part_operator op.Lt = false
-is_part_operator op.Le = false
-is_part_operator op.Gt = false
-is_part_operator op.Ge = false
+is_part_operator op.Lt = true
+is_part_operator op.Le = true
+is_part_operator op.Gt = true
+is_part_operator op.Ge = true
 is_part_operator op.In = false
 
 abbrev pub is_part : Tree → Bool

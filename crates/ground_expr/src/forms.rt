@@ -8,6 +8,7 @@ ghost use Rattle.expr_forms.specs.Standing.{IsStanding, HasCells};
 ghost use Rattle.ground_expr.specs.Made.{IsMade, allowed};
 ghost use Rattle.ground_expr.specs.Parts.{is_part};
 
+use crate::compare::{is_at_most, is_less};
 use crate::names::{class_objects, local_object, number_sum, object_form};
 use crate::scene::Scene;
 use attribute_forms::attribute_form;
@@ -20,11 +21,15 @@ use std::alloc::AllocError;
 /// The form of an expression.
 #[cycle(forms)]
 pub fn form_at(maker: &mut Maker, scene: &Scene<'_, '_>, e: &RExpr) -> Result<Form, AllocError>
-    requires standing { IsStanding scene.now.objects.now (tree_of e.now) scene.now.this scene.now.vars.now }
+    requires standing { IsStanding scene.now.objects.now
+        (tree_of e.now)
+        scene.now.this scene.now.vars.now }
     requires part { is_part (tree_of e.now) ≡ true }
     requires cells { HasCells scene.now.objects.now maker.old }
     requires room { HasRoomFor (allowed (weight scene.now.objects.now (tree_of e.now))) maker.old }
-    ensures made { IfOk result (λ f. IsMade scene.now.objects.now maker.old maker.new (tree_of e.now) scene.now.this scene.now.vars.now f) }
+    ensures made { IfOk result (λ f. IsMade scene.now.objects.now maker.old maker.new
+        (tree_of e.now)
+        scene.now.this scene.now.vars.now f) }
 {
     let _count = scene.objects.count();
     match &e.node {
@@ -51,11 +56,16 @@ pub fn form_at(maker: &mut Maker, scene: &Scene<'_, '_>, e: &RExpr) -> Result<Fo
 /// `- ..`.
 #[cycle(forms)]
 fn minus_at(maker: &mut Maker, scene: &Scene<'_, '_>, inner: &RExpr) -> Result<Form, AllocError>
-    requires standing { IsStanding scene.now.objects.now (tree.Minus 0 (tree_of inner.now)) scene.now.this scene.now.vars.now }
+    requires standing { IsStanding scene.now.objects.now
+        (tree.Minus 0 (tree_of inner.now))
+        scene.now.this scene.now.vars.now }
     requires part { is_part (tree_of inner.now) ≡ true }
     requires cells { HasCells scene.now.objects.now maker.old }
-    requires room { HasRoomFor (allowed (weight scene.now.objects.now (tree_of inner.now) + 1)) maker.old }
-    ensures made { IfOk result (λ f. IsMade scene.now.objects.now maker.old maker.new (tree.Minus 0 (tree_of inner.now)) scene.now.this scene.now.vars.now f) }
+    requires room { HasRoomFor (allowed (weight scene.now.objects.now
+        (tree_of inner.now) + 1)) maker.old }
+    ensures made { IfOk result (λ f. IsMade scene.now.objects.now maker.old maker.new
+        (tree.Minus 0 (tree_of inner.now))
+        scene.now.this scene.now.vars.now f) }
 {
     let f = form_at(maker, scene, inner)?;
     let number = number_of(maker.alloc(), f);
@@ -67,11 +77,16 @@ fn minus_at(maker: &mut Maker, scene: &Scene<'_, '_>, inner: &RExpr) -> Result<F
 /// `not ..`.
 #[cycle(forms)]
 fn not_at(maker: &mut Maker, scene: &Scene<'_, '_>, inner: &RExpr) -> Result<Form, AllocError>
-    requires standing { IsStanding scene.now.objects.now (tree.Not 0 (tree_of inner.now)) scene.now.this scene.now.vars.now }
+    requires standing { IsStanding scene.now.objects.now
+        (tree.Not 0 (tree_of inner.now))
+        scene.now.this scene.now.vars.now }
     requires part { is_part (tree_of inner.now) ≡ true }
     requires cells { HasCells scene.now.objects.now maker.old }
-    requires room { HasRoomFor (allowed (weight scene.now.objects.now (tree_of inner.now) + 1)) maker.old }
-    ensures made { IfOk result (λ f. IsMade scene.now.objects.now maker.old maker.new (tree.Not 0 (tree_of inner.now)) scene.now.this scene.now.vars.now f) }
+    requires room { HasRoomFor (allowed (weight scene.now.objects.now
+        (tree_of inner.now) + 1)) maker.old }
+    ensures made { IfOk result (λ f. IsMade scene.now.objects.now maker.old maker.new
+        (tree.Not 0 (tree_of inner.now))
+        scene.now.this scene.now.vars.now f) }
 {
     let f = form_at(maker, scene, inner)?;
     let truth = turned(maker.alloc(), maker.domains(), &truth_of(f))?;
@@ -87,26 +102,45 @@ fn pair_at(
     left: &RExpr,
     right: &RExpr,
 ) -> Result<Form, AllocError>
-    requires standing { IsStanding scene.now.objects.now (tree.Pair 0 op (tree_of left.now) (tree_of right.now)) scene.now.this scene.now.vars.now }
+    requires standing { IsStanding scene.now.objects.now
+        (tree.Pair 0 op (tree_of left.now) (tree_of right.now))
+        scene.now.this scene.now.vars.now }
     requires part { is_part (tree.Pair 0 op (tree_of left.now) (tree_of right.now)) ≡ true }
     requires cells { HasCells scene.now.objects.now maker.old }
-    requires room { HasRoomFor (allowed (weight scene.now.objects.now (tree.Pair 0 op (tree_of left.now) (tree_of right.now)))) maker.old }
-    ensures made { IfOk result (λ f. IsMade scene.now.objects.now maker.old maker.new (tree.Pair 0 op (tree_of left.now) (tree_of right.now)) scene.now.this scene.now.vars.now f) }
+    requires room { HasRoomFor (allowed (weight scene.now.objects.now
+        (tree.Pair 0 op (tree_of left.now) (tree_of right.now)))) maker.old }
+    ensures made { IfOk result (λ f. IsMade scene.now.objects.now maker.old maker.new
+        (tree.Pair 0 op (tree_of left.now) (tree_of right.now))
+        scene.now.this scene.now.vars.now f) }
 {
     let l = form_at(maker, scene, left)?;
     let r = form_at(maker, scene, right)?;
+    let f = number_of(maker.alloc(), l);
+    let g = number_of(maker.alloc(), r);
     match op {
         Op::Add => {
-            let f = number_of(maker.alloc(), l);
-            let g = number_of(maker.alloc(), r);
             let sum = plus(maker, &f, &g)?;
             Ok(Form::Number(sum))
         }
         Op::Sub => {
-            let f = number_of(maker.alloc(), l);
-            let g = number_of(maker.alloc(), r);
             let rest = minus(maker, &f, &g)?;
             Ok(Form::Number(rest))
+        }
+        Op::Le => {
+            let truth = is_at_most(maker, &f, &g)?;
+            Ok(Form::Truth(truth))
+        }
+        Op::Ge => {
+            let truth = is_at_most(maker, &g, &f)?;
+            Ok(Form::Truth(truth))
+        }
+        Op::Lt => {
+            let truth = is_less(maker, &f, &g)?;
+            Ok(Form::Truth(truth))
+        }
+        Op::Gt => {
+            let truth = is_less(maker, &g, &f)?;
+            Ok(Form::Truth(truth))
         }
         _ => unreachable!(),
     }

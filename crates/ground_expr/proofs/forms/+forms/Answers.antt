@@ -15,7 +15,7 @@ use Rattle.ground_expr.specs.Made.{IsMade}
 use Rattle.ground_expr.specs.Parts.{is_part}
 use Rattle.ground_expr.proofs.NameForms.{this_low, local_there, this_is, local_is, value_is, class_is, own_is, root_is}
 use Rattle.ground_expr.proofs.Nodes.{number_is, truth_is}
-use Rattle.ground_expr.proofs.Steps.{made_leaf, made_at, stand_at, made_minus, minus_low, minus_high, made_add, made_sub, left_linear, add_low, add_high, sub_low, sub_high, pair_parts, room_right, this_there}
+use Rattle.ground_expr.proofs.Steps.{made_leaf, made_at, stand_at, made_minus, minus_low, minus_high, made_add, made_sub, made_le, made_ge, made_lt, made_gt, left_linear, add_low, add_high, sub_low, sub_high, pair_parts, room_right, this_there}
 use Rattle.ground_expr.proofs.forms.+forms.Goals as goal
 
 pub form_at-object_form-requires : goal.form_at-object_form-requires
@@ -201,24 +201,24 @@ pair_at-minus-requires-clause-left t c =
     let o = c.args.scene.now.objects.now in
     let this = c.args.scene.now.this in
     let vars = c.args.scene.now.vars.now in
-    left_linear o this vars c.args.maker.now c.form_at.new.maker c.form_at-2.new.maker 0 (tree_of c.args.left.now) (tree_of c.args.right.now) c.in_ok-l.l c.in_ok-r.r c.number_of-f-in-Sub.result c.number_of-g-in-Sub.result c.in_ok-l.ensures.made c.in_ok-r.ensures.made c.number_of-f-in-Sub.ensures.number c.number_of-g-in-Sub.ensures.number
+    left_linear o this vars c.args.maker.now c.form_at.new.maker c.form_at-2.new.maker 0 (tree_of c.args.left.now) (tree_of c.args.right.now) c.in_ok-l.l c.in_ok-r.r c.number_of-f.result c.number_of-g.result c.in_ok-l.ensures.made c.in_ok-r.ensures.made c.number_of-f.ensures.number c.number_of-g.ensures.number
 
 pub pair_at-minus-requires-clause-low : goal.pair_at-minus-requires-clause-low
 pair_at-minus-requires-clause-low t c =
     let o = c.args.scene.now.objects.now in
     let this = c.args.scene.now.this in
     let vars = c.args.scene.now.vars.now in
-    sub_low o this vars c.args.maker.now c.form_at.new.maker c.form_at-2.new.maker 0 (tree_of c.args.left.now) (tree_of c.args.right.now) c.in_ok-l.l c.in_ok-r.r c.number_of-f-in-Sub.result c.number_of-g-in-Sub.result c.in_ok-l.ensures.made c.in_ok-r.ensures.made c.number_of-f-in-Sub.ensures.number c.number_of-g-in-Sub.ensures.number (subst (λ (q : Op). narrow o (tree.Pair 0 q (tree_of c.args.left.now) (tree_of c.args.right.now)) ≡ true) c.in-Sub.is c.requires.standing.numbers)
+    sub_low o this vars c.args.maker.now c.form_at.new.maker c.form_at-2.new.maker 0 (tree_of c.args.left.now) (tree_of c.args.right.now) c.in_ok-l.l c.in_ok-r.r c.number_of-f.result c.number_of-g.result c.in_ok-l.ensures.made c.in_ok-r.ensures.made c.number_of-f.ensures.number c.number_of-g.ensures.number (subst (λ (q : Op). narrow o (tree.Pair 0 q (tree_of c.args.left.now) (tree_of c.args.right.now)) ≡ true) c.in-Sub.is c.requires.standing.numbers)
 
 pub pair_at-minus-requires-clause-high : goal.pair_at-minus-requires-clause-high
 pair_at-minus-requires-clause-high t c =
     let o = c.args.scene.now.objects.now in
     let this = c.args.scene.now.this in
     let vars = c.args.scene.now.vars.now in
-    sub_high o this vars c.args.maker.now c.form_at.new.maker c.form_at-2.new.maker 0 (tree_of c.args.left.now) (tree_of c.args.right.now) c.in_ok-l.l c.in_ok-r.r c.number_of-f-in-Sub.result c.number_of-g-in-Sub.result c.in_ok-l.ensures.made c.in_ok-r.ensures.made c.number_of-f-in-Sub.ensures.number c.number_of-g-in-Sub.ensures.number (subst (λ (q : Op). narrow o (tree.Pair 0 q (tree_of c.args.left.now) (tree_of c.args.right.now)) ≡ true) c.in-Sub.is c.requires.standing.numbers)
+    sub_high o this vars c.args.maker.now c.form_at.new.maker c.form_at-2.new.maker 0 (tree_of c.args.left.now) (tree_of c.args.right.now) c.in_ok-l.l c.in_ok-r.r c.number_of-f.result c.number_of-g.result c.in_ok-l.ensures.made c.in_ok-r.ensures.made c.number_of-f.ensures.number c.number_of-g.ensures.number (subst (λ (q : Op). narrow o (tree.Pair 0 q (tree_of c.args.left.now) (tree_of c.args.right.now)) ≡ true) c.in-Sub.is c.requires.standing.numbers)
 
-pub pair_at-returns-in_ok-sum-in-Add : goal.pair_at-returns-in_ok-sum-in-Add
-pair_at-returns-in_ok-sum-in-Add t c =
+pub pair_at-returns-in-Add : goal.pair_at-returns-in-Add
+pair_at-returns-in-Add t c =
     let o = c.args.scene.now.objects.now in
     let this = c.args.scene.now.this in
     let vars = c.args.scene.now.vars.now in
@@ -227,12 +227,80 @@ pair_at-returns-in_ok-sum-in-Add t c =
           (made_add o this vars c.args.maker.now c.form_at.new.maker c.form_at-2.new.maker 0 (tree_of c.args.left.now) (tree_of c.args.right.now) c.in_ok-l.l c.in_ok-r.r c.number_of-f.result c.number_of-g.result c.in_ok-l.ensures.made c.in_ok-r.ensures.made c.number_of-f.ensures.number c.number_of-g.ensures.number c.plus.new.b c.in_ok-sum-in-Add.ensures.adds c.in_ok-sum-in-Add.ensures.few c.in_ok-sum-in-Add.sum c.in_ok-sum-in-Add.ensures.value c.in_ok-sum-in-Add.ensures.sum);
     }
 
-pub pair_at-returns-in_ok-rest-in-Sub : goal.pair_at-returns-in_ok-rest-in-Sub
-pair_at-returns-in_ok-rest-in-Sub t c =
+pub pair_at-returns-in-Sub : goal.pair_at-returns-in-Sub
+pair_at-returns-in-Sub t c =
     let o = c.args.scene.now.objects.now in
     let this = c.args.scene.now.this in
     let vars = c.args.scene.now.vars.now in
     record {
       made = subst (λ (q : Op). IsMade o c.args.maker.now c.minus.new.b (tree.Pair 0 q (tree_of c.args.left.now) (tree_of c.args.right.now)) this vars (form.Number c.in_ok-rest-in-Sub.rest)) (sym c.in-Sub.is)
-          (made_sub o this vars c.args.maker.now c.form_at.new.maker c.form_at-2.new.maker 0 (tree_of c.args.left.now) (tree_of c.args.right.now) c.in_ok-l.l c.in_ok-r.r c.number_of-f-in-Sub.result c.number_of-g-in-Sub.result c.in_ok-l.ensures.made c.in_ok-r.ensures.made c.number_of-f-in-Sub.ensures.number c.number_of-g-in-Sub.ensures.number c.minus.new.b c.in_ok-rest-in-Sub.ensures.adds c.in_ok-rest-in-Sub.ensures.few c.in_ok-rest-in-Sub.rest c.in_ok-rest-in-Sub.ensures.value c.in_ok-rest-in-Sub.ensures.sum);
+          (made_sub o this vars c.args.maker.now c.form_at.new.maker c.form_at-2.new.maker 0 (tree_of c.args.left.now) (tree_of c.args.right.now) c.in_ok-l.l c.in_ok-r.r c.number_of-f.result c.number_of-g.result c.in_ok-l.ensures.made c.in_ok-r.ensures.made c.number_of-f.ensures.number c.number_of-g.ensures.number c.minus.new.b c.in_ok-rest-in-Sub.ensures.adds c.in_ok-rest-in-Sub.ensures.few c.in_ok-rest-in-Sub.rest c.in_ok-rest-in-Sub.ensures.value c.in_ok-rest-in-Sub.ensures.sum);
+    }
+
+pub pair_at-is_at_most-requires-clause-left : goal.pair_at-is_at_most-requires-clause-left
+pair_at-is_at_most-requires-clause-left t c =
+    let o = c.args.scene.now.objects.now in
+    let this = c.args.scene.now.this in
+    let vars = c.args.scene.now.vars.now in
+    left_linear o this vars c.args.maker.now c.form_at.new.maker c.form_at-2.new.maker 0 (tree_of c.args.left.now) (tree_of c.args.right.now) c.in_ok-l.l c.in_ok-r.r c.number_of-f.result c.number_of-g.result c.in_ok-l.ensures.made c.in_ok-r.ensures.made c.number_of-f.ensures.number c.number_of-g.ensures.number
+
+pub pair_at-is_at_most-requires-in-Ge-clause-right : goal.pair_at-is_at_most-requires-in-Ge-clause-right
+pair_at-is_at_most-requires-in-Ge-clause-right t c =
+    let o = c.args.scene.now.objects.now in
+    let this = c.args.scene.now.this in
+    let vars = c.args.scene.now.vars.now in
+    left_linear o this vars c.args.maker.now c.form_at.new.maker c.form_at-2.new.maker 0 (tree_of c.args.left.now) (tree_of c.args.right.now) c.in_ok-l.l c.in_ok-r.r c.number_of-f.result c.number_of-g.result c.in_ok-l.ensures.made c.in_ok-r.ensures.made c.number_of-f.ensures.number c.number_of-g.ensures.number
+
+pub pair_at-is_less-requires-clause-left : goal.pair_at-is_less-requires-clause-left
+pair_at-is_less-requires-clause-left t c =
+    let o = c.args.scene.now.objects.now in
+    let this = c.args.scene.now.this in
+    let vars = c.args.scene.now.vars.now in
+    left_linear o this vars c.args.maker.now c.form_at.new.maker c.form_at-2.new.maker 0 (tree_of c.args.left.now) (tree_of c.args.right.now) c.in_ok-l.l c.in_ok-r.r c.number_of-f.result c.number_of-g.result c.in_ok-l.ensures.made c.in_ok-r.ensures.made c.number_of-f.ensures.number c.number_of-g.ensures.number
+
+pub pair_at-is_less-requires-in-Gt-clause-right : goal.pair_at-is_less-requires-in-Gt-clause-right
+pair_at-is_less-requires-in-Gt-clause-right t c =
+    let o = c.args.scene.now.objects.now in
+    let this = c.args.scene.now.this in
+    let vars = c.args.scene.now.vars.now in
+    left_linear o this vars c.args.maker.now c.form_at.new.maker c.form_at-2.new.maker 0 (tree_of c.args.left.now) (tree_of c.args.right.now) c.in_ok-l.l c.in_ok-r.r c.number_of-f.result c.number_of-g.result c.in_ok-l.ensures.made c.in_ok-r.ensures.made c.number_of-f.ensures.number c.number_of-g.ensures.number
+
+pub pair_at-returns-in-Le : goal.pair_at-returns-in-Le
+pair_at-returns-in-Le t c =
+    let o = c.args.scene.now.objects.now in
+    let this = c.args.scene.now.this in
+    let vars = c.args.scene.now.vars.now in
+    record {
+      made = subst (λ (q : Op). IsMade o c.args.maker.now c.is_at_most.new.maker (tree.Pair 0 q (tree_of c.args.left.now) (tree_of c.args.right.now)) this vars (form.Truth c.in_ok-truth-in-Le.truth)) (sym c.in-Le.is)
+          (made_le o this vars c.args.maker.now c.form_at.new.maker c.form_at-2.new.maker 0 (tree_of c.args.left.now) (tree_of c.args.right.now) c.in_ok-l.l c.in_ok-r.r c.number_of-f.result c.number_of-g.result c.in_ok-l.ensures.made c.in_ok-r.ensures.made c.number_of-f.ensures.number c.number_of-g.ensures.number c.is_at_most.new.maker c.in_ok-truth-in-Le.ensures.adds c.in_ok-truth-in-Le.ensures.few c.in_ok-truth-in-Le.truth c.in_ok-truth-in-Le.ensures.variable c.in_ok-truth-in-Le.ensures.value);
+    }
+
+pub pair_at-returns-in-Ge : goal.pair_at-returns-in-Ge
+pair_at-returns-in-Ge t c =
+    let o = c.args.scene.now.objects.now in
+    let this = c.args.scene.now.this in
+    let vars = c.args.scene.now.vars.now in
+    record {
+      made = subst (λ (q : Op). IsMade o c.args.maker.now c.is_at_most-in-Ge.new.maker (tree.Pair 0 q (tree_of c.args.left.now) (tree_of c.args.right.now)) this vars (form.Truth c.in_ok-truth-in-Ge.truth)) (sym c.in-Ge.is)
+          (made_ge o this vars c.args.maker.now c.form_at.new.maker c.form_at-2.new.maker 0 (tree_of c.args.left.now) (tree_of c.args.right.now) c.in_ok-l.l c.in_ok-r.r c.number_of-f.result c.number_of-g.result c.in_ok-l.ensures.made c.in_ok-r.ensures.made c.number_of-f.ensures.number c.number_of-g.ensures.number c.is_at_most-in-Ge.new.maker c.in_ok-truth-in-Ge.ensures.adds c.in_ok-truth-in-Ge.ensures.few c.in_ok-truth-in-Ge.truth c.in_ok-truth-in-Ge.ensures.variable c.in_ok-truth-in-Ge.ensures.value);
+    }
+
+pub pair_at-returns-in-Lt : goal.pair_at-returns-in-Lt
+pair_at-returns-in-Lt t c =
+    let o = c.args.scene.now.objects.now in
+    let this = c.args.scene.now.this in
+    let vars = c.args.scene.now.vars.now in
+    record {
+      made = subst (λ (q : Op). IsMade o c.args.maker.now c.is_less.new.maker (tree.Pair 0 q (tree_of c.args.left.now) (tree_of c.args.right.now)) this vars (form.Truth c.in_ok-truth-in-Lt.truth)) (sym c.in-Lt.is)
+          (made_lt o this vars c.args.maker.now c.form_at.new.maker c.form_at-2.new.maker 0 (tree_of c.args.left.now) (tree_of c.args.right.now) c.in_ok-l.l c.in_ok-r.r c.number_of-f.result c.number_of-g.result c.in_ok-l.ensures.made c.in_ok-r.ensures.made c.number_of-f.ensures.number c.number_of-g.ensures.number c.is_less.new.maker c.in_ok-truth-in-Lt.ensures.adds c.in_ok-truth-in-Lt.ensures.few c.in_ok-truth-in-Lt.truth c.in_ok-truth-in-Lt.ensures.variable c.in_ok-truth-in-Lt.ensures.value);
+    }
+
+pub pair_at-returns-in-Gt : goal.pair_at-returns-in-Gt
+pair_at-returns-in-Gt t c =
+    let o = c.args.scene.now.objects.now in
+    let this = c.args.scene.now.this in
+    let vars = c.args.scene.now.vars.now in
+    record {
+      made = subst (λ (q : Op). IsMade o c.args.maker.now c.is_less-in-Gt.new.maker (tree.Pair 0 q (tree_of c.args.left.now) (tree_of c.args.right.now)) this vars (form.Truth c.in_ok-truth-in-Gt.truth)) (sym c.in-Gt.is)
+          (made_gt o this vars c.args.maker.now c.form_at.new.maker c.form_at-2.new.maker 0 (tree_of c.args.left.now) (tree_of c.args.right.now) c.in_ok-l.l c.in_ok-r.r c.number_of-f.result c.number_of-g.result c.in_ok-l.ensures.made c.in_ok-r.ensures.made c.number_of-f.ensures.number c.number_of-g.ensures.number c.is_less-in-Gt.new.maker c.in_ok-truth-in-Gt.ensures.adds c.in_ok-truth-in-Gt.ensures.few c.in_ok-truth-in-Gt.truth c.in_ok-truth-in-Gt.ensures.variable c.in_ok-truth-in-Gt.ensures.value);
     }
