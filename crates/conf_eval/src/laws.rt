@@ -4,6 +4,7 @@ ghost use Rattle.conf_types.specs.declared.types.ExprType.{ExprType as AnExprTyp
 ghost use Rattle.conf_types.specs.Trees.{Tree};
 ghost use Rattle.object_alloc.specs.Configurations.{IsConfiguration};
 ghost use Rattle.object_alloc.specs.Hints.{AreHints};
+ghost use Rattle.object_alloc.specs.Members.{HasItsSize};
 ghost use Rattle.object_alloc.specs.Walk.{leaves_in, walk};
 ghost use Rattle.conf_eval.specs.Fitting.{IsReached, IsValueOf, IsWithin};
 ghost use Rattle.conf_eval.specs.Meaning.{Setting, int_of, value};
@@ -38,3 +39,10 @@ pub fn full_sets_are_hints(objects: &Objects<'_>, config: &Config)
 {
     configuration_is_hints(objects, config);
 }
+
+/// In a configuration whose reference sets are full each set has its size, as its cells say it. So
+/// it is read back from its JSON (`config_json::own_json_gives_values`).
+pub fn full_sets_have_their_sizes(objects: &Objects<'_>, config: &Config)
+    requires sets { All (IsFull objects.now config.now) (leaves_in (walk objects.now)) }
+    ensures sizes { All (HasItsSize objects.now config.now) (leaves_in (walk objects.now)) }
+{}

@@ -19,5 +19,5 @@ mod value;
 pub use broken::{BrokenAt, satisfied};
 pub use calls::{Numbers, eval, objectives};
 pub use conf_limits::{LimitFault, limits, model_weight, part_is_within_limits};
-pub use laws::{full_sets_are_hints, values_keep_to_measures};
+pub use laws::{full_sets_are_hints, full_sets_have_their_sizes, values_keep_to_measures};
 pub use value::{Env, Value};
