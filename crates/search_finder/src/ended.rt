@@ -19,7 +19,7 @@ use std::alloc::{AllocError, Global};
 ///
 /// # Errors
 /// Want of memory.
-#[tactic(auto, using(crate::proofs::Ended::run_is_taken))]
+#[tactic(auto, using(crate::proofs::ClosedRuns::run_is_taken))]
 fn verdict_of(alloc: Global, g: &Ground, lines: &[Line]) -> Result<VerdictKind, AllocError>
     requires well_made { IsWellMade g.now }
     requires run { is_run g.now lines.now ≡ true }
@@ -36,7 +36,7 @@ fn verdict_of(alloc: Global, g: &Ground, lines: &[Line]) -> Result<VerdictKind, 
 ///
 /// # Errors
 /// Want of memory.
-#[tactic(auto, using(crate::proofs::Ended::closed_is_shown))]
+#[tactic(auto, using(crate::proofs::ClosedRuns::closed_is_shown))]
 pub(crate) fn outcome_of(
     alloc: Global,
     g: &Ground,

@@ -2,7 +2,7 @@
 use Rattle.std.proofs.Common.{◌≡◌, ℕ, ℤ, Bool, true, List, Option, Some, None, take, subst}
 use Rattle.ground_form.specs.declared.ground.Ground.{Ground}
 use Rattle.log_form.specs.declared.line.Line.{Line}
-use Rattle.log_form.specs.Acceptance.{accepted, has_empty, made, shown_by, FailsFirst}
+use Rattle.log_form.specs.Acceptance.{has_empty, made, shown_by, FailsFirst}
 use Rattle.log_check.specs.declared.verdict.VerdictKind.TheVariants as kinds
 use Rattle.log_check.specs.Verdicts.{ending, kind_of, shown_of}
 use Rattle.search_run.specs.Replay.{is_run}
