@@ -1,7 +1,7 @@
 //! Reads quantifiers: a keyword, a variable and its path, a filter where there is one, and bodies.
 //!
-//! `quant` is the entry point. `room` is how deep the quantifier may be, as in `operand`; bodies in a
-//! row are read in a loop.
+//! `quant` is the entry point. `room` is how deep the quantifier may be, as in `operand`; bodies in
+//! a row are read in a loop.
 ghost use Rattle.std.specs.Prelude.{◌≡◌, ◌+◌, ◌-◌, ◌<◌, ◌≤◌, length, IfOk, MatchResult, true, false};
 ghost use Rattle.model_limits.specs.Limits.{most_nesting};
 ghost use Rattle.conf_syntax.specs.Places.{bare, first_at};
