@@ -1,0 +1,10 @@
+//! The search as a finder.
+//!
+//! - `finder`: `SearchFinder`, a kit, a chooser and a budget.
+//! - `ended`: what the lines of an ended search show.
+#![tactic(auto)]
+
+mod ended;
+mod finder;
+
+pub use finder::SearchFinder;
