@@ -23,7 +23,8 @@ use Rattle.conf_types.specs.Programs.{ResolvedConstraint, ResolvedGoal, resolved
 use Rattle.conf_types.proofs.WholePrograms.{one_constraints, one_goals, one_type_faults}
 use Rattle.object_alloc.specs.Limits.{IsWithinLimits}
 use Rattle.confsolve_run.specs.Meaning.{InExpression, IsFaultOf, IsTyped}
-use Rattle.confsolve_run.specs.Models.{IsWithin, outline_of, constraints_of, goals_of, weight_limit}
+use Rattle.model_limits.specs.Limits.{most_weight}
+use Rattle.confsolve_run.specs.Models.{IsWithin, outline_of, constraints_of, goals_of}
 use Rattle.confsolve_run.specs.Refusal.{IsSyntaxAt, IsNestingAt}
 use Rattle.confsolve_run.specs.Request.{IsModelOf, HasModel}
 use Rattle.confsolve_run.specs.declared.status.Fault.{Fault}
@@ -121,7 +122,7 @@ within_one p q h w =
     record {
       typed = typed_one p q h w.typed;
       objects = subst (λ (m : Said). IsWithinLimits m.outline) e w.objects;
-      light = subst (λ (m : Said). model_weight m.outline m.constraints m.goals ≤ weight_limit) e w.light;
+      light = subst (λ (m : Said). model_weight m.outline m.constraints m.goals ≤ most_weight) e w.light;
       narrow = subst (λ (m : Said). model_narrow m.outline m.constraints m.goals ≡ true) e w.narrow;
     }
 

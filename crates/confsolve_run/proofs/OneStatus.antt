@@ -14,7 +14,8 @@ use Rattle.object_alloc.specs.declared.fault.AllocFault.TheVariants as alloc
 use Rattle.object_alloc.specs.Counts.{configuration_count}
 use Rattle.try_all.specs.Choices.{most}
 use Rattle.confsolve_run.specs.Answer.{IsAnswer, IsModelAnswer, Prints, PrintsSome}
-use Rattle.confsolve_run.specs.Models.{IsWithin, outline_of, constraints_of, goals_of, weight_limit}
+use Rattle.model_limits.specs.Limits.{most_weight}
+use Rattle.confsolve_run.specs.Models.{IsWithin, outline_of, constraints_of, goals_of}
 use Rattle.confsolve_run.specs.Refusal.{IsAllocated, IsHeavy, IsRefusedFor, IsRefusedAs, IsRefusedOf, IsMissing, IsBroken}
 use Rattle.confsolve_run.specs.Request.{Asked, Best, Satisfied, IsModelOf, HasModel}
 use Rattle.confsolve_run.specs.declared.status.FormerKind.TheVariants as former
@@ -34,9 +35,9 @@ refused_one p q (status.Limit kind.Objects None) h c = (typed_one p q h c.0, sub
 refused_one p q (status.Limit kind.Depth None) h c = (typed_one p q h c.0, subst (λ (m : Said). limits.IsRefused m.outline alloc.TooDeep) (said_one p q h.there) c.1)
 refused_one p q (status.Limit kind.Cells None) h c = (typed_one p q h c.0, subst (λ (m : Said). limits.IsRefused m.outline alloc.TooManyCells) (said_one p q h.there) c.1)
 refused_one p q (status.Limit kind.Weight None) h c =
-    (allocated_one p q h c.0, subst (λ (m : Said). weight_limit < model_weight m.outline m.constraints m.goals) (said_one p q h.there) c.1)
+    (allocated_one p q h c.0, subst (λ (m : Said). most_weight < model_weight m.outline m.constraints m.goals) (said_one p q h.there) c.1)
 refused_one p q (status.Limit kind.Width None) h c =
-    (allocated_one p q h c.0, subst (λ (m : Said). model_weight m.outline m.constraints m.goals ≤ weight_limit) (said_one p q h.there) c.1, subst (λ (m : Said). model_narrow m.outline m.constraints m.goals ≡ false) (said_one p q h.there) c.2)
+    (allocated_one p q h c.0, subst (λ (m : Said). model_weight m.outline m.constraints m.goals ≤ most_weight) (said_one p q h.there) c.1, subst (λ (m : Said). model_narrow m.outline m.constraints m.goals ≡ false) (said_one p q h.there) c.2)
 refused_one p q status.Memory h c = tt
 refused_one p q s h c = absurd c
 
