@@ -1,0 +1,46 @@
+//! Plain probing as a propagator of every kind, which counts how often it is asked.
+ghost use Rattle.std.specs.Prelude.{◌≡◌, ◌<◌, true, length, slice_get, IfOk, IfSome};
+ghost use Rattle.ground_form.specs.Kinds as kinds;
+ghost use Rattle.ground_form.specs.WellMade.{IsWellMade};
+ghost use Rattle.rule_law.specs.Answers.{AreBoxesWithin, IsAnswer};
+
+use ground_form::{Ground, Kind};
+use rule_law::{Propagator, probe};
+use signed_clause::{Clause, IntSet};
+use std::alloc::{AllocError, Global};
+use std::cell::Cell;
+use std::rc::Rc;
+
+/// A propagator that probes.
+#[derive(Drop)]
+pub(crate) struct Prober {
+    /// Where clauses take their memory.
+    pub(crate) alloc: Global,
+    /// How often it was asked.
+    pub(crate) calls: Rc<Cell<u64>>,
+}
+
+impl Propagator for Prober {
+    ghost handled = { λ p kind. true };
+
+    fn handles(&self, kind: Kind) -> bool {
+        true
+    }
+
+    fn begin(&mut self) {}
+
+    fn prune(
+        &mut self,
+        g: &Ground,
+        k: u32,
+        boxes: &[IntSet],
+    ) -> Result<Option<Clause>, AllocError> {
+        self.calls.set(self.calls.get().wrapping_add(1));
+        probe(
+            &g.cons.items()[k as usize],
+            g.domains.items(),
+            boxes,
+            self.alloc,
+        )
+    }
+}
