@@ -9,7 +9,8 @@ use Rattle.signed_clause.specs.Clauses.{Boxes, box_of}
 use Rattle.signed_clause.specs.SetAlgebra.{piece}
 use Rattle.ground_form.specs.Bounds.{low_of, high_of, reach_of}
 use Rattle.conf_eval.specs.Meaning.{int_same}
-use Rattle.conf_limits.specs.Measures.{is_narrow, is_near, widest, between}
+use Rattle.model_limits.specs.Limits.{most_width}
+use Rattle.conf_limits.specs.Measures.{is_narrow, is_near, between}
 use Rattle.form_build.specs.Worlds.{AreSome}
 use Rattle.attribute_forms.specs.Attributes.{IsOnly}
 use Rattle.form_build.proofs.Singles.{fixed_value}
@@ -58,8 +59,8 @@ at_most a b h = grind (arith, ints)
 pub narrow_reach : (low high : ℤ) (box : Ranges) → is_narrow (between low high) ≡ true → AreEnds low high box → reach_of box ≤ 2 ^ 58
 narrow_reach low high box n e =
     let p = and_parts (is_near low) (is_near high) n in
-    let l = at_most (neg_ℤ widest) low (and_parts (int_le (neg_ℤ widest) low) (int_le low widest) p.0).0 in
-    let g = at_most high widest (and_parts (int_le (neg_ℤ widest) high) (int_le high widest) p.1).1 in
+    let l = at_most (neg_ℤ (pos most_width)) low (and_parts (int_le (neg_ℤ (pos most_width)) low) (int_le low (pos most_width)) p.0).0 in
+    let g = at_most high (pos most_width) (and_parts (int_le (neg_ℤ (pos most_width)) high) (int_le high (pos most_width)) p.1).1 in
     let first = abs_within low 1125899906842624 l (omega (arith, ints, g, e.ordered)) in
     let last = abs_within high 1125899906842624 (omega (arith, ints, l, e.ordered)) g in
     let one = ap unsigned_abs e.low_is in

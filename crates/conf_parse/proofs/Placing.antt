@@ -19,7 +19,7 @@ use Rattle.conf_syntax.specs.Plain.{Tree, Leaf, Head, First, semicolons}
 use Rattle.conf_syntax.specs.Trees.{tokens_of, quant_tokens, filter_tokens, body_tokens, body_end, op_token}
 use Rattle.conf_syntax.specs.Views.{tree_of, quant_of, filter_of, bodies_of, closed}
 use Rattle.conf_parse.specs.Cursor.{Splits, Takes, Names}
-use Rattle.conf_parse.specs.declared.operand.Opening.{Opening}
+use Rattle.conf_parse.specs.declared.quantifier.Opening.{Opening}
 use Rattle.conf_parse.specs.Reads.{Reads, SignReads, QuantReads, ItemReads, HeadReads, OpeningReads, FilterReads, filter_size, list_size, ListStands}
 
 -- what is behind what is behind

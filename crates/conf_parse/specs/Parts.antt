@@ -5,7 +5,7 @@ use Rattle.conf_syntax.specs.Plain.{Tree, Head, First, Then, level, nest}
 use Rattle.conf_syntax.specs.Views.{tree_of, filtered}
 use Rattle.conf_grammar.specs.Machine.{InFirst, InThen}
 use Rattle.conf_grammar.specs.Leads.{Place, Leads, Refuses, WrongAt, DeepAt, need_in, next_at}
-use Rattle.conf_parse.specs.declared.operand.Opening.{Opening}
+use Rattle.conf_parse.specs.declared.quantifier.Opening.{Opening}
 use Rattle.conf_parse.specs.declared.operand.Part.{Part}
 use Rattle.conf_parse.specs.declared.stop.Stop.{Stop}
 use Rattle.conf_parse.specs.declared.stop.Stop.TheVariants.{Syntax, TooDeep, Memory}

@@ -6,7 +6,7 @@ use Rattle.conf_syntax.specs.declared.tree.Expr.{Expr}
 use Rattle.conf_syntax.specs.declared.tree.QuantKind.{QuantKind}
 use Rattle.conf_syntax.specs.Places.{first_at, at_index, size, Stands}
 use Rattle.conf_syntax.specs.Trees.{body_end}
-use Rattle.conf_parse.specs.declared.operand.Opening.{Opening}
+use Rattle.conf_parse.specs.declared.quantifier.Opening.{Opening}
 
 -- an expression, and what is behind it
 pub record Reads (tokens : List Placed) (e : Expr) (rest : List Placed) : Type 0 where

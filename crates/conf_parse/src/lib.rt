@@ -17,6 +17,7 @@ mod literal;
 mod mark;
 mod operand;
 mod parser;
+mod quantifier;
 mod row;
 mod run;
 mod statement;

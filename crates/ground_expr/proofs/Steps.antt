@@ -8,7 +8,8 @@ use Rattle.conf_syntax.specs.declared.tree.Op.{Op}
 use Rattle.conf_syntax.specs.declared.tree.Op.TheVariants as op
 use Rattle.conf_types.specs.Trees.{Tree}
 use Rattle.conf_types.specs.Trees as tree
-use Rattle.conf_limits.specs.Measures.{interval, weight, is_near, narrow, widest}
+use Rattle.model_limits.specs.Limits.{most_width}
+use Rattle.conf_limits.specs.Measures.{interval, weight, is_near, narrow}
 use Rattle.conf_eval.proofs.LawsNarrow.{narrow_interval}
 use Rattle.ground_form.specs.declared.ground.Ground.{Ground}
 use Rattle.form_build.specs.declared.form.Linear.{Linear}
@@ -45,8 +46,8 @@ near_ends o t n =
     let i = interval o t in
     let p = and_parts (is_near i.low) (is_near i.high) (narrow_interval o t n) in
     record {
-      low = at_most (neg_ℤ widest) i.low (and_parts (int_le (neg_ℤ widest) i.low) (int_le i.low widest) p.0).0;
-      high = at_most i.high widest (and_parts (int_le (neg_ℤ widest) i.high) (int_le i.high widest) p.1).1;
+      low = at_most (neg_ℤ (pos most_width)) i.low (and_parts (int_le (neg_ℤ (pos most_width)) i.low) (int_le i.low (pos most_width)) p.0).0;
+      high = at_most i.high (pos most_width) (and_parts (int_le (neg_ℤ (pos most_width)) i.high) (int_le i.high (pos most_width)) p.1).1;
     }
 
 module _ (o : Outline) (this : Option ℕ) (vars : List ℕ) where

@@ -1,0 +1,99 @@
+use Rattle.std.proofs.Common.{rules, arith, ◌≡◌, ◌<◌, sym, subst, ap, ◌∙◌, List, [], ◌∷◌, ℕ, Bool, true, length, length-append}
+use Rattle.conf_parse.specs.Cursor.{Names}
+use Rattle.conf_parse.specs.Readers.{sign_of}
+use Rattle.conf_syntax.specs.Plain.{Then, nest, semicolons, part, quant, bodies, may_more}
+use Rattle.conf_syntax.specs.Views.{tree_of, chain, closed}
+use Rattle.conf_parse.specs.Parts.{opening_tree}
+use Rattle.conf_parse.proofs.Quants.{head_wrong, head_deep, head_unnamed, head_bare, head_error, head_part, opening_head, single_open, single_part, next_item, chain_then}
+use Rattle.conf_parse.proofs.Placing.{filter_opens, pair_reads, paren_reads, sign_reads, quant_reads, one_body, more_bodies}
+use Rattle.conf_syntax.specs.declared.tree.QuantKind.{QuantKind}
+use Rattle.conf_parse.proofs.Parts.{sign_wrong, sign_deeper, sign_error, sign_part}
+use Rattle.conf_parse.proofs.+read.Goals as goal
+
+pub quantifier::head-returns-then-least-gt10-clause-read : goal.quantifier::head-returns-then-least-gt10-clause-read
+quantifier::head-returns-then-least-gt10-clause-read t c = head_wrong c.args.least c.args.room c.args.kind c.args.tokens.now c.args.token.now c.args.after.now c.requires.tokens c.requires.begin (omega arith)
+
+pub quantifier::head-returns-then-room-lt2-clause-read : goal.quantifier::head-returns-then-room-lt2-clause-read
+quantifier::head-returns-then-room-lt2-clause-read t c = head_deep c.args.least c.args.room c.args.kind c.args.tokens.now c.args.token.now c.args.after.now c.requires.tokens c.requires.begin (omega arith) (omega arith)
+
+pub quantifier::head-returns-in_default-clause-read : goal.quantifier::head-returns-in_default-clause-read
+quantifier::head-returns-in_default-clause-read t c = head_unnamed c.args.least c.args.room c.args.kind c.args.tokens.now c.args.token.now c.args.after.now c.requires.tokens c.requires.begin c.in_default.ensures (omega arith) (omega arith)
+
+pub quantifier::head-returns-in_default-after_key-clause-read : goal.quantifier::head-returns-in_default-after_key-clause-read
+quantifier::head-returns-in_default-after_key-clause-read t c = head_bare c.args.least c.args.room c.args.kind c.args.tokens.now c.args.token.now c.args.after.now c.requires.tokens c.requires.begin c.in-Some.name.now c.in-Some.at c.in-Some.behind.now c.in-Some.ensures c.in_default-after_key.ensures (omega arith) (omega arith)
+
+pub quantifier::head-returns-in-Err-clause-read : goal.quantifier::head-returns-in-Err-clause-read
+quantifier::head-returns-in-Err-clause-read t c = head_error c.args.least c.args.room c.args.kind c.args.tokens.now c.args.token.now c.args.after.now c.requires.tokens c.requires.begin c.in-Some.name.now c.in-Some.at c.in-Some.behind.now c.in-Some-after_key.path.now c.in-Err.e c.in-Some.ensures c.in-Some-after_key.ensures (omega arith) (omega arith) c.in-Err.ensures.read
+
+pub quantifier::head-returns-clause-read : goal.quantifier::head-returns-clause-read
+quantifier::head-returns-clause-read u c =
+    let e : c.in_ok-name.name ≡ c.in-Some.name.now = search rules in
+    head_part c.args.least c.args.room c.args.kind c.args.tokens.now c.args.token.now c.args.after.now c.requires.tokens c.requires.begin c.in_ok-name.name c.in-Some.at c.in-Some.behind.now c.in-Some-after_key.path.now (tree_of c.in-Ok.found.0.tree.node) c.in-Ok.found.1.now
+    (subst (λ (x : List ℕ). Names c.args.after.now x c.in-Some.at c.in-Some.behind.now) (sym e) c.in-Some.ensures) c.in-Some-after_key.ensures (omega arith) (omega arith) c.in-Ok.ensures.read
+
+pub operand::signed-returns-then-least-level-clause-read : goal.operand::signed-returns-then-least-level-clause-read
+operand::signed-returns-then-least-level-clause-read t c = sign_wrong c.args.least c.args.room (sign_of c.args.sign) c.sign_level-level.result c.args.tokens.now c.args.token.now c.args.after.now c.requires.tokens c.requires.begin c.sign_level-level.ensures (omega arith)
+
+pub operand::signed-returns-then-room-lt2-clause-read : goal.operand::signed-returns-then-room-lt2-clause-read
+operand::signed-returns-then-room-lt2-clause-read t c = sign_deeper c.args.least c.args.room (sign_of c.args.sign) c.sign_level-level.result c.args.tokens.now c.args.token.now c.args.after.now c.requires.tokens c.requires.begin c.sign_level-level.ensures (omega arith) (omega arith)
+
+pub operand::signed-returns-in-Err-clause-read : goal.operand::signed-returns-in-Err-clause-read
+operand::signed-returns-in-Err-clause-read t c = sign_error c.args.least c.args.room (sign_of c.args.sign) c.sign_level-level.result c.args.tokens.now c.args.token.now c.args.after.now c.in-Err.e c.requires.tokens c.requires.begin c.sign_level-level.ensures (omega arith) (omega arith) c.in-Err.ensures.read
+
+pub operand::signed-returns-clause-read : goal.operand::signed-returns-clause-read
+operand::signed-returns-clause-read t c = sign_part c.args.least c.args.room (sign_of c.args.sign) c.sign_level-level.result c.args.tokens.now c.args.token.now c.args.after.now (tree_of c.in_ok-tree.tree.node) (tree_of c.in-Ok.found.0.tree.node) c.in-Ok.found.0.level c.in-Ok.found.1.now c.requires.tokens c.requires.begin c.sign_level-level.ensures (omega arith) (omega arith) c.in-Ok.ensures.read c.in-Ok.ensures.operand.level_is c.in-Ok.ensures.stops c.in_ok-tree.ensures.tree
+
+pub quantifier::single-returns-in_default-clause-read : goal.quantifier::single-returns-in_default-clause-read
+quantifier::single-returns-in_default-clause-read t c =
+    let o = opening_head c.args.start.filter c.args.start.kind c.args.start.var.name (tree_of c.args.start.over.node) in
+    let n : nest (opening_tree c.args.start) < c.args.room = omega (arith, c.requires.nest, c.requires.nested) in
+    single_open c.args.least c.args.room c.args.tokens.now c.args.inside.now (opening_tree c.args.start) c.requires.read n o.0 (tree_of c.in-Ok.found.0.tree.node) c.in-Ok.found.0.level c.in-Ok.found.1.now (ap semicolons o.1 ∙ c.requires.kind) c.in-Ok.ensures.read c.in-Ok.ensures.operand.level_is c.in-Ok.ensures.stops c.in_default.ensures
+
+pub quantifier::single-returns-clause-read : goal.quantifier::single-returns-clause-read
+quantifier::single-returns-clause-read t c =
+    let o = opening_head c.args.start.filter c.args.start.kind c.args.start.var.name (tree_of c.args.start.over.node) in
+    let n : nest (opening_tree c.args.start) < c.args.room = omega (arith, c.requires.nest, c.requires.nested) in
+    let m : nest (tree_of c.in-Ok.found.0.tree.node) < c.args.room = let p = c.in-Ok.ensures.operand in omega (arith, p.nest_is, p.nested) in
+    single_part c.args.least c.args.room c.args.tokens.now c.args.inside.now (opening_tree c.args.start) c.requires.read n o.0 (opening_tree c.args.start) (tree_of c.in_ok-tree.tree.node) c.new-body.result.items c.push.new.self.items c.in-Ok.found.0.tree c.in-Ok.found.1.now c.in-Some.behind.now (ap semicolons o.1 ∙ c.requires.kind) c.in-Ok.ensures.read m c.in-Some.ensures c.new-body.ensures.items c.in_ok-push.ensures.items
+    (c.in_ok-tree.ensures.tree ∙ ap (λ (b : Bool). closed b (chain (opening_tree c.args.start) c.push.new.self.items)) c.requires.kind)
+
+pub quantifier::before_body-returns-in-Some-clause-places : goal.quantifier::before_body-returns-in-Some-clause-places
+quantifier::before_body-returns-in-Some-clause-places t c = filter_opens c.args.tokens.now c.in-Ok.found.0 c.in-Ok.found.1.tree c.in-Ok.found.2.now c.in-Ok.ensures.places c.args.kind c.in-Ok-operand.found.0.tree c.max-nest.result c.in-Some.inner.now c.in-Ok-operand.found.1.now c.in-Some-after_mark.inside.now c.in-Some.ensures c.in-Ok-operand.ensures.places c.in-Some-after_mark.ensures
+
+pub operand::pair-returns-clause-places : goal.operand::pair-returns-clause-places
+operand::pair-returns-clause-places t c = pair_reads c.args.start.now c.args.tokens.now c.args.token.now c.args.after.now c.in-Ok.found.1.now c.args.op c.args.left.tree c.in-Ok.found.0.tree c.in_ok-left.left c.in_ok-right.right c.requires.tokens c.requires.places c.in-Ok.ensures.places c.in_ok-left.ensures.ok c.in_ok-right.ensures.ok
+
+pub operand::paren-returns-clause-places : goal.operand::paren-returns-clause-places
+operand::paren-returns-clause-places t c = paren_reads c.args.tokens.now c.args.token.now c.args.after.now c.in-Ok.found.1.now c.in-Some.behind.now c.in-Ok.found.0.tree c.in_ok-new.field-0 c.requires.tokens c.in-Ok.ensures.places c.in-Some.ensures c.in_ok-new.ensures.ok
+
+pub operand::signed-returns-clause-places : goal.operand::signed-returns-clause-places
+operand::signed-returns-clause-places t c = sign_reads c.args.tokens.now c.args.token.now c.args.after.now c.in-Ok.found.1.now c.in-Ok.found.0.tree c.in_ok-tree.tree c.requires.tokens c.in-Ok.ensures.places c.in_ok-tree.ensures.places
+
+pub quantifier::single-returns-clause-places : goal.quantifier::single-returns-clause-places
+quantifier::single-returns-clause-places t c =
+    quant_reads c.args.tokens.now c.args.inside.now c.in-Ok.found.1.now c.in-Some.behind.now c.args.place c.args.start c.push.new.self.items c.in_ok-tree.tree c.requires.place c.requires.places
+    (one_body c.args.inside.now c.args.start.kind c.new-body.result.items c.push.new.self.items c.in-Ok.found.0.tree c.in-Ok.found.1.now c.in-Ok.ensures.places c.requires.kind c.new-body.ensures.items c.in_ok-push.ensures.items) c.in-Some.ensures c.in_ok-tree.ensures.places
+
+pub quantifier::many-body-preserved : goal.quantifier::many-body-preserved
+quantifier::many-body-preserved t c =
+    let h = opening_tree c.args.start in
+    let xs = c.body.body.items in
+    let ys = c.push-in-body.new.self.items in
+    let x = c.in-Ok-item.found.0.tree in
+    let i = c.body.invariant in
+    let f = c.in_ok-push-2.ensures.items in
+    let e : chain (opening_tree c.args.start) c.push-in-body.new.self.items ≡ Then (chain (opening_tree c.args.start) c.body.body.items) (tree_of c.in-Ok-item.found.0.tree.node) = chain_then h xs ys x i.whole f in
+    let m : may_more c.args.start.kind (length c.body.body.items) ≡ true = search rules in
+    let n : nest (chain (opening_tree c.args.start) c.body.body.items) < c.args.room = omega (arith, i.nest_is, i.nested) in
+    let o = c.in-Ok-item.ensures.operand in
+    record {
+      leads = next_item c.args.least c.args.room c.args.tokens.now c.body.rest.now h xs i.leads c.in-Ok-item.found.1.now ys x c.in_default.ensures (ap (λ (k : QuantKind). may_more k (bodies (chain h xs))) i.kind ∙ ap (λ (j : ℕ). may_more c.args.start.kind j) i.count ∙ m) c.in-Ok-item.ensures.read n i.whole f;
+      whole = ap part e;
+      kind = ap quant e ∙ i.kind;
+      count = omega (arith, ap bodies e, i.count, ap length f, length-append xs (x ∷ []));
+      nest_is = omega (arith, ap nest e, i.nest_is, c.max-nest-in-body.ensures, o.nest_is);
+      nested = omega (arith, i.nested, c.max-nest-in-body.ensures, o.nested);
+      least = i.least;
+      places = more_bodies c.args.inside.now c.args.start.kind xs ys x c.body.rest.now c.in-Ok-item.found.1.now i.places c.in-Ok-item.ensures.places c.requires.kind f;
+      shorter = (let a = c.in-Ok-item.ensures.shorter in let b = i.shorter in omega arith);
+    }
