@@ -1,0 +1,6 @@
+pub mod CandidateLaws
+pub mod DotLaws
+pub mod MappedForms
+pub mod PartLaws
+pub mod PickLaws
+pub mod SlotLaws

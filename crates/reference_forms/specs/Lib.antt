@@ -1,0 +1,4 @@
+pub mod Candidates
+pub mod Dots
+pub mod Lists
+pub mod Picks
