@@ -24,7 +24,7 @@ use Rattle.expr_forms.specs.declared.form.Listing.{Listing}
 use Rattle.expr_forms.specs.declared.form.Listing.TheVariants as listing
 use Rattle.expr_forms.specs.declared.form.Form.{Form}
 use Rattle.expr_forms.specs.declared.form.Form.TheVariants as form
-use Rattle.expr_forms.specs.FormBounds.{MayBe, IsChoiceOf, IsFrom, IsMember, IsSlot, IsListing, IsFormOf, IsForm, IsGroundForm}
+use Rattle.expr_forms.specs.FormBounds.{MayBe, IsMap, IsChoiceOf, IsFrom, IsMember, has_cell, IsSlot, IsListing, IsFormOf, IsForm, IsGroundForm}
 use Rattle.expr_forms.specs.FormValues.{number_part, truth_part}
 use Rattle.expr_forms.specs.Standing.{Stands}
 use Rattle.expr_forms.proofs.SumsKept.{AreKept, sum_kept}
@@ -45,11 +45,14 @@ module _ (old new : Boxes) (k : AreKept old new) where
   may_be_kept : (P : ℕ → Type 0) (x : ℕ) → x < length old → MayBe old P x → MayBe new P x
   may_be_kept P x lt h v has_it = h v (subst (λ (z : Ranges). has z v ≡ true) (k.same x lt) has_it)
 
+  pub map_kept : (P : ℕ → Type 0) (x : ℕ) (map : List (ℤ × ℕ)) → x < length old → IsMap old P x map → IsMap new P x map
+  map_kept P x map lt h = record { distinct = h.distinct; held = λ v has_it. h.held v (subst (λ (z : Ranges). has z v ≡ true) (k.same x lt) has_it); may = h.may }
+
   pub choice_kept : (P : ℕ → Type 0) (c : Choice) → IsChoiceOf old P c → IsChoiceOf new P c
   choice_kept P (choice.Fixed n) h = h
   choice_kept P (choice.Cell x) h = (omega (arith, h.0, k.count), may_be_kept P x h.0 h.1)
   choice_kept P (choice.Mapped x map) h =
-      (omega (arith, h.0, k.count), record { distinct = h.1.distinct; held = λ v has_it. h.1.held v (subst (λ (z : Ranges). has z v ≡ true) (k.same x h.0) has_it); may = h.1.may })
+      (omega (arith, h.0, k.count), map_kept P x map.items h.0 h.1)
 
   from_kept : (o : Outline) (d : ℕ) (P : ℕ → Type 0) (c : Choice) → IsChoiceOf old P c → IsFrom o old d c → IsFrom o new d c
   from_kept o d P (choice.Fixed n) h f = tt
@@ -59,16 +62,18 @@ module _ (old new : Boxes) (k : AreKept old new) where
   member_kept : (o : Outline) (c : ℕ) (m : Member) → IsMember o old c m → IsMember o new c m
   member_kept o c m h = record { may = h.may; is = variable_kept m.is h.is }
 
-  slot_kept : (o : Outline) (c : ℕ) (s : Slot) → IsSlot o old c s → IsSlot o new c s
-  slot_kept o c s h = record {
+  slot_kept : (o : Outline) (c x : ℕ) (map : List (ℤ × ℕ)) (s : Slot) → x < length old → IsSlot o old c x map s → IsSlot o new c x map s
+  slot_kept o c x map s lt h = record {
     may = h.may;
-    exist = All-weaker (λ (p : ℕ × ℕ). p.1 < length old) (λ (p : ℕ × ℕ). p.1 < length new) (λ p lt. omega (arith, lt, k.count)) s.cells.items h.exist;
+    exist = All-weaker (λ (p : ℕ × ℕ). p.1 < length old) (λ (p : ℕ × ℕ). p.1 < length new) (λ p less. omega (arith, less, k.count)) s.cells.items h.exist;
+    owners = map_kept (λ n. has_cell n s.cells.items ≡ true) x map lt h.owners;
   }
 
   pub listing_kept : (o : Outline) (c : ℕ) (l : Listing) → IsListing o old c l → IsListing o new c l
   listing_kept o c (listing.All xs) h = h
   listing_kept o c (listing.Some ms) h = All-weaker (IsMember o old c) (IsMember o new c) (λ m i. member_kept o c m i) ms.items h
-  listing_kept o c (listing.Owned w ss) h = All-weaker (IsSlot o old c) (IsSlot o new c) (λ s i. slot_kept o c s i) ss.items h
+  listing_kept o c (listing.Owned x map ss) h =
+      (omega (arith, h.0, k.count), All-weaker (IsSlot o old c x map.items) (IsSlot o new c x map.items) (λ s i. slot_kept o c x map.items s h.0 i) ss.items h.1)
 
   form_of_kept : (o : Outline) (ty : ExprType) (f : Form) → IsFormOf o old ty f → IsFormOf o new ty f
   form_of_kept o type.Int (form.Number f) h = tt

@@ -1,7 +1,7 @@
 -- Forms within their bounds. What a reader believes after this file: the variables of a form exist,
 -- its numbers lie in the expression's interval, and what it may choose is of the expression's type,
 -- and no more than the expression reaches.
-use Rattle.std.specs.Prelude.{◌≡◌, ℕ, ◌<◌, ◌≤◌, true, false, List, [], ℤ, pos, Option, Some, length, Contains}
+use Rattle.std.specs.Prelude.{◌≡◌, ℕ, ◌<◌, ◌≤◌, Bool, true, false, ◌||◌, nat_eq, List, [], ◌∷◌, ℤ, pos, Option, Some, length, Contains}
 use Rattle.std.specs.List.{All}
 use Rattle.class_table.specs.Outline.{Outline}
 use Rattle.conf_types.specs.declared.types.ExprType.{ExprType}
@@ -65,21 +65,28 @@ pub record IsMember (o : Outline) (boxes : Boxes) (c : ℕ) (m : Member) : Type 
   pub may : Contains (extent o c) m.object
   pub is : HasVariable (length boxes) m.is
 
--- the object may be a member of a list of class c; the owners' cells exist, and are 0 or 1
-pub record IsSlot (o : Outline) (boxes : Boxes) (c : ℕ) (s : Slot) : Type 0 where
+-- the owner has a cell among these
+abbrev pub has_cell : ℕ → List (ℕ × ℕ) → Bool
+has_cell owner [] = false
+has_cell owner (p ∷ ps) = nat_eq p.0 owner || has_cell owner ps
+
+-- the object may be a member of a list of class c; the owners' cells exist, and each owner that the
+-- map may give for the value of x has one
+pub record IsSlot (o : Outline) (boxes : Boxes) (c x : ℕ) (map : List (ℤ × ℕ)) (s : Slot) : Type 0 where
   pub may : Contains (extent o c) s.object
   pub exist : All (λ p. p.1 < length boxes) s.cells.items
+  pub owners : IsMap boxes (λ n. has_cell n s.cells.items ≡ true) x map
 
 abbrev pub IsListing : Outline → Boxes → ℕ → Listing → Type 0
 IsListing o boxes c (listing.All xs) = All (Contains (extent o c)) xs.items
 IsListing o boxes c (listing.Some ms) = All (IsMember o boxes c) ms.items
-IsListing o boxes c (listing.Owned owner ss) = All (IsSlot o boxes c) ss.items
+IsListing o boxes c (listing.Owned x map ss) = (x < length boxes) × All (IsSlot o boxes c x map.items) ss.items
 
 -- how many objects may be members
 abbrev pub slot_count : Listing → ℕ
 slot_count (listing.All xs) = length xs.items
 slot_count (listing.Some ms) = length ms.items
-slot_count (listing.Owned owner ss) = length ss.items
+slot_count (listing.Owned x map ss) = length ss.items
 
 -- ---- forms
 
@@ -93,26 +100,26 @@ IsFormOf o boxes (type.Objects c) (form.List l) = IsListing o boxes c l
 IsFormOf o boxes (type.Class c) (form.List l) = IsListing o boxes c l
 IsFormOf o boxes t f = ⊥
 
--- how many objects a choice tells apart: a cell counts as one
-abbrev pub choice_count : Choice → ℕ
-choice_count (choice.Fixed n) = 1
-choice_count (choice.Cell x) = 1
-choice_count (choice.Mapped x map) = length map.items
+-- how many objects a choice tells apart: where it is a cell, all of the extent of class d
+abbrev pub candidate_count : Outline → ℕ → Choice → ℕ
+candidate_count o d (choice.Fixed n) = 1
+candidate_count o d (choice.Cell x) = length (extent o d)
+candidate_count o d (choice.Mapped x map) = length map.items
 
 -- how many objects a form may be or list; 0 of what is none
-abbrev pub target_count : Form → ℕ
-target_count (form.Object d c) = choice_count c
-target_count (form.List l) = slot_count l
-target_count (form.Number f) = 0
-target_count (form.Truth t) = 0
-target_count (form.Choice e c) = 0
+abbrev pub target_count : Outline → Form → ℕ
+target_count o (form.Object d c) = candidate_count o d c
+target_count o (form.List l) = slot_count l
+target_count o (form.Number f) = 0
+target_count o (form.Truth t) = 0
+target_count o (form.Choice e c) = 0
 
 -- the form of an expression that stands there
 pub record IsForm (o : Outline) (boxes : Boxes) (t : Tree) (this : Option ℕ) (vars : List ℕ) (f : Form) : Type 0 where
   pub number : IsSum boxes (interval o t).low (interval o t).high (number_part f)
   pub truth : HasVariable (length boxes) (truth_part f)
   pub typed : (p : Place) (ty : ExprType) → Fits o [] p (bare_setting o this vars) → tree_type o t p ≡ Some ty → IsFormOf o boxes ty f
-  pub reached : target_count f ≤ reach o t
+  pub reached : target_count o f ≤ reach o t
 
 -- the form stands for the expression, and keeps to its bounds
 pub record IsGroundForm (o : Outline) (g : Ground) (known : List (ℕ × ℤ)) (t : Tree) (this : Option ℕ) (vars : List ℕ) (f : Form) : Type 0 where

@@ -49,7 +49,7 @@ owned_at owner (s ∷ ss) a =
 abbrev pub listing_at : Listing → List ℤ → List ℕ
 listing_at (listing.All xs) a = xs.items
 listing_at (listing.Some ms) a = members_at ms.items a
-listing_at (listing.Owned c ss) a = owned_at (choice_at c a) ss.items a
+listing_at (listing.Owned x map ss) a = owned_at (number_for (value_of a x) map.items) ss.items a
 
 -- the value of a form
 abbrev pub form_value : Form → List ℤ → Value

@@ -37,8 +37,9 @@ pub enum Listing {
     All(Vec<u32>),
     /// Those of these that are members, in order.
     Some(Vec<Member>),
-    /// The members of the reference set of the chosen owner, in order.
-    Owned(Choice, Vec<Slot>),
+    /// The members, in order, of the reference set of the owner that goes with the value of the
+    /// variable.
+    Owned(u32, Vec<(i64, u32)>, Vec<Slot>),
 }
 
 /// What an expression is once it is ground.

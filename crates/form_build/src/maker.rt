@@ -3,7 +3,7 @@
 //! A maker is seen as the ground problem that it has come to. That problem is well made, and no
 //! box in it is empty. After want of memory nothing is said of what was added, and the maker is to
 //! be dropped.
-ghost use Rattle.std.specs.Prelude.{◌≡◌, ◌<◌, ◌≤◌, ◌-◌, ◌^◌, [], true, int_le, length, IfOk, OnOk};
+ghost use Rattle.std.specs.Prelude.{◌≡◌, ◌<◌, ◌≤◌, ◌+◌, ◌-◌, ◌^◌, [], true, int_le, length, IfOk, OnOk};
 ghost use Rattle.std.specs.List.{All};
 ghost use Rattle.std.specs.Ordering.{int_eq};
 ghost use Rattle.signed_clause.specs.Ranges.{has};
@@ -14,7 +14,7 @@ ghost use Rattle.ground_form.specs.WellMade.{distinct_values, IsWellMade};
 ghost use Rattle.ground_build.specs.Growing.{HasRoom, IsFlag, HoldsDomain, AreItemVariables};
 ghost use Rattle.ground_build.specs.NewDomains.{picked_domain, when_domain};
 ghost use Rattle.form_build.specs.Forms.{linear_at};
-ghost use Rattle.form_build.specs.Worlds.{Adds, Defines, IsFew, AreSome, IsFlagOf, IsVariableOf, IsPickOf, IsItemWhere};
+ghost use Rattle.form_build.specs.Worlds.{Adds, Defines, IsFew, HasRoomFor, AreSome, IsFlagOf, IsVariableOf, IsPickOf, IsItemWhere};
 ghost use Rattle.form_build.specs.Sums.{least_linear, greatest_linear, IsLinear};
 
 use crate::form::Linear;
@@ -43,6 +43,14 @@ impl Model for Maker {
     ghost view = { λ m. m.builder };
 
     ghost invariant = { λ m. AreSome m.builder.domains };
+}
+
+/// Whether n more can be numbered, where so many are.
+fn have_room(count: usize, n: u32) -> bool
+    ensures { result ≡ true → count + n ≤ 2 ^ 32 - 1 }
+{
+    let most = u32::MAX as usize;
+    count <= most && n as usize <= most - count
 }
 
 impl Maker {
@@ -91,6 +99,19 @@ impl Maker {
         ensures { result.now ≡ self.now.cons }
     {
         self.builder.cons()
+    }
+
+    /// Whether so many more variables and constraints can be numbered: where not, it is said that
+    /// memory lacks. Who makes one thing after the other asks before each step.
+    pub fn ask(&self, n: u32) -> Result<(), AllocError>
+        ensures room { OnOk result (HasRoomFor n self.now) }
+    {
+        let variables = self.builder.domains().len();
+        let constraints = self.builder.cons().len();
+        if have_room(variables, n) && have_room(constraints, n) {
+            return Ok(());
+        }
+        Err(AllocError)
     }
 
     /// A flag that says whether the value of `x` is in the set.
