@@ -37,7 +37,7 @@ use Rattle.expr_forms.specs.declared.form.Listing.TheVariants as listing
 use Rattle.expr_forms.specs.declared.form.Member.{Member}
 use Rattle.expr_forms.specs.declared.form.Form.{Form}
 use Rattle.expr_forms.specs.declared.form.Form.TheVariants as form
-use Rattle.expr_forms.specs.FormBounds.{IsCandidate, MayBe, IsChoiceOf, IsFrom, choice_count}
+use Rattle.expr_forms.specs.FormBounds.{IsCandidate, MayBe, IsChoiceOf, IsFrom, candidate_count}
 use Rattle.expr_forms.specs.FormValues.{choice_at, members_at}
 use Rattle.expr_forms.proofs.Trees.{no_number}
 use Rattle.attribute_forms.specs.Attributes.{IsCellOf, IsCellChoice, IsAttributeForm, element_at}
@@ -108,10 +108,10 @@ module _ (o : Outline) (g : Ground) (owner : Option ℕ) (k : ℕ) where
       let i = may (low_of (box_of g.domains x)) (low_there (box_of g.domains x) valid some) in
       some_there (extent o d) i.number i.may
 
-  one_choice : (x : ℕ) (c : AChoice) → IsCellChoice g.domains x c → choice_count c ≡ 1
-  one_choice x (choice.Fixed n) is = refl
-  one_choice x (choice.Cell y) is = refl
-  one_choice x (choice.Mapped y m) is = absurd is
+  few_candidates : (d x : ℕ) (c : AChoice) → IsCellChoice g.domains x c → 1 ≤ length (extent o d) → candidate_count o d c ≤ length (extent o d)
+  few_candidates d x (choice.Fixed n) is some = some
+  few_candidates d x (choice.Cell y) is some = omega arith
+  few_candidates d x (choice.Mapped y m) is some = absurd is
 
   object_may : (d x : ℕ) → IsCellOf o g owner k (domain.Extent d) x → MayBe g.domains (Contains (extent o d)) x
   object_may d x c v h =
@@ -139,7 +139,7 @@ module _ (o : Outline) (g : Ground) (owner : Option ℕ) (k : ℕ) where
     typed = (chosen_of (Contains (extent o d)) x c cell.exists is (object_may d x cell), from_of d x c low is (object_may d x cell));
     reached = λ r h.
         let there = extent_some d x (made.domains x [] cell.exists) (some x [] cell.exists) (object_may d x cell) in
-        omega (arith, there, one_choice x c is);
+        few_candidates d x c is there;
   }
 
   get_there : (xs : List ℕ) (i d : ℕ) → i < length xs → slice_get xs i ≡ Some (slice_index_or xs i d)

@@ -52,4 +52,4 @@ pub record IsAttributeForm (o : Outline) (g : Ground) (owner : Option ℕ) (k : 
   pub number : IsSum g.domains (shape_interval s).low (shape_interval s).high (number_part f)
   pub truth : HasVariable (length g.domains) (truth_part f)
   pub typed : IsFormOf o g.domains (shape_type s) f
-  pub reached : (r : ℕ) → 1 ≤ r → target_count f ≤ shape_reach o r s
+  pub reached : (r : ℕ) → 1 ≤ r → target_count o f ≤ shape_reach o r s

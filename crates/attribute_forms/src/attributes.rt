@@ -17,7 +17,7 @@ use object_alloc::Objects;
 use std::alloc::{AllocError, Global};
 
 /// The first of these numbers, 0 where there is none.
-fn first(numbers: &[u32]) -> u32
+pub fn first(numbers: &[u32]) -> u32
     ensures { result ≡ first_object numbers.now }
 {
     match numbers.first() {

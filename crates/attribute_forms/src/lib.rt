@@ -9,5 +9,5 @@ mod attributes;
 mod sets;
 mod variables;
 
-pub use attributes::attribute_form;
-pub use variables::{variable_choice, variable_truth};
+pub use attributes::{attribute_form, first};
+pub use variables::{ends_at, variable_choice, variable_truth};

@@ -15,7 +15,7 @@ use ground_form::ends_of;
 use signed_clause::IntSet;
 
 /// The ends of a variable's box.
-fn ends_at(boxes: &[IntSet], x: u32) -> (i64, i64)
+pub fn ends_at(boxes: &[IntSet], x: u32) -> (i64, i64)
     requires { x < length boxes.now }
     ensures { result ≡ (low_of (box_of boxes.now x), high_of (box_of boxes.now x)) }
 {

@@ -1,25 +1,32 @@
 -- Attributes of an object that is chosen, by the kind of the choice.
-use Rattle.std.proofs.Common.{◌≡◌, ℕ, ◌<◌, ◌≤◌, List, [], ℤ, Some, length, take, Global, refl, sym, ap, ◌∙◌, subst, arith}
+use Rattle.std.proofs.Common.{◌≡◌, ℕ, ◌<◌, List, [], ℤ, Some, length, take, Global, sym, ap, ◌∙◌, subst, arith}
 use Rattle.std.specs.Prelude.{Contains}
 use Rattle.std.specs.declared.vec.Vec.{Vec}
+use Rattle.std.specs.List.{All}
 use Rattle.std.proofs.lemmas.List.Elements.{All-weaker}
 use Rattle.class_table.specs.declared.table.Resolved.{Resolved}
 use Rattle.class_table.specs.Outline.{Outline}
+use Rattle.class_table.specs.Sound.{IsSound}
+use Rattle.class_table.specs.Tables.{IsShapeOf}
 use Rattle.object_alloc.specs.Cells.{extent}
 use Rattle.conf_eval.specs.Meaning.{attribute_value}
 use Rattle.signed_clause.specs.Clauses.{Boxes, box_of}
 use Rattle.ground_form.specs.declared.ground.Ground.{Ground}
 use Rattle.ground_form.specs.Meaning.{value_of}
-use Rattle.form_build.specs.Worlds.{Grows, Defines, IsFew}
+use Rattle.ground_form.specs.WellMade.{IsWellMade}
+use Rattle.form_build.specs.Worlds.{Grows, Defines, AreSome}
 use Rattle.form_build.proofs.Growth.{world_before, adds_nothing}
 use Rattle.expr_forms.specs.declared.form.Choice.{Choice}
 use Rattle.expr_forms.specs.declared.form.Choice.TheVariants as choice
 use Rattle.expr_forms.specs.declared.form.Form.{Form}
-use Rattle.expr_forms.specs.FormBounds.{MayBe, IsChoiceOf}
+use Rattle.expr_forms.specs.FormBounds.{MayBe, IsMap, IsChoiceOf}
 use Rattle.expr_forms.specs.FormValues.{number_for}
 use Rattle.attribute_forms.specs.Attributes.{IsAttributeForm}
+use Rattle.attribute_forms.proofs.CellLaws.{shape_there}
 use Rattle.reference_forms.specs.Candidates.{held, HaveShape}
 use Rattle.reference_forms.specs.Dots.{IsMappedForm, IsDotForm}
+use Rattle.reference_forms.specs.Picks.{IsFirst}
+use Rattle.reference_forms.proofs.MapLaws.{number_all, some_number, some_pairs}
 use Rattle.reference_forms.proofs.CandidateLaws.{candidates_map, own_number, held_count}
 
 -- what a choice may be, by a weaker word
@@ -36,8 +43,23 @@ at_shape o g x pairs k s t f e h = subst (λ (z : Resolved). IsMappedForm o g x 
 pub nothing_made : (g : Ground) → Defines g g
 nothing_made g = adds_nothing [] g
 
-pub none_made : (g : Ground) → IsFew 1 g g
-none_made g = record { variables = omega arith; constraints = omega arith }
+-- the shape of an attribute that objects have is one of the outline's
+pub some_shape : (o : Outline) (g : Ground) (x : ℕ) (pairs : List (ℤ × ℕ)) (k : ℕ) (s : Resolved) → IsSound o → IsWellMade g → AreSome g.domains → x < length g.domains → IsMap g.domains (HaveShape o k s) x pairs → IsShapeOf (length o.classes) (length o.enumerations) s
+some_shape o g x pairs k s sound made some there m =
+    let n = some_number g (HaveShape o k s) x pairs made some there m in
+    shape_there o (Some n.0) k s sound n.1
+
+-- the form of the object that the map gives for every value
+pub same_form : (o : Outline) (g : Ground) (x : ℕ) (pairs : List (ℤ × ℕ)) (k : ℕ) (s : Resolved) (n : ℕ) (f : Form) → x < length g.domains → IsMap g.domains (HaveShape o k s) x pairs → IsFirst n pairs → All (λ p. p.1 ≡ n) pairs → IsAttributeForm o g (Some n) k s f → IsMappedForm o g x pairs k s f
+same_form o g x pairs k s n f there m first same h = record {
+  stands = λ a w. ap (λ (j : ℕ). attribute_value o (take g.search a) (Some j) k s) (number_all (λ j. j ≡ n) (value_of a x) pairs same (m.held _ (w.within x there))) ∙ h.stands a w;
+  number = h.number;
+  truth = h.truth;
+  typed = h.typed;
+  reached = λ r lt.
+      let some = some_pairs n pairs first in
+      h.reached r (omega (arith, some, lt));
+}
 
 module _ (o : Outline) (g : Ground) (d k : ℕ) (s : Resolved) where
   pub fixed_dot : (n : ℕ) (f : Form) → IsAttributeForm o g (Some n) k s f → IsDotForm o g d (choice.Fixed n) k s f

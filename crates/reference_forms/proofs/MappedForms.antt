@@ -1,14 +1,13 @@
 -- The form of an attribute of a chosen object, where the attribute has one cell.
-use Rattle.std.proofs.Common.{◌≡◌, ℕ, ◌<◌, ◌≤◌, ◌^◌, Bool, true, false, List, [], ℤ, pos, negsuc, neg_ℤ, ◌-ℤ◌, ◌≤ℤ◌, int_le, length, take, refl, sym, ap, ◌∙◌, subst, arith}
+use Rattle.std.proofs.Common.{◌≡◌, ℕ, ◌<◌, ◌≤◌, ◌^◌, Bool, true, List, [], ℤ, pos, negsuc, neg_ℤ, ◌-ℤ◌, ◌≤ℤ◌, int_le, length, refl, sym, ap, ◌∙◌, subst, arith}
 use Rattle.std.specs.Prelude.{Contains, nat_abs, unsigned_abs}
 use Rattle.std.proofs.lemmas.Bool.{and_parts}
 use Rattle.std.proofs.lemmas.Int.{ints}
 use Rattle.class_table.specs.declared.table.Resolved.TheVariants as shape
 use Rattle.class_table.specs.Outline.{Outline}
-use Rattle.object_alloc.specs.declared.object.Domain.{Domain}
 use Rattle.object_alloc.specs.declared.object.Domain.TheVariants as domain
 use Rattle.object_alloc.specs.Cells.{extent, value_count}
-use Rattle.signed_clause.specs.Ranges.{Ranges, has, is_nil, IsValid}
+use Rattle.signed_clause.specs.Ranges.{Ranges}
 use Rattle.signed_clause.specs.Clauses.{box_of}
 use Rattle.ground_form.specs.declared.ground.Ground.{Ground}
 use Rattle.ground_form.specs.Meaning.{value_of}
@@ -30,7 +29,7 @@ use Rattle.ground_cells.proofs.Points.{domain_of}
 use Rattle.expr_forms.specs.declared.form.Choice.{Choice as AChoice}
 use Rattle.expr_forms.specs.declared.form.Choice.TheVariants as choice
 use Rattle.expr_forms.specs.declared.form.Form.TheVariants as form
-use Rattle.expr_forms.specs.FormBounds.{IsCandidate, MayBe, IsChoiceOf, IsFrom, choice_count}
+use Rattle.expr_forms.specs.FormBounds.{IsCandidate, MayBe, IsChoiceOf, IsFrom, candidate_count}
 use Rattle.expr_forms.specs.FormValues.{choice_at}
 use Rattle.expr_forms.proofs.Trees.{no_number}
 use Rattle.attribute_forms.specs.Attributes.{IsCellChoice}
@@ -117,10 +116,10 @@ module _ (o : Outline) (g : Ground) (x : ℕ) (pairs : List (ℤ × ℕ)) (k : �
   some_there : (xs : List ℕ) (n : ℕ) → Contains xs n → 1 ≤ length xs
   some_there xs n h = omega (arith, h.1)
 
-  one_choice : (y : ℕ) (c : AChoice) → IsCellChoice g.domains y c → choice_count c ≡ 1
-  one_choice y (choice.Fixed n) is = refl
-  one_choice y (choice.Cell z) is = refl
-  one_choice y (choice.Mapped z m) is = absurd is
+  few_candidates : (d y : ℕ) (c : AChoice) → IsCellChoice g.domains y c → 1 ≤ length (extent o d) → candidate_count o d c ≤ length (extent o d)
+  few_candidates d y (choice.Fixed n) is some = some
+  few_candidates d y (choice.Cell z) is some = omega arith
+  few_candidates d y (choice.Mapped z m) is some = absurd is
 
   object_may : (d y : ℕ) → IsChosenCell o g x pairs k (domain.Extent d) y → MayBe g.domains (Contains (extent o d)) y
   object_may d y c v h =
@@ -149,5 +148,5 @@ module _ (o : Outline) (g : Ground) (x : ℕ) (pairs : List (ℤ × ℕ)) (k : �
     reached = λ r h.
         let least = object_may d y cell (low_of (box_of g.domains y)) (low_there (box_of g.domains y) (made.domains y [] cell.exists) (some y [] cell.exists)) in
         let there = some_there (extent o d) least.number least.may in
-        omega (arith, there, one_choice y c is);
+        few_candidates d y c is there;
   }

@@ -1,5 +1,5 @@
 -- The parts of a chosen object.
-use Rattle.std.proofs.Common.{◌≡◌, ℕ, zero, suc, ◌+◌, ◌*◌, ◌<◌, ◌≤◌, Bool, true, false, ◌||◌, ◌&&◌, cond, List, [], ◌∷◌, ◌++◌, ℤ, Option, Some, length, length-append, map, append-nil, Global, refl, sym, ap, ◌∙◌, subst, arith}
+use Rattle.std.proofs.Common.{◌≡◌, ℕ, zero, suc, ◌*◌, ◌<◌, ◌≤◌, Bool, true, false, ◌&&◌, cond, List, [], ◌∷◌, ◌++◌, ℤ, Option, Some, length, length-append, append-nil, Global, refl, sym, ap, ◌∙◌, subst, arith}
 use Rattle.std.specs.Prelude.{Contains, slice_get, slice_index_or}
 use Rattle.std.specs.declared.vec.Vec.{Vec}
 use Rattle.std.specs.List.{All}
@@ -17,15 +17,16 @@ use Rattle.object_alloc.specs.Groups.{parts_of}
 use Rattle.object_alloc.specs.Own.{held_count}
 use Rattle.object_alloc.proofs.OwnParts.{parts_count, part_is}
 use Rattle.signed_clause.specs.Ranges.{has}
-use Rattle.signed_clause.specs.Clauses.{Boxes, box_of}
 use Rattle.ground_form.specs.declared.ground.Ground.{Ground}
 use Rattle.ground_form.specs.Meaning.{value_of}
 use Rattle.ground_form.specs.WellMade.{lacks_value, distinct_values}
 use Rattle.form_build.specs.declared.form.Truth.TheVariants as truth
+use Rattle.form_build.specs.Worlds.{IsWorld}
 use Rattle.conf_eval.specs.declared.value.Value.TheVariants.{Object, Objects}
 use Rattle.conf_eval.specs.Fitting.{HasShape}
 use Rattle.conf_eval.specs.Meaning.{first_object}
 use Rattle.conf_eval.proofs.LawsClasses.{in_own_extent}
+use Rattle.expr_forms.specs.declared.form.Choice.{Choice}
 use Rattle.expr_forms.specs.declared.form.Choice.TheVariants as choice
 use Rattle.expr_forms.specs.declared.form.Form.TheVariants as form
 use Rattle.expr_forms.specs.declared.form.Listing.TheVariants as listing
@@ -34,8 +35,10 @@ use Rattle.expr_forms.specs.FormBounds.{IsMap, IsMember}
 use Rattle.expr_forms.specs.FormValues.{number_for, members_at}
 use Rattle.expr_forms.proofs.Trees.{no_number}
 use Rattle.reference_forms.specs.Candidates.{HaveShape}
-use Rattle.reference_forms.specs.Dots.{part_items, IsMappedForm}
+use Rattle.reference_forms.specs.Dots.{part_items, IsMappedChoice, IsMappedForm}
 use Rattle.reference_forms.specs.Lists.{those_parts, chosen_parts}
+use Rattle.reference_forms.specs.Picks.{IsFirst}
+use Rattle.reference_forms.proofs.MapLaws.{number_all, first_there, some_pairs}
 
 get_there : (xs : List ℕ) (i d : ℕ) → i < length xs → slice_get xs i ≡ Some (slice_index_or xs i d)
 get_there [] i d h = absurd (omega (arith, h))
@@ -130,25 +133,47 @@ chosen_value o x k (p ∷ ps) a d e =
 -- ---- the forms
 
 module _ (o : Outline) (g : Ground) (x : ℕ) (pairs : List (ℤ × ℕ)) (k : ℕ) (sound : IsSound o) (there : x < length g.domains) where
-  pub one_form : (c : ℕ) (ps : Vec (ℤ × ℕ) Global) → IsMap g.domains (HaveShape o k (shape.One c)) x pairs → ps.items ≡ part_items o k pairs → IsMappedForm o g x pairs k (shape.One c) (form.Object c (choice.Mapped x ps))
-  one_form c ps m e = record {
-    stands = λ a w. ap (λ (n : ℕ). Object n) (sym (ap (number_for (value_of a x)) e ∙ part_number o k (value_of a x) pairs (m.held _ (w.within x there))));
+  -- the parts of the objects, as a map
+  parts_map : (c : ℕ) → IsMap g.domains (HaveShape o k (shape.One c)) x pairs → IsMap g.domains (Contains (extent o c)) x (part_items o k pairs)
+  parts_map c m = record {
+    distinct = distinct_parts o k pairs ∙ m.distinct;
+    held = λ v h. lacks_parts o k v pairs ∙ m.held v h;
+    may = items_all o k (Contains (extent o c)) pairs
+        (λ i d lt. first_in (Contains (extent o c)) _ (count o k sound (shape.One c) _ (m.may i d lt)) (parts_in o k sound (shape.One c) _ (m.may i d lt) c refl));
+  }
+
+  part_value : (c : ℕ) (a : List ℤ) → IsMap g.domains (HaveShape o k (shape.One c)) x pairs → IsWorld g a → number_for (value_of a x) (part_items o k pairs) ≡ first_object (parts_of o (Some (number_for (value_of a x) pairs)) k)
+  part_value c a m w = part_number o k (value_of a x) pairs (m.held _ (w.within x there))
+
+  fixed_part : (c n : ℕ) → IsMap g.domains (HaveShape o k (shape.One c)) x pairs → IsFirst n (part_items o k pairs) → All (λ p. p.1 ≡ n) (part_items o k pairs) → IsMappedForm o g x pairs k (shape.One c) (form.Object c (choice.Fixed n))
+  fixed_part c n m first same = record {
+    stands = λ a w. ap (λ (j : ℕ). Object j)
+        (sym (part_value c a m w) ∙ number_all (λ j. j ≡ n) (value_of a x) (part_items o k pairs) same ((parts_map c m).held _ (w.within x there)));
     number = no_number g.domains _ _ refl refl;
     truth = tt;
-    typed = ((there, subst (λ (z : List (ℤ × ℕ)). IsMap g.domains (Contains (extent o c)) x z) (sym e) parts), tt);
+    typed = ((first_there (λ (p : ℤ × ℕ). Contains (extent o c) p.1) n (part_items o k pairs) first (parts_map c m).may).1, tt);
+    reached = λ r h.
+        let some = some_pairs n (part_items o k pairs) first in
+        let long = length-map {B = ℤ × ℕ} pairs (λ (p : ℤ × ℕ). (p.0, first_object (parts_of o (Some p.1) k))) in
+        omega (arith, h, some, long);
+  }
+
+  mapped_part : (c : ℕ) (ps : Vec (ℤ × ℕ) Global) → IsMap g.domains (HaveShape o k (shape.One c)) x pairs → ps.items ≡ part_items o k pairs → IsMappedForm o g x pairs k (shape.One c) (form.Object c (choice.Mapped x ps))
+  mapped_part c ps m e = record {
+    stands = λ a w. ap (λ (n : ℕ). Object n) (sym (ap (number_for (value_of a x)) e ∙ part_value c a m w));
+    number = no_number g.domains _ _ refl refl;
+    truth = tt;
+    typed = ((there, subst (λ (z : List (ℤ × ℕ)). IsMap g.domains (Contains (extent o c)) x z) (sym e) (parts_map c m)), tt);
     reached = λ r h.
         let size = ap length e in
         let long = length-map {B = ℤ × ℕ} pairs (λ (p : ℤ × ℕ). (p.0, first_object (parts_of o (Some p.1) k))) in
         omega (arith, h, size, long);
   }
-    where
-      parts : IsMap g.domains (Contains (extent o c)) x (part_items o k pairs)
-      parts = record {
-        distinct = distinct_parts o k pairs ∙ m.distinct;
-        held = λ v h. lacks_parts o k v pairs ∙ m.held v h;
-        may = items_all o k (Contains (extent o c)) pairs
-            (λ i d lt. first_in (Contains (extent o c)) _ (count o k sound (shape.One c) _ (m.may i d lt)) (parts_in o k sound (shape.One c) _ (m.may i d lt) c refl));
-      }
+
+  pub one_form : (c : ℕ) (q : Choice) → IsMap g.domains (HaveShape o k (shape.One c)) x pairs → IsMappedChoice x (part_items o k pairs) q → IsMappedForm o g x pairs k (shape.One c) (form.Object c q)
+  one_form c (choice.Fixed n) m is = fixed_part c n m is.0 is.1
+  one_form c (choice.Cell y) m is = absurd is
+  one_form c (choice.Mapped y ps) m is = subst (λ (z : ℕ). IsMappedForm o g x pairs k (shape.One c) (form.Object c (choice.Mapped z ps))) (sym is.0) (mapped_part c ps m is.1)
 
   those_members : (c : ℕ) (v : ℤ) (ns : List ℕ) (rest : List Member) → All (Contains (extent o c)) ns → All (IsMember o g.domains c) rest → All (IsMember o g.domains c) (those_parts x v ns ++ rest)
   those_members c v [] rest h more = more

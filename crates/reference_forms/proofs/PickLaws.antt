@@ -1,5 +1,5 @@
 -- The variable that is the cell of a chosen object.
-use Rattle.std.proofs.Common.{◌≡◌, ℕ, zero, suc, ◌<◌, ◌≤◌, Bool, true, false, cond, List, [], ◌∷◌, ℤ, ◌≤ℤ◌, Some, length, map, take, refl, sym, ap, ◌∙◌, subst, arith}
+use Rattle.std.proofs.Common.{◌≡◌, ℕ, ◌<◌, Bool, true, false, not, ◌&&◌, cond, List, [], ◌∷◌, ℤ, Some, length, take, refl, sym, ap, ◌∙◌, subst, arith}
 use Rattle.std.specs.List.{All}
 use Rattle.std.specs.Ordering.{int_eq}
 use Rattle.std.proofs.lemmas.Int.{ints}
@@ -16,9 +16,10 @@ use Rattle.ground_form.specs.declared.ground.Ground.{Ground}
 use Rattle.ground_form.specs.Bounds.{low_of, high_of}
 use Rattle.ground_form.specs.Meaning.{value_of}
 use Rattle.ground_form.specs.WellMade.{lacks_value, distinct_values}
+use Rattle.ground_build.specs.Growing.{HoldsDomain}
 use Rattle.ground_build.specs.NewDomains.{picked_domain}
-use Rattle.form_build.specs.Worlds.{IsInBoxes, IsWorld, Grows, IsPickOf}
-use Rattle.form_build.proofs.Growth.{world_before, grows_none}
+use Rattle.form_build.specs.Worlds.{IsInBoxes, Grows, IsPickOf}
+use Rattle.form_build.proofs.Growth.{world_before}
 use Rattle.form_build.proofs.Picked.{picked_all}
 use Rattle.form_build.proofs.Singles.{fixed_value}
 use Rattle.conf_eval.specs.Fitting.{HasShape}
@@ -31,25 +32,23 @@ use Rattle.expr_forms.proofs.Configured.{cells_still}
 use Rattle.attribute_forms.specs.Attributes.{IsCellOf}
 use Rattle.attribute_forms.proofs.CellLaws.{cell_is, cell_value}
 use Rattle.reference_forms.specs.Candidates.{HaveShape}
-use Rattle.reference_forms.specs.Picks.{cell_items, AreAlike, IsFirst, IsCommon, IsPicked, IsChosenCell}
+use Rattle.reference_forms.proofs.MapLaws.{first_there}
+use Rattle.reference_forms.specs.Picks.{cell_items, AreAlike, IsFirst, IsCommon, HasDomain, IsPicked, IsChosenCell}
 
 -- ---- one variable for all items
 
-first_there : (P : ℤ × ℕ → Type 0) (y : ℕ) (items : List (ℤ × ℕ)) → IsFirst y items → All P items → (n : ℤ) × P (n, y)
-first_there P y [] f h = absurd f
-first_there P y (t ∷ ts) f h = (t.0, subst (λ (z : ℕ). P (t.0, z)) f (All-head P t ts h))
+pub same_ends : (p q : ℤ × ℤ) → not (int_eq p.0 q.0 && int_eq p.1 q.1) ≡ false → p ≡ q
+same_ends p q e =
+    let low : p.0 ≡ q.0 = grind (arith, ints) in
+    let high : p.1 ≡ q.1 = grind (arith, ints) in
+    λ i. (low i, high i)
 
-pub one_common : (boxes : Boxes) (items : List (ℤ × ℕ)) (y : ℕ) → IsFirst y items → length items ≤ 1 → All (λ t. t.1 < length boxes) items → IsCommon boxes items y
-one_common boxes [] y f few h = absurd f
-one_common boxes (t ∷ ts) y f few h = record {
-  exists = (first_there (λ (u : ℤ × ℕ). u.1 < length boxes) y (t ∷ ts) f h).1;
-  value = λ a w k d lt. alone a k d lt;
-  box = λ s e. (first_there (λ (u : ℤ × ℕ). box_of boxes u.1 ≡ s) y (t ∷ ts) f e).1;
+pub same_common : (boxes : Boxes) (items : List (ℤ × ℕ)) (y : ℕ) → IsFirst y items → All (λ t. t.1 ≡ y) items → All (λ t. t.1 < length boxes) items → IsCommon boxes items y
+same_common boxes items y f same h = record {
+  exists = (first_there (λ (u : ℤ × ℕ). u.1 < length boxes) y items f h).1;
+  value = λ a w k d lt. ap (value_of a) (sym (same k d lt));
+  box = λ s e. (first_there (λ (u : ℤ × ℕ). box_of boxes u.1 ≡ s) y items f e).1;
 }
-  where
-    alone : (a : List ℤ) → All (λ u. value_of a y ≡ value_of a u.1) (t ∷ ts)
-    alone a zero d lt = ap (value_of a) (sym f)
-    alone a (suc k) d lt = absurd (omega (arith, few, lt))
 
 pub alike_common : (boxes : Boxes) (items : List (ℤ × ℕ)) (y : ℕ) (ends : ℤ × ℤ) → IsFirst y items → AreAlike boxes ends items → ends.0 ≡ ends.1 → All (λ d. IsValid d) boxes → All (λ t. t.1 < length boxes) items → IsCommon boxes items y
 alike_common boxes items y ends f alike same valid h =
@@ -143,3 +142,18 @@ chosen_is o old new x k s values pairs y sound g cs lt m e p = record {
       picked_value o new sound (cells_still o old new g cs) k s values e a (value_of a x) y pairs (m.held _ (before.within x lt)) m.may (p.value a w);
   within = p.within (domain_box o values) (items_boxes o old sound cs k s values e pairs m.may);
 }
+
+-- ---- the items of the candidates' cells
+
+module _ (o : Outline) (old : Ground) (x k : ℕ) (s : Resolved) (pairs items : List (ℤ × ℕ)) (sound : IsSound o) (cs : HasCells o old) (there : x < length old.domains) (m : IsMap old.domains (HaveShape o k s) x pairs) (e : items ≡ cell_items o k pairs) where
+  pub items_there : HasDomain o s → All (λ t. t.1 < length old.domains) items
+  items_there d = subst (All (λ t. t.1 < length old.domains)) (sym e) (items_exist o old sound cs k s d.values d.is pairs m.may)
+
+  pub items_apart : distinct_values items ≡ true
+  items_apart = ap distinct_values e ∙ items_distinct o k pairs ∙ m.distinct
+
+  pub items_held : HoldsDomain old x items
+  items_held v h = ap (lacks_value v) e ∙ items_hold o k v pairs (m.held v h)
+
+  pub cell_chosen : (new : Ground) (y : ℕ) → Grows old new → IsPicked old new x items y → (values : Domain) → domain_of o s ≡ Some values → IsChosenCell o new x pairs k values y
+  cell_chosen new y g p values d = chosen_is o old new x k s values pairs y sound g cs there m d (subst (λ (z : List (ℤ × ℕ)). IsPicked old new x z y) e p)

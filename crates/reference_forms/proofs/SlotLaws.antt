@@ -1,5 +1,5 @@
 -- The members of a chosen object's reference set.
-use Rattle.std.proofs.Common.{◌≡◌, ℕ, zero, suc, ◌+◌, ◌<◌, ◌≤◌, Bool, true, false, cond, List, [], ◌∷◌, ℤ, pos, Option, None, Some, length, map, take, Global, refl, sym, ap, ◌∙◌, subst, arith}
+use Rattle.std.proofs.Common.{◌≡◌, ℕ, zero, suc, ◌+◌, ◌<◌, ◌≤◌, Bool, true, false, ◌||◌, cond, get_or, List, [], ◌∷◌, ℤ, pos, Option, None, Some, length, map, take, Global, refl, sym, ap, ◌∙◌, subst, arith}
 use Rattle.std.specs.Prelude.{Contains, slice_get, slice_index_or, filter_map, option_and_then, nat_eq}
 use Rattle.std.specs.declared.vec.Vec.{Vec}
 use Rattle.std.specs.List.{All, cons_option}
@@ -20,13 +20,11 @@ use Rattle.ground_form.specs.declared.ground.Ground.{Ground}
 use Rattle.ground_form.specs.Meaning.{value_of}
 use Rattle.ground_form.specs.WellMade.{lacks_value}
 use Rattle.conf_eval.specs.declared.value.Value.TheVariants.{Objects}
-use Rattle.conf_eval.specs.Fitting.{HasShape}
 use Rattle.conf_eval.specs.Meaning.{chosen, int_same}
-use Rattle.expr_forms.specs.declared.form.Choice.TheVariants as choice
 use Rattle.expr_forms.specs.declared.form.Form.TheVariants as form
 use Rattle.expr_forms.specs.declared.form.Listing.TheVariants as listing
 use Rattle.expr_forms.specs.declared.form.Slot.{Slot}
-use Rattle.expr_forms.specs.FormBounds.{IsMap, IsSlot}
+use Rattle.expr_forms.specs.FormBounds.{IsMap, has_cell, IsSlot}
 use Rattle.expr_forms.specs.FormValues.{number_for, cell_for, owned_at}
 use Rattle.expr_forms.specs.Standing.{HasCells}
 use Rattle.expr_forms.proofs.Configured.{front_value}
@@ -34,6 +32,7 @@ use Rattle.expr_forms.proofs.Trees.{no_number}
 use Rattle.attribute_forms.proofs.CellLaws.{get_low, cell_searched, cell_there}
 use Rattle.reference_forms.specs.Candidates.{HaveShape}
 use Rattle.reference_forms.specs.Dots.{IsMappedForm}
+use Rattle.reference_forms.proofs.MapLaws.{number_all}
 use Rattle.reference_forms.specs.Lists.{slot_cells, slots_from, slot_view}
 
 -- ---- the cell of the chosen owner
@@ -71,6 +70,19 @@ owner_cell o k i owner (p ∷ ps) a h = by (nat_eq p.1 owner) refl (λ e. owner_
         cond b (value_of a (slice_index_or (own_cells o (Some p.1) k) i 0)) (cell_for owner (slot_cells o k i ps) a) ≡ value_of a (slice_index_or (own_cells o (Some owner) k) i 0)
     by true e more = ap (λ (n : ℕ). value_of a (slice_index_or (own_cells o (Some n) k) i 0)) (same_number p.1 owner e)
     by false e more = more e
+
+has_first : (b : Bool) (n : ℕ) → (nat_eq n n || b) ≡ true
+has_first b n = grind (arith, nat_tests)
+
+has_later : (b c : Bool) → c ≡ true → (b || c) ≡ true
+has_later b c e = grind arith
+
+-- each owner of the pairs has a cell
+have_cells : (o : Outline) (k i : ℕ) (pairs : List (ℤ × ℕ)) → All (λ p. has_cell p.1 (slot_cells o k i pairs) ≡ true) pairs
+have_cells o k i [] j d lt = absurd (omega (arith, lt))
+have_cells o k i (p ∷ ps) zero d lt = has_first (has_cell p.1 (slot_cells o k i ps)) p.1
+have_cells o k i (p ∷ ps) (suc j) d lt =
+    has_later (nat_eq p.1 (get_or ps j d).1) (has_cell (get_or ps j d).1 (slot_cells o k i ps)) (have_cells o k i ps j d (omega (arith, lt)))
 
 -- ---- the members of the chosen owner's set
 
@@ -142,44 +154,41 @@ module _ (o : Outline) (g : Ground) (k : ℕ) (cs : HasCells o g) where
         All-cons (λ (q : ℕ × ℕ). q.1 < length g.domains) (p.1, slice_index_or (own_cells o (Some p.1) k) i 0) (slot_cells o k i ps) (low.0 i 0 (omega (arith, lt, count)))
         (slot_cells_low i ps lt (All-tail (λ q. HaveShape o k (shape.RefSet c m) q.1) p ps h))
 
-    slots_are : (pairs : List (ℤ × ℕ)) → All (λ p. HaveShape o k (shape.RefSet c m) p.1) pairs → (i : ℕ) (xs : List ℕ) → i + length xs ≤ length (extent o c) → All (Contains (extent o c)) xs → (ss : List Slot) → map slot_view ss ≡ slots_from o k pairs i xs → All (IsSlot o g.domains c) ss × (length ss ≡ length xs)
-    slots_are pairs h i [] few all [] e = (All-nil (IsSlot o g.domains c), refl)
-    slots_are pairs h i [] few all (s ∷ ss) e = cc
-    slots_are pairs h i (x ∷ xs) few all [] e = cc
-    slots_are pairs h i (x ∷ xs) few all (s ∷ ss) e =
-        let rest = slots_are pairs h (suc i) xs (omega (arith, few)) (All-tail (Contains (extent o c)) x xs all) ss (rest_same e) in
-        let here : slot_view s ≡ (x, slot_cells o k i pairs) = first_same e in (
-          All-cons (IsSlot o g.domains c) s ss (record {
-            may = subst (Contains (extent o c)) (sym (ap (λ (v : ℕ × List (ℕ × ℕ)). v.0) here)) (All-head (Contains (extent o c)) x xs all);
-            exist = subst (All (λ (p : ℕ × ℕ). p.1 < length g.domains)) (sym (ap (λ (v : ℕ × List (ℕ × ℕ)). v.1) here)) (slot_cells_low i pairs (omega (arith, few)) h);
+    -- the owners, each with its cell for member number i
+    owners_are : (boxes : Boxes) (x i : ℕ) (pairs : List (ℤ × ℕ)) → IsMap boxes (HaveShape o k (shape.RefSet c m)) x pairs → IsMap boxes (λ n. has_cell n (slot_cells o k i pairs) ≡ true) x pairs
+    owners_are boxes x i pairs h = record { distinct = h.distinct; held = h.held; may = have_cells o k i pairs }
+
+    slots_are : (x : ℕ) (pairs : List (ℤ × ℕ)) → IsMap g.domains (HaveShape o k (shape.RefSet c m)) x pairs → (i : ℕ) (xs : List ℕ) → i + length xs ≤ length (extent o c) → All (Contains (extent o c)) xs → (ss : List Slot) → map slot_view ss ≡ slots_from o k pairs i xs → All (IsSlot o g.domains c x pairs) ss × (length ss ≡ length xs)
+    slots_are x pairs h i [] few all [] e = (All-nil (IsSlot o g.domains c x pairs), refl)
+    slots_are x pairs h i [] few all (s ∷ ss) e = cc
+    slots_are x pairs h i (n ∷ ns) few all [] e = cc
+    slots_are x pairs h i (n ∷ ns) few all (s ∷ ss) e =
+        let rest = slots_are x pairs h (suc i) ns (omega (arith, few)) (All-tail (Contains (extent o c)) n ns all) ss (rest_same e) in
+        let here : slot_view s ≡ (n, slot_cells o k i pairs) = first_same e in
+        let cells_here : s.cells.items ≡ slot_cells o k i pairs = ap (λ (v : ℕ × List (ℕ × ℕ)). v.1) here in (
+          All-cons (IsSlot o g.domains c x pairs) s ss (record {
+            may = subst (Contains (extent o c)) (sym (ap (λ (v : ℕ × List (ℕ × ℕ)). v.0) here)) (All-head (Contains (extent o c)) n ns all);
+            exist = subst (All (λ (p : ℕ × ℕ). p.1 < length g.domains)) (sym cells_here) (slot_cells_low i pairs (omega (arith, few)) h.may);
+            owners = subst (λ (z : List (ℕ × ℕ)). IsMap g.domains (λ q. has_cell q z ≡ true) x pairs) (sym cells_here) (owners_are g.domains x i pairs h);
           }) rest.0,
           ap suc rest.1,
         )
 
-    named_shape : (v : ℤ) (qs : List (ℤ × ℕ)) → lacks_value v qs ≡ false → All (λ p. HaveShape o k (shape.RefSet c m) p.1) qs → HasShape o (Some (number_for v qs)) k (shape.RefSet c m)
-    named_shape v [] e all = cc
-    named_shape v (p ∷ qs) e all =
-        by (int_eq p.0 v) e (λ l. named_shape v qs l (All-tail (λ q. HaveShape o k (shape.RefSet c m) q.1) p qs all))
-      where
-        by : (b : Bool) → cond b false (lacks_value v qs) ≡ false → (lacks_value v qs ≡ false → HasShape o (Some (number_for v qs)) k (shape.RefSet c m)) → HasShape o (Some (cond b p.1 (number_for v qs))) k (shape.RefSet c m)
-        by true l more = All-head (λ q. HaveShape o k (shape.RefSet c m) q.1) p qs all
-        by false l more = more l
-
     -- the set of the chosen object as slots
-    pub set_form : (x : ℕ) (pairs ps : Vec (ℤ × ℕ) Global) (ss : Vec Slot Global) → x < length g.domains → ps.items ≡ pairs.items → IsMap g.domains (HaveShape o k (shape.RefSet c m)) x pairs.items → map slot_view ss.items ≡ slots_from o k pairs.items 0 (extent o c) → IsMappedForm o g x pairs.items k (shape.RefSet c m) (form.List (listing.Owned (choice.Mapped x ps) ss))
+    pub set_form : (x : ℕ) (pairs : List (ℤ × ℕ)) (ps : Vec (ℤ × ℕ) Global) (ss : Vec Slot Global) → x < length g.domains → ps.items ≡ pairs → IsMap g.domains (HaveShape o k (shape.RefSet c m)) x pairs → map slot_view ss.items ≡ slots_from o k pairs 0 (extent o c) → IsMappedForm o g x pairs k (shape.RefSet c m) (form.List (listing.Owned x ps ss))
     set_form x pairs ps ss there same h e =
-        let are = slots_are pairs.items h.may 0 (extent o c) (omega arith) (All-contains_itself (extent o c)) ss.items e in
+        let are = slots_are x pairs h 0 (extent o c) (omega arith) (All-contains_itself (extent o c)) ss.items e in
         record {
           stands = λ a w. ap (λ (ns : List ℕ). Objects ns) (members a (value_of a x) (h.held _ (w.within x there)) ∙ sym (viewed _ ss.items a ∙ ap (λ z. owned_view (number_for (value_of a x) ps.items) z a) e));
           number = no_number g.domains _ _ refl refl;
           truth = tt;
-          typed = are.0;
+          typed = (there, subst (λ (z : List (ℤ × ℕ)). All (IsSlot o g.domains c x z) ss.items) (sym same) are.0);
           reached = λ r lt. let count = are.1 in omega (arith, count);
         }
       where
-        members : (a : List ℤ) (v : ℤ) → lacks_value v pairs.items ≡ false → filter_map (chosen (cells o) (take g.search a)) (own_cells o (Some (number_for v pairs.items)) k) ≡ owned_view (number_for v ps.items) (slots_from o k pairs.items 0 (extent o c)) a
+        members : (a : List ℤ) (v : ℤ) → lacks_value v pairs ≡ false → filter_map (chosen (cells o) (take g.search a)) (own_cells o (Some (number_for v pairs)) k) ≡ owned_view (number_for v ps.items) (slots_from o k pairs 0 (extent o c)) a
         members a v lacks =
-            let owner = number_for v pairs.items in
-            let s = named_shape v pairs.items lacks h.may in
-            set_value owner pairs.items a (named v pairs.items lacks) 0 (own_cells o (Some owner) k) (extent o c) (member_cells_are o sound (Some owner) k s.variable s.there s.is c m s.shape) (λ j. ap (λ (q : ℕ). slice_index_or (own_cells o (Some owner) k) q 0) (omega arith))
-            ∙ ap (λ (z : List (ℤ × ℕ)). owned_view (number_for v z) (slots_from o k pairs.items 0 (extent o c)) a) (sym same)
+            let owner = number_for v pairs in
+            let s = number_all (HaveShape o k (shape.RefSet c m)) v pairs h.may lacks in
+            set_value owner pairs a (named v pairs lacks) 0 (own_cells o (Some owner) k) (extent o c) (member_cells_are o sound (Some owner) k s.variable s.there s.is c m s.shape) (λ j. ap (λ (q : ℕ). slice_index_or (own_cells o (Some owner) k) q 0) (omega arith))
+            ∙ ap (λ (z : List (ℤ × ℕ)). owned_view (number_for v z) (slots_from o k pairs 0 (extent o c)) a) (sym same)

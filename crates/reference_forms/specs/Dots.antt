@@ -2,10 +2,10 @@
 -- every world the form has the value of the attribute of the object that is chosen there, and it
 -- lies within what the attribute's shape allows.
 use Rattle.std.specs.Prelude.{◌≡◌, ℕ, ◌≤◌, List, ℤ, Some, length, map, take}
+use Rattle.std.specs.List.{All}
 use Rattle.class_table.specs.declared.table.Resolved.{Resolved}
 use Rattle.class_table.specs.Outline.{Outline}
 use Rattle.conf_types.specs.Types.{shape_type}
-use Rattle.object_alloc.specs.Cells.{extent}
 use Rattle.object_alloc.specs.Groups.{parts_of}
 use Rattle.conf_eval.specs.Meaning.{attribute_value, first_object}
 use Rattle.conf_limits.specs.Measures.{shape_interval, shape_reach}
@@ -17,12 +17,19 @@ use Rattle.form_build.specs.Worlds.{IsWorld}
 use Rattle.expr_forms.specs.declared.form.Choice.{Choice}
 use Rattle.expr_forms.specs.declared.form.Choice.TheVariants as choice
 use Rattle.expr_forms.specs.declared.form.Form.{Form}
-use Rattle.expr_forms.specs.FormBounds.{IsFormOf, target_count}
+use Rattle.expr_forms.specs.FormBounds.{IsFormOf, candidate_count, target_count}
 use Rattle.expr_forms.specs.FormValues.{choice_at, form_value, number_for, number_part, truth_part}
+use Rattle.reference_forms.specs.Picks.{IsFirst}
 
 -- for each value the part that attribute k of the object holds which goes with it
 abbrev pub part_items : Outline → ℕ → List (ℤ × ℕ) → List (ℤ × ℕ)
 part_items o k pairs = map (λ p. (p.0, first_object (parts_of o (Some p.1) k))) pairs
+
+-- the choice is what the map gives for the value of x, or the one number that it gives for all
+abbrev pub IsMappedChoice : ℕ → List (ℤ × ℕ) → Choice → Type 0
+IsMappedChoice x map (choice.Fixed n) = IsFirst n map × All (λ p. p.1 ≡ n) map
+IsMappedChoice x map (choice.Cell y) = ⊥
+IsMappedChoice x map (choice.Mapped y ps) = (y ≡ x) × (ps.items ≡ map)
 
 -- the form of attribute k, of this shape, of the object that the pairs give for the value of x
 pub record IsMappedForm (o : Outline) (g : Ground) (x : ℕ) (pairs : List (ℤ × ℕ)) (k : ℕ) (s : Resolved) (f : Form) : Type 0 where
@@ -30,13 +37,7 @@ pub record IsMappedForm (o : Outline) (g : Ground) (x : ℕ) (pairs : List (ℤ 
   pub number : IsSum g.domains (shape_interval s).low (shape_interval s).high (number_part f)
   pub truth : HasVariable (length g.domains) (truth_part f)
   pub typed : IsFormOf o g.domains (shape_type s) f
-  pub reached : (r : ℕ) → length pairs ≤ r → target_count f ≤ shape_reach o r s
-
--- how many objects a choice may be: a cell of class d each one of the extent
-abbrev pub candidate_count : Outline → ℕ → Choice → ℕ
-candidate_count o d (choice.Fixed n) = 1
-candidate_count o d (choice.Cell x) = length (extent o d)
-candidate_count o d (choice.Mapped x pairs) = length pairs.items
+  pub reached : (r : ℕ) → length pairs ≤ r → target_count o f ≤ shape_reach o r s
 
 -- the form of attribute k, of this shape, of the chosen object, where a cell's object is of class d
 pub record IsDotForm (o : Outline) (g : Ground) (d : ℕ) (c : Choice) (k : ℕ) (s : Resolved) (f : Form) : Type 0 where
@@ -44,4 +45,4 @@ pub record IsDotForm (o : Outline) (g : Ground) (d : ℕ) (c : Choice) (k : ℕ)
   pub number : IsSum g.domains (shape_interval s).low (shape_interval s).high (number_part f)
   pub truth : HasVariable (length g.domains) (truth_part f)
   pub typed : IsFormOf o g.domains (shape_type s) f
-  pub reached : (r : ℕ) → candidate_count o d c ≤ r → target_count f ≤ shape_reach o r s
+  pub reached : (r : ℕ) → candidate_count o d c ≤ r → target_count o f ≤ shape_reach o r s

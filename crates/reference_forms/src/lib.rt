@@ -1,8 +1,15 @@
 //! Attributes of an object that is chosen, as forms.
 //!
 //! - `candidates`: the objects that a variable may choose.
+//! - `dots`: an attribute of any shape of a chosen object.
+//! - `lists`: the lists of a chosen object.
+//! - `picks`: the cell of a chosen object's attribute as a variable.
 #![tactic(auto)]
 
 mod candidates;
+mod dots;
+mod lists;
+mod picks;
 
 pub use candidates::candidates_of;
+pub use dots::dot_form;
