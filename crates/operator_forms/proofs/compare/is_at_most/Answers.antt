@@ -1,0 +1,6 @@
+use Rattle.form_build.specs.Forms.{linear_at}
+use Rattle.operator_forms.proofs.Differences.{at_most_of}
+use Rattle.operator_forms.proofs.compare.is_at_most.Goals as goal
+
+pub returns-clause-value : goal.returns-clause-value
+returns-clause-value c a = at_most_of (linear_at c.args.f.now a) (linear_at c.args.g.now a) (linear_at c.in_ok-less.less a) (c.in_ok-less.ensures.value a)
