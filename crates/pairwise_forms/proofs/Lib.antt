@@ -1,0 +1,9 @@
+pub mod KeyLaws
+pub mod PickedKeys
+pub mod KeptParts
+pub mod ClashSteps
+pub mod ClashLaws
+pub mod LoadSteps
+pub mod LoadLaws
+pub mod WholeLaws
+pub mod QuantifiedTruths

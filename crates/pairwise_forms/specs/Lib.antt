@@ -1,0 +1,5 @@
+pub mod KeyValues
+pub mod AlikeParts
+pub mod Clashing
+pub mod Packing
+pub mod Rows

@@ -1,0 +1,226 @@
+//! Quantifiers that compare their members, as constraints of their own.
+//!
+//! Where all members are kept in any case, and numbers are small, this is one constraint of the
+//! kind that was made for it; else the form is stated.
+ghost use Rattle.std.specs.Prelude.{◌≡◌, ◌<◌, ◌∷◌, [], List, ℤ, true, not, length, map, IfOk, IfSome, OnOk};
+ghost use Rattle.std.specs.List.{All};
+ghost use Rattle.conf_eval.specs.Meaning.{truth_of};
+ghost use Rattle.conf_syntax.specs.declared.tree.QuantKind.TheVariants as kind;
+ghost use Rattle.signed_clause.specs.Clauses.{box_of};
+ghost use Rattle.ground_form.specs.Bounds.{low_of, high_of, IsPackBounded};
+ghost use Rattle.ground_build.specs.Growing.{AreItemVariables};
+ghost use Rattle.form_build.specs.declared.form.Truth.TheVariants as truth;
+ghost use Rattle.form_build.specs.Worlds.{IsWorld, Adds, Defines};
+ghost use Rattle.quantifier_forms.specs.PartValues.{kept_values, over_values};
+ghost use Rattle.quantifier_forms.specs.Quantified.{AreParts};
+ghost use Rattle.pairwise_forms.specs.AlikeParts.{AreAlike, AreSizes};
+ghost use Rattle.pairwise_forms.specs.Clashing.{some_clash, IsKeyed};
+ghost use Rattle.pairwise_forms.specs.Packing.{some_overfull, IsPacked, AreNarrow};
+ghost use Rattle.pairwise_forms.specs.Rows.{AreRows, IsSmallRow};
+
+use crate::clashes::{keyed, no_clash};
+use crate::loads::{none_overfull, packed};
+use crate::members::{Keyed, Packed};
+use form_build::{Maker, Truth, settled};
+use form_truths::state_truth;
+use ground_form::ends_of;
+use quantifier_forms::Part;
+use signed_clause::IntSet;
+use std::alloc::{AllocError, Global};
+
+/// Whether the truth holds in any case.
+fn is_sure(t: &Truth) -> bool
+    ensures { result ≡ true → t.now ≡ truth.Fixed true }
+{
+    match t {
+        Truth::Fixed(b) => *b,
+        Truth::In(_, _) => false,
+    }
+}
+
+/// Whether each member is kept in any case.
+fn are_kept(members: &[Keyed]) -> bool
+    ensures { result ≡ true → All (λ e. e.kept ≡ truth.Fixed true) members.now }
+{
+    for e in members {
+        if !is_sure(&e.kept) {
+            return false;
+        }
+    }
+    true
+}
+
+/// The variables of the members.
+fn keys(alloc: Global, members: &[Keyed]) -> Result<Vec<u32>, AllocError>
+    ensures { IfOk result (λ xs. xs.items ≡ map (λ e. e.key) members.now) }
+{
+    let mut vars = Vec::new(alloc);
+    for e in members {
+        vars.push(e.key)?;
+    }
+    Ok(vars)
+}
+
+/// States that no two members clash, by way of a truth.
+fn state_no_clash(maker: &mut Maker, members: &[Keyed]) -> Result<(), AllocError>
+    requires members { All (IsKeyed (length maker.old.domains)) members.now }
+    ensures says { OnOk result (Adds [] maker.old maker.new (λ a. not (some_clash members.now a))) }
+{
+    let t = no_clash(maker, members)?;
+    maker.ask(1)?;
+    state_truth(maker, t)?;
+    Ok(())
+}
+
+/// States that no two members clash, where all are kept.
+fn require_different(maker: &mut Maker, members: &[Keyed]) -> Result<(), AllocError>
+    requires members { All (IsKeyed (length maker.old.domains)) members.now }
+    requires kept { All (λ e. e.kept ≡ truth.Fixed true) members.now }
+    ensures says { OnOk result (Adds [] maker.old maker.new (λ a. not (some_clash members.now a))) }
+{
+    let vars = keys(maker.alloc(), members)?;
+    maker.ask(1)?;
+    maker.require_different(vars.as_slice())?;
+    Ok(())
+}
+
+/// States that the values of all members that are kept differ.
+pub fn state_different(maker: &mut Maker, parts: &[Part]) -> Result<(), AllocError>
+    requires parts { AreParts maker.old.domains kind.AllDifferent parts.now }
+    requires alike { AreAlike maker.old.domains parts.now }
+    ensures says { OnOk result (Adds [] maker.old maker.new
+        (λ a. truth_of (over_values kind.AllDifferent (kept_values parts.now a)))) }
+{
+    let members = keyed(maker, parts)?;
+    if are_kept(&members) {
+        require_different(maker, &members)?;
+        return Ok(());
+    }
+    state_no_clash(maker, &members)?;
+    Ok(())
+}
+
+/// Whether each item is kept in any case.
+fn are_sure(items: &[Packed]) -> bool
+    ensures { result ≡ true → All (λ e. e.kept ≡ truth.Fixed true) items.now }
+{
+    for e in items {
+        if !is_sure(&e.kept) {
+            return false;
+        }
+    }
+    true
+}
+
+/// The variables of an item: its place, its size and its room.
+fn row_of(maker: &mut Maker, e: &Packed) -> Result<(u32, u32, u32), AllocError>
+    requires item { IsPacked maker.old.domains e.now }
+    ensures row { IfOk result (λ r. AreRows maker.new (e.now ∷ []) (r ∷ [])) }
+    ensures adds { IfOk result (λ r. Defines maker.old maker.new) }
+{
+    maker.ask(1)?;
+    let size = settled(maker, &e.size)?;
+    maker.ask(1)?;
+    let room = settled(maker, &e.room)?;
+    Ok((e.place, size, room))
+}
+
+/// The variables of the items.
+fn rows_of(maker: &mut Maker, items: &[Packed]) -> Result<Vec<(u32, u32, u32)>, AllocError>
+    requires items { All (IsPacked maker.old.domains) items.now }
+    ensures rows { IfOk result (λ rows. AreRows maker.new items.now rows.items) }
+    ensures adds { IfOk result (λ rows. Defines maker.old maker.new) }
+{
+    let mut rows = Vec::new(maker.alloc());
+    for e in items {
+        let row = row_of(maker, e)?;
+        rows.push(row)?;
+    }
+    Ok(rows)
+}
+
+/// The ends of a variable's box.
+fn ends_at(boxes: &[IntSet], x: u32) -> (i64, i64)
+    requires { x < length boxes.now }
+    ensures { result ≡ (low_of (box_of boxes.now x), high_of (box_of boxes.now x)) }
+{
+    ends_of(&boxes[x as usize])
+}
+
+/// What is left of so much without the greatest size of a row, where its places lie within 0..9999,
+/// its sizes aren't below 0, and there is enough.
+fn left_without(boxes: &[IntSet], row: (u32, u32, u32), left: u64) -> Option<u64>
+    requires place { row.0 < length boxes.now }
+    requires size { row.1 < length boxes.now }
+    ensures { IfSome result (λ rest. IsSmallRow boxes.now row left rest) }
+{
+    let place = ends_at(boxes, row.0);
+    let size = ends_at(boxes, row.1);
+    if place.0 < 0 || place.1 > 9999 || size.0 < 0 || size.1 < 0 {
+        return None;
+    }
+    left.checked_sub(size.1.unsigned_abs())
+}
+
+/// Whether the places lie within 0..9999, no size is below 0, and the greatest sizes add up to at
+/// most 2^60.
+fn are_bounded(boxes: &[IntSet], rows: &[(u32, u32, u32)]) -> bool
+    requires exist { All (λ i. (i.0 < length boxes.now) × (i.1 < length boxes.now)
+        × (i.2 < length boxes.now)) rows.now }
+    ensures { result ≡ true → IsPackBounded rows.now boxes.now }
+{
+    let mut left = 1u64 << 60;
+    for row in rows {
+        match left_without(boxes, *row, left) {
+            Some(rest) => left = rest,
+            None => return false,
+        }
+    }
+    true
+}
+
+/// States that no item's place is overfull, by way of a truth.
+fn state_none_overfull(maker: &mut Maker, items: &[Packed]) -> Result<(), AllocError>
+    requires items { All (IsPacked maker.old.domains) items.now }
+    requires narrow { AreNarrow maker.old.domains items.now }
+    ensures says { OnOk result (Adds [] maker.old maker.new (λ a. not (some_overfull items.now a))) }
+{
+    let t = none_overfull(maker, items)?;
+    maker.ask(1)?;
+    state_truth(maker, t)?;
+    Ok(())
+}
+
+/// States that no item's place is overfull, where all are kept.
+fn require_fitting(maker: &mut Maker, items: &[Packed]) -> Result<(), AllocError>
+    requires items { All (IsPacked maker.old.domains) items.now }
+    requires narrow { AreNarrow maker.old.domains items.now }
+    requires kept { All (λ e. e.kept ≡ truth.Fixed true) items.now }
+    ensures says { OnOk result (Adds [] maker.old maker.new (λ a. not (some_overfull items.now a))) }
+{
+    let rows = rows_of(maker, items)?;
+    maker.ask(1)?;
+    if are_bounded(maker.domains(), rows.as_slice()) {
+        maker.require_pack(rows.as_slice())?;
+        return Ok(());
+    }
+    state_none_overfull(maker, items)?;
+    Ok(())
+}
+
+/// States that all items that are kept fit.
+pub fn state_pack(maker: &mut Maker, parts: &[Part]) -> Result<(), AllocError>
+    requires parts { AreParts maker.old.domains kind.Pack parts.now }
+    requires alike { AreAlike maker.old.domains parts.now }
+    requires sizes { AreSizes maker.old.domains parts.now }
+    ensures says { OnOk result (Adds [] maker.old maker.new
+        (λ a. truth_of (over_values kind.Pack (kept_values parts.now a)))) }
+{
+    let items = packed(maker, parts)?;
+    if are_sure(&items) {
+        require_fitting(maker, &items)?;
+        return Ok(());
+    }
+    state_none_overfull(maker, &items)?;
+    Ok(())
+}

@@ -1,0 +1,13 @@
+use Rattle.std.proofs.Common.{◌≡◌, ◌&&◌, ◌||◌, not, List, ℤ, take, length}
+use Rattle.form_build.specs.Forms.{truth_at}
+use Rattle.form_build.specs.Worlds.{IsWorld, Defines}
+use Rattle.form_truths.specs.Disjunctions.{disjunction_at, IsWithin}
+use Rattle.quantifier_forms.specs.PartValues.{are_true}
+use Rattle.quantifier_forms.proofs.cases.push_faults.Given as goal
+
+abbrev pub invariant-loop-body : goal.invariant-loop-body
+invariant-loop-body l = record {
+  value : (a : List ℤ) → IsWorld l.maker a → disjunction_at l.d a ≡ (disjunction_at l.fn.d a || (truth_at l.kept a && not (are_true (take l.body-index l.bodies) a)));
+  exist : IsWithin (length l.maker.domains) l.d.1;
+  adds : Defines l.fn.maker l.maker;
+}

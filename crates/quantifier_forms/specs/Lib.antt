@@ -1,0 +1,3 @@
+pub mod PartValues
+pub mod Quantified
+pub mod Totals
