@@ -1,5 +1,13 @@
-pub mod Nodes
+pub mod Factors
+pub mod PartLaws
 pub mod NameForms
+pub mod Nodes
 pub mod Steps
 pub mod AskedLaws
-pub mod Differences
+pub mod InsideQuantifiers
+pub mod Operands
+pub mod PartSteps
+pub mod KnownLaws
+pub mod Pushing
+pub mod Stating
+pub mod Wholes

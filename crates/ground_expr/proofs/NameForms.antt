@@ -1,6 +1,6 @@
 -- Names as forms: `this`, a quantifier's variable, a value of an enumeration, a class, an attribute
 -- of an object that is known.
-use Rattle.std.proofs.Common.{◌≡◌, ℕ, zero, suc, ◌-◌, ◌<◌, Bool, true, false, cond, List, [], ◌∷◌, ℤ, Option, None, Some, length, take, Global, refl, sym, ap, ◌∙◌, subst, arith}
+use Rattle.std.proofs.Common.{◌≡◌, ℕ, zero, suc, ◌-◌, ◌<◌, Bool, true, false, cond, List, [], ◌∷◌, ℤ, Option, None, Some, length, Global, refl, sym, ap, subst, arith}
 use Rattle.std.specs.Prelude.{Contains, slice_get, slice_index_or, nat_lt, unwrap_or}
 use Rattle.std.specs.Option.{option_map_or}
 use Rattle.std.specs.declared.vec.Vec.{Vec}
@@ -18,11 +18,9 @@ use Rattle.conf_types.specs.Trees as tree
 use Rattle.conf_types.specs.Typing.{Place, local_class, tree_type, value_there}
 use Rattle.object_alloc.specs.Cells.{extent, value_count}
 use Rattle.object_alloc.specs.Walk.{objects}
-use Rattle.conf_eval.specs.declared.value.Value.{Value}
 use Rattle.conf_eval.specs.declared.value.Value.TheVariants.{Object, Objects}
 use Rattle.conf_eval.specs.Fitting.{IsThis, AreVars, Fits}
-use Rattle.conf_eval.specs.Meaning.{local_object, object_of, attribute_value}
-use Rattle.conf_limits.specs.Measures.{reach}
+use Rattle.conf_eval.specs.Meaning.{local_object}
 use Rattle.conf_eval.proofs.LawsClasses.{object_low}
 use Rattle.conf_eval.proofs.LawsValues.{some_is, if_typed, variable_typed, dotted}
 use Rattle.ground_form.specs.declared.ground.Ground.{Ground}
@@ -33,7 +31,7 @@ use Rattle.expr_forms.specs.declared.form.Form.TheVariants as form
 use Rattle.expr_forms.specs.FormBounds.{IsFormOf, IsGroundForm}
 use Rattle.expr_forms.specs.Standing.{IsStanding, bare_setting}
 use Rattle.expr_forms.proofs.Trees.{no_number}
-use Rattle.attribute_forms.specs.Attributes.{IsAttributeForm}
+use Rattle.ground_expr.specs.Known.{IsKnownForm}
 
 -- ---- variables in scope
 
@@ -149,9 +147,9 @@ module _ (o : Outline) (g : Ground) (known : List (ℕ × ℤ)) (this : Option �
     };
   }
 
-  pub own_is : (i k : ℕ) (s : Resolved) (f : Form) → IsAttributeForm o g this k s f → IsGroundForm o g known (tree.Own i k s) this vars f
+  pub own_is : (i k : ℕ) (s : Resolved) (f : Form) → IsKnownForm o g known this k s f → IsGroundForm o g known (tree.Own i k s) this vars f
   own_is i k s f h = record {
-    stands = λ a w kn. h.stands a w;
+    stands = λ a w kn. h.stands a w kn;
     form = record {
       number = h.number;
       truth = h.truth;
@@ -160,25 +158,13 @@ module _ (o : Outline) (g : Ground) (known : List (ℕ × ℤ)) (this : Option �
     };
   }
 
-  pub root_is : (i k : ℕ) (s : Resolved) (f : Form) → IsAttributeForm o g None k s f → IsGroundForm o g known (tree.Root i k s) this vars f
+  pub root_is : (i k : ℕ) (s : Resolved) (f : Form) → IsKnownForm o g known None k s f → IsGroundForm o g known (tree.Root i k s) this vars f
   root_is i k s f h = record {
-    stands = λ a w kn. h.stands a w;
+    stands = λ a w kn. h.stands a w kn;
     form = record {
       number = h.number;
       truth = h.truth;
       typed = λ p ty fits is. subst (λ (z : ExprType). IsFormOf o g.domains z f) (variable_typed o.roots k s ty is).type_is h.typed;
       reached = h.reached 1 (omega arith);
-    };
-  }
-
-  -- an attribute of an object that is known
-  pub dot_is : (i d x k : ℕ) (e : Tree) (s : Resolved) (f : Form) → IsGroundForm o g known e this vars (form.Object d (choice.Fixed x)) → IsAttributeForm o g (Some x) k s f → IsGroundForm o g known (tree.Dot i e k s) this vars f
-  dot_is i d x k e s f inner h = record {
-    stands = λ a w kn. ap (λ (z : Value). attribute_value o (take g.search a) (Some (object_of z)) k s) (inner.stands a w kn) ∙ h.stands a w;
-    form = record {
-      number = h.number;
-      truth = h.truth;
-      typed = λ p ty fits is. subst (λ (z : ExprType). IsFormOf o g.domains z f) (dotted o (tree_type o e p) k s ty is).variable.type_is h.typed;
-      reached = h.reached (reach o e) inner.form.reached;
     };
   }

@@ -1,37 +1,66 @@
 -- From the forms of parts to the form of a node, with what was made on the way.
-use Rattle.std.proofs.Common.{◌≡◌, ℕ, ◌+◌, ◌≤◌, ◌^◌, true, not, ◌&&◌, List, [], ℤ, pos, neg_ℤ, ◌+ℤ◌, ◌-ℤ◌, ◌≤ℤ◌, Option, None, Some, int_le, int_lt, length, refl, sym, ap, ◌∙◌, subst, arith}
-use Rattle.std.specs.Prelude.{unwrap_or}
+use Rattle.std.proofs.Common.{◌≡◌, ℕ, ◌^◌, true, not, ◌&&◌, ◌≤◌, List, [], ◌∷◌, ℤ, pos, neg_ℤ, ◌-ℤ◌, ◌≤ℤ◌, Option, None, Some, int_le, length, map, take, refl, sym, ap, ◌∙◌, subst, arith}
+use Rattle.std.specs.Prelude.{unwrap_or, Contains}
+use Rattle.std.specs.List.{All}
+use Rattle.std.proofs.lemmas.List.{length-map}
+use Rattle.std.proofs.lemmas.List.Elements.{All-nil, All-cons, All-head, All-tail}
 use Rattle.std.proofs.lemmas.Bool.{and_parts}
 use Rattle.std.proofs.lemmas.Int.{ints}
 use Rattle.class_table.specs.Outline.{Outline}
+use Rattle.class_table.specs.declared.table.Resolved.{Resolved}
 use Rattle.conf_syntax.specs.declared.tree.Op.{Op}
-use Rattle.conf_syntax.specs.declared.tree.Op.TheVariants as op
-use Rattle.conf_types.specs.Trees.{Tree}
+use Rattle.conf_syntax.specs.declared.tree.QuantKind.{QuantKind}
+use Rattle.conf_syntax.specs.declared.tree.QuantKind.TheVariants as kind
+use Rattle.conf_types.specs.declared.types.ExprType.{ExprType}
+use Rattle.conf_types.specs.declared.types.ExprType.TheVariants as type
+use Rattle.conf_types.specs.Readings.{list_class}
+use Rattle.conf_types.specs.Typing.{inside, within, tree_type, filter_fits, bodies_fit}
+use Rattle.conf_types.specs.Trees.{Tree, Filter, Bodies, tree_of, quant_tree, optional_tree, trees_of}
+use Rattle.conf_types.specs.declared.tree.RQuant as quant
+use Rattle.conf_eval.proofs.EvalLaws.{quant_is}
 use Rattle.conf_types.specs.Trees as tree
 use Rattle.model_limits.specs.Limits.{most_width}
-use Rattle.conf_limits.specs.Measures.{interval, weight, is_near, narrow}
+use Rattle.conf_limits.specs.Measures.{interval, body_interval, quantifier_interval, reach, is_near, is_narrow, narrow}
+use Rattle.conf_limits.specs.declared.interval.Interval.{Interval}
+use Rattle.conf_eval.specs.Meaning.{objects_of}
+use Rattle.object_alloc.specs.Cells.{extent}
 use Rattle.conf_eval.proofs.LawsNarrow.{narrow_interval}
+use Rattle.conf_eval.proofs.LawsValues.{IsQuantifier, quantifier_typed}
+use Rattle.signed_clause.specs.Clauses.{Boxes}
 use Rattle.ground_form.specs.declared.ground.Ground.{Ground}
 use Rattle.form_build.specs.declared.form.Linear.{Linear}
 use Rattle.form_build.specs.declared.form.Truth.{Truth as ATruth}
 use Rattle.form_build.specs.Forms.{linear_at, truth_at, HasVariable}
-use Rattle.form_build.specs.Sums.{least_linear, greatest_linear, IsLinear, LiesFrom, IsSum}
-use Rattle.form_build.specs.Worlds.{IsWorld, IsInBoxes, Defines, IsFew, HasRoomFor}
-use Rattle.form_build.proofs.Growth.{adds_nothing, defines_more, few_none, few_more, room_left}
+use Rattle.form_build.specs.Sums.{least_linear, greatest_linear, LiesFrom, IsSum}
+use Rattle.form_build.specs.Worlds.{IsWorld, IsInBoxes, Defines}
+use Rattle.form_build.proofs.Growth.{adds_nothing, defines_more, world_before}
 use Rattle.form_build.proofs.Linears.{sum_wider}
+use Rattle.expr_forms.specs.declared.form.Choice.TheVariants as choice
 use Rattle.expr_forms.specs.declared.form.Form.{Form}
 use Rattle.expr_forms.specs.declared.form.Form.TheVariants as form
-use Rattle.expr_forms.specs.FormBounds.{IsGroundForm}
-use Rattle.expr_forms.specs.FormValues.{number_part, truth_part}
+use Rattle.expr_forms.specs.declared.form.Listing.{Listing}
+use Rattle.expr_forms.specs.declared.form.Member.{Member}
+use Rattle.expr_forms.specs.FormBounds.{IsListing, IsFormOf, target_count, IsGroundForm}
+use Rattle.expr_forms.specs.FormValues.{form_value, listing_at, members_at, number_part, truth_part}
 use Rattle.expr_forms.specs.Standing.{IsStanding}
 use Rattle.expr_forms.proofs.Growing.{ground_still}
-use Rattle.ground_expr.specs.Made.{IsMade, allowed}
-use Rattle.ground_expr.specs.Parts.{is_part, is_part_operator}
+use Rattle.expr_forms.proofs.Inside.{in_left, in_right}
+use Rattle.reference_forms.specs.Dots.{IsDotForm}
+use Rattle.quantifier_forms.specs.declared.part.Part.{Part}
+use Rattle.ground_expr.specs.Bodies.{own_filter, values_over, IsPartOf, ArePartsOf, AreMembersOf}
+use Rattle.pairwise_forms.specs.AlikeParts.{AreAlike, AreSizes}
+use Rattle.ground_expr.specs.Chosen.{class_part, choice_part, slots_part}
+use Rattle.ground_expr.specs.Known.{IsKnownForm}
+use Rattle.identity_forms.specs.Lists.{slot_objects}
+use Rattle.operator_forms.specs.Operating.{IsSide, AreOperands, IsOperated}
+use Rattle.quantifier_forms.specs.Quantified.{AreParts, IsQuantified, compares_members}
+use Rattle.ground_expr.specs.Usable.{IsUsable}
+use Rattle.ground_expr.specs.Made.{IsMade}
+use Rattle.ground_expr.proofs.Nodes.{paren_is, not_is, minus_is, pair_is, chosen_dot_is, fixed_dot_is, quant_form_is}
+use Rattle.identity_forms.proofs.ListingLaws.{listing_objects, slots_counted}
 use Rattle.ground_expr.proofs.NameForms.{no_this}
-use Rattle.ground_expr.proofs.Nodes.{paren_is, not_is, minus_is, add_is, sub_is, le_is, ge_is, lt_is, gt_is}
-
-pub few_wider : (m n : ℕ) (old new : Ground) → m ≤ n → IsFew m old new → IsFew n old new
-few_wider m n old new h f = record { variables = omega (arith, h, f.variables); constraints = omega (arith, h, f.constraints) }
+use Rattle.ground_expr.proofs.PartLaws.{form_usable, first_parts, parts_there, parts_alike, parts_sized}
+use Rattle.ground_expr.proofs.Factors.{pair_factor}
 
 at_most : (a b : ℤ) → int_le a b ≡ true → a ≤ℤ b
 at_most a b h = grind (arith, ints)
@@ -50,188 +79,195 @@ near_ends o t n =
       high = at_most i.high (pos most_width) (and_parts (int_le (neg_ℤ (pos most_width)) i.high) (int_le i.high (pos most_width)) p.1).1;
     }
 
-module _ (o : Outline) (this : Option ℕ) (vars : List ℕ) where
-  pub made_leaf : (g : Ground) (t : Tree) (f : Form) → IsGroundForm o g [] t this vars f → IsMade o g g t this vars f
-  made_leaf g t f h = record { form = h; adds = adds_nothing [] g; few = few_none (allowed (weight o t)) g }
+-- ---- lists
 
-  pub made_paren : (old new : Ground) (i : ℕ) (e : Tree) (f : Form) → IsMade o old new e this vars f → IsMade o old new (tree.Paren i e) this vars f
-  made_paren old new i e f h = record {
-    form = paren_is o new [] this vars i e f h.form;
-    adds = h.adds;
-    few = few_wider (allowed (weight o e)) (allowed (weight o e + 1)) old new (omega arith) h.few;
-  }
+object_class : {a b : ℕ} → Some a ≡ Some b → a ≡ b
+object_class g = cc
 
-  pub made_not : (old new : Ground) (i : ℕ) (e : Tree) (f : Form) (u : ATruth) → IsMade o old new e this vars f → HasVariable (length new.domains) u → ((a : List ℤ) → IsInBoxes new.domains a → truth_at u a ≡ not (truth_at (truth_part f) a)) → IsMade o old new (tree.Not i e) this vars (form.Truth u)
-  made_not old new i e f u h variable value = record {
-    form = not_is o new [] this vars i e f u h.form variable value;
-    adds = h.adds;
-    few = few_wider (allowed (weight o e)) (allowed (weight o e + 1)) old new (omega arith) h.few;
-  }
+all_mapped : (P : ℕ → Type 0) (ms : List Member) (xs : List ℕ) → map (λ (m : Member). m.object) ms ≡ xs → All P xs → All (λ (m : Member). P m.object) ms
+all_mapped P [] xs e h = All-nil (λ (m : Member). P m.object)
+all_mapped P (m ∷ ms) [] e h = cc
+all_mapped P (m ∷ ms) (x ∷ xs) e h = All-cons (λ (n : Member). P n.object) m ms (subst P (sym (first_same e)) (All-head P x xs h)) (all_mapped P ms xs (rest_same e) (All-tail P x xs h))
+  where
+    first_same : {p q : ℕ} {rest more : List ℕ} → p ∷ rest ≡ q ∷ more → p ≡ q
+    first_same g = cc
 
-  pub made_minus : (old mid new : Ground) (i : ℕ) (e : Tree) (f : Form) (z m r : Linear) → m ≡ number_part f → IsMade o old mid e this vars f → ((a : List ℤ) → linear_at z a ≡ pos 0) → LiesFrom (pos 0) (pos 0) mid.domains z →
+    rest_same : {p q : ℕ} {rest more : List ℕ} → p ∷ rest ≡ q ∷ more → rest ≡ more
+    rest_same g = cc
+
+slots_contained : (o : Outline) (boxes : Boxes) (ty : ExprType) (c : ℕ) (f : Form) → list_class (Some ty) ≡ Some c → IsFormOf o boxes ty f → All (Contains (extent o c)) (slots_part f)
+slots_contained o boxes (type.Objects d) c (form.List l) e h = listing_objects o boxes c l (subst (λ (z : ℕ). IsListing o boxes z l) (object_class e) h)
+slots_contained o boxes (type.Class d) c (form.List l) e h = listing_objects o boxes c l (subst (λ (z : ℕ). IsListing o boxes z l) (object_class e) h)
+slots_contained o boxes type.Int c f e h = cc
+slots_contained o boxes type.Truth c f e h = cc
+slots_contained o boxes (type.Choice d) c f e h = cc
+slots_contained o boxes (type.Object d) c f e h = cc
+slots_contained o boxes ty c (form.Number f) e h = All-nil (Contains (extent o c))
+slots_contained o boxes ty c (form.Truth t) e h = All-nil (Contains (extent o c))
+slots_contained o boxes ty c (form.Choice d x) e h = All-nil (Contains (extent o c))
+slots_contained o boxes ty c (form.Object d x) e h = All-nil (Contains (extent o c))
+
+objects_in : (o : Outline) (boxes : Boxes) (t : Option ExprType) (c : ℕ) (f : Form) → list_class t ≡ Some c → ((ty : ExprType) → t ≡ Some ty → IsFormOf o boxes ty f) → (ms : List Member) → map (λ (m : Member). m.object) ms ≡ slots_part f → All (λ (m : Member). Contains (extent o c) m.object) ms
+objects_in o boxes None c f e typed ms is = cc
+objects_in o boxes (Some ty) c f e typed ms is = all_mapped (Contains (extent o c)) ms (slots_part f) is (slots_contained o boxes ty c f e (typed ty refl))
+
+slots_count : (o : Outline) (f : Form) → length (slots_part f) ≤ target_count o f
+slots_count o (form.List l) = let e = slots_counted l in omega (arith, e)
+slots_count o (form.Number f) = omega arith
+slots_count o (form.Truth t) = omega arith
+slots_count o (form.Choice e c) = omega arith
+slots_count o (form.Object d c) = omega arith
+
+module _ (o : Outline) (known : List (ℕ × ℤ)) (this : Option ℕ) (vars : List ℕ) where
+  pub made_leaf : (g : Ground) (t : Tree) (f : Form) → IsGroundForm o g known t this vars f → IsMade o known g g t this vars f
+  made_leaf g t f h = record { form = h; adds = adds_nothing [] g }
+
+  pub made_paren : (old new : Ground) (i : ℕ) (e : Tree) (f : Form) → IsMade o known old new e this vars f → IsMade o known old new (tree.Paren i e) this vars f
+  made_paren old new i e f h = record { form = paren_is o new known this vars i e f h.form; adds = h.adds }
+
+  pub made_not : (old new : Ground) (i : ℕ) (e : Tree) (f : Form) (u : ATruth) → IsMade o known old new e this vars f → HasVariable (length new.domains) u → ((a : List ℤ) → IsInBoxes new.domains a → truth_at u a ≡ not (truth_at (truth_part f) a)) → IsMade o known old new (tree.Not i e) this vars (form.Truth u)
+  made_not old new i e f u h variable value = record { form = not_is o new known this vars i e f u h.form variable value; adds = h.adds }
+
+  pub made_minus : (old mid new : Ground) (i : ℕ) (e : Tree) (f : Form) (z m r : Linear) → m ≡ number_part f → IsMade o known old mid e this vars f → ((a : List ℤ) → linear_at z a ≡ pos 0) → LiesFrom (pos 0) (pos 0) mid.domains z →
       ((a : List ℤ) → IsWorld new a → linear_at r a ≡ linear_at z a -ℤ linear_at m a) →
       IsSum new.domains (least_linear z mid.domains -ℤ greatest_linear m mid.domains) (greatest_linear z mid.domains -ℤ least_linear m mid.domains) r →
-      Defines mid new → IsFew 1 mid new → IsMade o old new (tree.Minus i e) this vars (form.Number r)
-  made_minus old mid new i e f z m r em h none lies value sum adds few =
+      Defines mid new → IsMade o known old new (tree.Minus i e) this vars (form.Number r)
+  made_minus old mid new i e f z m r em h none lies value sum adds =
       let bounds = (subst (λ (y : Linear). IsSum mid.domains (interval o e).low (interval o e).high y) (sym em) h.form.form.number).lies in
       let low : neg_ℤ (interval o e).high ≤ℤ (least_linear z mid.domains -ℤ greatest_linear m mid.domains) = omega (arith, ints, lies.low_is, bounds.high_is) in
       let high : (greatest_linear z mid.domains -ℤ least_linear m mid.domains) ≤ℤ neg_ℤ (interval o e).low = omega (arith, ints, lies.high_is, bounds.low_is) in
       record {
-        form = minus_is o new [] this vars i e f r (ground_still o mid new [] e this vars f adds.grows h.form) (sum_wider new.domains _ _ _ _ r low high sum)
+        form = minus_is o new known this vars i e f r (ground_still o mid new known e this vars f adds.grows h.form) (sum_wider new.domains _ _ _ _ r low high sum)
             (λ a w. let v = value a w in let n = none a in let k = ap (λ (y : Linear). linear_at y a) em in omega (arith, ints, v, n, k));
         adds = defines_more old mid new h.adds adds;
-        few = few_wider (allowed (weight o e) + 1) (allowed (weight o e + 1)) old new (omega arith) (few_more (allowed (weight o e)) 1 old mid new h.few few);
       }
 
-  module _ (old one two : Ground) (i : ℕ) (l r : Tree) (f h : Form) (m n : Linear) (left : IsMade o old one l this vars f) (right : IsMade o one two r this vars h) (em : m ≡ number_part f) (en : n ≡ number_part h) where
-    -- both operands, where both are made
-    left_two : IsGroundForm o two [] l this vars f
-    left_two = ground_still o one two [] l this vars f right.adds.grows left.form
+  pub made_at : (old new : Ground) (t x : Tree) (f : Form) → t ≡ x → IsMade o known old new x this vars f → IsMade o known old new t this vars f
+  made_at old new t x f e h = subst (λ (z : Tree). IsMade o known old new z this vars f) (sym e) h
 
-    left_sum : IsSum two.domains (interval o l).low (interval o l).high m
-    left_sum = subst (λ (z : Linear). IsSum two.domains (interval o l).low (interval o l).high z) (sym em) left_two.form.number
-
-    right_sum : IsSum two.domains (interval o r).low (interval o r).high n
-    right_sum = subst (λ (z : Linear). IsSum two.domains (interval o r).low (interval o r).high z) (sym en) right.form.form.number
-
-    pub left_linear : IsLinear (2 ^ 58) two.domains m
-    left_linear = left_sum.linear
-
-    pub right_linear : IsLinear (2 ^ 58) two.domains n
-    right_linear = right_sum.linear
-
-    pub add_low : narrow o (tree.Pair i op.Add l r) ≡ true → neg_ℤ (pos (2 ^ 50)) ≤ℤ (least_linear m two.domains +ℤ least_linear n two.domains)
-    add_low k =
-        let near = near_ends o (tree.Pair i op.Add l r) k in
-        let a = left_sum.lies in
-        let b = right_sum.lies in
-        omega (arith, ints, near.low, a.low_is, b.low_is)
-
-    pub add_high : narrow o (tree.Pair i op.Add l r) ≡ true → (greatest_linear m two.domains +ℤ greatest_linear n two.domains) ≤ℤ pos (2 ^ 50)
-    add_high k =
-        let near = near_ends o (tree.Pair i op.Add l r) k in
-        let a = left_sum.lies in
-        let b = right_sum.lies in
-        omega (arith, ints, near.high, a.high_is, b.high_is)
-
-    pub sub_low : narrow o (tree.Pair i op.Sub l r) ≡ true → neg_ℤ (pos (2 ^ 50)) ≤ℤ (least_linear m two.domains -ℤ greatest_linear n two.domains)
-    sub_low k =
-        let near = near_ends o (tree.Pair i op.Sub l r) k in
-        let a = left_sum.lies in
-        let b = right_sum.lies in
-        omega (arith, ints, near.low, a.low_is, b.high_is)
-
-    pub sub_high : narrow o (tree.Pair i op.Sub l r) ≡ true → (greatest_linear m two.domains -ℤ least_linear n two.domains) ≤ℤ pos (2 ^ 50)
-    sub_high k =
-        let near = near_ends o (tree.Pair i op.Sub l r) k in
-        let a = left_sum.lies in
-        let b = right_sum.lies in
-        omega (arith, ints, near.high, a.high_is, b.low_is)
-
-    module _ (new : Ground) (adds : Defines two new) (few : IsFew 1 two new) where
-      left_new : IsGroundForm o new [] l this vars f
-      left_new = ground_still o two new [] l this vars f adds.grows left_two
-
-      right_new : IsGroundForm o new [] r this vars h
-      right_new = ground_still o two new [] r this vars h adds.grows right.form
-
-      all_adds : Defines old new
-      all_adds = defines_more old two new (defines_more old one two left.adds right.adds) adds
-
-      all_few : IsFew (allowed (weight o l + weight o r + 0 + 1)) old new
-      all_few =
-          few_wider (allowed (weight o l) + allowed (weight o r) + 1) (allowed (weight o l + weight o r + 0 + 1)) old new (omega arith)
-          (few_more (allowed (weight o l) + allowed (weight o r)) 1 old two new (few_more (allowed (weight o l)) (allowed (weight o r)) old one two left.few right.few) few)
-
-      pub made_add : (s : Linear) → ((a : List ℤ) → IsWorld new a → linear_at s a ≡ linear_at m a +ℤ linear_at n a) →
-          IsSum new.domains (least_linear m two.domains +ℤ least_linear n two.domains) (greatest_linear m two.domains +ℤ greatest_linear n two.domains) s →
-          IsMade o old new (tree.Pair i op.Add l r) this vars (form.Number s)
-      made_add s value sum =
-          let a = left_sum.lies in
-          let b = right_sum.lies in
-          record {
-            form = add_is o new [] this vars i l r f h left_new right_new s
-                (sum_wider new.domains _ _ _ _ s (omega (arith, ints, a.low_is, b.low_is)) (omega (arith, ints, a.high_is, b.high_is)) sum)
-                (λ v w. value v w ∙ ap (λ (z : Linear). linear_at z v +ℤ linear_at n v) em ∙ ap (λ (z : Linear). linear_at (number_part f) v +ℤ linear_at z v) en);
-            adds = all_adds;
-            few = all_few;
-          }
-
-      pub made_sub : (s : Linear) → ((a : List ℤ) → IsWorld new a → linear_at s a ≡ linear_at m a -ℤ linear_at n a) →
-          IsSum new.domains (least_linear m two.domains -ℤ greatest_linear n two.domains) (greatest_linear m two.domains -ℤ least_linear n two.domains) s →
-          IsMade o old new (tree.Pair i op.Sub l r) this vars (form.Number s)
-      made_sub s value sum =
-          let a = left_sum.lies in
-          let b = right_sum.lies in
-          record {
-            form = sub_is o new [] this vars i l r f h left_new right_new s
-                (sum_wider new.domains _ _ _ _ s (omega (arith, ints, a.low_is, b.high_is)) (omega (arith, ints, a.high_is, b.low_is)) sum)
-                (λ v w. value v w ∙ ap (λ (z : Linear). linear_at z v -ℤ linear_at n v) em ∙ ap (λ (z : Linear). linear_at (number_part f) v -ℤ linear_at z v) en);
-            adds = all_adds;
-            few = all_few;
-          }
-
-      pub made_le : (u : ATruth) → HasVariable (length new.domains) u → ((a : List ℤ) → IsWorld new a → truth_at u a ≡ int_le (linear_at m a) (linear_at n a)) → IsMade o old new (tree.Pair i op.Le l r) this vars (form.Truth u)
-      made_le u variable value = record {
-        form = le_is o new [] this vars i l r f h left_new right_new u variable (λ v w. value v w ∙ ap (λ (z : Linear). int_le (linear_at z v) (linear_at n v)) em ∙ ap (λ (z : Linear). int_le (linear_at (number_part f) v) (linear_at z v)) en);
-        adds = all_adds;
-        few = all_few;
+  -- the place of a quantifier is none of its meaning
+  pub made_moved : (old new : Ground) (q : quant.RQuant) (i j : ℕ) (f : Form) → IsMade o known old new (quant_tree q i) this vars f → IsMade o known old new (quant_tree q j) this vars f
+  made_moved old new q i j f h =
+      let r = quant.out-RQuant q in
+      subst (λ (z : Tree). IsMade o known old new z this vars f) (sym (quant_is q j))
+      (anywhere r.kind (tree_of r.over) (optional_tree r.filter) (trees_of r.body.items) (subst (λ (z : Tree). IsMade o known old new z this vars f) (quant_is q i) h))
+    where
+      anywhere : (k : QuantKind) (over : Tree) (g : Filter) (bs : Bodies) → IsMade o known old new (tree.Quant i k over g bs) this vars f → IsMade o known old new (tree.Quant j k over g bs) this vars f
+      anywhere k over g bs m = record {
+        form = record {
+          stands = m.form.stands;
+          form = record { number = m.form.form.number; truth = m.form.form.truth; typed = m.form.form.typed; reached = m.form.form.reached };
+        };
+        adds = m.adds;
       }
-
-      pub made_ge : (u : ATruth) → HasVariable (length new.domains) u → ((a : List ℤ) → IsWorld new a → truth_at u a ≡ int_le (linear_at n a) (linear_at m a)) → IsMade o old new (tree.Pair i op.Ge l r) this vars (form.Truth u)
-      made_ge u variable value = record {
-        form = ge_is o new [] this vars i l r f h left_new right_new u variable (λ v w. value v w ∙ ap (λ (z : Linear). int_le (linear_at n v) (linear_at z v)) em ∙ ap (λ (z : Linear). int_le (linear_at z v) (linear_at (number_part f) v)) en);
-        adds = all_adds;
-        few = all_few;
-      }
-
-      pub made_lt : (u : ATruth) → HasVariable (length new.domains) u → ((a : List ℤ) → IsWorld new a → truth_at u a ≡ int_lt (linear_at m a) (linear_at n a)) → IsMade o old new (tree.Pair i op.Lt l r) this vars (form.Truth u)
-      made_lt u variable value = record {
-        form = lt_is o new [] this vars i l r f h left_new right_new u variable (λ v w. value v w ∙ ap (λ (z : Linear). int_lt (linear_at z v) (linear_at n v)) em ∙ ap (λ (z : Linear). int_lt (linear_at (number_part f) v) (linear_at z v)) en);
-        adds = all_adds;
-        few = all_few;
-      }
-
-      pub made_gt : (u : ATruth) → HasVariable (length new.domains) u → ((a : List ℤ) → IsWorld new a → truth_at u a ≡ int_lt (linear_at n a) (linear_at m a)) → IsMade o old new (tree.Pair i op.Gt l r) this vars (form.Truth u)
-      made_gt u variable value = record {
-        form = gt_is o new [] this vars i l r f h left_new right_new u variable (λ v w. value v w ∙ ap (λ (z : Linear). int_lt (linear_at n v) (linear_at z v)) em ∙ ap (λ (z : Linear). int_lt (linear_at z v) (linear_at (number_part f) v)) en);
-        adds = all_adds;
-        few = all_few;
-      }
-
-  -- ---- trees that are equal
-
-  pub made_at : (old new : Ground) (t x : Tree) (f : Form) → t ≡ x → IsMade o old new x this vars f → IsMade o old new t this vars f
-  made_at old new t x f e h = subst (λ (z : Tree). IsMade o old new z this vars f) (sym e) h
 
   pub stand_at : (t x : Tree) → t ≡ x → IsStanding o t this vars → IsStanding o x this vars
   stand_at t x e h = subst (λ (z : Tree). IsStanding o z this vars) e h
 
-  -- ---- room and parts of a pair
+  -- both sides of an operator, where both are made
+  module _ (old one two : Ground) (i : ℕ) (q : Op) (l r : Tree) (f h : Form) (st : IsStanding o (tree.Pair i q l r) this vars) (left : IsMade o known old one l this vars f) (right : IsMade o known one two r this vars h) where
+    left_two : IsGroundForm o two known l this vars f
+    left_two = ground_still o one two known l this vars f right.adds.grows left.form
 
-  pub room_right : (old one : Ground) (i : ℕ) (q : Op) (l r : Tree) → HasRoomFor (allowed (weight o (tree.Pair i q l r))) old → IsFew (allowed (weight o l)) old one → HasRoomFor (allowed (weight o r)) one
-  room_right old one i q l r room few =
-      room_left (allowed (weight o l)) (allowed (weight o r)) old one (record { variables = omega (arith, room.variables); constraints = omega (arith, room.constraints) }) few
+    left_side : IsSide two.domains (interval o l) f
+    left_side = record { number = left_two.form.number; truth = left_two.form.truth }
 
--- both sides are of the part of the language
-pub pair_parts : (i : ℕ) (q : Op) (l r : Tree) → is_part (tree.Pair i q l r) ≡ true → (is_part l ≡ true) × (is_part r ≡ true)
-pair_parts i q l r h =
-    let b = (and_parts (is_part_operator q) (is_part l && is_part r) h).1 in
-    and_parts (is_part l) (is_part r) b
+    right_side : IsSide two.domains (interval o r) h
+    right_side = record { number = right.form.form.number; truth = right.form.form.truth }
 
-pub operator_part : (i : ℕ) (q : Op) (l r : Tree) → is_part (tree.Pair i q l r) ≡ true → is_part_operator q ≡ true
-operator_part i q l r h = (and_parts (is_part_operator q) (is_part l && is_part r) h).0
+    pub left_usable : IsUsable two.domains f
+    left_usable = form_usable o two known l this vars f (in_left o this vars i q l r st) left_two
+
+    pub right_usable : IsUsable two.domains h
+    right_usable = form_usable o two known r this vars h (in_right o this vars i q l r st) right.form
+
+    pub operands : AreOperands two.domains q f h
+    operands = record {
+      left = interval o l;
+      right = interval o r;
+      left_is = left_side;
+      right_is = right_side;
+      narrow = narrow_interval o (tree.Pair i q l r) st.numbers;
+      factor = pair_factor o i q l r st.place st.type st.typed;
+    }
+
+    pub made_pair : (new : Ground) (m : Form) → Defines two new → ((z : Outline) (a b : Interval) → IsSide two.domains a f → IsSide two.domains b h → IsOperated z new q a b f h m) → IsMade o known old new (tree.Pair i q l r) this vars m
+    made_pair new m adds is = record {
+      form = pair_is o new known this vars i q l r f h m (ground_still o two new known l this vars f adds.grows left_two) (ground_still o two new known r this vars h adds.grows right.form)
+          (is o (interval o l) (interval o r) left_side right_side);
+      adds = defines_more old two new (defines_more old one two left.adds right.adds) adds;
+    }
+
+  -- an attribute of a chosen object
+  pub made_dot : (old mid new : Ground) (i k : ℕ) (e : Tree) (s : Resolved) (f r : Form) → IsStanding o (tree.Dot i e k s) this vars → IsMade o known old mid e this vars f → Defines mid new → IsDotForm o new (class_part f) (choice_part f) k s r → IsMade o known old new (tree.Dot i e k s) this vars r
+  made_dot old mid new i k e s f r st inner adds h = record {
+    form = chosen_dot_is o new known this vars i k e s f r st (ground_still o mid new known e this vars f adds.grows inner.form) h;
+    adds = defines_more old mid new inner.adds adds;
+  }
+
+  -- an attribute of an object that is known
+  pub made_fixed_dot : (old mid : Ground) (i k : ℕ) (e : Tree) (s : Resolved) (f r : Form) (n : ℕ) → IsStanding o (tree.Dot i e k s) this vars → IsMade o known old mid e this vars f → choice_part f ≡ choice.Fixed n → IsKnownForm o mid known (Some n) k s r → IsMade o known old mid (tree.Dot i e k s) this vars r
+  made_fixed_dot old mid i k e s f r n st inner fixed h = record {
+    form = fixed_dot_is o mid known this vars i k e s f r n st inner.form fixed h;
+    adds = inner.adds;
+  }
+
+  -- the list of a quantifier, member by member
+  pub members_made : (mid new : Ground) (e : Tree) (f : Form) (l : Listing) (ms : List Member) → IsGroundForm o mid known e this vars f → Defines mid new →
+      ((a : List ℤ) → listing_at l a ≡ objects_of (form_value f a)) → slot_objects l ≡ slots_part f →
+      ((a : List ℤ) → IsWorld new a → members_at ms a ≡ listing_at l a) → map (λ (m : Member). m.object) ms ≡ slot_objects l → All (λ (m : Member). HasVariable (length new.domains) m.is) ms →
+      AreMembersOf o new known e this vars ms
+  members_made mid new e f l ms h adds list slots value objects variables =
+      let still = ground_still o mid new known e this vars f adds.grows h in
+      let all = objects ∙ slots in
+      record {
+        value = λ a w kn. ap objects_of (still.stands a w kn) ∙ sym (list a) ∙ sym (value a w);
+        variables = variables;
+        objects = λ p c fits is. objects_in o new.domains (tree_type o e p) c f is (λ ty t. still.form.typed p ty fits t) ms all;
+        few = let size = ap length all in let count = slots_count o f in omega (arith, size, count, still.form.reached, length-map ms (λ (m : Member). m.object));
+      }
+
+  -- a quantifier
+  module _ (mid : Ground) (i : ℕ) (q : QuantKind) (over : Tree) (f : Filter) (bs : Bodies) (parts : List Part) (st : IsStanding o (tree.Quant i q over f bs) this vars) (are : ArePartsOf o mid known over (own_filter q f) bs this vars parts) where
+    class_of : IsQuantifier q (list_class (tree_type o over st.place)) (filter_fits o f (within st.place (list_class (tree_type o over st.place))) && bodies_fit o q bs 0 (within st.place (list_class (tree_type o over st.place)))) st.type
+    class_of = quantifier_typed q (list_class (tree_type o over st.place)) _ st.type st.typed
+
+    each : All (IsPartOf o mid.domains (inside st.place class_of.class) this bs) parts
+    each = are.each st.place class_of.class st.setting class_of.over_is
+
+    bodies : bodies_fit o q bs 0 (inside st.place class_of.class) ≡ true
+    bodies = subst (λ l. bodies_fit o q bs 0 (within st.place l) ≡ true) class_of.over_is (and_parts (filter_fits o f (within st.place (list_class (tree_type o over st.place)))) _ class_of.parts_fit).1
+
+    whole : is_narrow (quantifier_interval q (reach o over) (body_interval o bs 0) (body_interval o bs 1)) ≡ true
+    whole = narrow_interval o (tree.Quant i q over f bs) st.numbers
+
+    pub quant_parts : AreParts mid.domains q parts
+    quant_parts = parts_there o mid.domains (inside st.place class_of.class) this q (reach o over) bs parts each are.few whole
+
+    pub quant_alike : compares_members q ≡ true → AreAlike mid.domains parts
+    quant_alike k = parts_alike o mid.domains (inside st.place class_of.class) this q bs parts k bodies each
+
+    pub quant_sized : q ≡ kind.Pack → AreSizes mid.domains parts
+    quant_sized e = parts_sized o mid.domains (inside st.place class_of.class) this (reach o over) bs parts each are.few (subst (λ (k : QuantKind). is_narrow (quantifier_interval k (reach o over) (body_interval o bs 0) (body_interval o bs 1)) ≡ true) e whole)
+
+    pub made_quant : (old new : Ground) (m : Form) → Defines old mid → Defines mid new → IsQuantified mid new q parts m → IsMade o known old new (tree.Quant i q over f bs) this vars m
+    made_quant old new m before adds is = record {
+      form = quant_form_is o mid new known this vars i q over f bs parts m
+          (λ a w kn. are.value a (world_before mid new a adds.grows w) kn ∙ ap (λ (n : ℕ). values_over over (own_filter q f) bs (record { outline = o; values = take n a; this = this; vars = vars })) (sym adds.grows.search))
+          (first_parts o mid.domains (inside st.place class_of.class) this bs parts each) are.few is;
+      adds = defines_more old mid new before adds;
+    }
 
 -- the ends of `- ..`
-pub minus_low : (o : Outline) (mid : Ground) (i : ℕ) (e : Tree) (f : Form) (this : Option ℕ) (vars : List ℕ) (z m : Linear) → narrow o (tree.Minus i e) ≡ true → IsGroundForm o mid [] e this vars f → LiesFrom (pos 0) (pos 0) mid.domains z → m ≡ number_part f → neg_ℤ (pos (2 ^ 50)) ≤ℤ (least_linear z mid.domains -ℤ greatest_linear m mid.domains)
-minus_low o mid i e f this vars z m k h lies em =
+pub minus_low : (o : Outline) (mid : Ground) (known : List (ℕ × ℤ)) (i : ℕ) (e : Tree) (f : Form) (this : Option ℕ) (vars : List ℕ) (z m : Linear) → narrow o (tree.Minus i e) ≡ true → IsGroundForm o mid known e this vars f → LiesFrom (pos 0) (pos 0) mid.domains z → m ≡ number_part f → neg_ℤ (pos (2 ^ 50)) ≤ℤ (least_linear z mid.domains -ℤ greatest_linear m mid.domains)
+minus_low o mid known i e f this vars z m k h lies em =
     let near = near_ends o (tree.Minus i e) k in
     let bounds = h.form.number.lies in
     let same = ap (λ (y : Linear). greatest_linear y mid.domains) em in
     omega (arith, ints, near.low, lies.low_is, bounds.high_is, same)
 
-pub minus_high : (o : Outline) (mid : Ground) (i : ℕ) (e : Tree) (f : Form) (this : Option ℕ) (vars : List ℕ) (z m : Linear) → narrow o (tree.Minus i e) ≡ true → IsGroundForm o mid [] e this vars f → LiesFrom (pos 0) (pos 0) mid.domains z → m ≡ number_part f → (greatest_linear z mid.domains -ℤ least_linear m mid.domains) ≤ℤ pos (2 ^ 50)
-minus_high o mid i e f this vars z m k h lies em =
+pub minus_high : (o : Outline) (mid : Ground) (known : List (ℕ × ℤ)) (i : ℕ) (e : Tree) (f : Form) (this : Option ℕ) (vars : List ℕ) (z m : Linear) → narrow o (tree.Minus i e) ≡ true → IsGroundForm o mid known e this vars f → LiesFrom (pos 0) (pos 0) mid.domains z → m ≡ number_part f → (greatest_linear z mid.domains -ℤ least_linear m mid.domains) ≤ℤ pos (2 ^ 50)
+minus_high o mid known i e f this vars z m k h lies em =
     let near = near_ends o (tree.Minus i e) k in
     let bounds = h.form.number.lies in
     let same = ap (λ (y : Linear). least_linear y mid.domains) em in

@@ -1,3 +1,9 @@
 pub mod Made
-pub mod Parts
+pub mod Insides
+pub mod Bodies
+pub mod Chosen
+pub mod Usable
 pub mod Asked
+pub mod Known
+pub mod Stated
+pub mod Fixed

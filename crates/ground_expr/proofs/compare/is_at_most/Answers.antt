@@ -1,7 +1,0 @@
-use Rattle.std.proofs.Common.{◌∙◌}
-use Rattle.form_build.specs.Forms.{linear_at}
-use Rattle.ground_expr.proofs.Differences.{at_most_of}
-use Rattle.ground_expr.proofs.compare.is_at_most.Goals as goal
-
-pub returns-clause-value : goal.returns-clause-value
-returns-clause-value c a w = c.in_ok-t.ensures.value a w ∙ at_most_of (linear_at c.args.f.now a) (linear_at c.args.g.now a) (linear_at c.in_ok-less.less a) (c.in_ok-less.ensures.value a)
