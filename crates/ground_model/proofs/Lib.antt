@@ -1,0 +1,9 @@
+pub mod Steps
+pub mod FormSteps
+pub mod SetCells
+pub mod SetSums
+pub mod ReadyModels
+pub mod GoalSteps
+pub mod Endings
+pub mod KnownCells
+pub mod Fixings

@@ -1,0 +1,26 @@
+use Rattle.conf_eval.proofs.CallLaws.{nth_of_all}
+use Rattle.ground_model.specs.Fixing.{holds_in}
+use Rattle.ground_model.specs.Stated.{IsReadyConstraint}
+use Rattle.ground_model.proofs.KnownCells.{known_still}
+use Rattle.ground_model.proofs.Steps.{requires_none, requires_next, requires_all}
+use Rattle.ground_model.proofs.constraints.require_pass.Goals as goal
+
+pub loop-constraint-init : goal.loop-constraint-init
+loop-constraint-init c = requires_none c.args.known.now c.args.maker.now (λ values. holds_in c.args.fixing c.args.objects.now values) c.args.list.now
+
+pub require_in_pass-requires-clause-ready : goal.require_in_pass-requires-clause-ready
+require_in_pass-requires-clause-ready c =
+    nth_of_all (IsReadyConstraint c.args.objects.now) c.args.list.now c.loop-constraint.constraint-index c.constraint-item.result c.loop-constraint-test.true c.constraint-item.is c.requires.ready
+
+pub require_in_pass-requires-clause-known : goal.require_in_pass-requires-clause-known
+require_in_pass-requires-clause-known c = known_still c.args.objects.now c.args.known.now c.args.maker.now c.loop-constraint.maker c.loop-constraint.invariant.grows c.requires.known
+
+pub loop-constraint-preserved : goal.loop-constraint-preserved
+loop-constraint-preserved c =
+    requires_next c.args.known.now c.args.maker.now c.loop-constraint.maker c.require_in_pass.new.maker (λ values. holds_in c.args.fixing c.args.objects.now values) c.args.list.now c.loop-constraint.constraint-index c.constraint-item.result
+    c.loop-constraint-test.true c.constraint-item.is c.loop-constraint.invariant c.in_ok-require_in_pass.ensures.says
+
+pub returns : goal.returns
+returns c = record {
+  says = requires_all c.args.known.now c.args.maker.now c.loop-constraint.maker (λ values. holds_in c.args.fixing c.args.objects.now values) c.args.list.now c.loop-constraint.constraint-index c.loop-constraint-test.false c.loop-constraint.invariant;
+}

@@ -1,0 +1,38 @@
+use Rattle.std.proofs.Common.{List, ℤ, All, take, length, sym, ap, ◌∙◌, subst}
+use Rattle.conf_types.specs.Programs.{ResolvedGoal}
+use Rattle.form_build.specs.Worlds.{IsWorld}
+use Rattle.ground_form.specs.declared.ground.Ground.{Ground}
+use Rattle.ground_form.specs.StandsFor.{AreGoalValues, StandsFor}
+use Rattle.ground_form.specs.WellMade.{IsWellMade}
+use Rattle.ground_build.specs.Growing.{with_goals}
+use Rattle.ground_cells.specs.CellBoxes.{cell_boxes}
+use Rattle.expr_forms.proofs.Configured.{cells_still}
+use Rattle.ground_expr.specs.Asked.{satisfied_by, functions}
+use Rattle.ground_model.specs.Stated.{IsReadyGoal}
+use Rattle.ground_model.proofs.Endings.{cells_first, whole_stands}
+use Rattle.ground_model.proofs.problem.whole_problem.Goals as goal
+
+pub require_model-requires-clause-cells : goal.require_model-requires-clause-cells
+require_model-requires-clause-cells c = cells_first c.args.objects.now c.args.maker c.requires.cells
+
+pub goals_of-requires-clause-ready : goal.goals_of-requires-clause-ready
+goals_of-requires-clause-ready c = subst (λ (z : List ResolvedGoal). All (IsReadyGoal c.args.objects.now) z) (sym c.goals.ensures.goals) c.requires.ready.goals
+
+pub goals_of-requires-clause-cells : goal.goals_of-requires-clause-cells
+goals_of-requires-clause-cells c = cells_still c.args.objects.now c.args.maker c.require_model.new.maker c.in_ok-require_model.ensures.says.grows (cells_first c.args.objects.now c.args.maker c.requires.cells)
+
+pub returns : goal.returns
+returns c =
+    let o = c.args.objects.now in
+    let gs = c.args.model.now.goals in
+    let g = c.goals_of.new.maker in
+    let goals = c.in_ok-goals.goals in
+    let same = c.finish-g.ensures.problem ∙ ap (λ (z : Ground). with_goals z goals) c.into_builder.ensures in
+    let made = subst IsWellMade same c.finish-g.ensures.well_made in
+    let count = c.in_ok-goals.ensures.count ∙ ap length c.goals.ensures.goals in
+    let values : (a : List ℤ) → IsWorld g a → AreGoalValues goals (functions o gs) (take g.search a) a =
+    λ a w. subst (λ (z : List ResolvedGoal). AreGoalValues goals (functions o z) (take g.search a) a) c.goals.ensures.goals (c.in_ok-goals.ensures.values a w) in
+    record {
+      stands = subst (λ (z : Ground). StandsFor z (cell_boxes o) (satisfied_by o c.args.model.now.constraints) (functions o gs)) (sym same)
+          (whole_stands o c.args.model.now.constraints gs c.args.maker c.require_model.new.maker g goals c.requires.cells c.in_ok-require_model.ensures.says c.in_ok-goals.ensures.adds made count values);
+    }

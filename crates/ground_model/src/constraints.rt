@@ -1,0 +1,178 @@
+//! The constraints of a model, each required for each object for which it is stated.
+ghost use Rattle.std.specs.Prelude.{◌≡◌, ◌<◌, ℕ, [], true, false, Some, length, slice_index_or, OnOk};
+ghost use Rattle.std.specs.List.{All, list_all};
+ghost use Rattle.object_alloc.specs.Cells.{extent};
+ghost use Rattle.expr_forms.specs.Standing.{HasCells};
+ghost use Rattle.ground_expr.specs.Asked.{holds_for, holds_of};
+ghost use Rattle.ground_model.specs.Fixing.{holds_in};
+ghost use Rattle.ground_model.specs.Known.{HasKnown};
+ghost use Rattle.ground_model.specs.Requiring.{Requires};
+ghost use Rattle.ground_model.specs.Stated.{IsReady, IsReadyConstraint};
+
+use crate::fixing::is_of_pass;
+use crate::known::known_cells;
+use crate::required::require_tree;
+use conf_types::Constraint;
+use form_build::Maker;
+use object_alloc::Objects;
+use std::alloc::AllocError;
+
+/// States that a constraint holds where this object is `this`.
+fn require_for(
+    maker: &mut Maker,
+    objects: &Objects<'_>,
+    known: &[(u32, i64)],
+    constraint: &Constraint,
+    this: Option<u32>,
+) -> Result<(), AllocError>
+    requires ready { IsReady objects.now constraint.now.tree this }
+    requires known { HasKnown objects.now known.now maker.old }
+    ensures says { OnOk result (Requires known.now maker.old maker.new
+        (λ values. holds_for objects.now values constraint.now this)) }
+{
+    require_tree(maker, objects, known, this, &constraint.expr)?;
+    Ok(())
+}
+
+/// The object at this place of a list.
+fn number_at(numbers: &[u32], i: usize) -> u32
+    requires { i < length numbers.now }
+    ensures { (d : ℕ) → result ≡ slice_index_or numbers.now i d }
+{
+    numbers[i]
+}
+
+/// States that a constraint holds for all objects of a class.
+fn require_in(
+    maker: &mut Maker,
+    objects: &Objects<'_>,
+    known: &[(u32, i64)],
+    constraint: &Constraint,
+    class: u32,
+) -> Result<(), AllocError>
+    requires class { class < length objects.now.classes }
+    requires ready { All (λ n. IsReady objects.now constraint.now.tree (Some n))
+        (extent objects.now class) }
+    requires known { HasKnown objects.now known.now maker.old }
+    ensures says { OnOk result (Requires known.now maker.old maker.new (λ values.
+        list_all (λ n. holds_for objects.now values constraint.now (Some n))
+        (extent objects.now class))) }
+{
+    let members = objects.extent(maker.alloc(), class)?;
+    let numbers = members.items();
+    for i in 0..numbers.len() {
+        let this = Some(number_at(numbers, i));
+        require_for(maker, objects, known, constraint, this)?;
+    }
+    Ok(())
+}
+
+/// States that a constraint holds, for each object for which it is stated.
+fn require_constraint(
+    maker: &mut Maker,
+    objects: &Objects<'_>,
+    known: &[(u32, i64)],
+    constraint: &Constraint,
+) -> Result<(), AllocError>
+    requires ready { IsReadyConstraint objects.now constraint.now }
+    requires known { HasKnown objects.now known.now maker.old }
+    ensures says { OnOk result (Requires known.now maker.old maker.new
+        (λ values. holds_of objects.now values constraint.now)) }
+{
+    match constraint.class {
+        Some(class) => {
+            require_in(maker, objects, known, constraint, class)?;
+            Ok(())
+        }
+        None => {
+            require_for(maker, objects, known, constraint, None)?;
+            Ok(())
+        }
+    }
+}
+
+/// States that a constraint holds, where it is one of the pass.
+fn require_in_pass(
+    maker: &mut Maker,
+    objects: &Objects<'_>,
+    known: &[(u32, i64)],
+    constraint: &Constraint,
+    fixing: bool,
+) -> Result<(), AllocError>
+    requires ready { IsReadyConstraint objects.now constraint.now }
+    requires known { HasKnown objects.now known.now maker.old }
+    ensures says { OnOk result (Requires known.now maker.old maker.new
+        (λ values. holds_in fixing objects.now values constraint.now)) }
+{
+    if !is_of_pass(&constraint.expr, fixing) {
+        return Ok(());
+    }
+    require_constraint(maker, objects, known, constraint)?;
+    Ok(())
+}
+
+/// States that those of these constraints hold that are of the pass.
+fn require_pass(
+    maker: &mut Maker,
+    objects: &Objects<'_>,
+    known: &[(u32, i64)],
+    list: &[Constraint],
+    fixing: bool,
+) -> Result<(), AllocError>
+    requires ready { All (IsReadyConstraint objects.now) list.now }
+    requires known { HasKnown objects.now known.now maker.old }
+    ensures says { OnOk result (Requires known.now maker.old maker.new
+        (λ values. list_all (holds_in fixing objects.now values) list.now)) }
+{
+    for constraint in list {
+        require_in_pass(maker, objects, known, constraint, fixing)?;
+    }
+    Ok(())
+}
+
+/// States that those of these constraints hold that seem to give cells their values.
+fn require_fixing(
+    maker: &mut Maker,
+    objects: &Objects<'_>,
+    list: &[Constraint],
+) -> Result<(), AllocError>
+    requires ready { All (IsReadyConstraint objects.now) list.now }
+    requires cells { HasCells objects.now maker.old }
+    ensures says { OnOk result (Requires [] maker.old maker.new
+        (λ values. list_all (holds_in true objects.now values) list.now)) }
+{
+    require_pass(maker, objects, &[], list, true)?;
+    Ok(())
+}
+
+/// States that the others hold: cells whose values are fixed by what was stated are taken as known.
+fn require_others(
+    maker: &mut Maker,
+    objects: &Objects<'_>,
+    list: &[Constraint],
+) -> Result<(), AllocError>
+    requires ready { All (IsReadyConstraint objects.now) list.now }
+    requires cells { HasCells objects.now maker.old }
+    ensures says { OnOk result (Requires [] maker.old maker.new
+        (λ values. list_all (holds_in false objects.now values) list.now)) }
+{
+    let known = known_cells(maker)?;
+    require_pass(maker, objects, known.as_slice(), list, false)?;
+    Ok(())
+}
+
+/// States that all of these constraints hold, those first that seem to give cells their values.
+pub(crate) fn require_constraints(
+    maker: &mut Maker,
+    objects: &Objects<'_>,
+    list: &[Constraint],
+) -> Result<(), AllocError>
+    requires ready { All (IsReadyConstraint objects.now) list.now }
+    requires cells { HasCells objects.now maker.old }
+    ensures says { OnOk result (Requires [] maker.old maker.new
+        (λ values. list_all (holds_of objects.now values) list.now)) }
+{
+    require_fixing(maker, objects, list)?;
+    require_others(maker, objects, list)?;
+    Ok(())
+}

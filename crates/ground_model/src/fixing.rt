@@ -1,0 +1,100 @@
+//! Which constraints seem to give cells their values: conjunctions of equalities of an attribute and
+//! a constant. They are required before the others. No promise rests on this choice.
+ghost use Rattle.std.specs.Prelude.{◌≡◌};
+ghost use Rattle.conf_types.specs.Trees.{tree_of};
+ghost use Rattle.form_truths.specs.Tests.{wanted};
+ghost use Rattle.ground_model.specs.Fixing.{is_and, is_attribute, is_constant, is_equality, fixes};
+
+use conf_syntax::Op;
+use conf_types::{RExpr, RNode};
+
+/// Whether it is `and`.
+fn is_and(op: Op) -> bool
+    ensures { result ≡ is_and op }
+{
+    op == Op::And
+}
+
+/// Whether it is `=`.
+fn is_equality(op: Op) -> bool
+    ensures { result ≡ is_equality op }
+{
+    op == Op::Eq
+}
+
+/// Whether an expression is an attribute that is named alone.
+fn is_attribute(e: &RExpr) -> bool
+    ensures { result ≡ is_attribute (tree_of e.now) }
+{
+    match &e.node {
+        RNode::Own(_, _) | RNode::Root(_, _) => true,
+        RNode::Number(_) => false,
+        RNode::Truth(_) => false,
+        RNode::This => false,
+        RNode::Paren(_) => false,
+        RNode::Minus(_) => false,
+        RNode::Not(_) => false,
+        RNode::Pair(_, _, _) => false,
+        RNode::Local(_) => false,
+        RNode::Value(_, _) => false,
+        RNode::Class(_) => false,
+        RNode::Dot(_, _, _) => false,
+        RNode::Quant(_) => false,
+    }
+}
+
+/// Whether an expression is a number, a truth value or a value of an enumeration.
+fn is_constant(e: &RExpr) -> bool
+    ensures { result ≡ is_constant (tree_of e.now) }
+{
+    match &e.node {
+        RNode::Number(_) | RNode::Truth(_) | RNode::Value(_, _) => true,
+        RNode::Minus(inner) => is_constant(inner),
+        RNode::Paren(inner) => is_constant(inner),
+        RNode::This => false,
+        RNode::Not(_) => false,
+        RNode::Pair(_, _, _) => false,
+        RNode::Local(_) => false,
+        RNode::Own(_, _) => false,
+        RNode::Root(_, _) => false,
+        RNode::Class(_) => false,
+        RNode::Dot(_, _, _) => false,
+        RNode::Quant(_) => false,
+    }
+}
+
+/// Whether a constraint seems to give cells their values.
+fn fixes(e: &RExpr) -> bool
+    ensures { result ≡ fixes (tree_of e.now) }
+{
+    match &e.node {
+        RNode::Pair(op, left, right) => {
+            if is_and(*op) {
+                fixes(left) && fixes(right)
+            } else {
+                is_equality(*op) && is_attribute(left) && is_constant(right)
+            }
+        }
+        RNode::Own(_, _) | RNode::Root(_, _) => true,
+        RNode::Not(inner) => is_attribute(inner),
+        RNode::Paren(inner) => fixes(inner),
+        RNode::Number(_) => false,
+        RNode::Truth(_) => false,
+        RNode::This => false,
+        RNode::Minus(_) => false,
+        RNode::Local(_) => false,
+        RNode::Value(_, _) => false,
+        RNode::Class(_) => false,
+        RNode::Dot(_, _, _) => false,
+        RNode::Quant(_) => false,
+    }
+}
+
+/// Whether a constraint is required in the pass for those that fix something, or in that for the
+/// others.
+pub(crate) fn is_of_pass(e: &RExpr, fixing: bool) -> bool
+    ensures { result ≡ wanted fixing (fixes (tree_of e.now)) }
+{
+    let found = fixes(e);
+    if fixing { found } else { !found }
+}

@@ -1,0 +1,27 @@
+//! The ground problem of a whole model: its solutions are the configurations that satisfy the model,
+//! and its goals are the model's objectives.
+//!
+//! `ground` is the entry. It promises that the problem stands for the model (`StandsFor` of
+//! `ground_form`), and knows nothing of a search. What an expression is once it is ground is
+//! `ground_expr`.
+//!
+//! - `allowance`: how many variables and constraints a model may have.
+//! - `constraints`: a constraint, for each object of its class.
+//! - `fixing`: which constraints are required first.
+//! - `goals`: the objectives as variables.
+//! - `known`: cells whose values constraints fix.
+//! - `problem`: the problem of a model.
+//! - `required`: one expression as a form, and required.
+//! - `sets`: the sizes of reference sets.
+#![tactic(auto)]
+
+mod allowance;
+mod constraints;
+mod fixing;
+mod goals;
+mod known;
+mod problem;
+mod required;
+mod sets;
+
+pub use problem::ground;

@@ -1,0 +1,144 @@
+//! The ground problem of a model.
+//!
+//! The cells are its searched variables. What the constraints and the sizes of sets ask is stated,
+//! and the objectives are defined; everything else that is made are definitions.
+ghost use Rattle.std.specs.Prelude.{◌≡◌, ◌^◌, ◌↔◌, ℤ, Bool, List, [], true, length, IfOk, OnOk};
+ghost use Rattle.std.specs.List.{list_any};
+ghost use Rattle.signed_clause.specs.Ranges.{is_nil};
+ghost use Rattle.conf_types.specs.Typing.{IsTypedModel};
+ghost use Rattle.conf_limits.specs.Measures.{model_narrow};
+ghost use Rattle.conf_eval.specs.Satisfying.{Satisfies};
+ghost use Rattle.ground_form.specs.StandsFor.{StandsFor};
+ghost use Rattle.ground_build.specs.Growing.{over_cells};
+ghost use Rattle.ground_cells.specs.CellBoxes.{cell_boxes};
+ghost use Rattle.expr_forms.specs.Standing.{HasCells};
+ghost use Rattle.ground_expr.specs.Asked.{satisfied_by, functions};
+ghost use Rattle.ground_model.specs.Requiring.{Requires};
+ghost use Rattle.ground_model.specs.Allowance.{HasAtMost, allowance};
+ghost use Rattle.ground_model.specs.Stated.{IsReadyModel};
+
+use crate::allowance::{allowance, has_at_most};
+use crate::constraints::require_constraints;
+use crate::goals::{goals_of, idle_goals};
+use crate::sets::require_full_sets;
+use conf_types::TypedModel;
+use form_build::Maker;
+use ground_build::Builder;
+use ground_cells::cell_boxes;
+use ground_form::Ground;
+use object_alloc::Objects;
+use signed_clause::IntSet;
+use std::alloc::{AllocError, Global};
+
+/// More variables than these, or more constraints, no ground problem of a model has.
+const MOST: u128 = 1 << 31;
+
+/// Whether some box is empty.
+fn has_empty(boxes: &[IntSet]) -> bool
+    ensures { result ≡ list_any is_nil boxes.now }
+{
+    for values in boxes {
+        if values.is_empty() {
+            return true;
+        }
+    }
+    false
+}
+
+/// The problem of cells of which one has no value. There is no configuration, so the problem stands
+/// for whatever is asked of one.
+fn idle_problem(alloc: Global, builder: Builder, model: &TypedModel) -> Result<Ground, AllocError>
+    requires cells { builder ≡ over_cells builder.domains }
+    requires empty { list_any is_nil builder.domains ≡ true }
+    ensures stands { IfOk result (λ g. (test : List ℤ → Bool) (asked : List (Bool × (List ℤ → ℤ)))
+        → length asked ≡ length model.now.goals → StandsFor g builder.domains test asked) }
+{
+    let goals = idle_goals(alloc, model.goals())?;
+    let g = builder.finish(goals);
+    Ok(g)
+}
+
+/// States what a model asks of its configurations: the sizes of sets, and the constraints.
+fn require_model(
+    maker: &mut Maker,
+    model: &TypedModel,
+    objects: &Objects<'_>,
+) -> Result<(), AllocError>
+    requires ready { IsReadyModel objects.now model.now.constraints model.now.goals }
+    requires cells { HasCells objects.now maker.old }
+    ensures says { OnOk result (Requires [] maker.old maker.new
+        (satisfied_by objects.now model.now.constraints)) }
+{
+    require_full_sets(maker, objects)?;
+    require_constraints(maker, objects, model.constraints())?;
+    Ok(())
+}
+
+/// The problem of a model, from a maker over its cells.
+fn whole_problem(
+    maker: Maker,
+    model: &TypedModel,
+    objects: &Objects<'_>,
+) -> Result<Ground, AllocError>
+    requires cells { maker ≡ over_cells (cell_boxes objects.now) }
+    requires ready { IsReadyModel objects.now model.now.constraints model.now.goals }
+    ensures stands { IfOk result (λ g. StandsFor g
+        (cell_boxes objects.now)
+        (satisfied_by objects.now model.now.constraints)
+        (functions objects.now model.now.goals)) }
+{
+    let mut maker = maker;
+    require_model(&mut maker, model, objects)?;
+    let goals = goals_of(&mut maker, objects, model.goals())?;
+    let g = maker.into_builder().finish(goals);
+    Ok(g)
+}
+
+/// The problem of a model, however large.
+fn problem(alloc: Global, model: &TypedModel, objects: &Objects<'_>) -> Result<Ground, AllocError>
+    requires ready { IsReadyModel objects.now model.now.constraints model.now.goals }
+    ensures stands { IfOk result (λ g. StandsFor g
+        (cell_boxes objects.now)
+        (satisfied_by objects.now model.now.constraints)
+        (functions objects.now model.now.goals)) }
+{
+    let _count = objects.count();
+    let cells = cell_boxes(alloc, objects)?;
+    let builder = Builder::new(alloc, &cells)?;
+    if has_empty(&cells) {
+        let g = idle_problem(alloc, builder, model)?;
+        return Ok(g);
+    }
+    let g = whole_problem(Maker::over(alloc, builder), model, objects)?;
+    Ok(g)
+}
+
+/// The ground problem of a model: its solutions are the configurations that satisfy the model, and
+/// its goals have the values of the model's objectives.
+///
+/// # Errors
+///
+/// Where memory lacks, or the problem would be larger than the model's allowance.
+pub fn ground(
+    alloc: Global,
+    model: &TypedModel,
+    objects: &Objects<'_>,
+) -> Result<Ground, AllocError>
+    requires typed { IsTypedModel objects.now model.now.constraints model.now.goals }
+    requires narrow { model_narrow objects.now model.now.constraints model.now.goals ≡ true }
+    ensures stands { IfOk result (λ g. StandsFor g
+        (cell_boxes objects.now)
+        (satisfied_by objects.now model.now.constraints)
+        (functions objects.now model.now.goals)) }
+    ensures asks { (values : List ℤ) → satisfied_by objects.now model.now.constraints values ≡ true
+        ↔ Satisfies objects.now model.now.constraints values }
+    ensures few { IfOk result (λ g. HasAtMost (2 ^ 31) g) }
+    ensures allowance { IfOk result (λ g. HasAtMost
+        (allowance objects.now model.now.constraints model.now.goals) g) }
+{
+    let g = problem(alloc, model, objects)?;
+    if !has_at_most(&g, allowance(model, objects).min(MOST)) {
+        return Err(AllocError);
+    }
+    Ok(g)
+}

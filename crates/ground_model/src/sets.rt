@@ -1,0 +1,133 @@
+//! The sizes of reference sets: each set has as many members as its shape says.
+ghost use Rattle.std.specs.Prelude.{◌≡◌, ◌<◌, ◌^◌, ℕ, [], true, pos, neg_ℤ, length, slice_index_or, Contains, IfNone, IfOk, IfSome, OnOk};
+ghost use Rattle.std.specs.List.{list_any};
+ghost use Rattle.class_table.specs.declared.table.Resolved.TheVariants.{RefSet};
+ghost use Rattle.object_alloc.specs.declared.object.Leaf.{Leaf as ALeaf};
+ghost use Rattle.object_alloc.specs.Walk.{walk, leaves_in};
+ghost use Rattle.expr_forms.specs.Standing.{HasCells};
+ghost use Rattle.ground_expr.specs.Asked.{has_count, is_full, are_full};
+ghost use Rattle.ground_model.specs.Requiring.{Requires};
+ghost use Rattle.ground_model.specs.Sizes.{each_once, lacks_cells};
+
+use class_table::Resolved;
+use form_build::{Linear, Maker, Truth};
+use form_truths::{Test, state, state_truth};
+use object_alloc::{Leaf, Objects};
+use std::alloc::{AllocError, Global};
+
+/// How many members a reference set of this shape has. None where it is another shape.
+fn set_size(shape: Resolved) -> Option<u32>
+    ensures some { IfSome result (λ n. (c : ℕ) × (shape ≡ RefSet c n)) }
+    ensures none { IfNone result ((members : ℕ) → has_count shape members ≡ true) }
+{
+    match shape {
+        Resolved::RefSet(_, size) => Some(size),
+        Resolved::Span(_, _)
+        | Resolved::Truth
+        | Resolved::Choice(_)
+        | Resolved::One(_)
+        | Resolved::Many(_, _)
+        | Resolved::Ref(_) => None,
+    }
+}
+
+/// The number of members of a set less the size that it is to have, as a sum over its cells.
+fn surplus(alloc: Global, cells: &[u32], size: u32) -> Result<Linear, AllocError>
+    ensures terms { IfOk result (λ f. f.terms ≡ each_once cells.now) }
+    ensures offset { IfOk result (λ f. f.offset ≡ neg_ℤ (pos size)) }
+    ensures small { size < 2 ^ 32 }
+{
+    let mut terms = Vec::new(alloc);
+    for cell in cells {
+        terms.push((1, *cell))?;
+    }
+    Ok(Linear::of(terms, -i64::from(size)))
+}
+
+/// The leaf of this number.
+fn leaf_at(leaves: &[Leaf], i: usize) -> Leaf
+    requires { i < length leaves.now }
+    ensures { (d : ALeaf) → result ≡ slice_index_or leaves.now i d }
+{
+    leaves[i]
+}
+
+/// Whether a leaf is a reference set that is to have more members than it has cells.
+fn lacks_cells(objects: &Objects<'_>, leaf: Leaf) -> bool
+    ensures { result ≡ lacks_cells objects.now leaf }
+{
+    match leaf.shape {
+        Resolved::RefSet(_, size) => {
+            let cells = objects.own_cells(leaf.owner, leaf.attribute);
+            cells.len() < size as usize
+        }
+        Resolved::Span(_, _)
+        | Resolved::Truth
+        | Resolved::Choice(_)
+        | Resolved::One(_)
+        | Resolved::Many(_, _)
+        | Resolved::Ref(_) => false,
+    }
+}
+
+/// Whether some reference set is to have more members than it has cells, so that no configuration
+/// satisfies the model.
+fn some_lacks_cells(objects: &Objects<'_>) -> bool
+    ensures { result ≡ list_any (lacks_cells objects.now) (leaves_in (walk objects.now)) }
+{
+    let leaves = objects.leaves();
+    for i in 0..leaves.len() {
+        if lacks_cells(objects, leaf_at(leaves, i)) {
+            return true;
+        }
+    }
+    false
+}
+
+/// States that a leaf has as many members as its shape says, where it is a reference set.
+fn require_full(maker: &mut Maker, objects: &Objects<'_>, leaf: Leaf) -> Result<(), AllocError>
+    requires leaf { Contains (leaves_in (walk objects.now)) leaf }
+    requires cells { HasCells objects.now maker.old }
+    ensures says { OnOk result (Requires [] maker.old maker.new
+        (λ values. is_full objects.now values leaf)) }
+{
+    let _count = objects.count();
+    let Some(size) = set_size(leaf.shape) else {
+        return Ok(());
+    };
+    let cells = objects.own_cells(leaf.owner, leaf.attribute);
+    let f = surplus(maker.alloc(), cells, size)?;
+    maker.ask(2)?;
+    let test = Test::Zero(f, true);
+    state(maker, &test)?;
+    Ok(())
+}
+
+/// States that each reference set of a model has as many members as its shape says.
+fn require_each_full(maker: &mut Maker, objects: &Objects<'_>) -> Result<(), AllocError>
+    requires cells { HasCells objects.now maker.old }
+    ensures says { OnOk result (Requires [] maker.old maker.new
+        (λ values. are_full objects.now values)) }
+{
+    let leaves = objects.leaves();
+    for i in 0..leaves.len() {
+        require_full(maker, objects, leaf_at(leaves, i))?;
+    }
+    Ok(())
+}
+
+/// States that each reference set of a model has as many members as its shape says: where some set
+/// can't have them, by one empty clause.
+pub(crate) fn require_full_sets(maker: &mut Maker, objects: &Objects<'_>) -> Result<(), AllocError>
+    requires cells { HasCells objects.now maker.old }
+    ensures says { OnOk result (Requires [] maker.old maker.new
+        (λ values. are_full objects.now values)) }
+{
+    if some_lacks_cells(objects) {
+        maker.ask(1)?;
+        state_truth(maker, Truth::Fixed(false))?;
+        return Ok(());
+    }
+    require_each_full(maker, objects)?;
+    Ok(())
+}
