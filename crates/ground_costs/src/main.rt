@@ -1,0 +1,73 @@
+//! What ground problems of models come to and cost.
+//!
+//! With no word the program prints how many variables, constraints and terms the ground problem of
+//! each model has. With the word `times` it prints how long that takes, and how much memory the
+//! program has taken at most; the first part of a row's name as a further word picks rows.
+#![tactic(auto)]
+
+mod clock;
+mod counts;
+mod grounding;
+mod models;
+
+use counts::{Counts, counts_of, nth_kind, of_kind};
+use ground_form::Ground;
+use grounding::{Grounded, made_ground};
+use models::{ROWS, Row, nth_row, text_of};
+use std::{env, io};
+
+/// Prints how many constraints of each kind a problem has.
+fn show_kinds(rt: &HostRuntime, g: &Ground) -> io::Result<()> {
+    for number in 0..11 {
+        let kind = nth_kind(number);
+        let (count, terms) = of_kind(g, kind);
+        if count > 0 {
+            println!(rt; "  {:?}: {}, {} terms", kind, count, terms)?;
+        }
+    }
+    Ok(())
+}
+
+/// Prints how large a problem is.
+fn show(rt: &HostRuntime, row: Row, seen: &Grounded, timed: bool) -> io::Result<()> {
+    let counts: Counts = counts_of(&seen.ground);
+    println!(rt;
+        "{}: {} cells, {} variables, {} constraints, {} terms",
+        row.name, counts.cells, counts.variables, counts.constraints, counts.terms
+    )?;
+    if timed {
+        println!(rt;
+            "  read and typed {} us, ground {} us",
+            seen.typing_time, seen.time
+        )?;
+        return Ok(());
+    }
+    show_kinds(rt, &seen.ground)
+}
+
+/// Makes the row's model ground, and prints what that came to.
+fn show_row(rt: &HostRuntime, row: Row, timed: bool) -> io::Result<()> {
+    let text = text_of(rt.alloc(), row)?;
+    match made_ground(rt, rt.alloc(), text.as_bytes())? {
+        Some(seen) => show(rt, row, &seen, timed),
+        None => {
+            println!(rt; "{}: refused", row.name)?;
+            Ok(())
+        }
+    }
+}
+
+fn main(rt: HostRuntime) -> io::Result<()> {
+    let timed = env::args(&rt)?.skip(1).any(|word| word.as_str() == "times");
+    let some = env::args(&rt)?.skip(1).any(|word| word.as_str() != "times");
+    for number in 0..ROWS {
+        let row = nth_row(number);
+        let picked = env::args(&rt)?
+            .skip(1)
+            .any(|word| row.name.starts_with(word.as_str()));
+        if picked || !some {
+            show_row(&rt, row, timed)?;
+        }
+    }
+    Ok(())
+}
