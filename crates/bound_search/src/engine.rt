@@ -2,17 +2,19 @@
 //!
 //! Each function writes its line as soon as nothing but memory can be wanting, so that the lines
 //! are a run at every time.
-ghost use Rattle.std.specs.Prelude.{◌≡◌, ◌<◌, ◌+◌, ◌*◌, true, length, IfOk, OnOk};
+ghost use Rattle.std.specs.Prelude.{◌≡◌, ◌<◌, ◌+◌, ◌-◌, ◌*◌, ◌++◌, [], ◌∷◌, true, length, IfOk, OnOk};
 ghost use Rattle.ground_form.specs.WellMade.{IsWellMade};
 ghost use Rattle.log_form.specs.Acceptance.{clause_at};
 ghost use Rattle.branch_choice.specs.declared.split.Order.{Order};
 ghost use Rattle.branch_choice.specs.Picks.{Hints};
 ghost use Rattle.search_run.specs.Decisions.{decisions};
 ghost use Rattle.search_run.specs.Ordered.{IsDecidedBy};
-ghost use Rattle.search_run.specs.Replay.{Going, Conflict, acts, is_run};
+ghost use Rattle.search_run.specs.Replay.{Going, Conflict, acts, is_run, mode_by};
+ghost use Rattle.fd_store.specs.Levels.{dropped, reacted};
+ghost use Rattle.bound_search.specs.Modes.{mode_of};
 ghost use Rattle.bound_search.specs.Boards.{IsBoard, AreLower};
 ghost use Rattle.bound_search.specs.Standing.{IsReason, IsFixed, IsDecision};
-ghost use Rattle.bound_search.specs.Engines.{Shows, Reached, IsKeptBy, IsKept, MayTakeIn, IsTakenIn, IsTurn, IsFall, DecideAlike};
+ghost use Rattle.bound_search.specs.Engines.{Shows, Reached, IsKeptBy, IsKept, MayTakeIn, IsTurn, IsFall, DecideAlike};
 
 use crate::after::After;
 use crate::board::Board;
@@ -142,7 +144,16 @@ fn take_in(
     requires board { IsBoard g.now e.old.board.store e.old.board.queue e.old.board.watches }
     requires lower { AreLower g.now e.old.board.store.top.now e.old.board.store.below }
     requires level { MayTakeIn g.now e.old.board.store handle level }
-    ensures { IfOk result (λ a. IsTakenIn g.now e.old e.new handle level a) }
+    ensures mode { IfOk result (λ a. mode_of a ≡ mode_by
+        (dropped (level - 1) e.old.board.store).top.now (length e.old.clauses) handle) }
+    ensures store { OnOk result (e.new.board.store ≡ reacted (length e.old.clauses) handle
+        (dropped (level - 1) e.old.board.store)) }
+    ensures board { OnOk result
+        (IsBoard g.now e.new.board.store e.new.board.queue e.new.board.watches) }
+    ensures numbered { OnOk result (e.new.clauses ≡ e.old.clauses ++ handle ∷ []) }
+    ensures watched { OnOk result (e.new.board.watches.added
+        ≡ e.old.board.watches.added ++ (length e.old.clauses, handle) ∷ []) }
+    ensures table { OnOk result (length e.new.running ≡ length e.old.running) }
 {
     e.board.undo_to(g, level - 1);
     let after = e.board.apply(g, e.clauses.count(), handle.clause())?;

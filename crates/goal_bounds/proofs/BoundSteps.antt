@@ -44,24 +44,22 @@ pub bounds_more : (ds : Boxes) (a : List ℤ) (e : Literals) (goals : List Groun
 bounds_more ds a e goals k d h = rw add-one (bounds_next ds a e goals k d h)
 
 -- one goal further in the walk
-pub next_clause : (ds : Boxes) (a : List ℤ) (e : Literals) (goals : List GroundGoal) (k : ℕ) (d : GroundGoal) (before now whole : List Literals) (better : Ranges) (saying : Literals) (good : Ranges) (clause : Literals) →
-    k + 1 < length goals → better ≡ better_values ds a (get_or goals k d) → saying ≡ with_literal (get_or goals k d).var better e → good ≡ as_good_values ds a (get_or goals k d) → clause ≡ with_literal (get_or goals k d).var good e →
-    now ≡ before ++ clause ∷ [] → before ++ bounds_from ds a e (drop k goals) ≡ whole → now ++ bounds_from ds a saying (drop (k + 1) goals) ≡ whole
-next_clause ds a e goals k d before now whole better saying good clause lt b s g c n w =
+pub next_clause : (ds : Boxes) (a : List ℤ) (e : Literals) (goals : List GroundGoal) (k : ℕ) (d : GroundGoal) (before now whole : List Literals) (better as_good : Literals) →
+    k + 1 < length goals → better ≡ with_literal (get_or goals k d).var (better_values ds a (get_or goals k d)) e →
+    as_good ≡ with_literal (get_or goals k d).var (as_good_values ds a (get_or goals k d)) e →
+    now ≡ before ++ as_good ∷ [] → before ++ bounds_from ds a e (drop k goals) ≡ whole → now ++ bounds_from ds a better (drop (k + 1) goals) ≡ whole
+next_clause ds a e goals k d before now whole better as_good lt b g n w =
     let goal = get_or goals k d in
-    let saying' : saying ≡ with_literal goal.var (better_values ds a goal) e = s ∙ ap (λ z. with_literal goal.var z e) b in
-    let clause' : clause ≡ with_literal goal.var (as_good_values ds a goal) e = c ∙ ap (λ z. with_literal goal.var z e) g in
-    ap (λ z. z ++ bounds_from ds a saying (drop (k + 1) goals)) n
-    ∙ append_assoc before (clause ∷ []) (bounds_from ds a saying (drop (k + 1) goals))
-    ∙ ap (λ z. before ++ z ∷ bounds_from ds a saying (drop (k + 1) goals)) clause'
-    ∙ ap (λ z. before ++ with_literal goal.var (as_good_values ds a goal) e ∷ bounds_from ds a z (drop (k + 1) goals)) saying'
+    let rest = drop (k + 1) goals in
+    ap (λ z. z ++ bounds_from ds a better rest) n
+    ∙ append_assoc before (as_good ∷ []) (bounds_from ds a better rest)
+    ∙ ap (λ z. before ++ z ∷ bounds_from ds a better rest) g
+    ∙ ap (λ z. before ++ with_literal goal.var (as_good_values ds a goal) e ∷ bounds_from ds a z rest) b
     ∙ ap (λ z. before ++ z) (sym (bounds_more ds a e goals k d lt)) ∙ w
 
 -- the last goal
-pub last_clause : (ds : Boxes) (a : List ℤ) (e : Literals) (goals : List GroundGoal) (k : ℕ) (d : GroundGoal) (before now whole : List Literals) (better : Ranges) (saying : Literals) →
-    k + 1 ≡ length goals → better ≡ better_values ds a (get_or goals k d) → saying ≡ with_literal (get_or goals k d).var better e →
-    now ≡ before ++ saying ∷ [] → before ++ bounds_from ds a e (drop k goals) ≡ whole → now ≡ whole
-last_clause ds a e goals k d before now whole better saying h b s n w =
-    let goal = get_or goals k d in
-    let saying' : saying ≡ with_literal goal.var (better_values ds a goal) e = s ∙ ap (λ z. with_literal goal.var z e) b in
-    n ∙ ap (λ z. before ++ z ∷ []) saying' ∙ ap (λ z. before ++ z) (sym (bounds_last ds a e goals k d h)) ∙ w
+pub last_clause : (ds : Boxes) (a : List ℤ) (e : Literals) (goals : List GroundGoal) (k : ℕ) (d : GroundGoal) (before now whole : List Literals) (better : Literals) →
+    k + 1 ≡ length goals → better ≡ with_literal (get_or goals k d).var (better_values ds a (get_or goals k d)) e →
+    now ≡ before ++ better ∷ [] → before ++ bounds_from ds a e (drop k goals) ≡ whole → now ≡ whole
+last_clause ds a e goals k d before now whole better h b n w =
+    n ∙ ap (λ z. before ++ z ∷ []) b ∙ ap (λ z. before ++ z) (sym (bounds_last ds a e goals k d h)) ∙ w

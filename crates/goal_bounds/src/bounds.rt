@@ -132,18 +132,52 @@ pub fn bounds_of(
         return Ok(out);
     }
     for (k, goal) in goals.iter().enumerate() {
-        let better = better_values(alloc, domains, *goal, values)?;
-        let saying_better = with_literal(alloc, goal.var, better, &earlier)?;
+        let better = or_better(alloc, domains, *goal, values, &earlier)?;
         if k + 1 == goals.len() {
-            push_own(alloc, &mut out, saying_better)?;
+            push_own(alloc, &mut out, better)?;
             return Ok(out);
         }
-        let as_good = as_good_values(alloc, domains, *goal, values)?;
-        let clause = with_literal(alloc, goal.var, as_good, &earlier)?;
-        push_own(alloc, &mut out, clause)?;
-        earlier = saying_better;
+        let as_good = or_as_good(alloc, domains, *goal, values, &earlier)?;
+        push_own(alloc, &mut out, as_good)?;
+        earlier = better;
     }
     Ok(out)
+}
+
+/// The clause that says what the one of earlier goals says, or that this goal is better.
+fn or_better(
+    alloc: Global,
+    domains: &[IntSet],
+    goal: GroundGoal,
+    values: &[i64],
+    earlier: &Clause,
+) -> Result<Clause, AllocError>
+    requires domain { goal.var < length domains.now }
+    requires value { goal.var < length values.now }
+    ensures { IfOk result (λ c. c ≡ acceptance.with_literal goal.var
+        (acceptance.better_values domains.now values.now goal) earlier.now) }
+{
+    let better = better_values(alloc, domains, goal, values)?;
+    let clause = with_literal(alloc, goal.var, better, earlier)?;
+    Ok(clause)
+}
+
+/// The clause that says what the one of earlier goals says, or that this goal is as good.
+fn or_as_good(
+    alloc: Global,
+    domains: &[IntSet],
+    goal: GroundGoal,
+    values: &[i64],
+    earlier: &Clause,
+) -> Result<Clause, AllocError>
+    requires domain { goal.var < length domains.now }
+    requires value { goal.var < length values.now }
+    ensures { IfOk result (λ c. c ≡ acceptance.with_literal goal.var
+        (acceptance.as_good_values domains.now values.now goal) earlier.now) }
+{
+    let as_good = as_good_values(alloc, domains, goal, values)?;
+    let clause = with_literal(alloc, goal.var, as_good, earlier)?;
+    Ok(clause)
 }
 
 /// Adds a clause, with a first owner.

@@ -8,8 +8,7 @@ ghost use Rattle.ground_form.specs.WellMade.{IsWellMade};
 ghost use Rattle.branch_choice.specs.declared.split.Order.TheVariants as orders;
 ghost use Rattle.branch_choice.specs.Picks.{IsAsked, IsPick};
 
-use crate::given::Numbers;
-use crate::problems::problem;
+use crate::problems::{numbers_of, problem};
 use crate::walks::{dropped_level, walk};
 use bool_prop::BoolProp;
 use branch_choice::{Chooser, Order, Pick, Split, small};
@@ -275,7 +274,7 @@ fn searched(
     chooser: &Chooser,
     seed: u64,
 ) -> Result<Option<Run>, AllocError> {
-    let mut numbers = Numbers::of(seed);
+    let mut numbers = numbers_of(seed);
     let g = problem(alloc, 9, &mut numbers)?;
     if !is_search_well_made(&g, alloc)? {
         return Ok(None);

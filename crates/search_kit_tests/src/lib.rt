@@ -1,7 +1,6 @@
 //! Tests of the parts of a search that ask constraints, with the propagators that come with the
 //! product, on generated problems. There is no code here.
 //!
-//! - `given`: random numbers and sets.
 //! - `problems`: generated problems over all kinds of constraints.
 //! - `queue_tests`: the queue of constraints, against a scan of all of them.
 //! - `walks`: the walk back from a conflict, written out with whole boxes.
@@ -10,8 +9,6 @@
 
 #[cfg(test)]
 mod conflict_tests;
-#[cfg(test)]
-mod given;
 #[cfg(test)]
 mod problems;
 #[cfg(test)]

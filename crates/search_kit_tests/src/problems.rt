@@ -1,8 +1,9 @@
 //! Generated problems over all kinds of constraints. The first variables have the values 0 to 3,
 //! and the last ones are flags.
-use crate::given::{Numbers, set_of_bits};
+use given_problems::{Random, sets_of};
 use ground_form::{Con, Cons, Domains, Goals, Ground, PackItems, Parts, Terms, VarList};
 use signed_clause::{Clause, IntSet};
+use small_problems::set_of;
 use std::alloc::{AllocError, Global};
 
 /// How many variables have the values 0 to 3.
@@ -15,51 +16,62 @@ const FLAGS: u32 = 3;
 pub(crate) const VARIABLES: u32 = 8;
 
 /// A variable of the values 0 to 3.
-fn wide(numbers: &mut Numbers) -> u32 {
+fn wide(numbers: &mut Random) -> u32 {
     numbers.below(WIDE)
 }
 
 /// A flag.
-fn flag(numbers: &mut Numbers) -> u32 {
+fn flag(numbers: &mut Random) -> u32 {
     WIDE + numbers.below(FLAGS)
 }
 
 /// A coefficient, -2 to 2.
-fn coefficient(numbers: &mut Numbers) -> i64 {
+fn coefficient(numbers: &mut Random) -> i64 {
     numbers.below(5) as i64 - 2
 }
 
+/// A term.
+fn term(numbers: &mut Random) -> (i64, u32) {
+    let factor = coefficient(numbers);
+    (factor, wide(numbers))
+}
+
 /// Three terms.
-fn terms(alloc: Global, numbers: &mut Numbers) -> Result<Terms, AllocError> {
-    let mut terms = Vec::new(alloc);
-    for _ in 0..3u32 {
-        let factor = coefficient(numbers);
-        terms.push((factor, wide(numbers)))?;
-    }
-    Ok(Terms::of(terms))
+fn terms(alloc: Global, numbers: &mut Random) -> Result<Terms, AllocError> {
+    let first = term(numbers);
+    let second = term(numbers);
+    let third = term(numbers);
+    Ok(Terms::of(vec![in alloc; first, second, third]?))
 }
 
 /// Three items, of the values 0 to 2.
-fn items(alloc: Global, numbers: &mut Numbers) -> Result<Terms, AllocError> {
-    let mut items = Vec::new(alloc);
-    for k in 0..3u32 {
-        items.push((k as i64, wide(numbers)))?;
-    }
-    Ok(Terms::of(items))
+fn items(alloc: Global, numbers: &mut Random) -> Result<Terms, AllocError> {
+    let first = wide(numbers);
+    let second = wide(numbers);
+    let third = wide(numbers);
+    Ok(Terms::of(vec![in alloc; (0, first), (1, second), (2, third)]?))
+}
+
+/// A part.
+fn part(numbers: &mut Random) -> (u32, bool) {
+    let wanted = numbers.below(2) == 1;
+    (flag(numbers), wanted)
 }
 
 /// Two parts.
-fn parts(alloc: Global, numbers: &mut Numbers) -> Result<Parts, AllocError> {
-    let mut parts = Vec::new(alloc);
-    for _ in 0..2u32 {
-        let wanted = numbers.below(2) == 1;
-        parts.push((flag(numbers), wanted))?;
-    }
-    Ok(Parts::of(parts))
+fn parts(alloc: Global, numbers: &mut Random) -> Result<Parts, AllocError> {
+    let first = part(numbers);
+    let second = part(numbers);
+    Ok(Parts::of(vec![in alloc; first, second]?))
+}
+
+/// Some of the values 0 to 3: those whose bits are 1, where bit 0 is the value 0.
+pub(crate) fn set_of_bits(alloc: Global, bits: u32) -> Result<IntSet, AllocError> {
+    set_of(alloc, u64::from(bits & 15) << 8)
 }
 
 /// A clause of two literals.
-fn clause(alloc: Global, numbers: &mut Numbers) -> Result<Clause, AllocError> {
+fn clause(alloc: Global, numbers: &mut Random) -> Result<Clause, AllocError> {
     let x = numbers.below(WIDE - 1);
     let first = set_of_bits(alloc, 1 + numbers.below(7))?;
     let second = set_of_bits(alloc, 1 + numbers.below(7))?;
@@ -70,24 +82,28 @@ fn clause(alloc: Global, numbers: &mut Numbers) -> Result<Clause, AllocError> {
 }
 
 /// Three variables.
-fn vars(alloc: Global, numbers: &mut Numbers) -> Result<VarList, AllocError> {
+fn vars(alloc: Global, numbers: &mut Random) -> Result<VarList, AllocError> {
     let x = numbers.below(WIDE - 2);
     Ok(VarList::of(vec![in alloc; x, x + 1, x + 2]?))
 }
 
+/// An item of that room.
+fn pack_item(numbers: &mut Random, room: u32) -> (u32, u32, u32) {
+    let place = flag(numbers);
+    (place, wide(numbers), room)
+}
+
 /// Three items of places, sizes and one room.
-fn pack_items(alloc: Global, numbers: &mut Numbers) -> Result<PackItems, AllocError> {
+fn pack_items(alloc: Global, numbers: &mut Random) -> Result<PackItems, AllocError> {
     let room = wide(numbers);
-    let mut items = Vec::new(alloc);
-    for _ in 0..3u32 {
-        let place = flag(numbers);
-        items.push((place, wide(numbers), room))?;
-    }
-    Ok(PackItems::of(items))
+    let first = pack_item(numbers, room);
+    let second = pack_item(numbers, room);
+    let third = pack_item(numbers, room);
+    Ok(PackItems::of(vec![in alloc; first, second, third]?))
 }
 
 /// A constraint of sums, or one without a definition.
-fn sum(alloc: Global, kind: u32, numbers: &mut Numbers) -> Result<Con, AllocError> {
+fn sum(alloc: Global, kind: u32, numbers: &mut Random) -> Result<Con, AllocError> {
     let bound = coefficient(numbers);
     Ok(match kind {
         0 | 1 => Con::LinLe {
@@ -117,7 +133,7 @@ fn sum(alloc: Global, kind: u32, numbers: &mut Numbers) -> Result<Con, AllocErro
 }
 
 /// A constraint that defines a flag or a variable by others.
-fn definition(alloc: Global, kind: u32, numbers: &mut Numbers) -> Result<Con, AllocError> {
+fn definition(alloc: Global, kind: u32, numbers: &mut Random) -> Result<Con, AllocError> {
     let flag_var = flag(numbers);
     let out = wide(numbers);
     Ok(match kind {
@@ -148,30 +164,28 @@ fn definition(alloc: Global, kind: u32, numbers: &mut Numbers) -> Result<Con, Al
     })
 }
 
-/// So many variables of the values 0 to `last`.
-fn push_domains(
-    domains: &mut Vec<IntSet>,
-    count: u32,
-    last: i64,
-    alloc: Global,
-) -> Result<(), AllocError> {
-    for _ in 0..count {
-        if 0 <= last {
-            domains.push(IntSet::range(alloc, 0, last))?;
-        }
+/// The domains.
+fn domains(alloc: Global) -> Result<Domains, AllocError> {
+    let texts = [
+        "0..3", "0..3", "0..3", "0..3", "0..3", "0..1", "0..1", "0..1",
+    ];
+    match sets_of(alloc, &texts) {
+        Ok(sets) => Ok(Domains::of(sets)),
+        Err(_) => Err(AllocError),
     }
-    Ok(())
+}
+
+/// The numbers of a seed.
+pub(crate) fn numbers_of(seed: u64) -> Random {
+    Random::of(seed.wrapping_mul(2_654_435_761))
 }
 
 /// A problem of so many constraints, half of them sums and the like, half of them definitions.
 pub(crate) fn problem(
     alloc: Global,
     count: u32,
-    numbers: &mut Numbers,
+    numbers: &mut Random,
 ) -> Result<Ground, AllocError> {
-    let mut domains = Vec::new(alloc);
-    push_domains(&mut domains, WIDE, 3, alloc)?;
-    push_domains(&mut domains, FLAGS, 1, alloc)?;
     let mut cons = Vec::new(alloc);
     for k in 0..count {
         let kind = numbers.below(7);
@@ -183,7 +197,7 @@ pub(crate) fn problem(
     }
     Ok(Ground {
         search: VARIABLES,
-        domains: Domains::of(domains),
+        domains: domains(alloc)?,
         cons: Cons::of(cons),
         goals: Goals::of(Vec::new(alloc)),
     })

@@ -1,10 +1,10 @@
 //! The queue against a scan of all constraints: each finds something exactly where the other does.
 //! The steps are narrowed boxes, undos, and returns to boxes in which every constraint was quiet.
-use crate::given::{Numbers, set_of_bits};
-use crate::problems::{VARIABLES, problem};
+use crate::problems::{VARIABLES, numbers_of, problem, set_of_bits};
 use bool_prop::BoolProp;
 use conflict_check::has_boxes;
 use element_prop::ElementProp;
+use given_problems::Random;
 use ground_form::copy_sets;
 use linear_prop::LinearProp;
 use pack_prop::PackProp;
@@ -77,7 +77,7 @@ fn ask(bench: &mut Bench, kit: &mut Kit) -> Result<bool, AllocError> {
 fn step(
     bench: &mut Bench,
     kit: &mut Kit,
-    numbers: &mut Numbers,
+    numbers: &mut Random,
     alloc: Global,
 ) -> Result<bool, AllocError> {
     match numbers.below(8) {
@@ -108,7 +108,7 @@ fn sequence(
     seed: u64,
     steps: u32,
 ) -> Result<Option<(u32, u32)>, AllocError> {
-    let mut numbers = Numbers::of(seed);
+    let mut numbers = numbers_of(seed);
     let ground = problem(alloc, 4, &mut numbers)?;
     let Some(queued) = Queued::new(alloc, ground)? else {
         return Ok(None);

@@ -1,6 +1,6 @@
 //! What random problems are to have, some of them.
-use crate::making::problem;
 use ground_form::{Con, Ground, Kind, kind_of};
+use small_problems::problem;
 use std::alloc::{AllocError, Global};
 
 /// Something that a problem may have.

@@ -1,11 +1,9 @@
 //! Series of random problems.
 use crate::features::{Feature, count_with};
 use crate::series::{Budgets, Series, Source, Tally, run, run_plainly};
-use crate::splits::Way;
 use ground_form::Kind;
+use plain_runs::Way;
 use std::alloc::AllocError;
-use std::cell::Cell;
-use std::rc::Rc;
 
 /// So many random problems from a seed on, searched in one way with enough decisions.
 fn series(first: u64, count: u64, way: Way) -> Series {
@@ -71,16 +69,15 @@ fn budgets_are_kept(rt: HostRuntime) -> Result<(), AllocError> {
 #[test]
 fn plain_probing_alone_serves(rt: HostRuntime) -> Result<(), AllocError> {
     let alloc = rt.alloc();
-    let calls = Rc::new(alloc, Cell::new(0u64))?;
     let problems = series(7000, 500, Way::First);
     let one = run(alloc, problems)?;
-    let other = run_plainly(alloc, problems, calls.clone()?)?;
+    let other = run_plainly(alloc, problems)?;
     assert!(rt;
         is_right(&one, 500) && is_right(&other, 500),
         "{one:?} {other:?}"
     );
     assert!(rt;
-        one.solved == other.solved && calls.get() > 500,
+        one.solved == other.solved && other.axioms > 500,
         "{one:?} {other:?}"
     );
     Ok(())

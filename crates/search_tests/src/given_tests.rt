@@ -3,12 +3,10 @@ use crate::given::{
     AT_LEAST_TWO, CONSTANTS, CROWDED, FIRST_GOAL, FITTING, FLAGS, GREATEST, LESS, NO_VALUE,
     OPPOSED, OVERFULL, SECOND_GOAL, TWO_GOALS, UNEQUAL,
 };
-use crate::rows::{Row, least_value};
 use crate::series::{Budgets, Series, Source, Tally, run, run_plainly};
-use crate::splits::Way;
+use plain_runs::Way;
+use small_problems::{Row, least_value};
 use std::alloc::AllocError;
-use std::cell::Cell;
-use std::rc::Rc;
 
 /// What is to be found last: the values of the first variables.
 #[derive(Clone, Copy, Debug)]
@@ -90,9 +88,8 @@ fn given_problems_have_their_answers(rt: HostRuntime) -> Result<(), AllocError> 
 #[test]
 fn an_own_propagator_and_an_own_order_serve(rt: HostRuntime) -> Result<(), AllocError> {
     let alloc = rt.alloc();
-    let calls = Rc::new(alloc, Cell::new(0u64))?;
-    let tally = run_plainly(alloc, once(FLAGS, Way::Greatest, 0), calls.clone()?)?;
+    let tally = run_plainly(alloc, once(FLAGS, Way::Greatest, 0))?;
     assert!(rt; is_as_wanted(&tally, true, Found::Two(0, 1)), "{tally:?}");
-    assert!(rt; calls.get() != 0);
+    assert!(rt; tally.axioms != 0, "{tally:?}");
     Ok(())
 }

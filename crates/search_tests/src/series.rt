@@ -6,24 +6,20 @@ ghost use Rattle.branch_choice.specs.Picks.{IsAsked, IsPick};
 
 use crate::choosing::greatest;
 use crate::given::given;
-use crate::making::{hints, problem};
-use crate::points::{best_point, size};
-use crate::prober::Prober;
-use crate::rows::{Row, boxes_of};
-use crate::splits::Way;
 use crate::trial::{Case, Report, Seen, Tools, try_once};
 use bool_prop::BoolProp;
 use branch_choice::{Chooser, Order, Pick, Split, first, former, small};
 use element_prop::ElementProp;
+use given_problems::Prober;
 use ground_check::is_problem_well_made;
 use ground_form::Ground;
 use linear_prop::LinearProp;
 use pack_prop::PackProp;
+use plain_runs::Way;
 use rule_law::{Kit, Propagator};
 use signed_clause::IntSet;
+use small_problems::{Row, best_point, boxes_of, hints, problem, size};
 use std::alloc::{AllocError, Global};
-use std::cell::Cell;
-use std::rc::Rc;
 
 /// Where problems come from.
 #[derive(Clone, Copy, Debug)]
@@ -75,6 +71,8 @@ pub(crate) struct Tally {
     pub(crate) decisions: u64,
     /// How many clauses were learnt in all.
     pub(crate) learnt: u64,
+    /// How many clauses of constraints were written in all.
+    pub(crate) axioms: u64,
     /// How many lines there were in all, where lines were left out.
     pub(crate) lines: u64,
     /// How many of them can't be left out.
@@ -120,6 +118,7 @@ fn is_ready(case: &Case, alloc: Global) -> Result<bool, AllocError>
 fn count(tally: &mut Tally, seed: u64, report: Report) {
     tally.decisions = tally.decisions.saturating_add(report.decisions);
     tally.learnt = tally.learnt.saturating_add(report.learnt);
+    tally.axioms = tally.axioms.saturating_add(report.axioms);
     tally.lines = tally.lines.saturating_add(report.lines);
     tally.needed = tally.needed.saturating_add(report.needed);
     tally.found = report.found;
@@ -152,6 +151,7 @@ fn not_made() -> Report {
         found: None,
         decisions: 0,
         learnt: 0,
+        axioms: 0,
         lines: 0,
         needed: 0,
     }
@@ -201,6 +201,7 @@ fn try_cases(
         spent: 0,
         decisions: 0,
         learnt: 0,
+        axioms: 0,
         lines: 0,
         needed: 0,
         found: None,
@@ -279,12 +280,11 @@ fn with_kits(alloc: Global, series: Series, kits: Kits) -> Result<Tally, AllocEr
 
 /// What comes of a series with the propagators that look closer.
 pub(crate) fn run(alloc: Global, series: Series) -> Result<Tally, AllocError> {
-    let calls = Rc::new(alloc, Cell::new(0u64))?;
     let linear: Box<dyn Propagator> = Box::new(alloc, LinearProp::new(alloc))?;
     let flags: Box<dyn Propagator> = Box::new(alloc, BoolProp::new(alloc))?;
     let choices: Box<dyn Propagator> = Box::new(alloc, ElementProp::new(alloc))?;
     let places: Box<dyn Propagator> = Box::new(alloc, PackProp::new(alloc))?;
-    let probing: Box<dyn Propagator> = Box::new(alloc, Prober { alloc, calls })?;
+    let probing: Box<dyn Propagator> = Box::new(alloc, Prober { alloc })?;
     let Ok(kit) = Kit::new(vec![in alloc; linear, flags, choices, places]?) else {
         return Err(AllocError);
     };
@@ -294,21 +294,10 @@ pub(crate) fn run(alloc: Global, series: Series) -> Result<Tally, AllocError> {
     }
 }
 
-/// What comes of it with plain probing alone, the calls of which are counted.
-pub(crate) fn run_plainly(
-    alloc: Global,
-    series: Series,
-    calls: Rc<Cell<u64>>,
-) -> Result<Tally, AllocError> {
-    let beside = Rc::new(alloc, Cell::new(0u64))?;
-    let all: Box<dyn Propagator> = Box::new(alloc, Prober { alloc, calls })?;
-    let probing: Box<dyn Propagator> = Box::new(
-        alloc,
-        Prober {
-            alloc,
-            calls: beside,
-        },
-    )?;
+/// What comes of it with plain probing alone.
+pub(crate) fn run_plainly(alloc: Global, series: Series) -> Result<Tally, AllocError> {
+    let all: Box<dyn Propagator> = Box::new(alloc, Prober { alloc })?;
+    let probing: Box<dyn Propagator> = Box::new(alloc, Prober { alloc })?;
     let Ok(kit) = Kit::new(vec![in alloc; all]?) else {
         return Err(AllocError);
     };

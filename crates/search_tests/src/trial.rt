@@ -3,17 +3,15 @@ ghost use Rattle.std.specs.Prelude.{◌≡◌, ◌≤◌, true, length};
 ghost use Rattle.ground_form.specs.WellMade.{IsWellMade};
 ghost use Rattle.log_form.specs.Acceptance.{accepted};
 
-use crate::points::{is_better, is_solution};
-use crate::replay::{Deciding, Mode, Run};
-use crate::rows::{Row, point_of};
-use crate::splits::Way;
 use bound_search::{Ended, Limits, search};
 use branch_choice::Chooser;
 use ground_form::Ground;
 use log_check::{Verdict, VerdictKind, check, trim};
 use log_form::Line;
+use plain_runs::{Deciding, Mode, Run, Way};
 use proof_log::Record;
 use rule_law::Kit;
+use small_problems::{Row, is_better, is_solution, point_of};
 use std::alloc::{AllocError, Global};
 
 /// What was seen of a search.
@@ -47,6 +45,8 @@ pub(crate) struct Report {
     pub(crate) decisions: u64,
     /// How many clauses were learnt.
     pub(crate) learnt: u64,
+    /// How many clauses of constraints were written.
+    pub(crate) axioms: u64,
     /// How many lines there were, where lines were left out.
     pub(crate) lines: u64,
     /// How many of them can't be left out.
@@ -270,6 +270,7 @@ pub(crate) fn try_once(tools: &mut Tools, case: &Case, budget: u32) -> Result<Re
         found: run.found,
         decisions: run.decisions,
         learnt: run.learnt_count(),
+        axioms: run.axioms,
         lines: 0,
         needed: 0,
     };

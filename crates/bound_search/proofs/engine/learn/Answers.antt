@@ -1,7 +1,8 @@
 use Rattle.std.proofs.Common.{◌∙◌, ◌<◌, ◌++◌, ◌∷◌, [], refl, sym, ap, subst, arith}
 use Rattle.signed_clause.specs.Clauses.{Literals}
 use Rattle.log_form.specs.declared.line.Line.TheVariants.{Chain}
-use Rattle.bound_search.specs.Engines.{MayTakeIn}
+use Rattle.bound_search.specs.declared.engine.Engine.{Engine}
+use Rattle.bound_search.specs.Engines.{MayTakeIn, IsTakenIn}
 use Rattle.bound_search.proofs.Steps.{alike}
 use Rattle.bound_search.proofs.Learning.{conflict_known, IsLesson, lesson_kept, lesson_closes, may_take_in, lesson_reached, lesson_falls, taken_same, taken_table}
 use Rattle.bound_search.proofs.engine.learn.Goals as goal
@@ -155,6 +156,30 @@ returns-clause-kept c =
       rounds = c.in_ok-push.ensures.rounds;
     })
 
+-- what was taken in, told of the engine before the analysis
+taken : (c : goal.In_ok-after) → IsTakenIn c.args.g.now c.args.e.now c.take_in.new.e
+    c.in_ok-learnt.learnt.clause c.in_ok-learnt.learnt.level c.in_ok-after.after
+taken c =
+    let g = c.args.g.now in
+    let d = c.args.e.now in
+    let l = c.in_ok-learnt.learnt in
+    let a = c.in_ok-after.after in
+    let t = c.in_ok-after.ensures in
+    let f : Engine = record {
+      alloc = d.alloc;
+      board = d.board;
+      clauses = d.clauses;
+      recent = d.recent;
+      running = c.analyse.new.running;
+    } in
+    let told : IsTakenIn g f c.take_in.new.e c.in_ok-handle.handle l.level a = record {
+      applied = record { mode = t.mode; store = t.store; board = t.board };
+      engine = record { clauses_are = t.numbered; added_are = t.watched; table = t.table };
+    } in
+    taken_table g d f c.take_in.new.e l.clause l.level a refl refl c.in_ok-learnt.ensures.len
+    (taken_same g f c.take_in.new.e c.in_ok-handle.handle l.clause l.level a
+    c.in_ok-handle.ensures told)
+
 pub returns-clause-at : goal.returns-clause-at
 returns-clause-at c =
     let e = c.args.e.now in
@@ -175,8 +200,6 @@ returns-clause-at c =
     let lt : 0 < l.level = omega (arith, some) in
     let may = may_take_in c.args.g.now lines e c.args.n l.chain l.clause l.level c.requires.at lesson
     lt in
-    let taken = taken_same c.args.g.now _ _ c.in_ok-handle.handle l.clause l.level
-    c.in_ok-after.after c.in_ok-handle.ensures c.in_ok-after.ensures in
     lesson_reached c.args.g.now c.args.journal.now c.push.new.self e _ c.args.n l.chain l.clause
     l.level c.in_ok-after.after c.requires.at lesson (record {
       lines = c.in_ok-push.ensures.ok
@@ -184,8 +207,7 @@ returns-clause-at c =
       problem = c.in_ok-push.ensures.ground;
       rounds = c.in_ok-push.ensures.rounds;
     }) lt
-    (taken_table c.args.g.now e _ _ l.clause l.level c.in_ok-after.after refl refl
-    c.in_ok-learnt.ensures.len taken)
+    (taken c)
 
 pub returns-clause-fall : goal.returns-clause-fall
 returns-clause-fall c =
@@ -207,11 +229,8 @@ returns-clause-fall c =
     let lt : 0 < l.level = omega (arith, some) in
     let may = may_take_in c.args.g.now lines e c.args.n l.chain l.clause l.level c.requires.at lesson
     lt in
-    let taken = taken_same c.args.g.now _ _ c.in_ok-handle.handle l.clause l.level
-    c.in_ok-after.after c.in_ok-handle.ensures c.in_ok-after.ensures in
     lesson_falls c.args.g.now e _ l.clause l.level c.in_ok-after.after may
-    (taken_table c.args.g.now e _ _ l.clause l.level c.in_ok-after.after refl refl
-    c.in_ok-learnt.ensures.len taken)
+    (taken c)
 
 pub returns-clause-alike : goal.returns-clause-alike
 returns-clause-alike c =

@@ -1,8 +1,20 @@
-use Rattle.std.proofs.Common.{Option, subst, arith}
+use Rattle.std.proofs.Common.{Option, ap, subst, arith, rules}
 use Rattle.branch_choice.specs.declared.split.Split.{Split}
+use Rattle.search_run.specs.Decisions.{decisions}
 use Rattle.bound_search.specs.Engines.{SettledOf, IsDue}
 use Rattle.bound_search.proofs.Splits.{due_may_decide}
 use Rattle.bound_search.proofs.solving.run.Goals as goal
+
+pub decisions-init : goal.decisions-init
+decisions-init g c =
+    let none = ap decisions c.requires.lines in
+    let below = c.in_ok-e.ensures.below in
+    record {
+      at = search rules;
+      kept = search rules;
+      decided = omega (arith, none);
+      below = omega (arith, below);
+    }
 
 pub returns-then-left-eq0-clause-ends : goal.returns-then-left-eq0-clause-ends
 returns-then-left-eq0-clause-ends g c =

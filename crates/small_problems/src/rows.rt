@@ -4,60 +4,60 @@ use signed_clause::{Clause, IntSet};
 use std::alloc::{AllocError, Global};
 
 /// The least value that has a bit.
-pub(crate) const LEAST: i64 = -8;
+pub const LEAST: i64 = -8;
 
 /// Sets of eight variables.
 #[derive(Clone, Copy, Debug)]
-pub(crate) struct Row {
+pub struct Row {
     masks: [u64; 8],
 }
 
 impl Row {
     /// Eight empty sets.
-    pub(crate) fn empty() -> Row {
+    pub fn empty() -> Row {
         Row { masks: [0; 8] }
     }
 
     /// The set of `x`, the empty one of a variable that there isn't.
-    pub(crate) fn get(&self, x: usize) -> u64 {
+    pub fn get(&self, x: usize) -> u64 {
         if x < 8 { self.masks[x] } else { 0 }
     }
 
     /// Gives `x` this set.
-    pub(crate) fn put(&mut self, x: usize, mask: u64) {
+    pub fn put(&mut self, x: usize, mask: u64) {
         if x < 8 {
             self.masks[x] = mask;
         }
     }
 
     /// Whether the other has the same sets.
-    pub(crate) fn same(&self, other: &Row) -> bool {
+    pub fn same(&self, other: &Row) -> bool {
         (0..8).all(|x| self.get(x) == other.get(x))
     }
 
     /// Whether all sets are empty.
-    pub(crate) fn is_empty(&self) -> bool {
+    pub fn is_empty(&self) -> bool {
         (0..8).all(|x| self.get(x) == 0)
     }
 
     /// Whether the sets of the first `count` variables have values.
-    pub(crate) fn are_some(&self, count: usize) -> bool {
+    pub fn are_some(&self, count: usize) -> bool {
         (0..count).all(|x| self.get(x) != 0)
     }
 
     /// Whether each set lies within that of the other.
-    pub(crate) fn lies_within(&self, other: &Row) -> bool {
+    pub fn lies_within(&self, other: &Row) -> bool {
         (0..8).all(|x| self.get(x) & !other.get(x) == 0)
     }
 
     /// As a clause: whether no literal is left a value by the boxes.
-    pub(crate) fn is_false(&self, boxes: &Row) -> bool {
+    pub fn is_false(&self, boxes: &Row) -> bool {
         (0..8).all(|x| self.get(x) & boxes.get(x) == 0)
     }
 
     /// As a clause: the variable of the one literal that is left a value by the boxes, where its
     /// box has another value too.
-    pub(crate) fn unit(&self, boxes: &Row) -> Option<usize> {
+    pub fn unit(&self, boxes: &Row) -> Option<usize> {
         for x in 0..8usize {
             if self.get(x) & boxes.get(x) != 0 {
                 let mut others = *boxes;
@@ -74,13 +74,13 @@ impl Row {
     }
 
     /// As a clause: whether it is false or unit in the boxes.
-    pub(crate) fn acts(&self, boxes: &Row) -> bool {
+    pub fn acts(&self, boxes: &Row) -> bool {
         self.is_false(boxes) || self.unit(boxes).is_some()
     }
 
     /// The clause that two clauses have together: of `x` the values that both have, of other
     /// variables those that either has.
-    pub(crate) fn resolvent(&self, x: usize, other: &Row) -> Row {
+    pub fn resolvent(&self, x: usize, other: &Row) -> Row {
         let mut out = Row::empty();
         for y in 0..8usize {
             if y == x {
@@ -94,12 +94,12 @@ impl Row {
 }
 
 /// The least value of the set alone; none of the empty set.
-pub(crate) fn least_bit(mask: u64) -> u64 {
+pub fn least_bit(mask: u64) -> u64 {
     mask & mask.wrapping_neg()
 }
 
 /// The greatest value of the set alone; none of the empty set.
-pub(crate) fn greatest_bit(mask: u64) -> u64 {
+pub fn greatest_bit(mask: u64) -> u64 {
     let mut bit = 0;
     for k in 0..64u32 {
         if mask & (1 << k) != 0 {
@@ -110,17 +110,17 @@ pub(crate) fn greatest_bit(mask: u64) -> u64 {
 }
 
 /// Whether the set is one value.
-pub(crate) fn is_single(mask: u64) -> bool {
+pub fn is_single(mask: u64) -> bool {
     mask != 0 && mask == least_bit(mask)
 }
 
 /// The least value of the set.
-pub(crate) fn least_value(mask: u64) -> i64 {
+pub fn least_value(mask: u64) -> i64 {
     i64::from(mask.trailing_zeros()) + LEAST
 }
 
 /// The value alone; none where it has no bit.
-pub(crate) fn bit_of(value: i64) -> u64 {
+pub fn bit_of(value: i64) -> u64 {
     if LEAST <= value && value < 56 {
         1 << ((value + 8) as u64)
     } else {
@@ -129,7 +129,7 @@ pub(crate) fn bit_of(value: i64) -> u64 {
 }
 
 /// The set as bits; None where a value has none.
-pub(crate) fn mask_of(set: &IntSet) -> Option<u64> {
+pub fn mask_of(set: &IntSet) -> Option<u64> {
     let mut mask = 0u64;
     for r in set.ranges() {
         if r.0 < LEAST || r.1 >= 56 {
@@ -145,7 +145,7 @@ pub(crate) fn mask_of(set: &IntSet) -> Option<u64> {
 }
 
 /// The clause as a row; None where a value or a variable has no place in it.
-pub(crate) fn row_of(clause: &Clause) -> Option<Row> {
+pub fn row_of(clause: &Clause) -> Option<Row> {
     let mut row = Row::empty();
     for l in clause.literals() {
         let mask = mask_of(&l.1)?;
@@ -158,7 +158,7 @@ pub(crate) fn row_of(clause: &Clause) -> Option<Row> {
 }
 
 /// The point of these values.
-pub(crate) fn point_of(values: &[i64]) -> Row {
+pub fn point_of(values: &[i64]) -> Row {
     let mut point = Row::empty();
     for (x, v) in values.iter().enumerate() {
         point.put(x, bit_of(*v));
@@ -167,7 +167,7 @@ pub(crate) fn point_of(values: &[i64]) -> Row {
 }
 
 /// Boxes as a row; None where a value or a variable has no place in it.
-pub(crate) fn boxes_of(boxes: &[IntSet]) -> Option<Row> {
+pub fn boxes_of(boxes: &[IntSet]) -> Option<Row> {
     let mut row = Row::empty();
     for (x, set) in boxes.iter().enumerate() {
         let mask = mask_of(set)?;
@@ -180,7 +180,7 @@ pub(crate) fn boxes_of(boxes: &[IntSet]) -> Option<Row> {
 }
 
 /// The set of the bits.
-pub(crate) fn set_of(alloc: Global, mask: u64) -> Result<IntSet, AllocError> {
+pub fn set_of(alloc: Global, mask: u64) -> Result<IntSet, AllocError> {
     let mut set = IntSet::empty(alloc);
     for v in LEAST..56 {
         if mask & bit_of(v) != 0 {
@@ -191,7 +191,7 @@ pub(crate) fn set_of(alloc: Global, mask: u64) -> Result<IntSet, AllocError> {
 }
 
 /// The sets of the first `count` variables.
-pub(crate) fn sets_of(alloc: Global, row: &Row, count: usize) -> Result<Vec<IntSet>, AllocError> {
+pub fn sets_of(alloc: Global, row: &Row, count: usize) -> Result<Vec<IntSet>, AllocError> {
     let mut sets = Vec::new(alloc);
     for x in 0..count {
         sets.push(set_of(alloc, row.get(x))?)?;

@@ -1,9 +1,9 @@
 //! How an order decides, written out over sets as bits.
-use crate::rows::{Row, bit_of, greatest_bit, is_single, least_bit};
+use small_problems::{Row, bit_of, greatest_bit, is_single, least_bit};
 
 /// Whose splits are looked for.
 #[derive(Clone, Copy, Debug)]
-pub(crate) enum Way {
+pub enum Way {
     /// The first undecided variable's least value.
     First,
     /// The least value of the undecided variable with fewest values, the first of those.

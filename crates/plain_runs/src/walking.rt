@@ -1,6 +1,6 @@
 //! The walk back from a conflict, over changes that have the whole boxes before them.
-use crate::rows::Row;
 use numbered_clauses::Chain;
+use small_problems::Row;
 
 /// A change of a box.
 #[derive(Clone, Copy)]

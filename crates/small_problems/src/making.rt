@@ -1,7 +1,9 @@
 //! Random small problems: all kinds of constraints, empty domains, variables that stand twice in a
 //! constraint, coefficients below 0, and none to three goals.
-use crate::numbers::Numbers;
+ghost use Rattle.std.specs.Prelude.{◌<◌};
+
 use crate::rows::set_of;
+use given_problems::Random;
 use ground_check::is_constraint_well_made;
 use ground_form::{
     Con, Cons, Domains, Goals, Ground, GroundGoal, Kind, PackItems, Parts, Terms, VarList,
@@ -13,7 +15,7 @@ use std::alloc::{AllocError, Global};
 #[derive(Drop)]
 struct Making {
     alloc: Global,
-    numbers: Numbers,
+    numbers: Random,
     domains: Vec<IntSet>,
     cons: Vec<Con>,
 }
@@ -43,6 +45,25 @@ fn is_truth(kind: Kind) -> bool {
     )
 }
 
+/// The numbers of a seed; those of neighbours are unlike each other.
+fn numbers_of(seed: u64) -> Random {
+    Random::of(seed.wrapping_mul(0x9e37_79b9_7f4a_7c15).wrapping_add(1))
+}
+
+/// One of the `count` numbers from `least` on.
+fn number_from(numbers: &mut Random, least: i64, count: u32) -> i64
+    requires { 0 < count }
+{
+    least.saturating_add(i64::from(numbers.below(count)))
+}
+
+/// True in one of `count` cases.
+fn one_in(numbers: &mut Random, count: u32) -> bool
+    requires { 0 < count }
+{
+    numbers.below(count) == 0
+}
+
 impl Making {
     /// A set of some of the values from `least` on.
     fn some_of(&mut self, least: u32, count: u32) -> u64 {
@@ -65,7 +86,11 @@ impl Making {
     /// The bits of a defined variable's domain.
     fn defined_domain(&mut self, kind: Kind) -> u64 {
         if is_truth(kind) {
-            return if self.numbers.one_in(8) { 0x200 } else { FLAG };
+            return if one_in(&mut self.numbers, 8) {
+                0x200
+            } else {
+                FLAG
+            };
         }
         self.some_of(5, 8) | self.some_of(5, 8)
     }
@@ -108,7 +133,7 @@ impl Making {
     fn terms(&mut self, count: u32) -> Result<Terms, AllocError> {
         let mut terms = Vec::new(self.alloc);
         for _ in 0..self.few(count) {
-            let term = (self.numbers.from(-3, 7), self.var(count));
+            let term = (number_from(&mut self.numbers, -3, 7), self.var(count));
             terms.push(term)?;
         }
         Ok(Terms::of(terms))
@@ -118,7 +143,7 @@ impl Making {
     fn parts(&mut self, count: u32) -> Result<Parts, AllocError> {
         let mut parts = Vec::new(self.alloc);
         for _ in 0..self.few(count) {
-            let part = (self.var_upto(count, 1), self.numbers.one_in(2));
+            let part = (self.var_upto(count, 1), one_in(&mut self.numbers, 2));
             parts.push(part)?;
         }
         Ok(Parts::of(parts))
@@ -161,7 +186,7 @@ impl Making {
         let mut literals = Vec::new(self.alloc);
         for x in 0..count {
             let mask = self.some_of(6, 6);
-            if mask != 0 && self.numbers.one_in(2) {
+            if mask != 0 && one_in(&mut self.numbers, 2) {
                 literals.push((x, set_of(self.alloc, mask)?))?;
             }
         }
@@ -177,7 +202,7 @@ impl Making {
             Kind::ReifLe => Con::ReifLe {
                 flag,
                 terms: self.terms(count)?,
-                bound: self.numbers.from(-3, 9),
+                bound: number_from(&mut self.numbers, -3, 9),
             },
             Kind::AndDef => Con::AndDef {
                 flag,
@@ -205,7 +230,7 @@ impl Making {
             Kind::LinDef => Ok(Con::LinDef {
                 out,
                 terms: self.terms(count)?,
-                offset: self.numbers.from(-2, 5),
+                offset: number_from(&mut self.numbers, -2, 5),
             }),
             Kind::ElementDef => Ok(Con::ElementDef {
                 out,
@@ -227,7 +252,7 @@ impl Making {
         match kind {
             Kind::LinLe => Ok(Con::LinLe {
                 terms: self.terms(count)?,
-                bound: self.numbers.from(-2, 7),
+                bound: number_from(&mut self.numbers, -2, 7),
             }),
             Kind::ClauseCon => Ok(Con::ClauseCon {
                 clause: self.clause(count)?,
@@ -257,7 +282,7 @@ impl Making {
 
     /// A kind of a statement, in half of the cases one that doesn't define.
     fn stating_kind(&mut self, searched: u32) -> Kind {
-        if searched == 0 || self.numbers.one_in(2) {
+        if searched == 0 || one_in(&mut self.numbers, 2) {
             STATING[self.numbers.below(4) as usize]
         } else {
             DEFINING[self.numbers.below(7) as usize]
@@ -296,7 +321,7 @@ impl Making {
         for _ in 0..self.numbers.below(4) {
             if count != 0 {
                 let var = self.numbers.below(count);
-                let max = self.numbers.one_in(2);
+                let max = one_in(&mut self.numbers, 2);
                 goals.push(GroundGoal { var, max })?;
             }
         }
@@ -305,10 +330,13 @@ impl Making {
 }
 
 /// The problem of a seed: up to five searched variables and up to two with a definition.
-pub(crate) fn problem(alloc: Global, seed: u64) -> Result<Ground, AllocError> {
+///
+/// # Errors
+/// Want of memory.
+pub fn problem(alloc: Global, seed: u64) -> Result<Ground, AllocError> {
     let mut making = Making {
         alloc,
-        numbers: Numbers::of(seed),
+        numbers: numbers_of(seed),
         domains: Vec::new(alloc),
         cons: Vec::new(alloc),
     };
@@ -333,12 +361,19 @@ pub(crate) fn problem(alloc: Global, seed: u64) -> Result<Ground, AllocError> {
 }
 
 /// A hint for each of the searched variables, or none.
-pub(crate) fn hints(alloc: Global, seed: u64, count: u32) -> Result<Vec<Option<i64>>, AllocError> {
-    let mut numbers = Numbers::of(seed);
+///
+/// # Errors
+/// Want of memory.
+pub fn hints(alloc: Global, seed: u64, count: u32) -> Result<Vec<Option<i64>>, AllocError> {
+    let mut numbers = numbers_of(seed);
     let mut hints = Vec::new(alloc);
     for _ in 0..count {
-        let value = numbers.from(-2, 6);
-        hints.push(if numbers.one_in(3) { None } else { Some(value) })?;
+        let value = number_from(&mut numbers, -2, 6);
+        hints.push(if one_in(&mut numbers, 3) {
+            None
+        } else {
+            Some(value)
+        })?;
     }
     Ok(hints)
 }

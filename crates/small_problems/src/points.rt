@@ -4,7 +4,7 @@ use ground_form::{Con, Ground, GroundGoal};
 use signed_clause::Clause;
 
 /// The value of `x` at the point.
-pub(crate) fn value(at: &Row, x: u32) -> i64 {
+fn value(at: &Row, x: u32) -> i64 {
     least_value(at.get(x as usize))
 }
 
@@ -64,7 +64,7 @@ fn has_room(items: &[(u32, u32, u32)], item: (u32, u32, u32), at: &Row) -> bool 
 }
 
 /// Whether the constraint is true at the point.
-pub(crate) fn is_true(con: &Con, at: &Row) -> bool {
+fn is_true(con: &Con, at: &Row) -> bool {
     match con {
         Con::LinLe { terms, bound } => sum(terms.items(), at) <= *bound,
         Con::LinDef { out, terms, offset } => {
@@ -92,12 +92,12 @@ pub(crate) fn is_true(con: &Con, at: &Row) -> bool {
 }
 
 /// Whether all constraints are true at the point.
-pub(crate) fn is_solution(g: &Ground, at: &Row) -> bool {
+pub fn is_solution(g: &Ground, at: &Row) -> bool {
     g.cons.items().iter().all(|con| is_true(con, at))
 }
 
 /// Whether the one point is better than the other: at the first goal whose values differ.
-pub(crate) fn is_better(goals: &[GroundGoal], one: &Row, other: &Row) -> bool {
+pub fn is_better(goals: &[GroundGoal], one: &Row, other: &Row) -> bool {
     for goal in goals {
         let ours = value(one, goal.var);
         let theirs = value(other, goal.var);
@@ -124,7 +124,7 @@ fn go_on(domains: &Row, count: usize, at: &mut Row) -> bool {
 }
 
 /// A best solution, by a look at every point.
-pub(crate) fn best_point(g: &Ground, domains: &Row) -> Option<Row> {
+pub fn best_point(g: &Ground, domains: &Row) -> Option<Row> {
     let count = g.domains.items().len();
     if !domains.are_some(count) {
         return None;
@@ -150,7 +150,7 @@ pub(crate) fn best_point(g: &Ground, domains: &Row) -> Option<Row> {
 }
 
 /// How many points the first `count` domains have.
-pub(crate) fn size(domains: &Row, count: usize) -> u64 {
+pub fn size(domains: &Row, count: usize) -> u64 {
     let mut product = 1u64;
     for x in 0..count {
         product = product.saturating_mul(u64::from(domains.get(x).count_ones()));

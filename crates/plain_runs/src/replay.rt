@@ -4,8 +4,6 @@
 ghost use Rattle.std.specs.Prelude.{◌≡◌, true};
 ghost use Rattle.ground_form.specs.WellMade.{IsWellMade};
 
-use crate::points::{is_better, is_solution};
-use crate::rows::{Row, bit_of, is_single, mask_of, point_of, row_of, sets_of};
 use crate::splits::{Way, split_of};
 use crate::walking::{Entry, is_walk};
 use ground_form::{Ground, GroundGoal};
@@ -13,11 +11,14 @@ use log_form::Line;
 use numbered_clauses::Chain;
 use rule_law::{Kit, are_boxes_within};
 use signed_clause::{Clause, IntSet};
+use small_problems::{
+    Row, bit_of, is_better, is_single, is_solution, mask_of, point_of, row_of, sets_of,
+};
 use std::alloc::{AllocError, Global};
 
 /// What the lines so far ask of the next one.
 #[derive(Clone, Copy, Debug, PartialEq, Eq)]
-pub(crate) enum Mode {
+pub enum Mode {
     /// To prune, to decide or to tell a solution.
     Going,
     /// To explain that the clause of this number is false.
@@ -38,7 +39,7 @@ struct Level {
 
 /// What the lines so far leave.
 #[derive(Drop)]
-pub(crate) struct Run {
+pub struct Run {
     alloc: Global,
     domains: Row,
     levels: Vec<Level>,
@@ -46,23 +47,28 @@ pub(crate) struct Run {
     clauses: Vec<Row>,
     learnt: Vec<Row>,
     bounds: Vec<Row>,
-    pub(crate) mode: Mode,
-    pub(crate) found: Option<Row>,
-    pub(crate) decisions: u64,
+    /// What is asked of the next line.
+    pub mode: Mode,
+    /// The solution that was told last.
+    pub found: Option<Row>,
+    /// How many decisions there were.
+    pub decisions: u64,
+    /// How many clauses of constraints there were.
+    pub axioms: u64,
 }
 
 /// How a run is to decide.
 #[derive(Clone, Copy)]
-pub(crate) struct Deciding<'a> {
+pub struct Deciding<'a> {
     /// By which order.
-    pub(crate) way: Way,
+    pub way: Way,
     /// The hints of the searched variables.
-    pub(crate) hints: &'a [Option<i64>],
+    pub hints: &'a [Option<i64>],
 }
 
 impl Run {
     /// Before the first line.
-    pub(crate) fn new(alloc: Global, domains: Row) -> Result<Run, AllocError> {
+    pub fn new(alloc: Global, domains: Row) -> Result<Run, AllocError> {
         let level = Level {
             first: domains,
             now: domains,
@@ -79,11 +85,12 @@ impl Run {
             mode: Mode::Going,
             found: None,
             decisions: 0,
+            axioms: 0,
         })
     }
 
     /// How many clauses were learnt.
-    pub(crate) fn learnt_count(&self) -> u64 {
+    pub fn learnt_count(&self) -> u64 {
         self.learnt.len() as u64
     }
 
@@ -149,6 +156,7 @@ impl Run {
         let number = self.clauses.len() as u64;
         self.react(number, &row)?;
         self.clauses.push(row)?;
+        self.axioms = self.axioms.saturating_add(1);
         Ok(true)
     }
 
@@ -291,7 +299,7 @@ impl Run {
     }
 
     /// Whether the next line may stand; it is taken in.
-    pub(crate) fn follow(
+    pub fn follow(
         &mut self,
         g: &Ground,
         plain: &mut Kit,
@@ -320,7 +328,7 @@ impl Run {
     }
 
     /// Whether a decision could stand next.
-    pub(crate) fn may_decide(&self, g: &Ground, plain: &mut Kit) -> Result<bool, AllocError>
+    pub fn may_decide(&self, g: &Ground, plain: &mut Kit) -> Result<bool, AllocError>
         requires { IsWellMade g.now }
     {
         let top = self.top();
