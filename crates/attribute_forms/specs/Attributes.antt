@@ -48,7 +48,8 @@ IsCellChoice boxes x (choice.Mapped y map) = ⊥
 
 -- the form of attribute k of the owner, which has this shape
 pub record IsAttributeForm (o : Outline) (g : Ground) (owner : Option ℕ) (k : ℕ) (s : Resolved) (f : Form) : Type 0 where
-  pub stands : (a : List ℤ) → IsWorld g a → attribute_value o (take g.search a) owner k s ≡ form_value f a
+  pub stands : (a : List ℤ) → IsWorld g a → attribute_value o (take g.search a) owner k s
+      ≡ form_value f a
   pub number : IsSum g.domains (shape_interval s).low (shape_interval s).high (number_part f)
   pub truth : HasVariable (length g.domains) (truth_part f)
   pub typed : IsFormOf o g.domains (shape_type s) f

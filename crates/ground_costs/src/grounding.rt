@@ -2,7 +2,7 @@
 ghost use Rattle.conf_types.specs.Typing.{IsTypedModel};
 
 use crate::clock::Clock;
-use conf_limits::limits;
+use conf_limits::{limits, model_weight};
 use conf_types::TypedModel;
 use given_models::typed_of;
 use ground_form::Ground;
@@ -16,6 +16,8 @@ use std::rt::Runtime;
 pub(crate) struct Grounded {
     /// The problem.
     pub(crate) ground: Ground,
+    /// How much the model's expressions weigh.
+    pub(crate) weight: u64,
     /// Microseconds of reading, typing and allocating.
     pub(crate) typing_time: u128,
     /// Microseconds of making it ground.
@@ -40,6 +42,7 @@ fn make_typed<R: Runtime>(
     let time = clock.passed(rt);
     Ok(Some(Grounded {
         ground,
+        weight: model_weight(m, objects),
         typing_time,
         time,
     }))

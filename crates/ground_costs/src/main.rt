@@ -1,19 +1,20 @@
 //! What ground problems of models come to and cost.
 //!
 //! With no word the program prints how many variables, constraints and terms the ground problem of
-//! each model has. With the word `times` it prints how long that takes, and how much memory the
-//! program has taken at most; the first part of a row's name as a further word picks rows.
+//! each model has, but for the models that take longest. With the word `times` it prints how long
+//! that takes; the first part of a row's name as a further word picks rows, also of those.
 #![tactic(auto)]
 
 mod clock;
 mod counts;
 mod grounding;
+mod limits;
 mod models;
 
 use counts::{Counts, counts_of, nth_kind, of_kind};
 use ground_form::Ground;
 use grounding::{Grounded, made_ground};
-use models::{ROWS, Row, nth_row, text_of};
+use models::{QUICK_ROWS, ROWS, Row, nth_row, text_of};
 use std::{env, io};
 
 /// Prints how many constraints of each kind a problem has.
@@ -32,8 +33,8 @@ fn show_kinds(rt: &HostRuntime, g: &Ground) -> io::Result<()> {
 fn show(rt: &HostRuntime, row: Row, seen: &Grounded, timed: bool) -> io::Result<()> {
     let counts: Counts = counts_of(&seen.ground);
     println!(rt;
-        "{}: {} cells, {} variables, {} constraints, {} terms",
-        row.name, counts.cells, counts.variables, counts.constraints, counts.terms
+        "{}: weight {}, {} cells, {} variables, {} constraints, {} terms",
+        row.name, seen.weight, counts.cells, counts.variables, counts.constraints, counts.terms
     )?;
     if timed {
         println!(rt;
@@ -60,7 +61,8 @@ fn show_row(rt: &HostRuntime, row: Row, timed: bool) -> io::Result<()> {
 fn main(rt: HostRuntime) -> io::Result<()> {
     let timed = env::args(&rt)?.skip(1).any(|word| word.as_str() == "times");
     let some = env::args(&rt)?.skip(1).any(|word| word.as_str() != "times");
-    for number in 0..ROWS {
+    let shown = if some { ROWS } else { QUICK_ROWS };
+    for number in 0..shown {
         let row = nth_row(number);
         let picked = env::args(&rt)?
             .skip(1)

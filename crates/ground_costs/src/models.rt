@@ -1,4 +1,5 @@
 //! The models that are made ground.
+use crate::limits::{Shape, limit_text};
 use std::alloc::{AllocError, Global};
 
 /// A model: a name, and how its text is made.
@@ -23,10 +24,15 @@ enum Source {
     Bins(u32, u32),
     /// Services that each name hosts in a set, and prices behind two dots.
     Sets(u32),
+    /// A model near the limit of weight.
+    Limit(Shape),
 }
 
 /// How many rows there are.
-pub(crate) const ROWS: u32 = 8;
+pub(crate) const ROWS: u32 = 31;
+
+/// How many of them are shown where no row is asked for; those that take longest come last.
+pub(crate) const QUICK_ROWS: u32 = 19;
 
 /// The row of this number.
 pub(crate) fn nth_row(number: u32) -> Row {
@@ -38,13 +44,36 @@ pub(crate) fn nth_row(number: u32) -> Row {
         4 => ("bins-4x12", Source::Bins(4, 12)),
         5 => ("bins-12x60", Source::Bins(12, 60)),
         6 => ("sets-10", Source::Sets(10)),
-        _ => ("sets-20", Source::Sets(20)),
+        7 => ("sets-20", Source::Sets(20)),
+        8 => ("limit-sums", Source::Limit(Shape::Sums)),
+        9 => ("limit-flags", Source::Limit(Shape::Flags)),
+        10 => ("limit-attributes", Source::Limit(Shape::Attributes)),
+        11 => ("limit-far", Source::Limit(Shape::Far)),
+        12 => ("limit-apart", Source::Limit(Shape::Apart)),
+        13 => ("limit-gaps", Source::Limit(Shape::Gaps)),
+        14 => ("limit-nested", Source::Limit(Shape::Nested)),
+        15 => ("limit-again", Source::Limit(Shape::Again)),
+        16 => ("limit-goals", Source::Limit(Shape::Goals)),
+        17 => ("limit-cells", Source::Limit(Shape::Cells)),
+        18 => ("limit-fixed", Source::Limit(Shape::Fixed)),
+        19 => ("limit-sets", Source::Sets(107)),
+        20 => ("limit-filters", Source::Limit(Shape::Filters)),
+        21 => ("limit-products", Source::Limit(Shape::Products)),
+        22 => ("limit-different", Source::Limit(Shape::Different)),
+        23 => ("limit-packing", Source::Limit(Shape::Packing)),
+        24 => ("limit-mapped", Source::Limit(Shape::Mapped)),
+        25 => ("limit-members", Source::Limit(Shape::Members)),
+        26 => ("limit-single", Source::Limit(Shape::Single)),
+        27 => ("limit-nobody", Source::Limit(Shape::Nobody)),
+        28 => ("limit-listed", Source::Limit(Shape::Listed)),
+        29 => ("limit-known", Source::Limit(Shape::Known)),
+        _ => ("limit-chosen", Source::Limit(Shape::Chosen)),
     };
     Row { name, source }
 }
 
 /// Two sites of n hosts each, and 2n machines that are placed on hosts.
-fn sites(alloc: Global, n: u32) -> Result<String, AllocError> {
+pub(crate) fn sites(alloc: Global, n: u32) -> Result<String, AllocError> {
     format!(in alloc;
         "class Host {{ var cap as 8..8; \
         where sum v in Vm where v.host = this {{ v.size }} <= cap; }} \
@@ -117,5 +146,6 @@ pub(crate) fn text_of(alloc: Global, row: Row) -> Result<String, AllocError> {
         Source::Pigeons(n) => pigeons(alloc, n),
         Source::Bins(count, items) => bins(alloc, count, items),
         Source::Sets(n) => sets(alloc, n),
+        Source::Limit(shape) => limit_text(alloc, shape),
     }
 }

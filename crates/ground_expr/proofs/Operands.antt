@@ -1,5 +1,5 @@
 -- Sides of operators that are no numbers and no truths.
-use Rattle.std.proofs.Common.{◌≡◌, Bool, false, not, ◌&&◌, List, [], ℤ, length, refl, ap, arith}
+use Rattle.std.proofs.Common.{◌≡◌, Bool, false, List, [], ℤ, length, refl, ap}
 use Rattle.class_table.specs.Outline.{Outline}
 use Rattle.conf_syntax.specs.declared.tree.Op.{Op}
 use Rattle.conf_syntax.specs.declared.tree.Op.TheVariants as op
@@ -55,7 +55,3 @@ target_is o g op.And i j l r t p v h = cc
 target_is o g op.Add i j l r t p v h = cc
 target_is o g op.Sub i j l r t p v h = cc
 target_is o g op.Mul i j l r t p v h = cc
-
--- both hold where it fails that they don't
-pub both_of : (s t u failing : Bool) → failing ≡ not (s && t) → u ≡ not failing → u ≡ (s && t)
-both_of s t u failing e h = grind (arith, e, h)

@@ -23,7 +23,8 @@ has_count (shape.One c) members = true
 has_count (shape.Many c n) members = true
 
 abbrev pub is_full : Outline → List ℤ → Leaf → Bool
-is_full o values l = has_count l.shape (length (objects_of (attribute_value o values l.owner l.attribute l.shape)))
+is_full o values l =
+    has_count l.shape (length (objects_of (attribute_value o values l.owner l.attribute l.shape)))
 
 abbrev pub are_full : Outline → List ℤ → Bool
 are_full o values = list_all (is_full o values) (leaves_in (walk o))

@@ -38,14 +38,18 @@ own_filter kind.Pack f = NoFilter
 
 -- the values of the bodies at the members that the filter keeps
 abbrev pub values_over : Tree → Filter → Bodies → Setting → List (List Value)
-values_over over f bs s = map (λ x. values_of bs (bind s x)) (filter (λ x. keeps f (bind s x)) (objects_of (value over s)))
+values_over over f bs s =
+    map (λ x. values_of bs (bind s x)) (filter (λ x. keeps f (bind s x))
+    (objects_of (value over s)))
 
 -- the forms stand for the bodies, each for its own
-abbrev pub AreBodies : Outline → Ground → List (ℕ × ℤ) → Bodies → Option ℕ → List ℕ → List Form → Type 0
+abbrev pub AreBodies : Outline → Ground → List (ℕ × ℤ) → Bodies → Option ℕ → List ℕ → List Form
+    → Type 0
 AreBodies o g known NoBody this vars [] = Unit {0}
 AreBodies o g known NoBody this vars (f ∷ fs) = ⊥
 AreBodies o g known (Body e bs) this vars [] = ⊥
-AreBodies o g known (Body e bs) this vars (f ∷ fs) = IsGroundForm o g known e this vars f × AreBodies o g known bs this vars fs
+AreBodies o g known (Body e bs) this vars (f ∷ fs) =
+    IsGroundForm o g known e this vars f × AreBodies o g known bs this vars fs
 
 -- a body's form is that of the body at the place, for some object of the quantifier's variable
 pub record IsBody (o : Outline) (boxes : Boxes) (p : Place) (this : Option ℕ) (e : Tree) (f : Form) : Type 0 where
@@ -57,28 +61,37 @@ abbrev pub AreWithin : Outline → Boxes → Place → Option ℕ → Bodies →
 AreWithin o boxes p this NoBody [] = Unit {0}
 AreWithin o boxes p this NoBody (f ∷ fs) = ⊥
 AreWithin o boxes p this (Body e bs) [] = ⊥
-AreWithin o boxes p this (Body e bs) (f ∷ fs) = IsBody o boxes p this e f × AreWithin o boxes p this bs fs
+AreWithin o boxes p this (Body e bs) (f ∷ fs) =
+    IsBody o boxes p this e f × AreWithin o boxes p this bs fs
 
 pub record IsPartOf (o : Outline) (boxes : Boxes) (p : Place) (this : Option ℕ) (bs : Bodies) (q : Part) : Type 0 where
   pub kept : HasVariable (length boxes) q.kept
   pub bodies : AreWithin o boxes p this bs q.bodies.items
 
 pub record ArePartsOf (o : Outline) (g : Ground) (known : List (ℕ × ℤ)) (over : Tree) (f : Filter) (bs : Bodies) (this : Option ℕ) (vars : List ℕ) (parts : List Part) : Type 0 where
-  pub value : (a : List ℤ) → IsWorld g a → AreKnown known a → kept_values parts a ≡ values_over over f bs (world_setting o g a this vars)
-  pub each : (p : Place) (c : ℕ) → Fits o [] p (bare_setting o this vars) → list_class (tree_type o over p) ≡ Some c → All (IsPartOf o g.domains (inside p c) this bs) parts
+  pub value : (a : List ℤ) → IsWorld g a → AreKnown known a → kept_values parts a
+      ≡ values_over over f bs (world_setting o g a this vars)
+  pub each : (p : Place) (c : ℕ) → Fits o [] p (bare_setting o this vars)
+      → list_class (tree_type o over p) ≡ Some c → All (IsPartOf o g.domains (inside p c) this bs)
+      parts
   pub few : length parts ≤ reach o over
 
--- the objects that may be members, each with its truth: in every world those whose truth holds are the list
+-- the objects that may be members, each with its truth: in every world those whose truth holds are
+-- the list
 pub record AreMembersOf (o : Outline) (g : Ground) (known : List (ℕ × ℤ)) (e : Tree) (this : Option ℕ) (vars : List ℕ) (ms : List Member) : Type 0 where
-  pub value : (a : List ℤ) → IsWorld g a → AreKnown known a → objects_of (value e (world_setting o g a this vars)) ≡ members_at ms a
+  pub value : (a : List ℤ) → IsWorld g a → AreKnown known a
+      → objects_of (value e (world_setting o g a this vars)) ≡ members_at ms a
   pub variables : All (λ (m : Member). HasVariable (length g.domains) m.is) ms
-  pub objects : (p : Place) (c : ℕ) → Fits o [] p (bare_setting o this vars) → list_class (tree_type o e p) ≡ Some c → All (λ (m : Member). Contains (extent o c) m.object) ms
+  pub objects : (p : Place) (c : ℕ) → Fits o [] p (bare_setting o this vars)
+      → list_class (tree_type o e p) ≡ Some c → All (λ (m : Member). Contains (extent o c) m.object)
+      ms
   pub few : length ms ≤ reach o e
 
 -- the truth that an object is a member which the filter keeps
 pub record IsKept (o : Outline) (g : Ground) (known : List (ℕ × ℤ)) (is : Truth) (f : Filter) (this : Option ℕ) (vars : List ℕ) (t : Truth) : Type 0 where
   pub variable : HasVariable (length g.domains) t
-  pub value : (a : List ℤ) → IsWorld g a → AreKnown known a → truth_at t a ≡ (truth_at is a && keeps f (world_setting o g a this vars))
+  pub value : (a : List ℤ) → IsWorld g a → AreKnown known a → truth_at t a
+      ≡ (truth_at is a && keeps f (world_setting o g a this vars))
 
 -- what these possible members give: the values at those that are members and are kept
 abbrev pub given : (ℕ → Bool) → (ℕ → List Value) → List Member → List ℤ → List (List Value)

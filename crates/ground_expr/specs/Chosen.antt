@@ -1,5 +1,5 @@
--- The object that a form is. What a reader believes after this file: which choice a form of an object
--- has, and of which class.
+-- The object that a form is. What a reader believes after this file: which choice a form of an
+-- object has, and of which class.
 use Rattle.std.specs.Prelude.{ℕ, List, []}
 use Rattle.expr_forms.specs.declared.form.Choice.{Choice}
 use Rattle.expr_forms.specs.declared.form.Choice.TheVariants as choice

@@ -38,4 +38,7 @@ is_fixed_path (tree.Missing at) = false
 
 -- whatever the configuration is, the expression has one value
 abbrev pub IsFixed : Tree → Type 0
-IsFixed t = (o : Outline) (this : Option ℕ) (vars : List ℕ) (v w : List ℤ) → value t (record { outline = o; values = v; this = this; vars = vars }) ≡ value t (record { outline = o; values = w; this = this; vars = vars })
+IsFixed t =
+    (o : Outline) (this : Option ℕ) (vars : List ℕ) (v w : List ℤ)
+    → value t (record { outline = o; values = v; this = this; vars = vars })
+    ≡ value t (record { outline = o; values = w; this = this; vars = vars })

@@ -1,6 +1,6 @@
--- Cells whose values are known. What a reader believes after this file: wherever the known cells have
--- their values a form has the value of the attribute, and it lies within what the attribute's shape
--- allows.
+-- Cells whose values are known. What a reader believes after this file: wherever the known cells
+-- have their values a form has the value of the attribute, and it lies within what the attribute's
+-- shape allows.
 use Rattle.std.specs.Prelude.{◌≡◌, ℕ, ◌≤◌, true, List, ℤ, pos, ◌≤ℤ◌, Option, length, take}
 use Rattle.class_table.specs.declared.table.Resolved.{Resolved}
 use Rattle.class_table.specs.Outline.{Outline}
@@ -40,9 +40,11 @@ IsKnownChoice boxes known (choice.Cell x) (choice.Mapped y map) = ⊥
 IsKnownChoice boxes known (choice.Fixed n) d = d ≡ choice.Fixed n
 IsKnownChoice boxes known (choice.Mapped x map) d = d ≡ choice.Mapped x map
 
--- the form of attribute k of the owner, which has this shape, where the known cells have their values
+-- the form of attribute k of the owner, which has this shape, where the known cells have their
+-- values
 pub record IsKnownForm (o : Outline) (g : Ground) (known : List (ℕ × ℤ)) (owner : Option ℕ) (k : ℕ) (s : Resolved) (f : Form) : Type 0 where
-  pub stands : (a : List ℤ) → IsWorld g a → AreKnown known a → attribute_value o (take g.search a) owner k s ≡ form_value f a
+  pub stands : (a : List ℤ) → IsWorld g a → AreKnown known a → attribute_value o (take g.search a)
+      owner k s ≡ form_value f a
   pub number : IsSum g.domains (shape_interval s).low (shape_interval s).high (number_part f)
   pub truth : HasVariable (length g.domains) (truth_part f)
   pub typed : IsFormOf o g.domains (shape_type s) f

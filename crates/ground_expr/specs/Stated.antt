@@ -21,12 +21,14 @@ use Rattle.form_truths.specs.Tests.{wanted}
 use Rattle.expr_forms.specs.Standing.{is_wanted}
 
 -- what was added says that the expression's truth is the wanted one
-abbrev pub Says : Outline → List (ℕ × ℤ) → Ground → Ground → Tree → Option ℕ → List ℕ → Bool → Type 0
+abbrev pub Says : Outline → List (ℕ × ℤ) → Ground → Ground → Tree → Option ℕ → List ℕ → Bool
+    → Type 0
 Says o known old new t this vars want = Adds known old new (λ a. is_wanted o new t this vars want a)
 
 -- the disjunction has one part more, which holds where the expression's truth is the wanted one
 pub record Pushes (o : Outline) (known : List (ℕ × ℤ)) (old new : Ground) (t : Tree) (this : Option ℕ) (vars : List ℕ) (want : Bool) (before after : Bool × Literals) : Type 0 where
-  pub value : (a : List ℤ) → IsWorld new a → AreKnown known a → disjunction_at after a ≡ (is_wanted o new t this vars want a || disjunction_at before a)
+  pub value : (a : List ℤ) → IsWorld new a → AreKnown known a → disjunction_at after a
+      ≡ (is_wanted o new t this vars want a || disjunction_at before a)
   pub exist : IsWithin (length new.domains) after.1
   pub adds : Defines old new
 
@@ -45,7 +47,9 @@ asks_each kind.Pack want = false
 
 -- at each member that the filter keeps all bodies are true, or at each not all
 abbrev pub each_wanted : Tree → Filter → Bodies → Bool → Setting → Bool
-each_wanted over f bs want s = list_all (λ x. not (keeps f (bind s x)) || wanted want (all_true (values_of bs (bind s x)))) (objects_of (value over s))
+each_wanted over f bs want s =
+    list_all (λ x. not (keeps f (bind s x)) || wanted want (all_true (values_of bs (bind s x))))
+    (objects_of (value over s))
 
 -- where the innermost variable's object is a member which the filter keeps, the body has the wanted
 -- truth
@@ -54,10 +58,13 @@ body_wanted is f t want s a = not (truth_at is a && keeps f s) || wanted want (t
 
 -- where it is one, all bodies are true, or not all are
 abbrev pub member_wanted : Truth → Filter → Bodies → Bool → Setting → List ℤ → Bool
-member_wanted is f bs want s a = not (truth_at is a && keeps f s) || wanted want (all_true (values_of bs s))
+member_wanted is f bs want s a =
+    not (truth_at is a && keeps f s) || wanted want (all_true (values_of bs s))
 
 -- the disjunction has parts more, of which one holds where some body is false
 pub record PushesSome (o : Outline) (known : List (ℕ × ℤ)) (old new : Ground) (es : List RExpr) (this : Option ℕ) (vars : List ℕ) (before after : Bool × Literals) : Type 0 where
-  pub value : (a : List ℤ) → IsWorld new a → AreKnown known a → disjunction_at after a ≡ (list_any (λ e. is_wanted o new (tree_of e) this vars false a) es || disjunction_at before a)
+  pub value : (a : List ℤ) → IsWorld new a → AreKnown known a → disjunction_at after a
+      ≡ (list_any (λ e. is_wanted o new (tree_of e) this vars false a) es
+      || disjunction_at before a)
   pub exist : IsWithin (length new.domains) after.1
   pub adds : Defines old new

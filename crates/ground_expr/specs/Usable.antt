@@ -1,5 +1,5 @@
--- Forms that a choice or a list may be taken of. What a reader believes after this file: the variables
--- of a choice or of a list exist, and each value of a choice's variable gives an object.
+-- Forms that a choice or a list may be taken of. What a reader believes after this file: the
+-- variables of a choice or of a list exist, and each value of a choice's variable gives an object.
 use Rattle.signed_clause.specs.Clauses.{Boxes}
 use Rattle.expr_forms.specs.declared.form.Form.{Form}
 use Rattle.expr_forms.specs.declared.form.Form.TheVariants as form

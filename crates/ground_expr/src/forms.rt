@@ -1,7 +1,7 @@
 //! The form of an expression. The recursion is on the resolved tree.
 //!
-//! A quantifier is made of parts: for each object that may be a member the truth that it is one which
-//! the filter keeps, and the forms of the bodies there.
+//! A quantifier is made of parts: for each object that may be a member the truth that it is one
+//! which the filter keeps, and the forms of the bodies there.
 ghost use Rattle.std.specs.Prelude.{◌≡◌, ◌*◌, ◌+◌, ◌++◌, ◌≤◌, ◌∷◌, [], ℕ, ℤ, List, map, filter, cond, ◌&&◌, true, length, IfOk, OnOk};
 ghost use Rattle.std.specs.List.{All};
 ghost use Rattle.conf_types.specs.Trees.{tree_of, quant_tree, optional_tree, trees_of};
@@ -31,14 +31,13 @@ use crate::names::{
 use crate::operators::operated;
 use crate::quantifiers::quantified;
 use crate::scene::Scene;
-use crate::truths::{both, is_never};
 use class_table::Resolved;
 use conf_syntax::{Op, QuantKind};
 use conf_types::{RExpr, RNode, RQuant};
 use expr_forms::{Choice, Form, Listing, Member, number_of, truth_of};
 use form_build::{Linear, Maker, Truth, minus, turned};
 use form_truths::copy_truth;
-use identity_forms::members_of;
+use identity_forms::{both, is_never, members_of};
 use quantifier_forms::Part;
 use reference_forms::dot_form;
 use std::alloc::AllocError;
@@ -267,7 +266,8 @@ fn parts_over(
     Ok(parts)
 }
 
-/// The objects that may be members of the list that an expression is, each with the truth that it is one.
+/// The objects that may be members of the list that an expression is, each with the truth that it
+/// is one.
 #[cycle(forms)]
 pub(crate) fn list_at(
     maker: &mut Maker,

@@ -26,17 +26,7 @@ use std::alloc::AllocError;
 
 /// Where the variable stands in a list that ascends, or would stand.
 fn place_of(known: &[(u32, i64)], x: u32) -> usize {
-    let mut low = 0;
-    let mut high = known.len();
-    while low < high {
-        let middle = low + (high - low) / 2;
-        if known[middle].0 < x {
-            low = middle + 1;
-        } else {
-            high = middle;
-        }
-    }
-    low
+    known.partition_point(|k| k.0 < x)
 }
 
 /// The value there, where it is that of the variable.

@@ -10,7 +10,6 @@
 //! - `quantifiers`: quantifiers of any kind, of their parts.
 //! - `scene`: where an expression stands.
 //! - `statements`: what is required of an expression.
-//! - `truths`: two truths as one.
 #![tactic(auto)]
 
 mod comparisons;
@@ -23,7 +22,6 @@ mod pushes;
 mod quantifiers;
 mod scene;
 mod statements;
-mod truths;
 
 pub use constraints::require_constraint;
 pub use forms::form_at;

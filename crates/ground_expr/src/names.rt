@@ -45,7 +45,8 @@ pub(crate) fn local_object(vars: &[u32], k: u32) -> u32
     vars.get(at).copied().unwrap_or(0)
 }
 
-/// All objects of a class, in order.
+/// All objects of a class, in order. The cost is the number of all objects, where there is one.
+#[tactic(auto, using(std::proofs::lemmas::List::nil_from_length))]
 pub(crate) fn class_objects(
     alloc: Global,
     objects: &Objects<'_>,
@@ -54,11 +55,11 @@ pub(crate) fn class_objects(
     requires { class < length objects.now.classes }
     ensures { IfOk result (λ xs. xs.items ≡ extent objects.now class) }
 {
-    let numbers = objects.extent(alloc, class)?;
-    let mut copy = Vec::new(alloc);
-    for n in numbers.items() {
-        copy.push(*n)?;
+    if objects.extent_count(class) == 0 {
+        return Ok(Vec::new(alloc));
     }
+    let numbers = objects.extent(alloc, class)?;
+    let copy = Vec::from_slice(alloc, numbers.items())?;
     Ok(copy)
 }
 
@@ -108,7 +109,8 @@ pub(crate) fn with_room(alloc: Global, vars: &[u32]) -> Result<Vec<u32>, AllocEr
 
 /// Sets the innermost variable.
 pub(crate) fn set_last(inner: &mut Vec<u32>, x: u32)
-    ensures set { (outer : List ℕ) → IsRoom outer inner.old.items → inner.new.items ≡ outer ++ x ∷ [] }
+    ensures set { (outer : List ℕ) → IsRoom outer inner.old.items → inner.new.items ≡ outer
+        ++ x ∷ [] }
 {
     let count = inner.len();
     if count > 0 {

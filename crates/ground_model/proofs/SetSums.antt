@@ -1,15 +1,13 @@
 -- The sum over the cells of a reference set is the number of its members.
-use Rattle.std.proofs.Common.{◌≡◌, ◌≢◌, ℕ, suc, ◌*◌, ◌^◌, ◌<◌, ◌≤◌, Bool, true, false, cond, List, [], ◌∷◌, ℤ, pos, neg_ℤ, ◌+ℤ◌, ◌*ℤ◌, ◌≤ℤ◌, Option, None, Some, All, true≢false, ◌&&◌, ◌||◌, nat_eq, length, map, take, refl, sym, ap, ◌∙◌, subst, arith}
+use Rattle.std.proofs.Common.{◌≡◌, ◌≢◌, ℕ, suc, ◌*◌, ◌^◌, ◌<◌, ◌≤◌, Bool, true, false, cond, List, [], ◌∷◌, ℤ, pos, neg_ℤ, ◌+ℤ◌, ◌*ℤ◌, ◌≤ℤ◌, Option, None, Some, All, nat_eq, length, map, take, refl, sym, ap, ◌∙◌, subst, arith}
 use Rattle.std.specs.Prelude.{slice_get, slice_index_or, filter_map, option_and_then, unsigned_abs}
-use Rattle.std.specs.List.{cons_option, list_all, list_any}
+use Rattle.std.specs.List.{cons_option}
 use Rattle.std.specs.Ordering.{int_eq}
 use Rattle.std.proofs.lemmas.Int.{ints}
 use Rattle.std.proofs.lemmas.Bool.Decides.{nat_tests}
-use Rattle.std.proofs.lemmas.Bool.{ltb-true}
 use Rattle.std.proofs.lemmas.List.Elements.{All-head, All-tail}
 use Rattle.class_table.specs.declared.table.Resolved.TheVariants.{RefSet}
 use Rattle.class_table.specs.declared.table.Resolved.{Resolved}
-use Rattle.class_table.specs.declared.table.Resolved.TheVariants as shape
 use Rattle.class_table.specs.Outline.{Outline}
 use Rattle.class_table.specs.Sound.{IsSound}
 use Rattle.model_limits.specs.Limits.{most_cells}
@@ -34,7 +32,7 @@ use Rattle.ground_cells.specs.CellBoxes.{AscendFrom}
 use Rattle.expr_forms.specs.Standing.{HasCells}
 use Rattle.expr_forms.proofs.Configured.{front_value}
 use Rattle.ground_expr.specs.Asked.{has_count, is_full}
-use Rattle.ground_model.specs.Sizes.{once, each_once, lacks, lacks_cells, IsMemberCell}
+use Rattle.ground_model.specs.Sizes.{once, each_once, IsMemberCell}
 use Rattle.ground_model.proofs.SetCells.{own_ascend, own_few, members_are, leaf_cells_are}
 
 -- ---- the sum is in good order
@@ -132,48 +130,6 @@ bits_at g a xs w all k d lt = bit_at g a (slice_index_or xs k d) w (all k d lt)
 
 compared : (m n : ℕ) (s d : ℤ) → s ≡ pos m → d ≡ neg_ℤ (pos n) → int_eq (s +ℤ d) (pos 0) ≡ nat_eq m n
 compared m n s d e h = grind (arith, ints, nat_tests)
-
-few_chosen : (f : ℕ → Option ℕ) (xs : List ℕ) → length (filter_map f xs) ≤ length xs
-few_chosen f [] = omega arith
-few_chosen f (x ∷ xs) = by (f x) (few_chosen f xs)
-  where
-    by : (r : Option ℕ) → length (filter_map f xs) ≤ length xs → length (cons_option r (filter_map f xs)) ≤ suc (length xs)
-    by None h = omega (arith, h)
-    by (Some y) h = omega (arith, h)
-
-differ : (m k n : ℕ) → m ≤ k → k < n → nat_eq m n ≡ false
-differ m k n h lt = grind (arith, nat_tests)
-
--- a set with fewer cells than it is to have members is never full
-pub never_full : (o : Outline) (values : List ℤ) (l : Leaf) (c n : ℕ) → l.shape ≡ RefSet c n → length (own_cells o l.owner l.attribute) < n → is_full o values l ≡ false
-never_full o values l c n is lt =
-    ap (λ (s : Resolved). has_count s (length (objects_of (attribute_value o values l.owner l.attribute s)))) is
-    ∙ differ (length (filter_map (chosen (cells o) values) (own_cells o l.owner l.attribute))) (length (own_cells o l.owner l.attribute)) n (few_chosen (chosen (cells o) values) (own_cells o l.owner l.attribute)) lt
-
-lacking : (o : Outline) (values : List ℤ) (l : Leaf) → lacks_cells o l ≡ true → is_full o values l ≡ false
-lacking o values l = by l.shape refl
-  where
-    by : (s : Resolved) → l.shape ≡ s → lacks s (length (own_cells o l.owner l.attribute)) ≡ true → is_full o values l ≡ false
-    by (shape.RefSet c n) e h = never_full o values l c n e (ltb-true (length (own_cells o l.owner l.attribute)) n h)
-    by (shape.Span low high) e h = absurd (true≢false (sym h))
-    by shape.Truth e h = absurd (true≢false (sym h))
-    by (shape.Choice d) e h = absurd (true≢false (sym h))
-    by (shape.Ref c) e h = absurd (true≢false (sym h))
-    by (shape.One c) e h = absurd (true≢false (sym h))
-    by (shape.Many c n) e h = absurd (true≢false (sym h))
-
--- where some set lacks cells, not all are full
-pub some_lacks : (o : Outline) (values : List ℤ) (ls : List Leaf) → list_any (lacks_cells o) ls ≡ true → list_all (is_full o values) ls ≡ false
-some_lacks o values [] h = absurd (true≢false (sym h))
-some_lacks o values (l ∷ ls) h = by (lacks_cells o l) refl (λ g. some_lacks o values ls g) h
-  where
-    neither : (b : Bool) → (b && false) ≡ false
-    neither true = refl
-    neither false = refl
-
-    by : (b : Bool) → lacks_cells o l ≡ b → (list_any (lacks_cells o) ls ≡ true → list_all (is_full o values) ls ≡ false) → (b || list_any (lacks_cells o) ls) ≡ true → (is_full o values l && list_all (is_full o values) ls) ≡ false
-    by true e rest g = ap (λ (c : Bool). c && list_all (is_full o values) ls) (lacking o values l e)
-    by false e rest g = ap (λ (c : Bool). is_full o values l && c) (rest g) ∙ neither (is_full o values l)
 
 module _ (o : Outline) (sound : IsSound o) (l : Leaf) (c n : ℕ) (has_leaf : Contains (leaves_in (walk o)) l) (is : l.shape ≡ RefSet c n) where
   pub own_members : (g : Ground) → HasCells o g → All (IsMemberCell g) (own_cells o l.owner l.attribute)

@@ -1,8 +1,8 @@
 -- Requirements one after the other, and one for each item of a list.
-use Rattle.std.proofs.Common.{◌≡◌, ℕ, ◌+◌, ◌<◌, ◌≤◌, Bool, true, false, true≢false, cond, ◌&&◌, ◌||◌, List, [], ◌∷◌, ℤ, Option, None, Some, get_or, length, take, refl, sym, ap, ◌∙◌}
-use Rattle.std.specs.List.{list_all, list_any}
+use Rattle.std.proofs.Common.{◌≡◌, ℕ, ◌+◌, ◌<◌, ◌≤◌, Bool, true, false, true≢false, cond, ◌&&◌, List, [], ◌∷◌, ℤ, Option, None, Some, get_or, length, take, refl, sym, ap, ◌∙◌}
+use Rattle.std.specs.List.{list_all}
 use Rattle.std.proofs.lemmas.List.{take_all}
-use Rattle.std.proofs.lemmas.List.Folds.{list_all_more, list_any_more, list_any_at, list_all-map}
+use Rattle.std.proofs.lemmas.List.Folds.{list_all_more, list_all-map}
 use Rattle.class_table.specs.Outline.{Outline}
 use Rattle.conf_types.specs.Programs.{ResolvedConstraint}
 use Rattle.object_alloc.specs.Cells.{extent}
@@ -70,17 +70,6 @@ module _ (known : List (ℕ × ℤ)) where
   requires_top o k f g e r =
       requires_same f g (λ values. holds_for o values k None) (λ values. holds_of o values k)
       (λ values. sym (and_true (holds_for o values k None)) ∙ sym (ap (λ (x : Option ℕ). list_all (holds_for o values k) (stated_for o x)) e)) r
-
--- an item that passes, and none so far
-pub item_passes : {X : Type 0} (p : X → Bool) (xs : List X) (k : ℕ) (x : X) → k < length xs → x ≡ get_or xs k x → p x ≡ true → list_any p xs ≡ true
-item_passes p xs k x lt is e = list_any_at p xs k x lt (ap p (sym is) ∙ e)
-
-pub none_next : {X : Type 0} (p : X → Bool) (xs : List X) (k : ℕ) (x : X) → k < length xs → x ≡ get_or xs k x → list_any p (take k xs) ≡ false → p x ≡ false → list_any p (take (k + 1) xs) ≡ false
-none_next p xs k x lt is none e =
-    list_any_more p xs k x lt ∙ ap (λ (b : Bool). b || p (get_or xs k x)) none ∙ ap p (sym is) ∙ e
-
-pub none_all : {X : Type 0} (p : X → Bool) (xs : List X) (k : ℕ) → length xs ≤ k → list_any p (take k xs) ≡ false → list_any p xs ≡ false
-none_all p xs k h none = sym (ap (list_any p) (take_all k xs h)) ∙ none
 
 -- a constraint in a pass: of the other pass, and of this one
 pub passed_over : (o : Outline) (values : List ℤ) (k : ResolvedConstraint) (fixing b : Bool) → b ≡ wanted fixing (fixes k.tree) → b ≡ false → holds_in fixing o values k ≡ true

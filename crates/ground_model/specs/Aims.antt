@@ -1,5 +1,5 @@
--- Goals of a problem that has no configuration. What a reader believes after this file: there is one
--- for each objective, in its direction, and it is on the first variable.
+-- Goals of a problem that has no configuration. What a reader believes after this file: there is
+-- one for each objective, in its direction, and it is on the first variable.
 use Rattle.conf_types.specs.Programs.{ResolvedGoal}
 use Rattle.ground_form.specs.declared.ground.GroundGoal.{GroundGoal}
 

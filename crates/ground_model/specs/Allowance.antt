@@ -15,4 +15,5 @@ pub record HasAtMost (n : ℕ) (g : Ground) : Type 0 where
 
 -- one for each cell, two for each leaf, one more, and 1024 for each unit of the model's weight
 abbrev pub allowance : Outline → List ResolvedConstraint → List ResolvedGoal → ℕ
-allowance o ks gs = length (cells o) + 2 * length (leaves_in (walk o)) + 1 + 1024 * model_weight o ks gs
+allowance o ks gs =
+    length (cells o) + 2 * length (leaves_in (walk o)) + 1 + 1024 * model_weight o ks gs

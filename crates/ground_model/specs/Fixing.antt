@@ -35,7 +35,8 @@ is_constant t = false
 
 -- an attribute equals a constant; a conjunction of such
 abbrev pub fixes : Tree → Bool
-fixes (tree.Pair at q l r) = cond (is_and q) (fixes l && fixes r) (is_equality q && (is_attribute l && is_constant r))
+fixes (tree.Pair at q l r) =
+    cond (is_and q) (fixes l && fixes r) (is_equality q && (is_attribute l && is_constant r))
 fixes (tree.Own at k s) = true
 fixes (tree.Root at k s) = true
 fixes (tree.Not at e) = is_attribute e

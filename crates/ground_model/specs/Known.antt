@@ -25,4 +25,5 @@ pub record HasKnown (o : Outline) (known : List (ℕ × ℤ)) (g : Ground) : Typ
 
 -- among these are all cells whose values unit clauses among the constraints fix
 abbrev pub HasAllFixed : Ground → List Con → List (ℕ × ℤ) → Type 0
-HasAllFixed g cons known = (k : ℕ × ℤ) → Contains cons (ClauseCon (fixing_clause k)) → IsKnownCell g k → Contains known k
+HasAllFixed g cons known =
+    (k : ℕ × ℤ) → Contains cons (ClauseCon (fixing_clause k)) → IsKnownCell g k → Contains known k

@@ -1,5 +1,5 @@
-//! Which constraints seem to give cells their values: conjunctions of equalities of an attribute and
-//! a constant. They are required before the others. No promise rests on this choice.
+//! Which constraints seem to give cells their values: conjunctions of equalities of an attribute
+//! and a constant. They are required before the others. No promise rests on this choice.
 ghost use Rattle.std.specs.Prelude.{◌≡◌};
 ghost use Rattle.conf_types.specs.Trees.{tree_of};
 ghost use Rattle.form_truths.specs.Tests.{wanted};

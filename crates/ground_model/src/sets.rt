@@ -1,17 +1,16 @@
 //! The sizes of reference sets: each set has as many members as its shape says.
 ghost use Rattle.std.specs.Prelude.{◌≡◌, ◌<◌, ◌^◌, ℕ, [], true, pos, neg_ℤ, length, slice_index_or, Contains, IfNone, IfOk, IfSome, OnOk};
-ghost use Rattle.std.specs.List.{list_any};
 ghost use Rattle.class_table.specs.declared.table.Resolved.TheVariants.{RefSet};
 ghost use Rattle.object_alloc.specs.declared.object.Leaf.{Leaf as ALeaf};
 ghost use Rattle.object_alloc.specs.Walk.{walk, leaves_in};
 ghost use Rattle.expr_forms.specs.Standing.{HasCells};
 ghost use Rattle.ground_expr.specs.Asked.{has_count, is_full, are_full};
 ghost use Rattle.ground_model.specs.Requiring.{Requires};
-ghost use Rattle.ground_model.specs.Sizes.{each_once, lacks_cells};
+ghost use Rattle.ground_model.specs.Sizes.{each_once};
 
 use class_table::Resolved;
-use form_build::{Linear, Maker, Truth};
-use form_truths::{Test, state, state_truth};
+use form_build::{Linear, Maker};
+use form_truths::{Test, state};
 use object_alloc::{Leaf, Objects};
 use std::alloc::{AllocError, Global};
 
@@ -52,38 +51,6 @@ fn leaf_at(leaves: &[Leaf], i: usize) -> Leaf
     leaves[i]
 }
 
-/// Whether a leaf is a reference set that is to have more members than it has cells.
-fn lacks_cells(objects: &Objects<'_>, leaf: Leaf) -> bool
-    ensures { result ≡ lacks_cells objects.now leaf }
-{
-    match leaf.shape {
-        Resolved::RefSet(_, size) => {
-            let cells = objects.own_cells(leaf.owner, leaf.attribute);
-            cells.len() < size as usize
-        }
-        Resolved::Span(_, _)
-        | Resolved::Truth
-        | Resolved::Choice(_)
-        | Resolved::One(_)
-        | Resolved::Many(_, _)
-        | Resolved::Ref(_) => false,
-    }
-}
-
-/// Whether some reference set is to have more members than it has cells, so that no configuration
-/// satisfies the model.
-fn some_lacks_cells(objects: &Objects<'_>) -> bool
-    ensures { result ≡ list_any (lacks_cells objects.now) (leaves_in (walk objects.now)) }
-{
-    let leaves = objects.leaves();
-    for i in 0..leaves.len() {
-        if lacks_cells(objects, leaf_at(leaves, i)) {
-            return true;
-        }
-    }
-    false
-}
-
 /// States that a leaf has as many members as its shape says, where it is a reference set.
 fn require_full(maker: &mut Maker, objects: &Objects<'_>, leaf: Leaf) -> Result<(), AllocError>
     requires leaf { Contains (leaves_in (walk objects.now)) leaf }
@@ -104,7 +71,7 @@ fn require_full(maker: &mut Maker, objects: &Objects<'_>, leaf: Leaf) -> Result<
 }
 
 /// States that each reference set of a model has as many members as its shape says.
-fn require_each_full(maker: &mut Maker, objects: &Objects<'_>) -> Result<(), AllocError>
+pub(crate) fn require_full_sets(maker: &mut Maker, objects: &Objects<'_>) -> Result<(), AllocError>
     requires cells { HasCells objects.now maker.old }
     ensures says { OnOk result (Requires [] maker.old maker.new
         (λ values. are_full objects.now values)) }
@@ -113,21 +80,5 @@ fn require_each_full(maker: &mut Maker, objects: &Objects<'_>) -> Result<(), All
     for i in 0..leaves.len() {
         require_full(maker, objects, leaf_at(leaves, i))?;
     }
-    Ok(())
-}
-
-/// States that each reference set of a model has as many members as its shape says: where some set
-/// can't have them, by one empty clause.
-pub(crate) fn require_full_sets(maker: &mut Maker, objects: &Objects<'_>) -> Result<(), AllocError>
-    requires cells { HasCells objects.now maker.old }
-    ensures says { OnOk result (Requires [] maker.old maker.new
-        (λ values. are_full objects.now values)) }
-{
-    if some_lacks_cells(objects) {
-        maker.ask(1)?;
-        state_truth(maker, Truth::Fixed(false))?;
-        return Ok(());
-    }
-    require_each_full(maker, objects)?;
     Ok(())
 }

@@ -27,7 +27,8 @@ pub record IsOwnedSlot (boxes : Boxes) (x : ℕ) (pairs : List (ℤ × ℕ)) (s 
 abbrev pub HasMembers : Boxes → Listing → Type 0
 HasMembers boxes (listing.All xs) = Unit {0}
 HasMembers boxes (listing.Some ms) = All (λ (m : Member). HasVariable (length boxes) m.is) ms.items
-HasMembers boxes (listing.Owned x pairs ss) = (x < length boxes) × All (IsOwnedSlot boxes x pairs.items) ss.items
+HasMembers boxes (listing.Owned x pairs ss) =
+    (x < length boxes) × All (IsOwnedSlot boxes x pairs.items) ss.items
 
 -- each value of a map with the first cell of the owner that it gives, 0 where there is none
 abbrev pub cell_items : List (ℕ × ℕ) → List (ℤ × ℕ) → List (ℤ × ℕ)

@@ -11,15 +11,27 @@ ghost use Rattle.expr_forms.specs.FormValues.{choice_at, number_for, cell_for, m
 ghost use Rattle.identity_forms.specs.Choices.{IsChoice};
 ghost use Rattle.identity_forms.specs.Lists.{HasMembers, IsOwnedSlot};
 
-use crate::both::{is_out, push_both, some_truth};
 use crate::groups::groups_of;
 use crate::literals::{is_in, is_object};
+use crate::pairs::{is_never, push_both, some_truth};
 use crate::sets::object_set;
 use crate::slots::slot_truth;
 use expr_forms::{Choice, Listing, Member, Slot};
 use form_build::{Maker, Truth};
 use form_truths::Disjunction;
 use std::alloc::AllocError;
+
+/// Whether this object is among them.
+fn is_among(objects: &[u32], n: u32) -> bool
+    ensures { result ≡ list_any (nat_eq n) objects.now }
+{
+    for m in objects {
+        if *m == n {
+            return true;
+        }
+    }
+    false
+}
 
 /// Whether the object is one of these.
 fn is_one_of(maker: &Maker, c: &Choice, objects: &[u32]) -> Result<Truth, AllocError>
@@ -28,6 +40,9 @@ fn is_one_of(maker: &Maker, c: &Choice, objects: &[u32]) -> Result<Truth, AllocE
     ensures value { IfOk result (λ t. (a : List ℤ) → IsWorld maker.now a
         → truth_at t a ≡ list_any (nat_eq (choice_at c.now a)) objects.now) }
 {
+    if let Choice::Fixed(n) = c {
+        return Ok(Truth::Fixed(is_among(objects, *n)));
+    }
     let set = object_set(maker.alloc(), objects)?;
     let t = is_in(maker, c, set)?;
     Ok(t)
@@ -73,7 +88,7 @@ fn push_slot(
         → IsWithin (length maker.new.domains) some.new.1) }
     ensures adds { OnOk result (Defines maker.old maker.new) }
 {
-    if is_out(same) {
+    if is_never(same) {
         return Ok(());
     }
     let is = slot_truth(maker, x, pairs, slot)?;

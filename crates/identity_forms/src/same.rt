@@ -10,9 +10,9 @@ ghost use Rattle.form_build.specs.Worlds.{IsInBoxes, IsWorld, Defines};
 ghost use Rattle.expr_forms.specs.FormValues.{choice_at};
 ghost use Rattle.identity_forms.specs.Choices.{IsChoice, IsCell, is_mapped, AreGroups};
 
-use crate::both::{push_both, some_truth};
 use crate::groups::{Groups, groups_of, objects_of};
 use crate::literals::{is_number, is_object};
+use crate::pairs::{push_both, some_truth};
 use expr_forms::Choice;
 use form_build::{Maker, Truth};
 use form_truths::{Disjunction, same_truth};
@@ -140,8 +140,8 @@ fn same_as_cell(maker: &mut Maker, x: u32, c: &Choice, d: &Choice) -> Result<Tru
 }
 
 /// Whether two choices are the same object, or the same value of an enumeration. Where one of them
-/// is fixed, or both are made from one variable, this is one literal; of the values of two variables
-/// it is a flag, and else a disjunction over the objects that a map gives.
+/// is fixed, or both are made from one variable, this is one literal; of the values of two
+/// variables it is a flag, and else a disjunction over the objects that a map gives.
 pub fn same_choice(maker: &mut Maker, c: &Choice, d: &Choice) -> Result<Truth, AllocError>
     requires left { IsChoice maker.old.domains c.now }
     requires right { IsChoice maker.old.domains d.now }

@@ -4,8 +4,8 @@ use Rattle.form_build.proofs.Growth.{world_before, adds_nothing, defines_more}
 use Rattle.form_truths.specs.Disjunctions.{disjunction_at}
 use Rattle.identity_forms.proofs.membership.push_slot.Goals as goal
 
-pub returns-then-is_out-clause-adds : goal.returns-then-is_out-clause-adds
-returns-then-is_out-clause-adds c = adds_nothing [] c.args.maker.now
+pub returns-then-is_never-clause-adds : goal.returns-then-is_never-clause-adds
+returns-then-is_never-clause-adds c = adds_nothing [] c.args.maker.now
 
 pub returns-clause-value : goal.returns-clause-value
 returns-clause-value c a w =

@@ -3,7 +3,7 @@ use Rattle.std.specs.List.{list_all}
 use Rattle.object_alloc.specs.Walk.{walk, leaves_in}
 use Rattle.ground_expr.specs.Asked.{is_full}
 use Rattle.ground_model.specs.Requiring.{Requires}
-use Rattle.ground_model.proofs.sets.require_each_full.Given as goal
+use Rattle.ground_model.proofs.sets.require_full_sets.Given as goal
 
 -- the sets of the leaves so far are full
 abbrev pub invariant-loop-i : goal.invariant-loop-i

@@ -1,10 +1,10 @@
 use Rattle.std.proofs.Common.{[], length}
 use Rattle.form_build.proofs.Growth.{adds_nothing}
 use Rattle.form_truths.proofs.PartLaws.{exist_kept}
-use Rattle.identity_forms.proofs.both.push_both.Goals as goal
+use Rattle.identity_forms.proofs.pairs.push_both.Goals as goal
 
-pub returns-then-is_out-clause-adds : goal.returns-then-is_out-clause-adds
-returns-then-is_out-clause-adds c = adds_nothing [] c.args.maker.now
+pub returns-then-is_never-clause-adds : goal.returns-then-is_never-clause-adds
+returns-then-is_never-clause-adds c = adds_nothing [] c.args.maker.now
 
 pub returns-clause-exist : goal.returns-clause-exist
 returns-clause-exist c h =

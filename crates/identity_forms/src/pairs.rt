@@ -10,8 +10,8 @@ use form_build::{Maker, Truth, turned};
 use form_truths::{Disjunction, flag_of, is_one, truth_of};
 use std::alloc::AllocError;
 
-/// Whether the truth surely doesn't hold.
-pub(crate) fn is_out(t: &Truth) -> bool
+/// Whether it is fixed that the truth doesn't hold.
+pub fn is_never(t: &Truth) -> bool
     ensures { result ≡ true → (a : List ℤ) → truth_at t.now a ≡ false }
 {
     match t {
@@ -109,8 +109,13 @@ fn ask_for_two(s: &Truth, t: &Truth) -> bool {
     }
 }
 
-/// Whether both hold.
-fn both(maker: &mut Maker, s: &Truth, t: &Truth) -> Result<Truth, AllocError>
+/// Whether both hold. Where the two ask for two variables, this takes a flag for each and one for
+/// both; else one literal.
+///
+/// # Errors
+///
+/// Where memory lacks, or the problem has no room for three more variables.
+pub fn both(maker: &mut Maker, s: &Truth, t: &Truth) -> Result<Truth, AllocError>
     requires left { HasVariable (length maker.old.domains) s.now }
     requires right { HasVariable (length maker.old.domains) t.now }
     ensures variable { IfOk result (λ u. HasVariable (length maker.new.domains) u) }
@@ -141,7 +146,7 @@ pub(crate) fn push_both(
         → IsWithin (length maker.new.domains) some.new.1) }
     ensures adds { OnOk result (Defines maker.old maker.new) }
 {
-    if is_out(s) || is_out(t) {
+    if is_never(s) || is_never(t) {
         return Ok(());
     }
     let u = both(maker, s, t)?;

@@ -4,7 +4,7 @@ use Rattle.form_build.specs.Forms.{truth_at}
 use Rattle.form_build.proofs.Flags.{flag_kept}
 use Rattle.form_build.proofs.Growth.{world_before, defines_more}
 use Rattle.identity_forms.proofs.PairLaws.{two_flags, of_both}
-use Rattle.identity_forms.proofs.both.by_flags.Goals as goal
+use Rattle.identity_forms.proofs.pairs.by_flags.Goals as goal
 
 pub all_of-requires-clause-flags : goal.all_of-requires-clause-flags
 all_of-requires-clause-flags c =
