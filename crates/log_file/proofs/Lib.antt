@@ -1,0 +1,2 @@
+pub mod FileFronts
+pub mod WholeFile
