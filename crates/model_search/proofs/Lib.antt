@@ -1,0 +1,3 @@
+pub mod FoundRuns
+pub mod Sizes
+pub mod Solutions
