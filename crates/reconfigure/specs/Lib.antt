@@ -1,0 +1,5 @@
+pub mod Failing
+pub mod CellsFirst
+pub mod Marking
+pub mod Counting
+pub mod Repairing

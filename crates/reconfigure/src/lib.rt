@@ -1,0 +1,24 @@
+//! The ground problem of a repair: nothing refers to what failed, as few former values as can be
+//! are changed, and among such configurations the model's objectives decide.
+//!
+//! `with_changes` is the entry. It takes the ground problem of a model, whatever that asks, and
+//! promises that the result stands for the same with these two things more. It knows nothing of a
+//! search.
+//!
+//! - `allowed`: clauses that keep failed objects out.
+//! - `changed`: the leaves that have other values than before, each as one truth.
+//! - `count`: how many of these hold, as a sum.
+//! - `failed`: the failed objects, by the words that name them.
+//! - `marks`: which objects are in failed ones.
+//! - `problem`: the problem of a repair.
+#![tactic(auto)]
+
+mod allowed;
+mod changed;
+mod count;
+mod failed;
+mod marks;
+mod problem;
+
+pub use failed::FailedError;
+pub use problem::with_changes;
