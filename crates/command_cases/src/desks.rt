@@ -1,19 +1,21 @@
 //! What cases ask of desks, and of runs over them.
 //!
-//! - `file NAME TEXT`, `spaces NAME COUNT` and `nested NAME COUNT`: adds a file to those of the next
-//!   desk, of the text, of so many spaces, or a model of classes that contain one another.
+//! - `file NAME TEXT`, `spaces NAME COUNT` and `nested NAME COUNT`: adds a file to those of the
+//!   next desk, of the text, of so many spaces, or a model of classes that contain one another.
 //! - `steady`, `memory STEP CALL ..` and `real`: the next desk, with the files that were added; of
 //!   `memory` a call moves at most so many bytes, where they aren't 0, and the calls of these
 //!   numbers fail.
-//! - `read NAME LIMIT`, `store NAME TEXT`, `sevens NAME COUNT`, `append NAME TEXT` and `print TEXT`:
-//!   what a call gives; `sevens` stores so many bytes 7.
+//! - `read NAME LIMIT`, `store NAME TEXT`, `sevens NAME COUNT`, `append NAME TEXT` and `print
+//!   TEXT`: what a call gives; `sevens` stores so many bytes 7.
 //! - `holds NAME` and `printed`: what the file holds, and what was printed.
-//! - `run WORD ..`: the status of a run, its number, and its line where it has one.
+//! - `run WORD ..`: the status of a run, its number, and its line where it has one; a word `""` is
+//!   empty.
+//! - `asks WORD ..`: what the words ask for.
 ghost use Rattle.std.specs.Prelude.{IsTrue, List, ℕ};
 
-use crate::runs::status_text;
+use crate::runs::{Parts, status_text};
 use case_files::{Case, Subject, words_of};
-use confsolve_run::run;
+use confsolve_run::request_of;
 use desk_io::{Desk, MemoryDesk, RealDesk, SteadyDesk, StoredFile, print_all, read_all, store_all};
 use std::alloc::{AllocError, Global};
 use std::mem;
@@ -32,6 +34,7 @@ pub(crate) struct Desks {
     rt: HostRuntime,
     files: Vec<StoredFile>,
     desk: AnyDesk,
+    pub(crate) parts: Parts,
 }
 
 /// Bytes as a text; many of them as their count, and the byte where all are alike.
@@ -99,16 +102,38 @@ fn append<D: Desk>(
     format!(in alloc; "{added:?}")
 }
 
-/// The status of a run.
-fn run_words<D: Desk>(alloc: Global, desk: &mut D, text: &str) -> Result<String, AllocError>
-    requires { (name : List ℕ) → IsTrue (D.may_read desk.old name) }
-{
+/// The words of a command; `""` is an empty one.
+fn command_words(alloc: Global, text: &str) -> Result<Vec<String>, AllocError> {
     let mut words = Vec::new(alloc);
     for word in words_of(alloc, text.as_bytes())? {
+        let word = if word == "\"\"" { "" } else { word };
         words.push(String::from_str(alloc, word)?)?;
     }
-    let status = run(alloc, &words, desk);
+    Ok(words)
+}
+
+/// The status of a run.
+fn run_words<D: Desk>(
+    alloc: Global,
+    parts: &mut Parts,
+    desk: &mut D,
+    text: &str,
+) -> Result<String, AllocError>
+    requires read { (name : List ℕ) → IsTrue (D.may_read desk.old name) }
+    requires write { (name : List ℕ) → IsTrue (D.may_write desk.old name) }
+{
+    let words = command_words(alloc, text)?;
+    let status = parts.run(alloc, &words, desk);
     status_text(alloc, &status)
+}
+
+/// What words ask for.
+fn asked(alloc: Global, text: &str) -> Result<String, AllocError> {
+    let words = command_words(alloc, text)?;
+    match request_of(alloc, &words)? {
+        Some(request) => format!(in alloc; "{request:?}"),
+        None => String::from_str(alloc, "nothing"),
+    }
 }
 
 /// What a call on a file gives.
@@ -134,12 +159,18 @@ fn call_on_file<D: Desk>(
 }
 
 /// What a call gives.
-fn call<D: Desk>(alloc: Global, desk: &mut D, ask: &str, text: &str) -> Result<String, AllocError>
+fn call<D: Desk>(
+    alloc: Global,
+    parts: &mut Parts,
+    desk: &mut D,
+    ask: &str,
+    text: &str,
+) -> Result<String, AllocError>
     requires read { (name : List ℕ) → IsTrue (D.may_read desk.old name) }
     requires write { (name : List ℕ) → IsTrue (D.may_write desk.old name) }
 {
     match ask {
-        "run" => run_words(alloc, desk, text),
+        "run" => run_words(alloc, parts, desk, text),
         "print" => {
             let printed = print_all(desk, text.as_bytes());
             format!(in alloc; "{printed:?}")
@@ -171,12 +202,13 @@ fn printed(desk: &AnyDesk) -> &[u8] {
 
 impl Desks {
     /// A steady desk without files.
-    pub(crate) fn new(rt: HostRuntime) -> Desks {
+    pub(crate) fn new(rt: HostRuntime, parts: Parts) -> Desks {
         let alloc = rt.alloc();
         Desks {
             rt,
             files: Vec::new(alloc),
             desk: AnyDesk::Steady(SteadyDesk::new(alloc, Vec::new(alloc))),
+            parts,
         }
     }
 
@@ -240,9 +272,9 @@ impl Desks {
                 String::from_str(alloc, "made")
             }
             _ => match &mut self.desk {
-                AnyDesk::Memory(desk) => call(alloc, desk, ask, text),
-                AnyDesk::Steady(desk) => call(alloc, desk, ask, text),
-                AnyDesk::Real(desk) => call(alloc, desk, ask, text),
+                AnyDesk::Memory(desk) => call(alloc, &mut self.parts, desk, ask, text),
+                AnyDesk::Steady(desk) => call(alloc, &mut self.parts, desk, ask, text),
+                AnyDesk::Real(desk) => call(alloc, &mut self.parts, desk, ask, text),
             },
         }
     }
@@ -261,6 +293,7 @@ impl Subject for Desks {
                 None => String::from_str(alloc, "no file"),
             },
             "printed" => bytes_text(alloc, printed(&self.desk)),
+            "asks" => asked(alloc, text),
             _ => self.make_or_call(alloc, case.ask, text),
         }
     }

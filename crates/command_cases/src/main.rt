@@ -1,19 +1,29 @@
 //! Runs the command on the cases of files, and prints of each file how many came out as they say.
 //!
 //! The files lie in `data`; `cases` says how they are written, and `desks` what those ask that are
-//! about desks and limits. A case that came out otherwise is printed with its line and what the run
-//! printed and how it ended.
+//! about desks, limits, words and logs. A case that came out otherwise is printed with its line and
+//! what the run printed and how it ended.
 #![tactic(auto)]
 
 mod cases;
 mod desks;
 mod runs;
 
+ghost use Rattle.branch_choice.specs.Picks.{IsAsked, IsPick};
+ghost use Rattle.branch_choice.specs.declared.split.Order.TheVariants as orders;
+
 use crate::cases::{Case, cases_of};
-use crate::runs::run_case;
+use crate::runs::{Parts, run_case};
+use bool_prop::BoolProp;
+use branch_choice::{Chooser, Order, Pick, Split, first, former, small};
 use case_files::run_file as run_desks;
 use desk_io::{RealDesk, read_all};
 use desks::Desks;
+use element_prop::ElementProp;
+use linear_prop::LinearProp;
+use pack_prop::PackProp;
+use rule_law::{Kit, Propagator};
+use signed_clause::IntSet;
 use std::alloc::AllocError;
 use std::fs;
 use std::process::ExitCode;
@@ -26,10 +36,23 @@ const FILES: [&str; 4] = [
     "verified.cases",
 ];
 
+/// The files of what is asked of desks, and of runs over them.
+const DESK_FILES: [&str; 4] = [
+    "desks.cases",
+    "limits.cases",
+    "words.cases",
+    "searches.cases",
+];
+
 /// Runs the case, and whether it came out as it says. Where it didn't, what came is printed.
-fn is_as_said(rt: &HostRuntime, file: &str, case: &Case<'_>) -> Result<bool, AllocError> {
+fn is_as_said(
+    rt: &HostRuntime,
+    parts: &mut Parts,
+    file: &str,
+    case: &Case<'_>,
+) -> Result<bool, AllocError> {
     let alloc = rt.alloc();
-    let came = run_case(alloc, case)?;
+    let came = run_case(alloc, parts, case)?;
     if came.printed.as_slice() == case.printed.as_slice() && came.status.as_bytes() == case.status {
         return Ok(true);
     }
@@ -44,6 +67,7 @@ fn is_as_said(rt: &HostRuntime, file: &str, case: &Case<'_>) -> Result<bool, All
 fn run_file(
     rt: &HostRuntime,
     desk: &mut RealDesk<HostRuntime>,
+    parts: &mut Parts,
     file: &str,
 ) -> Result<(), AllocError> {
     let alloc = rt.alloc();
@@ -54,7 +78,7 @@ fn run_file(
     let cases = cases_of(alloc, &text)?;
     let mut right = 0_u64;
     for case in &cases {
-        if is_as_said(rt, file, case)? {
+        if is_as_said(rt, parts, file, case)? {
             right = right.saturating_add(1);
         }
     }
@@ -64,19 +88,65 @@ fn run_file(
 }
 
 /// Runs all files.
-fn run_files(rt: &HostRuntime) -> Result<(), AllocError> {
+fn run_files(rt: &HostRuntime, desks: &mut Desks) -> Result<(), AllocError> {
     let mut desk = RealDesk::new(rt.clone()?);
     for file in FILES {
-        run_file(rt, &mut desk, file)?;
+        run_file(rt, &mut desk, &mut desks.parts, file)?;
     }
-    run_desks(rt, "desks.cases", &mut Desks::new(rt.clone()?))?;
-    run_desks(rt, "limits.cases", &mut Desks::new(rt.clone()?))?;
+    for file in DESK_FILES {
+        run_desks(rt, file, desks)?;
+    }
     let _ = fs::remove_file(rt, "desk_io.txt");
     Ok(())
 }
 
+/// Runs all files with this kit, and a chooser for each of the orders first, small and former.
+fn run_with(rt: &HostRuntime, kit: Kit) -> Result<(), AllocError> {
+    let alloc = rt.alloc();
+    let by_first: Pick = Box::new(
+        alloc,
+        move |boxes: &[IntSet], hints: &[Option<i64>], search: u32| -> Option<Split>
+            requires { IsAsked boxes.now hints.now search }
+            ensures { IsPick orders.First boxes.now hints.now search result }
+        { first(boxes, hints, search) },
+    )?;
+    let by_small: Pick = Box::new(
+        alloc,
+        move |boxes: &[IntSet], hints: &[Option<i64>], search: u32| -> Option<Split>
+            requires { IsAsked boxes.now hints.now search }
+            ensures { IsPick orders.Small boxes.now hints.now search result }
+        { small(boxes, hints, search) },
+    )?;
+    let by_former: Pick = Box::new(
+        alloc,
+        move |boxes: &[IntSet], hints: &[Option<i64>], search: u32| -> Option<Split>
+            requires { IsAsked boxes.now hints.now search }
+            ensures { IsPick orders.Former boxes.now hints.now search result }
+        { former(boxes, hints, search) },
+    )?;
+    let choosers = [
+        Chooser::new(Order::First, by_first),
+        Chooser::new(Order::Small, by_small),
+        Chooser::new(Order::Former, by_former),
+    ];
+    run_files(rt, &mut Desks::new(rt.clone()?, Parts { kit, choosers }))
+}
+
+/// Runs all files with the propagators of all kinds of constraints.
+fn run_all(rt: &HostRuntime) -> Result<(), AllocError> {
+    let alloc = rt.alloc();
+    let sums: Box<dyn Propagator> = Box::new(alloc, LinearProp::new(alloc))?;
+    let truths: Box<dyn Propagator> = Box::new(alloc, BoolProp::new(alloc))?;
+    let choices: Box<dyn Propagator> = Box::new(alloc, ElementProp::new(alloc))?;
+    let packings: Box<dyn Propagator> = Box::new(alloc, PackProp::new(alloc))?;
+    match Kit::new(vec![in alloc; sums, truths, choices, packings]?) {
+        Ok(kit) => run_with(rt, kit),
+        Err(_) => Err(AllocError),
+    }
+}
+
 fn main(rt: HostRuntime) -> ExitCode {
-    match run_files(&rt) {
+    match run_all(&rt) {
         Ok(()) => ExitCode::from(0),
         Err(_) => ExitCode::from(12),
     }

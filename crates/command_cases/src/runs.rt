@@ -1,8 +1,38 @@
 //! Runs of the command on cases.
+ghost use Rattle.std.specs.Prelude.{IsTrue, List, ℕ};
+
 use crate::cases::Case;
+use branch_choice::Chooser;
 use confsolve_run::{Status, line_of, run};
-use desk_io::SteadyDesk;
+use desk_io::{Desk, SteadyDesk};
+use proof_log::Record;
+use rule_law::Kit;
 use std::alloc::{AllocError, Global};
+
+/// What runs search with.
+#[derive(Drop)]
+pub(crate) struct Parts {
+    pub(crate) kit: Kit,
+    pub(crate) choosers: [Chooser; 3],
+}
+
+impl Parts {
+    /// The status of a run, with a record of its own.
+    pub(crate) fn run<D: Desk>(&mut self, alloc: Global, words: &[String], desk: &mut D) -> Status
+        requires read { (name : List ℕ) → IsTrue (D.may_read desk.old name) }
+        requires write { (name : List ℕ) → IsTrue (D.may_write desk.old name) }
+    {
+        let mut journal = Record::new(alloc);
+        run(
+            alloc,
+            words,
+            desk,
+            &mut self.kit,
+            &self.choosers,
+            &mut journal,
+        )
+    }
+}
 
 /// The words of a command.
 fn words(alloc: Global, texts: &[&str]) -> Result<Vec<String>, AllocError> {
@@ -31,7 +61,11 @@ pub(crate) fn status_text(alloc: Global, status: &Status) -> Result<String, Allo
 }
 
 /// What comes of a case.
-pub(crate) fn run_case(alloc: Global, case: &Case<'_>) -> Result<Outcome, AllocError> {
+pub(crate) fn run_case(
+    alloc: Global,
+    parts: &mut Parts,
+    case: &Case<'_>,
+) -> Result<Outcome, AllocError> {
     let model = String::from_str(alloc, "m.conf")?;
     let mut files = vec![in alloc; (model, case.model.to_vec(alloc)?)]?;
     let words = match case.config {
@@ -42,7 +76,7 @@ pub(crate) fn run_case(alloc: Global, case: &Case<'_>) -> Result<Outcome, AllocE
         }
     };
     let mut desk = SteadyDesk::new(alloc, files);
-    let status = run(alloc, &words, &mut desk);
+    let status = parts.run(alloc, &words, &mut desk);
     Ok(Outcome {
         printed: desk.printed().to_vec(alloc)?,
         status: status_text(alloc, &status)?,

@@ -1,9 +1,21 @@
-//! The program: it collects the words behind its name, runs the command that they are over real files and standard output,
-//! writes the line of a status that has one on standard error, and ends with the status's number.
+//! The program: it collects the words behind its name, runs the command that they are over real
+//! files and standard output, writes the line of a status that has one on standard error, and ends
+//! with the status's number.
 #![tactic(auto)]
 
+ghost use Rattle.branch_choice.specs.Picks.{IsAsked, IsPick};
+ghost use Rattle.branch_choice.specs.declared.split.Order.TheVariants as orders;
+
+use bool_prop::BoolProp;
+use branch_choice::{Chooser, Order, Pick, Split, first, former, small};
 use confsolve_run::{Status, line_of, run};
 use desk_io::RealDesk;
+use element_prop::ElementProp;
+use linear_prop::LinearProp;
+use pack_prop::PackProp;
+use proof_log::Record;
+use rule_law::{Kit, Propagator};
+use signed_clause::IntSet;
 use std::alloc::AllocError;
 use std::io::ErrorKind;
 use std::process::ExitCode;
@@ -24,16 +36,66 @@ fn words_of(rt: &HostRuntime) -> Result<Vec<String>, Status> {
 }
 
 /// Runs the command over real files.
-fn status_of(rt: &HostRuntime) -> Status {
-    let words = match words_of(rt) {
-        Ok(words) => words,
-        Err(status) => return status,
-    };
-    let Ok(desk_rt) = rt.clone() else {
-        return Status::Memory;
-    };
-    let mut desk = RealDesk::new(desk_rt);
-    run(rt.alloc(), &words, &mut desk)
+fn run_words(
+    rt: &HostRuntime,
+    words: &[String],
+    kit: &mut Kit,
+    choosers: &[Chooser; 3],
+) -> Result<Status, AllocError> {
+    let mut desk = RealDesk::new(rt.clone()?);
+    let mut journal = Record::new(rt.alloc());
+    Ok(run(rt.alloc(), words, &mut desk, kit, choosers, &mut journal))
+}
+
+/// Runs the command with a chooser for each of the orders first, small and former.
+fn run_with(rt: &HostRuntime, words: &[String], kit: &mut Kit) -> Result<Status, AllocError> {
+    let alloc = rt.alloc();
+    let by_first: Pick = Box::new(
+        alloc,
+        move |boxes: &[IntSet], hints: &[Option<i64>], search: u32| -> Option<Split>
+            requires { IsAsked boxes.now hints.now search }
+            ensures { IsPick orders.First boxes.now hints.now search result }
+        { first(boxes, hints, search) },
+    )?;
+    let by_small: Pick = Box::new(
+        alloc,
+        move |boxes: &[IntSet], hints: &[Option<i64>], search: u32| -> Option<Split>
+            requires { IsAsked boxes.now hints.now search }
+            ensures { IsPick orders.Small boxes.now hints.now search result }
+        { small(boxes, hints, search) },
+    )?;
+    let by_former: Pick = Box::new(
+        alloc,
+        move |boxes: &[IntSet], hints: &[Option<i64>], search: u32| -> Option<Split>
+            requires { IsAsked boxes.now hints.now search }
+            ensures { IsPick orders.Former boxes.now hints.now search result }
+        { former(boxes, hints, search) },
+    )?;
+    let choosers = [
+        Chooser::new(Order::First, by_first),
+        Chooser::new(Order::Small, by_small),
+        Chooser::new(Order::Former, by_former),
+    ];
+    run_words(rt, words, kit, &choosers)
+}
+
+/// Runs the command with the propagators of all kinds of constraints.
+fn run_all(rt: &HostRuntime, words: &[String]) -> Result<Status, AllocError> {
+    let alloc = rt.alloc();
+    let sums: Box<dyn Propagator> = Box::new(alloc, LinearProp::new(alloc))?;
+    let truths: Box<dyn Propagator> = Box::new(alloc, BoolProp::new(alloc))?;
+    let choices: Box<dyn Propagator> = Box::new(alloc, ElementProp::new(alloc))?;
+    let packings: Box<dyn Propagator> = Box::new(alloc, PackProp::new(alloc))?;
+    match Kit::new(vec![in alloc; sums, truths, choices, packings]?) {
+        Ok(mut kit) => run_with(rt, words, &mut kit),
+        Err(_) => Err(AllocError),
+    }
+}
+
+/// The status of the command that the words behind the program's name are.
+fn status_of(rt: &HostRuntime) -> Result<Status, Status> {
+    let words = words_of(rt)?;
+    Ok(run_all(rt, &words)?)
 }
 
 /// Writes the line of the status on standard error, where it has one.
@@ -47,7 +109,9 @@ fn tell(rt: &HostRuntime, status: &Status) -> Result<(), AllocError> {
 }
 
 fn main(rt: HostRuntime) -> ExitCode {
-    let status = status_of(&rt);
+    let status = match status_of(&rt) {
+        Ok(status) | Err(status) => status,
+    };
     let _ = tell(&rt, &status);
     ExitCode::from(status.number())
 }

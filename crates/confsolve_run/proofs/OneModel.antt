@@ -26,9 +26,9 @@ use Rattle.confsolve_run.specs.Meaning.{InExpression, IsFaultOf, IsTyped}
 use Rattle.model_limits.specs.Limits.{most_weight}
 use Rattle.confsolve_run.specs.Models.{IsWithin, outline_of, constraints_of, goals_of}
 use Rattle.confsolve_run.specs.Refusal.{IsSyntaxAt, IsNestingAt}
-use Rattle.confsolve_run.specs.Request.{IsModelOf, HasModel}
-use Rattle.confsolve_run.specs.declared.status.Fault.{Fault}
-use Rattle.confsolve_run.specs.declared.status.Fault.TheVariants as fault
+use Rattle.confsolve_run.specs.Asking.{IsModelOf, HasModel}
+use Rattle.run_status.specs.declared.status.Fault.{Fault}
+use Rattle.run_status.specs.declared.status.Fault.TheVariants as fault
 
 -- One list of tokens
 

@@ -4,24 +4,21 @@ use Rattle.std.proofs.lemmas.List.Elements.{All-contains}
 use native.Mathlib.Omega.{arith}
 use Rattle.conf_limits.specs.Measures.{model_weight, model_narrow}
 use Rattle.conf_syntax.specs.declared.tree.Program.{Program}
-use Rattle.desk_io.specs.Whole.{PrintsFront}
-use Rattle.desk_io.specs.Desk.{with_printed}
 use Rattle.object_alloc.specs.Limits as limits
 use Rattle.object_alloc.specs.Limits.{IsWithinLimits}
 use Rattle.object_alloc.specs.Walk.{objects}
 use Rattle.object_alloc.specs.declared.object.Object.{Object}
 use Rattle.object_alloc.specs.declared.fault.AllocFault.TheVariants as alloc
-use Rattle.object_alloc.specs.Counts.{configuration_count}
-use Rattle.try_all.specs.Choices.{most}
-use Rattle.confsolve_run.specs.Answer.{IsAnswer, IsModelAnswer, Prints, PrintsSome}
+use Rattle.branch_choice.specs.declared.split.Order.{Order}
+use Rattle.proof_log.specs.Rounds.{Journal}
+use Rattle.confsolve_run.specs.Answer.{IsAnswer, IsModelAnswer}
 use Rattle.model_limits.specs.Limits.{most_weight}
 use Rattle.confsolve_run.specs.Models.{IsWithin, outline_of, constraints_of, goals_of}
-use Rattle.confsolve_run.specs.Refusal.{IsAllocated, IsHeavy, IsRefusedFor, IsRefusedAs, IsRefusedOf, IsMissing, IsBroken}
-use Rattle.confsolve_run.specs.Request.{Asked, Best, Satisfied, IsModelOf, HasModel}
-use Rattle.confsolve_run.specs.declared.status.FormerKind.TheVariants as former
-use Rattle.confsolve_run.specs.declared.status.LimitKind.TheVariants as kind
-use Rattle.confsolve_run.specs.declared.status.Status.{Status}
-use Rattle.confsolve_run.specs.declared.status.Status.TheVariants as status
+use Rattle.confsolve_run.specs.Refusal.{IsAllocated, IsRefusedFor, IsRefusedAs, IsRefusedOf, IsModelDenied, IsTextRefused}
+use Rattle.confsolve_run.specs.Asking.{Asked, IsModelOf, HasModel}
+use Rattle.run_status.specs.declared.status.LimitKind.TheVariants as kind
+use Rattle.run_status.specs.declared.status.Status.{Status}
+use Rattle.run_status.specs.declared.status.Status.TheVariants as status
 use Rattle.confsolve_run.proofs.OneModel.{Said, said, AreOne, both, said_one, fault_one, typed_one, within_one, no_syntax, no_number, no_nesting}
 
 -- Refusals of a model
@@ -38,46 +35,38 @@ refused_one p q (status.Limit kind.Weight None) h c =
     (allocated_one p q h c.0, subst (λ (m : Said). most_weight < model_weight m.outline m.constraints m.goals) (said_one p q h.there) c.1)
 refused_one p q (status.Limit kind.Width None) h c =
     (allocated_one p q h c.0, subst (λ (m : Said). model_weight m.outline m.constraints m.goals ≤ most_weight) (said_one p q h.there) c.1, subst (λ (m : Said). model_narrow m.outline m.constraints m.goals ≡ false) (said_one p q h.there) c.2)
-refused_one p q status.Memory h c = tt
 refused_one p q s h c = absurd c
 
-asked_one : (asked : Asked) (p q : Program) (s : Status) → AreOne p q → IsRefusedOf asked p s → IsRefusedOf asked q s
-asked_one Best p q status.NotBuilt h c = (within_one p q h c.0, subst (λ (m : Said). most < configuration_count m.outline) (said_one p q h.there) c.1)
-asked_one Best p q s h c = absurd c
-asked_one (Satisfied bytes) p q (status.Limit kind.Former None) h c = (within_one p q h c.0, c.1)
-asked_one (Satisfied bytes) p q (status.Former former.NotJson) h c = (within_one p q h c.0, c.1, c.2)
-asked_one (Satisfied bytes) p q (status.Former former.NotObject) h c = (within_one p q h c.0, c.1, c.2)
-asked_one (Satisfied bytes) p q (status.Broken None path) h c = (within_one p q h c.0, c.1, subst (λ (m : Said). IsMissing m.outline bytes path) (said_one p q h.there) c.2)
-asked_one (Satisfied bytes) p q (status.Broken (Some place) path) h c = (within_one p q h c.0, c.1, subst (λ (m : Said). IsBroken m.outline m.constraints bytes place path) (said_one p q h.there) c.2)
-asked_one (Satisfied bytes) p q s h c = absurd c
+-- what is asked of the model, and what answers it, is of what it says
 
--- Answers
+abbrev WithSaid : (Said → Type 0) → Program → Type 0
+WithSaid P p = IsWithin p × P (said p)
 
-answer_one : (asked : Asked) (p q : Program) (s : Status) (text : List ℕ) → AreOne p q → IsAnswer asked p s text → IsAnswer asked q s text
-answer_one asked p q s text h a = subst (λ (m : Said). IsModelAnswer m.outline m.constraints m.goals asked s text) (said_one p q h.there) a
+with_one : (P : Said → Type 0) (p q : Program) → AreOne p q → WithSaid P p → WithSaid P q
+with_one P p q h c = (within_one p q h c.0, subst P (said_one p q h.there) c.1)
+
+with_of : (P : Said → Type 0) (text : List ℕ) (p : Program) → IsModelOf text p → HasModel text (WithSaid P) → WithSaid P p
+with_of P text p h r = with_one P r.0 p (both text r.0 p r.1 h) r.2
+
+pub asked_of : (text : List ℕ) (p : Program) (journal : Journal) (asked : Asked) (s : Status) → IsModelOf text p → HasModel text (λ q. IsWithin q × IsRefusedOf journal asked q s) → IsWithin p × IsRefusedOf journal asked p s
+asked_of text p journal asked s h r = with_of (λ m. IsModelDenied m.outline m.constraints m.goals journal asked s) text p h r
+
+pub answer_of : (text : List ℕ) (p : Program) (os : List Order) (journal : Journal) (asked : Asked) (s : Status) (printed : List ℕ) → IsModelOf text p → HasModel text (λ q. IsWithin q × IsAnswer os journal asked q s printed) → IsWithin p × IsAnswer os journal asked p s printed
+answer_of text p os journal asked s printed h r = with_of (λ m. IsModelAnswer m.outline m.constraints m.goals os journal asked s printed) text p h r
 
 -- From some tree of a text to a given one
 
+no_text_refusal : (text : List ℕ) (p : Program) (s : Status) → IsModelOf text p → IsTextRefused text s → ⊥
+no_text_refusal text p (status.Syntax place) h r = no_syntax text p place h r
+no_text_refusal text p (status.Limit kind.Literal (Some place)) h r = no_number text p place h r
+no_text_refusal text p (status.Limit kind.Nesting (Some place)) h r = no_nesting text p place h r
+no_text_refusal text p s h r = r
+
 pub refused_of : (text : List ℕ) (p : Program) (s : Status) → IsModelOf text p → IsRefusedAs s text → IsRefusedFor s p
-refused_of text p (status.Syntax place) h r = absurd (no_syntax text p place h r)
-refused_of text p (status.Limit kind.Literal (Some place)) h r = absurd (no_number text p place h r)
-refused_of text p (status.Limit kind.Nesting (Some place)) h r = absurd (no_nesting text p place h r)
-refused_of text p s h r = refused_one r.0 p s (both text r.0 p r.1 h) r.2
+refused_of text p s h (inl r) = absurd (no_text_refusal text p s h r)
+refused_of text p s h (inr r) = refused_one r.0 p s (both text r.0 p r.1 h) r.2
 
-pub asked_of : (text : List ℕ) (p : Program) (asked : Asked) (s : Status) → IsModelOf text p → HasModel text (λ q. IsRefusedOf asked q s) → IsRefusedOf asked p s
-asked_of text p asked s h r = asked_one asked r.0 p s (both text r.0 p r.1 h) r.2
-
-pub prints_of : (text : List ℕ) (p : Program) (s : Status) (before now : Option (List ℕ)) (asked : Asked) → IsModelOf text p → HasModel text (Prints s before now asked) → Prints s before now asked p
-prints_of text p s before now asked h r =
-    let one = both text r.0 p r.1 h in
-    (r.2.0, within_one r.0 p one r.2.1, answer_one asked r.0 p s r.2.0 one r.2.2, r.2.3)
-
-pub prints_some_of : (text : List ℕ) (p : Program) (before now : Option (List ℕ)) (asked : Asked) → IsModelOf text p → HasModel text (PrintsSome before now asked) → PrintsSome before now asked p
-prints_some_of text p before now asked h r =
-    let one = both text r.0 p r.1 h in
-    (r.2.0, r.2.1, within_one r.0 p one r.2.2, answer_one asked r.0 p r.2.0 r.2.1 one r.2.3, r.2.4)
-
--- A model within the limits is refused for want of memory alone
+-- A model within the limits isn't refused for its text
 
 too_deep : (most : ℕ) (xs : List Object) (x : Object) → All (λ (y : Object). y.depth ≤ most) xs → Contains xs x → most < x.depth → ⊥
 too_deep most xs x all has deep = let less = All-contains (λ (y : Object). y.depth ≤ most) xs x all has in absurd (omega (arith, less, deep))
@@ -85,15 +74,14 @@ too_deep most xs x all has deep = let less = All-contains (λ (y : Object). y.de
 not_deep : (p : Program) → IsWithin p → limits.IsRefused (outline_of p) alloc.TooDeep → ⊥
 not_deep p w r = too_deep _ (objects (outline_of p)) r.1.deep w.objects.depths r.1.has r.1.depth
 
-pub within_unrefused : (p : Program) → IsWithin p → (s : Status) → IsRefusedFor s p → s ≡ status.Memory
-within_unrefused p w (status.Meaning f place) c = absurd (w.typed f place c)
+within_unrefused : (p : Program) → IsWithin p → (s : Status) → IsRefusedFor s p → ⊥
+within_unrefused p w (status.Meaning f place) c = w.typed f place c
 within_unrefused p w (status.Limit kind.Objects None) c = absurd (omega (arith, w.objects.objects, c.1))
-within_unrefused p w (status.Limit kind.Depth None) c = absurd (not_deep p w c.1)
+within_unrefused p w (status.Limit kind.Depth None) c = not_deep p w c.1
 within_unrefused p w (status.Limit kind.Cells None) c = absurd (omega (arith, w.objects.cells, c.1.2))
 within_unrefused p w (status.Limit kind.Weight None) c = absurd (omega (arith, w.light, c.1))
 within_unrefused p w (status.Limit kind.Width None) c = let yes = w.narrow in let no = c.2 in cc
-within_unrefused p w status.Memory c = refl
-within_unrefused p w s c = absurd c
+within_unrefused p w s c = c
 
-pub within_text : (text : List ℕ) (p : Program) → IsModelOf text p → IsWithin p → (s : Status) → IsRefusedAs s text → s ≡ status.Memory
+pub within_text : (text : List ℕ) (p : Program) → IsModelOf text p → IsWithin p → (s : Status) → IsRefusedAs s text → ⊥
 within_text text p h w s r = within_unrefused p w s (refused_of text p s h r)

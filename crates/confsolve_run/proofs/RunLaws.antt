@@ -1,94 +1,115 @@
--- Endings of a run after the model's file was read.
-use Rattle.std.proofs.Common.{◌≡◌, ◌⊎◌, inl, inr, ℕ, ◌≤◌, ◌+◌, ◌-◌, ◌^◌, min, List, Option, sym, subst}
+-- From how a request ends to what each clause of the top call says.
+use Rattle.std.proofs.Common.{◌≡◌, ◌⊎◌, ◌↔◌, inl, inr, ℕ, ◌≤◌, Bool, true, false, List, Option, None, Some, IfSome, length, sym, subst, ap, ◌∙◌, refl}
 use native.Mathlib.Omega.{arith}
+use Rattle.conf_request.specs.declared.request.Request.{Request}
 use Rattle.desk_io.specs.Desk.{Files}
 use Rattle.desk_io.specs.Fault.{HasRisen}
-use Rattle.confsolve_run.specs.Ending.{EndsText, change}
-use Rattle.confsolve_run.specs.Status.{OnAnswer, OnText, OnAsked}
-use Rattle.confsolve_run.specs.declared.request.Request.{Request}
-use Rattle.confsolve_run.specs.declared.status.LimitKind.TheVariants as kind
-use Rattle.confsolve_run.specs.declared.status.Status.{Status}
-use Rattle.confsolve_run.specs.declared.status.Status.TheVariants as status
+use Rattle.model_limits.specs.Limits.{model_bytes}
+use Rattle.proof_log.specs.Rounds.{Journal}
+use Rattle.run_status.specs.declared.status.LimitKind.TheVariants as kind
+use Rattle.run_status.specs.declared.status.Status.{Status}
+use Rattle.run_status.specs.declared.status.Status.TheVariants as status
+use Rattle.confsolve_run.specs.Asking.{OfText, log_file, text_of}
+use Rattle.confsolve_run.specs.Delivery.{IsLogged, IsLogFront, IsLogFrontIn}
+use Rattle.confsolve_run.specs.Ending.{Trace, Prints, Breaks, Delivers, Begins, RunEnds, RunEndsAt, OfTrace}
+use Rattle.confsolve_run.specs.Recorded.{IsRecorded}
+use Rattle.confsolve_run.specs.Refusal.{IsReason, IsTooLongText, IsTextRefused, IsStanding}
+use Rattle.confsolve_run.specs.Stages.{Stage, Unasked, Unread, Refused, Answered, Unwritten, Lost, stage_of, is_silent, is_partial, IsSettled, IsUnless, Unreadable}
+use Rattle.confsolve_run.proofs.Asking.{text_known}
 
--- a count that rose later has risen since
-pub risen_earlier : (before mid now : ℕ) → before ≤ mid → HasRisen mid now → HasRisen before now
-risen_earlier before mid now h r = omega (arith, h, r)
+-- what holds of the request holds where there is one
+pub given : (o : Option Request) (r : Request) (P : Request → Type 0) → o ≡ Some r → P r → IfSome o P
+given o r P is h = subst (λ x. IfSome x P) (sym is) h
 
--- reading the model's file changed neither files, nor what was printed, nor the count of failed writes
-pub ends_after : (told now_told : Option Files) (r : Request) (printed now_printed last : Option (List ℕ)) (reads reads_now writes now_writes writes_now : ℕ) (text : List ℕ) (s : Status) → now_told ≡ told → now_printed ≡ printed → now_writes ≡ writes → EndsText now_told r (change now_printed last reads reads_now now_writes writes_now) text s → EndsText told r (change printed last reads reads_now writes writes_now) text s
-ends_after told now_told r printed now_printed last reads reads_now writes now_writes writes_now text s t p w h =
-    subst (λ x. EndsText told r (change printed last reads reads_now x writes_now) text s) w
-    (subst (λ x. EndsText told r (change x last reads reads_now now_writes writes_now) text s) p
-    (subst (λ x. EndsText x r (change now_printed last reads reads_now now_writes writes_now) text s) t h))
+pub some_none : (o : Option Request) (r : Request) → o ≡ Some r → o ≡ None → ⊥
+some_none o r some none = cc
 
--- what follows from what comes with a status comes with it
+some_same : (r q : Request) → Some r ≡ Some q → r ≡ q
+some_same r q e = cc
 
-pub on_answer : {A B : Type 0} (s : Status) → (A → B) → OnAnswer s A → OnAnswer s B
-on_answer status.Done f a = f a
-on_answer status.NoneExists f a = f a
-on_answer (status.Syntax place) f a = tt
-on_answer (status.Meaning fault place) f a = tt
-on_answer status.Usage f a = tt
-on_answer status.ReadFault f a = tt
-on_answer status.WriteFault f a = tt
-on_answer (status.Former why) f a = tt
-on_answer (status.Broken place path) f a = tt
-on_answer status.Memory f a = tt
-on_answer status.NotBuilt f a = tt
-on_answer (status.Limit kind.Model place) f a = tt
-on_answer (status.Limit kind.Literal place) f a = tt
-on_answer (status.Limit kind.Nesting place) f a = tt
-on_answer (status.Limit kind.Objects place) f a = tt
-on_answer (status.Limit kind.Depth place) f a = tt
-on_answer (status.Limit kind.Cells place) f a = tt
-on_answer (status.Limit kind.Weight place) f a = tt
-on_answer (status.Limit kind.Width place) f a = tt
-on_answer (status.Limit kind.Former place) f a = tt
+pub one_request : (o : Option Request) (r q : Request) → o ≡ Some r → o ≡ Some q → r ≡ q
+one_request o r q some other = some_same r q (sym some ∙ other)
 
-pub on_text : {A B : Type 0} (s : Status) → (A → B) → OnText s A → OnText s B
-on_text status.Done f a = tt
-on_text status.NoneExists f a = tt
-on_text (status.Syntax place) f a = f a
-on_text (status.Meaning fault place) f a = f a
-on_text status.Usage f a = tt
-on_text status.ReadFault f a = tt
-on_text status.WriteFault f a = tt
-on_text (status.Former why) f a = tt
-on_text (status.Broken place path) f a = tt
-on_text status.Memory f a = tt
-on_text status.NotBuilt f a = tt
-on_text (status.Limit kind.Model place) f a = tt
-on_text (status.Limit kind.Literal place) f a = f a
-on_text (status.Limit kind.Nesting place) f a = f a
-on_text (status.Limit kind.Objects place) f a = f a
-on_text (status.Limit kind.Depth place) f a = f a
-on_text (status.Limit kind.Cells place) f a = f a
-on_text (status.Limit kind.Weight place) f a = f a
-on_text (status.Limit kind.Width place) f a = f a
-on_text (status.Limit kind.Former place) f a = tt
+module _ (t : Trace) (s : Status) (h : RunEnds t s) where
+  at : (g : Stage) → stage_of s ≡ g → RunEndsAt g t s
+  at g is = subst (λ x. RunEndsAt x t s) is h
 
-pub on_asked : {A B : Type 0} (s : Status) → (A → B) → OnAsked s A → OnAsked s B
-on_asked status.Done f a = tt
-on_asked status.NoneExists f a = tt
-on_asked (status.Syntax place) f a = tt
-on_asked (status.Meaning fault place) f a = tt
-on_asked status.Usage f a = tt
-on_asked status.ReadFault f a = tt
-on_asked status.WriteFault f a = tt
-on_asked (status.Former why) f a = f a
-on_asked (status.Broken place path) f a = f a
-on_asked status.Memory f a = tt
-on_asked status.NotBuilt f a = f a
-on_asked (status.Limit kind.Model place) f a = tt
-on_asked (status.Limit kind.Literal place) f a = tt
-on_asked (status.Limit kind.Nesting place) f a = tt
-on_asked (status.Limit kind.Objects place) f a = tt
-on_asked (status.Limit kind.Depth place) f a = tt
-on_asked (status.Limit kind.Cells place) f a = tt
-on_asked (status.Limit kind.Weight place) f a = tt
-on_asked (status.Limit kind.Width place) f a = tt
-on_asked (status.Limit kind.Former place) f a = f a
+  pub delivered : stage_of s ≡ Answered → Delivers t s × OfTrace t (Prints t s)
+  delivered is = at Answered is
 
-pub right_map : {A B C : Type 0} → (B → C) → A ⊎ B → A ⊎ C
-right_map f (inl a) = inl a
-right_map f (inr b) = inr (f b)
+  pub refused : stage_of s ≡ Refused → OfText t.before.files t.request (λ text. IsReason t.before.files t.request t.journal text s)
+  refused is = (at Refused is).0
+
+  pub unasked : s ≡ status.Usage → ⊥
+  unasked is = at Unasked (ap stage_of is)
+
+  pub unread : s ≡ status.ReadFault → HasRisen t.reads t.reads_now
+  unread is = (at Unread (ap stage_of is)).0
+
+  pub unwritten : s ≡ status.WriteFault → HasRisen t.writes t.writes_now × Begins t × OfTrace t (Breaks t)
+  unwritten is = at Unwritten (ap stage_of is)
+
+  pub lost : s ≡ status.Memory → (t.now ≡ t.before) ⊎ (Begins t × OfTrace t (Breaks t))
+  lost is = at Lost (ap stage_of is)
+
+silent_at : (g : Stage) (t : Trace) (s : Status) → is_silent g ≡ true → RunEndsAt g t s → t.now ≡ t.before
+silent_at Unasked t s is h = absurd h
+silent_at Unread t s is h = h.1
+silent_at Refused t s is h = h.1
+silent_at Answered t s is h = absurd cc
+silent_at Unwritten t s is h = absurd cc
+silent_at Lost t s is h = absurd cc
+
+pub silent : (t : Trace) (s : Status) → RunEnds t s → is_silent (stage_of s) ≡ true → t.now ≡ t.before
+silent t s h is = silent_at (stage_of s) t s is h
+
+-- no file has changed
+pub untouched : (name : Option (List ℕ)) (journal : Journal) (before now : Option Files) → now ≡ before → IsLogFrontIn name journal before now
+untouched None journal before now is = is
+untouched (Some name) journal before now is = inl is
+
+front_at : (g : Stage) (t : Trace) (s : Status) → is_partial g ≡ true → RunEndsAt g t s → IsLogFront t.request t.journal t.before.files t.now.files
+front_at Unasked t s is h = absurd h
+front_at Unread t s is h = absurd cc
+front_at Refused t s is h = absurd cc
+front_at Answered t s is h = absurd cc
+front_at Unwritten t s is h = h.1.logged
+front_at Lost t s is (inl same) = untouched (log_file t.request) t.journal t.before.files t.now.files (ap (λ o. o.files) same)
+front_at Lost t s is (inr h) = h.0.logged
+
+pub log_front : (t : Trace) (s : Status) → RunEnds t s → is_partial (stage_of s) ≡ true → IsLogFront t.request t.journal t.before.files t.now.files
+log_front t s h is = front_at (stage_of s) t s is h
+
+settled_at : (g : Stage) (t : Trace) (s : Status) → RunEndsAt g t s → (HasRisen t.reads t.reads_now → ⊥) → (HasRisen t.writes t.writes_now → ⊥) → IsSettled g
+settled_at Unasked t s h unread unwritten = absurd h
+settled_at Unread t s h unread unwritten = unread h.0
+settled_at Refused t s h unread unwritten = tt
+settled_at Answered t s h unread unwritten = tt
+settled_at Unwritten t s h unread unwritten = unwritten h.0
+settled_at Lost t s h unread unwritten = tt
+
+pub settled : (t : Trace) (s : Status) → RunEnds t s → (HasRisen t.reads t.reads_now → ⊥) → (HasRisen t.writes t.writes_now → ⊥) → IsSettled (stage_of s)
+settled t s h unread unwritten = settled_at (stage_of s) t s h unread unwritten
+
+-- ---- a refusal that stands comes
+
+-- the text is the one that was read
+pub stands_read : (told : Option Files) (r : Request) (bytes text : List ℕ) (s result : Status) → text_of told r ≡ Some text → OfText told r (λ x. x ≡ bytes) → length bytes ≤ model_bytes → ((w : Status) → IsTextRefused bytes w → IsUnless w result) → IsStanding text s → IsUnless s result
+stands_read told r bytes text s result is read short stands (inl long) =
+    let same : text ≡ bytes = text_known told r text (λ x. x ≡ bytes) is read in
+    let fits = subst (λ x. length x ≤ model_bytes) (sym same) short in
+    absurd (omega (arith, fits, long.1))
+stands_read told r bytes text s result is read short stands (inr h) =
+    let same : text ≡ bytes = text_known told r text (λ x. x ≡ bytes) is read in
+    stands s (subst (λ x. IsTextRefused x s) same h.1)
+
+-- or it couldn't be read, or was too long
+pub stands_denied : (told : Option Files) (r : Request) (text : List ℕ) (s result : Status) (reads reads_now : ℕ) → text_of told r ≡ Some text → Unreadable reads reads_now result (OfText told r (λ x. IsTooLongText x result)) → IsStanding text s → IsUnless s result
+stands_denied told r text s result reads reads_now is (inl h) stands = inr (inr h.0)
+stands_denied told r text s result reads reads_now is (inr (inl h)) stands = inr (inl h)
+stands_denied told r text s result reads reads_now is (inr (inr h)) (inl long) =
+    let e = text_known told r text (λ x. IsTooLongText x result) is h.1 in
+    inl (e.0 ∙ sym long.0)
+stands_denied told r text s result reads reads_now is (inr (inr h)) (inr short) =
+    let e = text_known told r text (λ x. IsTooLongText x result) is h.1 in
+    absurd (omega (arith, short.0, e.1))

@@ -1,5 +1,5 @@
 -- A JSON value that gives each leaf a value is a configuration with full sets.
-use Rattle.std.proofs.Common.{◌≡◌, ◌∙◌, ℕ, ◌<◌, List, [], ◌∷◌, ◌++◌, Option, None, Some, IfSome, ℤ, All, Contains, true, is_some, length, map, sym, ap, subst, refl, slice_index_or}
+use Rattle.std.proofs.Common.{inr, ◌≡◌, ◌∙◌, ℕ, ◌<◌, List, [], ◌∷◌, ◌++◌, Option, None, Some, IfSome, ℤ, All, Contains, true, is_some, length, map, sym, ap, subst, refl, slice_index_or}
 use native.Mathlib.Omega.{arith}
 use Rattle.std.proofs.lemmas.List.Elements as elements
 use Rattle.std.specs.List.{list_all}
@@ -16,10 +16,12 @@ use Rattle.object_alloc.specs.Configurations.{IsConfiguration}
 use Rattle.object_alloc.specs.Cells.{extent}
 use Rattle.object_alloc.specs.Walk.{walk, leaves_in, objects}
 use Rattle.confsolve_run.specs.Answer.{IsConfigOf}
-use Rattle.confsolve_run.specs.Refusal.{IsBroken, stated_path}
-use Rattle.confsolve_run.specs.Solving.{HasFullSets, IsBrokenStatus, IsUnsatisfied}
-use Rattle.confsolve_run.specs.declared.status.Status.{Status}
-use Rattle.confsolve_run.specs.declared.status.Status.TheVariants as status
+use Rattle.confsolve_run.specs.Asking.{IsShort}
+use Rattle.confsolve_run.specs.Refusal.{IsBroken, IsUnverified, stated_path}
+use Rattle.confsolve_run.specs.Stages.{Denied}
+use Rattle.confsolve_run.specs.Ready.{HasFullSets}
+use Rattle.run_status.specs.declared.status.Status.{Status}
+use Rattle.run_status.specs.declared.status.Status.TheVariants as status
 
 given : (ts : List ℤ) → list_all is_some (map Some ts) ≡ true
 given [] = refl
@@ -81,40 +83,27 @@ place_at (x ∷ xs) (b ∷ bs) k after d e =
     let rest : xs ≡ bs ++ k ∷ after = cc in
     place_at xs bs k after d rest
 
-some_constraint : (cs : List ResolvedConstraint) (before : List ResolvedConstraint) (k : ResolvedConstraint) (after : List ResolvedConstraint) → cs ≡ before ++ k ∷ after → ResolvedConstraint
+pub some_constraint : (cs : List ResolvedConstraint) (before : List ResolvedConstraint) (k : ResolvedConstraint) (after : List ResolvedConstraint) → cs ≡ before ++ k ∷ after → ResolvedConstraint
 some_constraint [] [] k after e = absurd cc
 some_constraint [] (b ∷ bs) k after e = absurd cc
 some_constraint (x ∷ xs) before k after e = x
 
-module _ (o : Outline) (cs : List ResolvedConstraint) (bytes : List ℕ) (t : List ℤ) (index : ℕ) (object : Option ℕ) (is : IsConfigOf o bytes t) (w : IsWrongConstraint o cs t index object) where
-  named_place : (d : ResolvedConstraint) (place : ℕ) (text : List ℕ) → IsBrokenStatus (slice_index_or cs index d).place (stated_path o object) (status.Broken (Some place) text) → IsBroken o cs bytes place text
-  named_place d place text p =
-      record {
-        config = t;
-        is = is;
-        broken = record {
-          index = index;
-          object = object;
-          wrong = w;
-          place_is = p.0 ∙ (ap (λ i. (slice_index_or cs i d).place) w.number ∙ place_at cs w.before w.constraint w.first.after d w.first.split);
-          path_is = p.1;
-        };
-      }
+-- the constraint that is named, by its place and the path of its object, is the first that is broken
+pub is_broken : (o : Outline) (cs : List ResolvedConstraint) (bytes : List ℕ) (t : List ℤ) (index : ℕ) (object : Option ℕ) (d : ResolvedConstraint) → IsConfigOf o bytes t → IsWrongConstraint o cs t index object → IsBroken o cs bytes (slice_index_or cs index d).place (stated_path o object)
+is_broken o cs bytes t index object d is w =
+    record {
+      config = t;
+      is = is;
+      broken = record {
+        index = index;
+        object = object;
+        wrong = w;
+        place_is = ap (λ i. (slice_index_or cs i d).place) w.number ∙ place_at cs w.before w.constraint w.first.after d w.first.split;
+        path_is = refl;
+      };
+    }
 
-  at_constraint : (d : ResolvedConstraint) (s : Status) → IsBrokenStatus (slice_index_or cs index d).place (stated_path o object) s → IsUnsatisfied o cs bytes s
-  at_constraint d (status.Broken (Some place) text) p = named_place d place text p
-  at_constraint d (status.Broken None text) p = absurd p
-  at_constraint d status.Memory p = tt
-  at_constraint d status.Done p = absurd p
-  at_constraint d status.NoneExists p = absurd p
-  at_constraint d (status.Syntax place) p = absurd p
-  at_constraint d (status.Meaning fault place) p = absurd p
-  at_constraint d (status.Limit k place) p = absurd p
-  at_constraint d status.Usage p = absurd p
-  at_constraint d status.ReadFault p = absurd p
-  at_constraint d status.WriteFault p = absurd p
-  at_constraint d (status.Former why) p = absurd p
-  at_constraint d status.NotBuilt p = absurd p
-
-  pub broken_refused : (s : Status) → ((d : ResolvedConstraint) → IsBrokenStatus (slice_index_or cs index d).place (stated_path o object) s) → IsUnsatisfied o cs bytes s
-  broken_refused s p = let d = some_constraint cs w.before w.constraint w.first.after w.first.split in at_constraint d s (p d)
+pub broken_denied : (o : Outline) (cs : List ResolvedConstraint) (bytes : List ℕ) (t : List ℤ) (index : ℕ) (object : Option ℕ) (s : Status) → IsShort bytes → IsConfigOf o bytes t → IsWrongConstraint o cs t index object → ((d : ResolvedConstraint) → s ≡ status.Broken (Some (slice_index_or cs index d).place) (stated_path o object)) → Denied s (IsUnverified o cs bytes s)
+broken_denied o cs bytes t index object s short is w named =
+    let d = some_constraint cs w.before w.constraint w.first.after w.first.split in
+    subst (λ x. Denied x (IsUnverified o cs bytes x)) (sym (named d)) (inr (refl, (short, is_broken o cs bytes t index object d is w)))

@@ -1,59 +1,142 @@
--- How a run over a model ends, status by status: what is printed, what the status says, and which faults came.
-use Rattle.std.specs.Prelude.{ℕ, ◌≡◌, ◌⊎◌, List, None, Some, Option}
-use Rattle.conf_syntax.specs.Spelling.{IsStuckAtNumber}
+-- How a run ends, stage by stage. What a reader believes after this file: what was printed and
+-- written, what the status says, and which faults came.
+use Rattle.std.specs.Prelude.{ℕ, ◌≡◌, ◌⊎◌, List, Option, IfSome, String}
+use Rattle.std.specs.declared.alloc.Global.{Global}
+use Rattle.branch_choice.specs.declared.split.Order.{Order}
+use Rattle.conf_request.specs.Words.{request}
+use Rattle.conf_request.specs.declared.request.Request.{Request}
 use Rattle.conf_syntax.specs.declared.tree.Program.{Program}
-use Rattle.desk_io.specs.Desk.{Files}
+use Rattle.desk_io.specs.Desk.{Files, with_printed}
 use Rattle.desk_io.specs.Fault.{HasRisen}
-use Rattle.confsolve_run.specs.Answer.{IsAnswer, Prints, PrintsSome}
+use Rattle.proof_log.specs.Rounds.{Journal}
+use Rattle.run_status.specs.declared.status.Status.{Status}
+use Rattle.confsolve_run.specs.Answer.{IsAnswer}
+use Rattle.confsolve_run.specs.Asking.{Asked, HasModel, OfAsked, OfText}
+use Rattle.confsolve_run.specs.Delivery.{Outside, IsLogged, IsLogFront, IsCutOff}
+use Rattle.confsolve_run.specs.Recorded.{IsRecorded}
 use Rattle.confsolve_run.specs.Models.{IsWithin}
-use Rattle.confsolve_run.specs.Refusal.{IsRefusedFor, IsRefusedOf, IsSyntaxAt, IsNestingAt}
-use Rattle.confsolve_run.specs.Request.{Asked, OfAsked, HasModel}
-use Rattle.confsolve_run.specs.Status.{IsAnswered}
-use Rattle.confsolve_run.specs.declared.request.Request.{Request}
-use Rattle.confsolve_run.specs.declared.status.LimitKind.TheVariants as kind
-use Rattle.confsolve_run.specs.declared.status.Status.{Status}
-use Rattle.confsolve_run.specs.declared.status.Status.TheVariants as status
+use Rattle.confsolve_run.specs.Refusal.{IsReason, IsRefusedFor, IsRefusedOf}
+use Rattle.confsolve_run.specs.Stages.{Stage, Unasked, Unread, Refused, Answered, Unwritten, Lost, stage_of}
 
--- why a request of a model has no answer; the counts are those of reading
-abbrev pub Refuses : Option Files → Request → Program → ℕ → ℕ → Status → Type 0
-Refuses told r p before after status.ReadFault = HasRisen before after
-Refuses told r p before after (status.Limit kind.Former place) = OfAsked told r (λ asked. IsRefusedOf asked p (status.Limit kind.Former place))
-Refuses told r p before after (status.Former why) = OfAsked told r (λ asked. IsRefusedOf asked p (status.Former why))
-Refuses told r p before after (status.Broken place path) = OfAsked told r (λ asked. IsRefusedOf asked p (status.Broken place path))
-Refuses told r p before after status.NotBuilt = OfAsked told r (λ asked. IsRefusedOf asked p status.NotBuilt)
-Refuses told r p before after status = IsRefusedFor status p
+-- where files are told, the text's model is within the limits, and P holds of it and of what the
+-- request asks of it
+abbrev pub OfModel : Option Files → Request → List ℕ → (Asked → Program → Type 0) → Type 0
+OfModel told r text P =
+    HasModel text (λ p. IsWithin p × OfAsked told r (λ asked. P asked p))
 
--- the answer to a request of a model
-abbrev pub Answers : Option Files → Request → Program → Status → List ℕ → Type 0
-Answers told r p status text = IsAnswered r status × IsWithin p × OfAsked told r (λ asked. IsAnswer asked p status text)
+-- the words are a request, and that holds of the text of its model
+abbrev pub OfRequest : Option Files → List (String Global)
+    → (Request → Asked → Program → Type 0) → Type 0
+OfRequest told words P =
+    IfSome (request words) (λ r. OfText told r (λ text. OfModel told r text (P r)))
 
--- why a text gives no model
-abbrev pub IsTextRefusal : List ℕ → Status → Type 0
-IsTextRefusal text (status.Syntax place) = IsSyntaxAt text place
-IsTextRefusal text (status.Limit kind.Literal (Some place)) = IsStuckAtNumber text place
-IsTextRefusal text (status.Limit kind.Nesting (Some place)) = IsNestingAt text place
-IsTextRefusal text status.Memory = Unit {0}
-IsTextRefusal text status = ⊥
+-- ---- steps of a run
 
--- what was printed before and after, and the counts of failed reads and writes
-pub record Change : Type 0 where
-  pub printed : Option (List ℕ)
-  pub now : Option (List ℕ)
+-- what a run has to do with: the request, the choosers' orders and the record; the outside before
+-- and now, and the counts of failed reads and writes
+pub record Trace : Type 0 where
+  pub request : Request
+  pub orders : List Order
+  pub journal : Journal
+  pub before : Outside
+  pub now : Outside
   pub reads : ℕ
   pub reads_now : ℕ
   pub writes : ℕ
   pub writes_now : ℕ
 
-abbrev pub Ends : Option Files → Request → Change → Program → Status → Type 0
-Ends told r d p status.Done = OfAsked told r (λ asked. Prints status.Done d.printed d.now asked p)
-Ends told r d p status.NoneExists = OfAsked told r (λ asked. Prints status.NoneExists d.printed d.now asked p)
-Ends told r d p status.WriteFault = HasRisen d.writes d.writes_now × OfAsked told r (λ asked. PrintsSome d.printed d.now asked p)
-Ends told r d p status.Memory = (d.now ≡ d.printed) ⊎ OfAsked told r (λ asked. PrintsSome d.printed d.now asked p)
-Ends told r d p status = Refuses told r p d.reads d.reads_now status × (d.now ≡ d.printed)
+abbrev pub trace : Request → List Order → Journal → Outside → Outside → ℕ → ℕ → ℕ → ℕ → Trace
+trace r os journal before now reads reads_now writes writes_now =
+    record {
+      request = r;
+      orders = os;
+      journal = journal;
+      before = before;
+      now = now;
+      reads = reads;
+      reads_now = reads_now;
+      writes = writes;
+      writes_now = writes_now;
+    }
 
--- how the run over a text ends: as that over its model, or with what keeps it from being one
-abbrev pub EndsText : Option Files → Request → Change → List ℕ → Status → Type 0
-EndsText told r d text status = HasModel text (λ p. Ends told r d p status) ⊎ (IsTextRefusal text status × (d.now ≡ d.printed))
+-- an answer was printed
+abbrev pub Prints : Trace → Status → Asked → Program → Type 0
+Prints t s asked p =
+    (text : List ℕ) × IsAnswer t.orders t.journal asked p s text
+    × (t.now.printed ≡ with_printed text t.before.printed)
 
-abbrev pub change : Option (List ℕ) → Option (List ℕ) → ℕ → ℕ → ℕ → ℕ → Change
-change printed now reads reads_now writes writes_now = record { printed = printed; now = now; reads = reads; reads_now = reads_now; writes = writes; writes_now = writes_now }
+-- writing an answer broke off
+abbrev pub Breaks : Trace → Asked → Program → Type 0
+Breaks t asked p =
+    (s : Status) × (text : List ℕ) × IsAnswer t.orders t.journal asked p s text
+    × IsCutOff t.request t.journal text t.before t.now
+
+-- whatever is known of the model's text: the record holds what the answer rests on, and its log was
+-- written
+pub record Delivers (t : Trace) (s : Status) : Type 0 where
+  pub recorded : IsRecorded t.orders t.request s t.journal
+  pub logged : IsLogged t.request t.journal t.before.files t.now.files
+
+-- or was begun
+pub record Begins (t : Trace) : Type 0 where
+  pub status : Status
+  pub recorded : IsRecorded t.orders t.request status t.journal
+  pub logged : IsLogFront t.request t.journal t.before.files t.now.files
+
+-- how a run over a model ends
+abbrev pub EndsModelAt : Stage → Trace → Program → Status → Type 0
+EndsModelAt Unasked t p s = ⊥
+EndsModelAt Unread t p s = HasRisen t.reads t.reads_now × (t.now ≡ t.before)
+EndsModelAt Refused t p s =
+    (IsRefusedFor s p
+    ⊎ (IsWithin p × OfAsked t.before.files t.request (λ asked. IsRefusedOf t.journal asked p s)))
+    × (t.now ≡ t.before)
+EndsModelAt Answered t p s =
+    Delivers t s
+    × (IsWithin p × OfAsked t.before.files t.request (λ asked. Prints t s asked p))
+EndsModelAt Unwritten t p s =
+    HasRisen t.writes t.writes_now × Begins t
+    × (IsWithin p × OfAsked t.before.files t.request (λ asked. Breaks t asked p))
+EndsModelAt Lost t p s =
+    (t.now ≡ t.before)
+    ⊎ (Begins t × (IsWithin p × OfAsked t.before.files t.request (λ asked. Breaks t asked p)))
+
+abbrev pub EndsModel : Trace → Program → Status → Type 0
+EndsModel t p s = EndsModelAt (stage_of s) t p s
+
+-- how a run over the model's text ends
+abbrev pub EndsAt : Stage → Trace → List ℕ → Status → Type 0
+EndsAt Unasked t text s = ⊥
+EndsAt Unread t text s = HasRisen t.reads t.reads_now × (t.now ≡ t.before)
+EndsAt Refused t text s =
+    IsReason t.before.files t.request t.journal text s × (t.now ≡ t.before)
+EndsAt Answered t text s =
+    Delivers t s × OfModel t.before.files t.request text (Prints t s)
+EndsAt Unwritten t text s =
+    HasRisen t.writes t.writes_now × Begins t
+    × OfModel t.before.files t.request text (Breaks t)
+EndsAt Lost t text s =
+    (t.now ≡ t.before) ⊎ (Begins t × OfModel t.before.files t.request text (Breaks t))
+
+abbrev pub Ends : Trace → List ℕ → Status → Type 0
+Ends t text s = EndsAt (stage_of s) t text s
+
+-- where files are told, P holds of the model in the request's text
+abbrev pub OfTrace : Trace → (Asked → Program → Type 0) → Type 0
+OfTrace t P =
+    OfText t.before.files t.request (λ text. OfModel t.before.files t.request text P)
+
+-- how a request ends; reading its model's text may fail
+abbrev pub RunEndsAt : Stage → Trace → Status → Type 0
+RunEndsAt Unasked t s = ⊥
+RunEndsAt Unread t s = HasRisen t.reads t.reads_now × (t.now ≡ t.before)
+RunEndsAt Refused t s =
+    OfText t.before.files t.request
+    (λ text. IsReason t.before.files t.request t.journal text s) × (t.now ≡ t.before)
+RunEndsAt Answered t s = Delivers t s × OfTrace t (Prints t s)
+RunEndsAt Unwritten t s =
+    HasRisen t.writes t.writes_now × Begins t × OfTrace t (Breaks t)
+RunEndsAt Lost t s = (t.now ≡ t.before) ⊎ (Begins t × OfTrace t (Breaks t))
+
+abbrev pub RunEnds : Trace → Status → Type 0
+RunEnds t s = RunEndsAt (stage_of s) t s

@@ -8,8 +8,8 @@ use Rattle.class_table.specs.Outline.{outline}
 use Rattle.conf_types.specs.Programs.{faults}
 use Rattle.conf_types.specs.declared.fault.TypeFault.{TypeFault}
 use Rattle.conf_types.specs.declared.fault.TypeFault.TheVariants as type
-use Rattle.confsolve_run.specs.declared.status.Fault.{Fault}
-use Rattle.confsolve_run.specs.declared.status.Fault.TheVariants as fault
+use Rattle.run_status.specs.declared.status.Fault.{Fault}
+use Rattle.run_status.specs.declared.status.Fault.TheVariants as fault
 
 -- the fault stands in an expression of the model
 abbrev pub InExpression : Program → TypeFault → Type 0
@@ -18,7 +18,8 @@ InExpression p f = Contains (faults (outline p.items) p.items) f
 -- the fault stands at the place, in the declarations or in an expression
 abbrev pub IsFaultOf : Program → Fault → ℕ → Type 0
 IsFaultOf p fault.Duplicate place = Stands p.items (table.Duplicate place)
-IsFaultOf p fault.Unknown place = Stands p.items (table.Unknown place) ⊎ InExpression p (type.Unknown place)
+IsFaultOf p fault.Unknown place =
+    Stands p.items (table.Unknown place) ⊎ InExpression p (type.Unknown place)
 IsFaultOf p fault.NotAClass place = Stands p.items (table.NotAClass place)
 IsFaultOf p fault.InheritCycle place = Stands p.items (table.InheritCycle place)
 IsFaultOf p fault.ContainCycle place = Stands p.items (table.ContainCycle place)

@@ -10,11 +10,11 @@ use Rattle.object_alloc.specs.declared.fault.AllocFault.{AllocFault}
 use Rattle.object_alloc.specs.declared.fault.AllocFault.TheVariants as objects
 use Rattle.confsolve_run.specs.declared.model.TextError.{TextError}
 use Rattle.confsolve_run.specs.declared.model.TextError.TheVariants as error
-use Rattle.confsolve_run.specs.declared.status.Fault.TheVariants as fault
-use Rattle.confsolve_run.specs.declared.status.LimitKind.{LimitKind}
-use Rattle.confsolve_run.specs.declared.status.LimitKind.TheVariants as kind
-use Rattle.confsolve_run.specs.declared.status.Status.{Status}
-use Rattle.confsolve_run.specs.declared.status.Status.TheVariants as status
+use Rattle.run_status.specs.declared.status.Fault.TheVariants as fault
+use Rattle.run_status.specs.declared.status.LimitKind.{LimitKind}
+use Rattle.run_status.specs.declared.status.LimitKind.TheVariants as kind
+use Rattle.run_status.specs.declared.status.Status.{Status}
+use Rattle.run_status.specs.declared.status.Status.TheVariants as status
 
 -- a limit without a place
 abbrev pub above : LimitKind → Status

@@ -1,33 +1,40 @@
 //! From a model's text and a request to what is printed.
 //!
-//! `answer_text` is the entry: it reads the text's model, builds it, answers what is asked of it, and prints the answer.
-ghost use Rattle.std.specs.Prelude.{◌≡◌, ◌≤◌, IsTrue, ℕ, List, Some, length, IfOk, IfErr};
-ghost use Rattle.model_limits.specs.Limits.{model_bytes, most_nesting};
-ghost use Rattle.conf_syntax.specs.Spelling.{IsStuckAtNumber};
+//! `answer_text` is the entry: it reads the text's model, builds it, answers what is asked of it,
+//! and delivers the answer.
+ghost use Rattle.std.specs.Prelude.{map, ◌≡◌, ◌⊎◌, ◌≤◌, IsTrue, ℕ, List, Some, true, length, is_some, option_copied, IfOk, IfErr, OnOk};
+ghost use Rattle.std.specs.Option.{option_map};
+ghost use Rattle.conf_request.specs.Words.{is_built, IsLawful};
 ghost use Rattle.conf_syntax.specs.Trees.{program_tokens, nesting};
 ghost use Rattle.conf_syntax.specs.Words.{AreWords};
-ghost use Rattle.desk_io.specs.Desk.{OfFile};
-ghost use Rattle.confsolve_run.specs.Answer.{IsSatisfiedAnswer, IsModelAnswer};
-ghost use Rattle.confsolve_run.specs.Ending.{Answers, Refuses, Ends, EndsText, change};
-ghost use Rattle.confsolve_run.specs.Refusal.{IsSyntaxAt, IsNestingAt};
+ghost use Rattle.model_limits.specs.Limits.{model_bytes, most_nesting};
+ghost use Rattle.proof_log.specs.Rounds.{empty};
+ghost use Rattle.run_status.specs.declared.status.Status.{Status as AStatus};
+ghost use Rattle.confsolve_run.specs.Answer.{IsModelAnswer, IsAnswer};
+ghost use Rattle.confsolve_run.specs.Asking.{IsFurther, OfAsked, log_file};
+ghost use Rattle.confsolve_run.specs.Delivery.{outside};
+ghost use Rattle.confsolve_run.specs.Ending.{Ends, EndsModel, trace};
+ghost use Rattle.confsolve_run.specs.Models.{IsWithin};
+ghost use Rattle.confsolve_run.specs.Ready.{IsReady};
+ghost use Rattle.confsolve_run.specs.Recorded.{IsRecorded};
+ghost use Rattle.confsolve_run.specs.Refusal.{IsModelDenied, IsRefusedFor, IsRefusedOf, IsTextRefused};
 ghost use Rattle.confsolve_run.specs.Refusing.{refusal_of};
-ghost use Rattle.confsolve_run.specs.Request.{IsConfigFile, IsShort, OfAsked};
-ghost use Rattle.confsolve_run.specs.Solving.{IsReady, IsUnverified, IsUnanswered};
-ghost use Rattle.confsolve_run.specs.Status.{IsAnswered, IsUnlessFault};
+ghost use Rattle.confsolve_run.specs.Stages.{Answered, stage_of, Unreadable, IsUnless};
+ghost use Rattle.confsolve_run.specs.Told.{IsLogOf};
 
-use crate::answer::Answer;
+use crate::answer::{Answer, Built, Resources};
 use crate::building::{objects_of, table_of, typed_model, within};
+use crate::checking::check;
+use crate::delivering::deliver;
 use crate::model::{TextError, model_of};
-use crate::request::{FileName, Request};
-use crate::solving::solve;
-use crate::status::{LimitKind, Status};
-use crate::verifying::verify_bytes;
-use class_table::ClassTable;
+use crate::searching::{Wanted, generated, solve};
+use crate::verifying::verify;
+use conf_request::{FileName, Request};
 use conf_syntax::Program;
-use conf_types::TypedModel;
-use desk_io::{Desk, ReadError, WriteError, print_all, read_all};
-use model_limits::CONFIG_BYTES;
-use object_alloc::Objects;
+use desk_io::{Desk, WriteError};
+use proof_log::Record;
+use rule_law::Kit;
+use run_status::{LimitKind, Status};
 use std::alloc::Global;
 
 /// The status of a text that gave no model.
@@ -48,142 +55,196 @@ fn refusal_of(error: TextError) -> Status
     }
 }
 
-/// The answer to `verify` with the configuration in this file.
-fn verify<D: Desk>(
-    alloc: Global,
-    desk: &mut D,
-    config: &FileName,
-    table: &ClassTable,
-    model: &TypedModel,
-    objects: &Objects<'_>,
-) -> Result<Answer, Status>
-    requires may_read { IsTrue (D.may_read desk.old config.now) }
-    requires ready { IsReady table.now objects.now model.now.constraints model.now.goals }
-    ensures status { IfOk result (λ a. a.status ≡ Status.Done) }
-    ensures answer { IfOk result (λ a. OfFile (D.files desk.old) config.now (λ bytes. IsShort bytes × IsSatisfiedAnswer objects.now model.now.constraints model.now.goals bytes a.status a.text.items)) }
-    ensures refused { IfErr result (IsUnverified (D.files desk.old) config.now objects.now model.now.constraints (D.read_faults desk.old) (D.read_faults desk.new)) }
-    ensures files { D.files desk.new ≡ D.files desk.old }
-    ensures printed { D.printed desk.new ≡ D.printed desk.old }
-    ensures read_faults { D.read_faults desk.old ≤ D.read_faults desk.new }
-    ensures write_faults { D.write_faults desk.new ≡ D.write_faults desk.old }
+/// The file that a request wants its log in.
+fn log_file(request: &Request) -> Option<&FileName>
+    ensures { option_copied result ≡ log_file request.now }
 {
-    let bytes = match read_all(alloc, desk, config.as_str(), CONFIG_BYTES) {
-        Ok(bytes) => bytes,
-        Err(ReadError::ReadFault) => return Err(Status::ReadFault),
-        Err(ReadError::TooLong) => {
-            return Err(Status::Limit {
-                kind: LimitKind::Former,
-                place: None,
-            });
-        }
-        Err(ReadError::Memory) => return Err(Status::Memory),
-    };
-    verify_bytes(alloc, &bytes, table, model, objects)
+    match request {
+        Request::Solve { log, .. } => log.as_ref(),
+        _ => None,
+    }
 }
 
 /// The answer to what is asked of a model that is within the limits.
 fn asked<D: Desk>(
-    alloc: Global,
+    with: Resources<'_>,
     desk: &mut D,
     request: &Request,
-    table: &ClassTable,
-    model: &TypedModel,
-    objects: &Objects<'_>,
+    built: Built<'_>,
+    kit: &mut Kit,
+    journal: &mut Record,
 ) -> Result<Answer, Status>
-    requires may_read { (name : List ℕ) → IsConfigFile request.now name → IsTrue (D.may_read desk.old name) }
-    requires ready { IsReady table.now objects.now model.now.constraints model.now.goals }
-    ensures status { IfOk result (λ a. IsAnswered request.now a.status) }
-    ensures answer { IfOk result (λ a. OfAsked (D.files desk.old) request.now (λ asked. IsModelAnswer objects.now model.now.constraints model.now.goals asked a.status a.text.items)) }
-    ensures refused { IfErr result (IsUnanswered (D.files desk.old) request.now objects.now model.now.constraints (D.read_faults desk.old) (D.read_faults desk.new)) }
+    requires may_read { (name : List ℕ) → IsFurther request.now name
+        → IsTrue (D.may_read desk.old name) }
+    requires ready { IsReady built.table.now built.objects.now built.model.now.constraints
+        built.model.now.goals }
+    requires is_built { is_built request.now ≡ true }
+    requires lawful { IsLawful request.now }
+    requires empty { journal.old ≡ empty }
+    ensures stage { IfOk result (λ a. stage_of a.status ≡ Answered) }
+    ensures answer { IfOk result (λ a. OfAsked (D.files desk.old) request.now
+        (λ asked. IsModelAnswer built.entry.objects.now built.entry.model.now.constraints
+        built.entry.model.now.goals (map (λ c. c.order) with.entry.choosers.now) journal.new asked
+        a.status
+        a.text.items)) }
+    ensures recorded { IfOk result (λ a. IsRecorded (map (λ c. c.order) with.entry.choosers.now)
+        request.now
+        a.status journal.new) }
+    ensures log { IfOk result (λ a. IsLogOf (is_some (log_file request.now)) journal.new
+        (option_map (λ text. text.items) a.log)) }
+    ensures refused { IfErr result (λ s. Unreadable (D.read_faults desk.old)
+        (D.read_faults desk.new) s (OfAsked (D.files desk.old) request.now
+        (λ asked. IsModelDenied built.entry.objects.now built.entry.model.now.constraints
+        built.entry.model.now.goals journal.new asked s))) }
+    ensures rounds { journal.new.rounds ≡ journal.old.rounds }
     ensures files { D.files desk.new ≡ D.files desk.old }
     ensures printed { D.printed desk.new ≡ D.printed desk.old }
     ensures read_faults { D.read_faults desk.old ≤ D.read_faults desk.new }
     ensures write_faults { D.write_faults desk.new ≡ D.write_faults desk.old }
+    ensures may_write { D.may_write desk.new ≡ D.may_write desk.old }
 {
     match request {
-        Request::Solve { .. } => solve(alloc, table, model, objects),
-        Request::Verify { config, .. } => verify(alloc, desk, config, table, model, objects),
+        Request::Solve {
+            budget,
+            order,
+            log,
+            ..
+        } => {
+            let wanted = Wanted {
+                budget: *budget,
+                order: *order,
+                logged: log.is_some(),
+            };
+            Ok(solve(with, built, wanted, kit, journal)?)
+        }
+        Request::Gen { n } => Ok(generated(with, built, *n, kit, journal)?),
+        Request::Check { log, .. } => check(with.alloc, desk, log, built, journal),
+        Request::Verify { config, .. } => verify(with.alloc, desk, config, built),
+        Request::Reconfigure { .. } | Request::Session { .. } | Request::Core { .. } => {
+            unreachable!()
+        }
     }
 }
 
 /// The answer to what is asked of a model.
 fn outcome<D: Desk>(
-    alloc: Global,
+    with: Resources<'_>,
     desk: &mut D,
     program: &Program,
     request: &Request,
+    kit: &mut Kit,
+    journal: &mut Record,
 ) -> Result<Answer, Status>
     requires words { AreWords (program_tokens program.now) }
     requires nested { nesting program.now ≤ most_nesting }
     requires few { length (program_tokens program.now) ≤ model_bytes }
-    requires may_read { (name : List ℕ) → IsConfigFile request.now name → IsTrue (D.may_read desk.old name) }
-    ensures answer { IfOk result (λ a. Answers (D.files desk.old) request.now program.now a.status a.text.items) }
-    ensures refused { IfErr result (Refuses (D.files desk.old) request.now program.now (D.read_faults desk.old) (D.read_faults desk.new)) }
+    requires may_read { (name : List ℕ) → IsFurther request.now name
+        → IsTrue (D.may_read desk.old name) }
+    requires is_built { is_built request.now ≡ true }
+    requires lawful { IsLawful request.now }
+    requires empty { journal.old ≡ empty }
+    ensures stage { IfOk result (λ a. stage_of a.status ≡ Answered) }
+    ensures within { OnOk result (IsWithin program.now) }
+    ensures answer { IfOk result (λ a. OfAsked (D.files desk.old) request.now
+        (λ asked. IsAnswer (map (λ c. c.order) with.entry.choosers.now) journal.new asked
+        program.now a.status
+        a.text.items)) }
+    ensures recorded { IfOk result (λ a. IsRecorded (map (λ c. c.order) with.entry.choosers.now)
+        request.now
+        a.status journal.new) }
+    ensures log { IfOk result (λ a. IsLogOf (is_some (log_file request.now)) journal.new
+        (option_map (λ text. text.items) a.log)) }
+    ensures refused { IfErr result (λ s. Unreadable (D.read_faults desk.old)
+        (D.read_faults desk.new) s (IsRefusedFor s program.now
+        ⊎ (IsWithin program.now × OfAsked (D.files desk.old) request.now
+        (λ asked. IsRefusedOf journal.new asked program.now s)))) }
+    ensures rounds { journal.new.rounds ≡ journal.old.rounds }
     ensures files { D.files desk.new ≡ D.files desk.old }
     ensures printed { D.printed desk.new ≡ D.printed desk.old }
     ensures read_faults { D.read_faults desk.old ≤ D.read_faults desk.new }
     ensures write_faults { D.write_faults desk.new ≡ D.write_faults desk.old }
+    ensures may_write { D.may_write desk.new ≡ D.may_write desk.old }
 {
-    let table = match table_of(alloc, program) {
-        Ok(table) => table,
-        Err(status) => return Err(status),
-    };
-    let model = match typed_model(alloc, program, &table) {
-        Ok(model) => model,
-        Err(status) => return Err(status),
-    };
-    let objects = match objects_of(alloc, &table) {
-        Ok(objects) => objects,
-        Err(status) => return Err(status),
-    };
-    match within(&model, &objects) {
-        Ok(()) => asked(alloc, desk, request, &table, &model, &objects),
-        Err(status) => Err(status),
+    let table = table_of(with.alloc, program)?;
+    let model = typed_model(with.alloc, program, &table)?;
+    let objects = objects_of(with.alloc, &table)?;
+    if let Err(status) = within(&model, &objects) {
+        return Err(status);
     }
+    let built = Built {
+        table: &table,
+        model: &model,
+        objects: &objects,
+    };
+    asked(with, desk, request, built, kit, journal)
 }
 
 /// Answers a model.
 fn answer_model<D: Desk>(
-    alloc: Global,
+    with: Resources<'_>,
     desk: &mut D,
     program: &Program,
     request: &Request,
+    kit: &mut Kit,
+    journal: &mut Record,
 ) -> Status
     requires words { AreWords (program_tokens program.now) }
     requires nested { nesting program.now ≤ most_nesting }
     requires few { length (program_tokens program.now) ≤ model_bytes }
-    requires may_read { (name : List ℕ) → IsConfigFile request.now name → IsTrue (D.may_read desk.old name) }
-    ensures ends { Ends (D.files desk.old) request.now (change (D.printed desk.old) (D.printed desk.new) (D.read_faults desk.old) (D.read_faults desk.new) (D.write_faults desk.old) (D.write_faults desk.new)) program.now result }
-    ensures files { D.files desk.new ≡ D.files desk.old }
+    requires may_read { (name : List ℕ) → IsFurther request.now name
+        → IsTrue (D.may_read desk.old name) }
+    requires may_write { (name : List ℕ) → log_file request.now ≡ Some name
+        → IsTrue (D.may_write desk.old name) }
+    requires is_built { is_built request.now ≡ true }
+    requires lawful { IsLawful request.now }
+    requires empty { journal.old ≡ empty }
+    ensures ends { EndsModel (trace request.now (map (λ c. c.order) with.entry.choosers.now)
+        journal.new
+        (outside (D.files desk.old) (D.printed desk.old))
+        (outside (D.files desk.new) (D.printed desk.new))
+        (D.read_faults desk.old) (D.read_faults desk.new) (D.write_faults desk.old)
+        (D.write_faults desk.new)) program.now result }
+    ensures rounds { journal.new.rounds ≡ journal.old.rounds }
 {
-    let answer = match outcome(alloc, desk, program, request) {
+    let answer = match outcome(with, desk, program, request, kit, journal) {
         Ok(answer) => answer,
         Err(status) => return status,
     };
-    match print_all(desk, &answer.text) {
+    match deliver(desk, log_file(request), &answer) {
         Ok(()) => answer.status,
         Err(WriteError::WriteFault) => Status::WriteFault,
         Err(WriteError::Memory) => Status::Memory,
     }
 }
 
-/// Answers what is asked of the model that a text of at most `MODEL_BYTES` bytes is, or names what keeps it from being one.
+/// Answers what is asked of the model that a text of at most `MODEL_BYTES` bytes is, or names what
+/// keeps it from being one.
 pub(crate) fn answer_text<D: Desk>(
-    alloc: Global,
+    with: Resources<'_>,
     desk: &mut D,
     text: &[u8],
     request: &Request,
+    kit: &mut Kit,
+    journal: &mut Record,
 ) -> Status
     requires short { length text.now ≤ model_bytes }
-    requires may_read { (name : List ℕ) → IsConfigFile request.now name → IsTrue (D.may_read desk.old name) }
-    ensures ends { EndsText (D.files desk.old) request.now (change (D.printed desk.old) (D.printed desk.new) (D.read_faults desk.old) (D.read_faults desk.new) (D.write_faults desk.old) (D.write_faults desk.new)) text.now result }
-    ensures syntax { (place : ℕ) → IsSyntaxAt text.now place → IsUnlessFault (Status.Syntax place) result }
-    ensures literal { (place : ℕ) → IsStuckAtNumber text.now place → IsUnlessFault (Status.Limit LimitKind.Literal (Some place)) result }
-    ensures nesting { (place : ℕ) → IsNestingAt text.now place → IsUnlessFault (Status.Limit LimitKind.Nesting (Some place)) result }
-    ensures files { D.files desk.new ≡ D.files desk.old }
+    requires may_read { (name : List ℕ) → IsFurther request.now name
+        → IsTrue (D.may_read desk.old name) }
+    requires may_write { (name : List ℕ) → log_file request.now ≡ Some name
+        → IsTrue (D.may_write desk.old name) }
+    requires is_built { is_built request.now ≡ true }
+    requires lawful { IsLawful request.now }
+    requires empty { journal.old ≡ empty }
+    ensures ends { Ends (trace request.now (map (λ c. c.order) with.entry.choosers.now) journal.new
+        (outside (D.files desk.old) (D.printed desk.old))
+        (outside (D.files desk.new) (D.printed desk.new))
+        (D.read_faults desk.old) (D.read_faults desk.new) (D.write_faults desk.old)
+        (D.write_faults desk.new)) text.now result }
+    ensures stands { (s : AStatus) → IsTextRefused text.now s → IsUnless s result }
+    ensures rounds { journal.new.rounds ≡ journal.old.rounds }
 {
-    match model_of(alloc, text) {
-        Ok(program) => answer_model(alloc, desk, &program, request),
+    match model_of(with.alloc, text) {
+        Ok(program) => answer_model(with, desk, &program, request, kit, journal),
         Err(error) => refusal_of(error),
     }
 }

@@ -1,23 +1,26 @@
-//! From a model's tree to its table, its resolved expressions and its objects, each with its refusals.
-ghost use Rattle.std.specs.Prelude.{◌≡◌, ◌≤◌, [], length, IfOk, IfErr, OnOk};
-ghost use Rattle.model_limits.specs.Limits.{model_bytes, most_nesting};
+//! From a model's tree to its table, its resolved expressions and its objects, each with its
+//! refusals.
+ghost use Rattle.std.specs.Prelude.{◌≡◌, ◌≤◌, length, IfOk, IfErr, OnOk};
+ghost use Rattle.conf_limits.specs.Limits.{IsWithinMeasures};
 ghost use Rattle.conf_syntax.specs.Trees.{program_tokens, nesting};
 ghost use Rattle.conf_syntax.specs.Words.{AreWords};
+ghost use Rattle.conf_syntax.specs.declared.tree.Program.{Program as AProgram};
 ghost use Rattle.conf_types.specs.Typing.{IsTypedModel};
-ghost use Rattle.conf_limits.specs.Limits.{IsWithinMeasures, IsLimitRefused};
-ghost use Rattle.object_alloc.specs.Limits.{IsWithinLimits, IsRefused};
-ghost use Rattle.confsolve_run.specs.Building.{IsDeclared, IsUnallocated, IsUnmeasured};
+ghost use Rattle.model_limits.specs.Limits.{model_bytes, most_nesting};
+ghost use Rattle.object_alloc.specs.Limits.{IsWithinLimits};
+ghost use Rattle.confsolve_run.specs.Building.{IsDeclared};
 ghost use Rattle.confsolve_run.specs.Meaning.{IsTyped};
 ghost use Rattle.confsolve_run.specs.Models.{outline_of, constraints_of, goals_of};
-ghost use Rattle.confsolve_run.specs.Refusing.{declared, expressed, allocated, measured};
 ghost use Rattle.confsolve_run.specs.Refusal.{IsRefusedFor};
+ghost use Rattle.confsolve_run.specs.Refusing.{declared, expressed, allocated, measured};
+ghost use Rattle.confsolve_run.specs.Stages.{Denied};
 
-use crate::status::{Fault, LimitKind, Status};
 use class_table::{ClassTable, TableFault};
 use conf_eval::{LimitFault, limits};
 use conf_syntax::Program;
 use conf_types::{TypeFault, TypedModel, check};
 use object_alloc::{AllocFault, Objects, allocate};
+use run_status::{Fault, LimitKind, Status};
 use std::alloc::Global;
 
 /// The status of a fault of declarations.
@@ -81,7 +84,7 @@ pub(crate) fn table_of(alloc: Global, program: &Program) -> Result<ClassTable, S
     requires words { AreWords (program_tokens program.now) }
     ensures table { IfOk result (λ table. table ≡ outline_of program.now) }
     ensures declared { OnOk result (IsDeclared program.now) }
-    ensures refused { IfErr result (λ s. IsRefusedFor s program.now) }
+    ensures refused { IfErr result (λ s. Denied s (IsRefusedFor s program.now)) }
 {
     match ClassTable::build(alloc, program) {
         Ok(table) => Ok(table),
@@ -104,7 +107,7 @@ pub(crate) fn typed_model(
     ensures typed { IfOk result (λ m. IsTypedModel table.now m.constraints m.goals) }
     ensures few { IfOk result (λ m. length m.constraints ≤ model_bytes) }
     ensures right { OnOk result (IsTyped program.now) }
-    ensures refused { IfErr result (λ s. IsRefusedFor s program.now) }
+    ensures refused { IfErr result (λ s. Denied s (IsRefusedFor s program.now)) }
 {
     match check(alloc, program, table) {
         Ok(model) => Ok(model),
@@ -113,10 +116,12 @@ pub(crate) fn typed_model(
 }
 
 /// The objects and cells of a model with this table.
+#[tactic(auto, using(crate::proofs::ModelParts::not_allocated))]
 pub(crate) fn objects_of<'t>(alloc: Global, table: &'t ClassTable) -> Result<Objects<'t>, Status>
     ensures objects { IfOk result (λ objects. objects ≡ table.now) }
     ensures limits { OnOk result (IsWithinLimits table.now) }
-    ensures refused { IfErr result (IsUnallocated table.now) }
+    ensures refused { IfErr result (λ s. (p : AProgram) → table.now ≡ outline_of p → IsTyped p
+        → Denied s (IsRefusedFor s p)) }
 {
     match allocate(alloc, table) {
         Ok(objects) => Ok(objects),
@@ -125,10 +130,14 @@ pub(crate) fn objects_of<'t>(alloc: Global, table: &'t ClassTable) -> Result<Obj
 }
 
 /// Whether the expressions of a model are within the limits, or the status of the first that isn't.
+#[tactic(auto, using(crate::proofs::ModelParts::not_measured))]
 pub(crate) fn within(model: &TypedModel, objects: &Objects<'_>) -> Result<(), Status>
     requires typed { IsTypedModel objects.now model.now.constraints model.now.goals }
-    ensures within { OnOk result (IsWithinMeasures objects.now model.now.constraints model.now.goals) }
-    ensures refused { IfErr result (IsUnmeasured objects.now model.now.constraints model.now.goals) }
+    ensures within { OnOk result
+        (IsWithinMeasures objects.now model.now.constraints model.now.goals) }
+    ensures refused { IfErr result (λ s. (p : AProgram) → objects.now ≡ outline_of p
+        → model.now.constraints ≡ constraints_of p → model.now.goals ≡ goals_of p → IsTyped p
+        → IsWithinLimits (outline_of p) → Denied s (IsRefusedFor s p)) }
 {
     match limits(model, objects) {
         Ok(()) => Ok(()),

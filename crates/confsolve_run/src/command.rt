@@ -1,69 +1,147 @@
-//! From words to what is printed: `run` reads the file of the model that the words name, and hands its text on.
-ghost use Rattle.std.specs.Prelude.{◌≡◌, ◌↔◌, ◌⊎◌, ◌<◌, ◌≤◌, ℕ, List, None, Some, length, IsTrue};
-ghost use Rattle.model_limits.specs.Limits.{model_bytes};
-ghost use Rattle.conf_syntax.specs.Spelling.{IsStuckAtNumber};
-ghost use Rattle.desk_io.specs.Desk.{Files};
+//! From words to what is printed: `run` reads the words, and then the text of the model that they
+//! name.
+ghost use Rattle.std.specs.Prelude.{map, ◌≡◌, ◌↔◌, ◌⊎◌, ◌≤◌, ℕ, List, None, Some, length, true, IsTrue, IfSome};
+ghost use Rattle.conf_request.specs.Words.{request, is_built, model_file, IsLawful};
+ghost use Rattle.conf_request.specs.declared.request.Request.{Request as ARequest};
+ghost use Rattle.conf_syntax.specs.declared.tree.Program.{Program as AProgram};
+ghost use Rattle.desk_io.specs.Desk.{Files, with_printed};
 ghost use Rattle.desk_io.specs.Fault.{HasRisen};
-ghost use Rattle.confsolve_run.specs.Answer.{Prints, PrintsSome};
-ghost use Rattle.confsolve_run.specs.Refusal.{IsRefusedAs, IsRefusedOf, IsSyntaxAt, IsNestingAt};
-ghost use Rattle.confsolve_run.specs.Request.{request, IsFileOf, OfModel, OfText, IsGiven, IsRestGiven};
-ghost use Rattle.confsolve_run.specs.Status.{OnAnswer, OnRefusal, OnTooLong, OnText, OnAsked, IsOfLong, IsOfRequest, IsUnlessFault};
-ghost use Rattle.confsolve_run.specs.declared.request.Request.{Request as ARequest};
+ghost use Rattle.model_limits.specs.Limits.{model_bytes};
+ghost use Rattle.proof_log.specs.Rounds.{empty};
+ghost use Rattle.run_status.specs.declared.status.Status.{Status as AStatus};
+ghost use Rattle.confsolve_run.specs.Answer.{IsAnswer};
+ghost use Rattle.confsolve_run.specs.Asking.{Reads, Writes, IsFurther, OfText, IsModelOf, log_file, text_of};
+ghost use Rattle.confsolve_run.specs.Delivery.{outside, IsLogged, IsLogFront, IsCutOff};
+ghost use Rattle.confsolve_run.specs.Ending.{OfRequest, RunEnds, trace};
+ghost use Rattle.confsolve_run.specs.Models.{IsWithin};
+ghost use Rattle.confsolve_run.specs.Recorded.{IsRecorded};
+ghost use Rattle.confsolve_run.specs.Refusal.{IsReason, IsStanding};
+ghost use Rattle.confsolve_run.specs.Stages.{Refused, Answered, stage_of, is_silent, is_partial, IsSettled, IsUnless};
 
+use crate::answer::Resources;
 use crate::answering::answer_text;
-use crate::request::request_of;
-use crate::status::{LimitKind, Status};
-use desk_io::{Desk, ReadError, read_all};
-use model_limits::MODEL_BYTES;
+use crate::source::text_of;
+use branch_choice::Chooser;
+use conf_request::{Request, request_of};
+use desk_io::Desk;
+use proof_log::Record;
+use rule_law::Kit;
+use run_status::Status;
 use std::alloc::Global;
 
-/// Runs the command that the words behind the program's name are.
-pub fn run<D: Desk>(alloc: Global, words: &[String], desk: &mut D) -> Status
-    requires may_read { (name : List ℕ) → IsFileOf words.now name → IsTrue (D.may_read desk.old name) }
+/// Answers a request.
+fn run_request<D: Desk>(
+    with: Resources<'_>,
+    desk: &mut D,
+    request: &Request,
+    kit: &mut Kit,
+    journal: &mut Record,
+) -> Status
+    requires may_read { (name : List ℕ) → model_file request.now ≡ Some name
+        → IsTrue (D.may_read desk.old name) }
+    requires may_read_more { (name : List ℕ) → IsFurther request.now name
+        → IsTrue (D.may_read desk.old name) }
+    requires may_write { (name : List ℕ) → log_file request.now ≡ Some name
+        → IsTrue (D.may_write desk.old name) }
+    requires is_built { is_built request.now ≡ true }
+    requires lawful { IsLawful request.now }
+    requires empty { journal.old ≡ empty }
+    ensures ends { RunEnds (trace request.now (map (λ c. c.order) with.entry.choosers.now)
+        journal.new
+        (outside (D.files desk.old) (D.printed desk.old))
+        (outside (D.files desk.new) (D.printed desk.new))
+        (D.read_faults desk.old) (D.read_faults desk.new) (D.write_faults desk.old)
+        (D.write_faults desk.new)) result }
+    ensures stands { (text : List ℕ) (s : AStatus)
+        → text_of (D.files desk.old) request.now ≡ Some text → IsStanding text s
+        → IsUnless s result }
+    ensures rounds { journal.new.rounds ≡ journal.old.rounds }
+{
+    match text_of(with.alloc, desk, request) {
+        Ok(text) => answer_text(with, desk, &text, request, kit, journal),
+        Err(status) => status,
+    }
+}
+
+/// Runs the command that the words behind the program's name are. The record, in which nothing
+/// stands yet, then holds the ground problem of the model that was searched or whose log was
+/// checked, and of a search the lines that it wrote. `choosers` are those of the orders first,
+/// small and former.
+pub fn run<D: Desk>(
+    alloc: Global,
+    words: &[String],
+    desk: &mut D,
+    kit: &mut Kit,
+    choosers: &[Chooser; 3],
+    journal: &mut Record,
+) -> Status
+    requires may_read { (name : List ℕ) → Reads words.now name → IsTrue (D.may_read desk.old name) }
+    requires may_write { (name : List ℕ) → Writes words.now name
+        → IsTrue (D.may_write desk.old name) }
+    requires empty { journal.old ≡ empty }
 
     ensures usage { (result ≡ Status.Usage) ↔ (request words.now ≡ None) }
+
     // the answer to what the words ask was printed, and nothing else
-    ensures answer { OnAnswer result (OfModel (D.files desk.old) words.now (Prints result (D.printed desk.old) (D.printed desk.new))) }
-    ensures refusal { OnRefusal result (D.printed desk.new ≡ D.printed desk.old) }
-    // printing broke off within the text of an answer
-    ensures write_fault_text { result ≡ Status.WriteFault → OfModel (D.files desk.old) words.now (PrintsSome (D.printed desk.old) (D.printed desk.new)) }
-    // want of memory came before printing, or in it
-    ensures memory_text { result ≡ Status.Memory → (D.printed desk.new ≡ D.printed desk.old) ⊎ OfModel (D.files desk.old) words.now (PrintsSome (D.printed desk.old) (D.printed desk.new)) }
-    // a refusal of the model's text stands in it
-    ensures refused { OnText result (OfText (D.files desk.old) words.now (IsRefusedAs result)) }
-    // a refusal of what is asked of a model within the limits stands
-    ensures asked { OnAsked result (OfModel (D.files desk.old) words.now (λ asked p. IsRefusedOf asked p result)) }
-    ensures too_long { OnTooLong result (OfText (D.files desk.old) words.now (λ text. model_bytes < length text)) }
-    ensures limit { (files : Files) (r : ARequest) (text : List ℕ) → IsGiven (D.files desk.old) words.now files r text → model_bytes < length text → IsOfLong result }
-    // a refusal that stands in the text is answered, unless reading failed or there was no memory
-    ensures syntax { (files : Files) (r : ARequest) (text : List ℕ) (place : ℕ) → IsGiven (D.files desk.old) words.now files r text → length text ≤ model_bytes
-        → IsSyntaxAt text place → IsUnlessFault (Status.Syntax place) result }
-    ensures literal { (files : Files) (r : ARequest) (text : List ℕ) (place : ℕ) → IsGiven (D.files desk.old) words.now files r text → length text ≤ model_bytes
-        → IsStuckAtNumber text place → IsUnlessFault (Status.Limit LimitKind.Literal (Some place)) result }
-    ensures nesting { (files : Files) (r : ARequest) (text : List ℕ) (place : ℕ) → IsGiven (D.files desk.old) words.now files r text → length text ≤ model_bytes
-        → IsNestingAt text place → IsUnlessFault (Status.Limit LimitKind.Nesting (Some place)) result }
-    // where no fault came, a request whose files are within their limits is answered
-    ensures complete { (files : Files) (r : ARequest) (text : List ℕ) → IsGiven (D.files desk.old) words.now files r text → length text ≤ model_bytes → IsRestGiven files r
-        → (HasRisen (D.read_faults desk.old) (D.read_faults desk.new) → ⊥) → (HasRisen (D.write_faults desk.old) (D.write_faults desk.new) → ⊥) → IsOfRequest r result }
-    ensures read_fault { result ≡ Status.ReadFault → HasRisen (D.read_faults desk.old) (D.read_faults desk.new) }
-    ensures write_fault { result ≡ Status.WriteFault → HasRisen (D.write_faults desk.old) (D.write_faults desk.new) }
-    ensures files { D.files desk.new ≡ D.files desk.old }
+    ensures answer { stage_of result ≡ Answered → OfRequest (D.files desk.old) words.now
+        (λ r asked p. (text : List ℕ)
+        × IsAnswer (map (λ c. c.order) choosers.now) journal.new asked p result text
+        × (D.printed desk.new ≡ with_printed text (D.printed desk.old))) }
+    // the record holds what the answer rests on, also where no files are told
+    ensures recorded { stage_of result ≡ Answered → IfSome (request words.now)
+        (λ r. IsRecorded (map (λ c. c.order) choosers.now) r result journal.new) }
+    // the log that they ask for was written, and no other file has changed
+    ensures log { stage_of result ≡ Answered → IfSome (request words.now)
+        (λ r. IsLogged r journal.new (D.files desk.old) (D.files desk.new)) }
+
+    // a refusal says what is so, and nothing was printed or written
+    ensures refused { stage_of result ≡ Refused → IfSome (request words.now)
+        (λ r. OfText (D.files desk.old) r
+        (λ text. IsReason (D.files desk.old) r journal.new text result)) }
+    ensures silent { is_silent (stage_of result) ≡ true → D.printed desk.new ≡ D.printed desk.old }
+    ensures files { is_silent (stage_of result) ≡ true → D.files desk.new ≡ D.files desk.old }
+
+    // writing broke off within the log or the text of an answer
+    ensures write_fault { result ≡ Status.WriteFault → OfRequest (D.files desk.old) words.now
+        (λ r asked p. (s : AStatus) × (text : List ℕ)
+        × IsAnswer (map (λ c. c.order) choosers.now) journal.new asked p s text
+        × IsCutOff r journal.new text (outside (D.files desk.old) (D.printed desk.old))
+        (outside (D.files desk.new) (D.printed desk.new))) }
+    // want of memory came before writing, or in it
+    ensures memory { result ≡ Status.Memory
+        → (outside (D.files desk.new) (D.printed desk.new)
+        ≡ outside (D.files desk.old) (D.printed desk.old))
+        ⊎ OfRequest (D.files desk.old) words.now
+        (λ r asked p. (s : AStatus) × (text : List ℕ)
+        × IsAnswer (map (λ c. c.order) choosers.now) journal.new asked p s text
+        × IsCutOff r journal.new text (outside (D.files desk.old) (D.printed desk.old))
+        (outside (D.files desk.new) (D.printed desk.new))) }
+
+    // the record holds what the answer rests on, and the log's file a front of the log
+    ensures kept { result ≡ Status.WriteFault → IfSome (request words.now)
+        (λ r. (s : AStatus) × IsRecorded (map (λ c. c.order) choosers.now) r s journal.new) }
+    ensures log_front { is_partial (stage_of result) ≡ true → IfSome (request words.now)
+        (λ r. IsLogFront r journal.new (D.files desk.old) (D.files desk.new)) }
+
+    // a refusal that stands in the model's text is answered
+    ensures stands { (r : ARequest) (text : List ℕ) (s : AStatus) → request words.now ≡ Some r
+        → text_of (D.files desk.old) r ≡ Some text → IsStanding text s → IsUnless s result }
+    // where no fault came, a request is answered, refused, or there was no memory
+    ensures complete { (r : ARequest) → request words.now ≡ Some r
+        → (HasRisen (D.read_faults desk.old) (D.read_faults desk.new) → ⊥)
+        → (HasRisen (D.write_faults desk.old) (D.write_faults desk.new) → ⊥)
+        → IsSettled (stage_of result) }
+
+    ensures unread { result ≡ Status.ReadFault
+        → HasRisen (D.read_faults desk.old) (D.read_faults desk.new) }
+    ensures unwritten { result ≡ Status.WriteFault
+        → HasRisen (D.write_faults desk.old) (D.write_faults desk.new) }
+    ensures rounds { journal.new.rounds ≡ journal.old.rounds }
 {
-    let request = match request_of(alloc, words) {
-        Ok(Some(request)) => request,
-        Ok(None) => return Status::Usage,
-        Err(_) => return Status::Memory,
-    };
-    let text = match read_all(alloc, desk, request.model().as_str(), MODEL_BYTES) {
-        Ok(text) => text,
-        Err(ReadError::ReadFault) => return Status::ReadFault,
-        Err(ReadError::TooLong) => {
-            return Status::Limit {
-                kind: LimitKind::Model,
-                place: None,
-            };
-        }
-        Err(ReadError::Memory) => return Status::Memory,
-    };
-    answer_text(alloc, desk, &text, &request)
+    let with = Resources { alloc, choosers };
+    match request_of(alloc, words) {
+        Ok(Some(request)) => run_request(with, desk, &request, kit, journal),
+        Ok(None) => Status::Usage,
+        Err(_) => Status::Memory,
+    }
 }

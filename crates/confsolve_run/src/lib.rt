@@ -1,22 +1,32 @@
 //! The top call: from the words of a command to what is printed and how the run ends.
 //!
-//! `command` has `run`, which reads the model's file, and `request` reads the words. `answering` leads from the text to what is
-//! printed: `model` reads the text, `building` makes its table, resolved expressions and objects, `solving` and `verifying` find
-//! what is asked, and `answer` writes it. `status` says how a run ends.
+//! - `command`: `run`, which reads the words.
+//! - `source`: the text of the model, from its file or made for `gen`.
+//! - `answering`: from the text to what is asked of its model, and to the answer.
+//! - `model`, `building`: the text's tree; its table, resolved expressions and objects.
+//! - `searching`, `checking`, `verifying`: what is asked of a model: a best configuration, what a
+//!   log shows, whether a configuration satisfies it.
+//! - `answer`, `texts`: what is printed.
+//! - `delivering`: the log is written, and the answer printed.
+//! - `laws`: a text has one model.
 #![tactic(auto)]
 
 mod answer;
 mod answering;
 mod building;
+mod checking;
 mod command;
+mod delivering;
 mod laws;
 mod model;
-mod request;
-mod solving;
-mod status;
+mod searching;
+mod source;
+mod texts;
 mod verifying;
 
 pub use command::run;
+pub use conf_request::{FileName, Paths, Request, request_of};
 pub use laws::text_has_one_model;
-pub use request::{FileName, Request, request_of};
-pub use status::{Fault, FormerKind, LimitKind, Status, line_of};
+pub use log_file::{FileCheck, check_file};
+pub use model_generator::generate;
+pub use run_status::{Fault, FormerKind, LimitKind, Status, line_of};

@@ -9,7 +9,7 @@ ghost use Rattle.conf_syntax.specs.declared.token.Placed.{Placed};
 ghost use Rattle.conf_syntax.specs.Trees.{program_tokens, nesting};
 ghost use Rattle.conf_syntax.specs.Words.{AreWords};
 ghost use Rattle.confsolve_run.specs.Refusal.{IsSyntaxAt, IsNestingAt};
-ghost use Rattle.confsolve_run.specs.Request.{IsModelOf};
+ghost use Rattle.confsolve_run.specs.Asking.{IsModelOf};
 ghost use Rattle.confsolve_run.specs.TextErrors.{IsTextError, IsTreeError, IsSameOrMemory};
 
 use conf_parse::{LexError, ParseError, lex, parse};
@@ -36,9 +36,12 @@ fn tokens_of(alloc: Global, text: &[u8]) -> Result<Vec<Placed>, TextError>
     ensures few { IfOk result (λ tokens. length tokens.items ≤ length text.now) }
     ensures words { IfOk result (λ tokens. AreWords (bare tokens.items)) }
     ensures refusal { IfErr result (IsTextError text.now) }
-    ensures only { (tokens : List Placed) → Spells text.now tokens → MatchResult result (λ found. found.items ≡ tokens) (λ e. e ≡ TextError.Memory) }
-    ensures bad_byte { (at : ℕ) → IsStuckAtByte text.now at → MatchResult result (λ _. ⊥) (IsSameOrMemory (TextError.Syntax at)) }
-    ensures too_large { (at : ℕ) → IsStuckAtNumber text.now at → MatchResult result (λ _. ⊥) (IsSameOrMemory (TextError.Literal at)) }
+    ensures only { (tokens : List Placed) → Spells text.now tokens
+        → MatchResult result (λ found. found.items ≡ tokens) (λ e. e ≡ TextError.Memory) }
+    ensures bad_byte { (at : ℕ) → IsStuckAtByte text.now at → MatchResult result (λ _. ⊥)
+        (IsSameOrMemory (TextError.Syntax at)) }
+    ensures too_large { (at : ℕ) → IsStuckAtNumber text.now at → MatchResult result (λ _. ⊥)
+        (IsSameOrMemory (TextError.Literal at)) }
 {
     match lex(alloc, text) {
         Ok(tokens) => Ok(tokens),
@@ -52,8 +55,10 @@ fn tokens_of(alloc: Global, text: &[u8]) -> Result<Vec<Placed>, TextError>
 fn tree_of(alloc: Global, tokens: &[Placed], end: u32) -> Result<Program, TextError>
     ensures tree { IfOk result (λ p. IsProgramOf tokens.now p) }
     ensures refusal { IfErr result (IsTreeError tokens.now end) }
-    ensures syntax { (at : ℕ) → IsSyntax tokens.now end at → MatchResult result (λ _. ⊥) (IsSameOrMemory (TextError.Syntax at)) }
-    ensures nesting { (at : ℕ) → IsDeep tokens.now end at → MatchResult result (λ _. ⊥) (IsSameOrMemory (TextError.Nesting at)) }
+    ensures syntax { (at : ℕ) → IsSyntax tokens.now end at → MatchResult result (λ _. ⊥)
+        (IsSameOrMemory (TextError.Syntax at)) }
+    ensures nesting { (at : ℕ) → IsDeep tokens.now end at → MatchResult result (λ _. ⊥)
+        (IsSameOrMemory (TextError.Nesting at)) }
 {
     match parse(alloc, tokens, end) {
         Ok(program) => Ok(program),
@@ -71,9 +76,12 @@ pub(crate) fn model_of(alloc: Global, text: &[u8]) -> Result<Program, TextError>
     ensures few { IfOk result (λ p. length (program_tokens p) ≤ model_bytes) }
     ensures words { IfOk result (λ p. AreWords (program_tokens p)) }
     ensures refusal { IfErr result (IsTextError text.now) }
-    ensures syntax { (at : ℕ) → IsSyntaxAt text.now at → MatchResult result (λ _. ⊥) (IsSameOrMemory (TextError.Syntax at)) }
-    ensures literal { (at : ℕ) → IsStuckAtNumber text.now at → MatchResult result (λ _. ⊥) (IsSameOrMemory (TextError.Literal at)) }
-    ensures nesting { (at : ℕ) → IsNestingAt text.now at → MatchResult result (λ _. ⊥) (IsSameOrMemory (TextError.Nesting at)) }
+    ensures syntax { (at : ℕ) → IsSyntaxAt text.now at → MatchResult result (λ _. ⊥)
+        (IsSameOrMemory (TextError.Syntax at)) }
+    ensures literal { (at : ℕ) → IsStuckAtNumber text.now at → MatchResult result (λ _. ⊥)
+        (IsSameOrMemory (TextError.Literal at)) }
+    ensures nesting { (at : ℕ) → IsNestingAt text.now at → MatchResult result (λ _. ⊥)
+        (IsSameOrMemory (TextError.Nesting at)) }
 {
     let tokens = match tokens_of(alloc, text) {
         Ok(tokens) => tokens,

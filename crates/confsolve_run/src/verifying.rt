@@ -1,23 +1,30 @@
 //! `verify`: whether the configuration that some bytes are satisfies a model.
-ghost use Rattle.std.specs.Prelude.{◌≡◌, ◌<◌, map, true, length, is_some, None, Some, IfOk, IfErr, IfSome, slice_index_or};
+ghost use Rattle.std.specs.Prelude.{◌≡◌, ◌⊎◌, ◌<◌, ◌≤◌, map, true, length, is_some, None, Some, IfOk, IfErr, IfSome, IsTrue, slice_index_or};
 ghost use Rattle.std.specs.List.{list_all};
 ghost use Rattle.conf_types.specs.Resolved.{ResolvedConstraint};
 ghost use Rattle.config_json.specs.Former.{hints, missing};
 ghost use Rattle.config_json.specs.Reading.{json_of};
+ghost use Rattle.desk_io.specs.Desk.{OfFile};
 ghost use Rattle.object_alloc.specs.Configurations.{IsConfiguration};
 ghost use Rattle.object_alloc.specs.Walk.{objects as all_objects};
-ghost use Rattle.confsolve_run.specs.Answer.{IsConfigOf, IsSatisfiedAnswer};
-ghost use Rattle.confsolve_run.specs.Refusal.{stated_path};
-ghost use Rattle.confsolve_run.specs.Solving.{HasFullSets, IsBrokenStatus, IsReady, IsUnsatisfied, IsUngiven, former_status};
+ghost use Rattle.confsolve_run.specs.Answer.{IsConfigOf, IsVerified};
+ghost use Rattle.confsolve_run.specs.Asking.{IsShort};
+ghost use Rattle.confsolve_run.specs.Ready.{HasFullSets, IsReady, former_status};
+ghost use Rattle.confsolve_run.specs.Refusal.{stated_path, IsUnverified};
+ghost use Rattle.confsolve_run.specs.Stages.{Answered, stage_of, Denied, Unreadable};
 
-use crate::answer::{Answer, satisfied_answer};
-use crate::status::{FormerKind, Status};
+use crate::answer::{Answer, Built};
+use crate::texts::satisfied_text;
 use class_table::ClassTable;
 use conf_eval::{BrokenAt, satisfied};
+use conf_request::FileName;
 use conf_syntax::PathText;
 use conf_types::{Constraint, TypedModel};
 use config_json::{Former, FormerError, hints_of, missing, read_config};
+use desk_io::{Desk, ReadError, read_all};
+use model_limits::CONFIG_BYTES;
 use object_alloc::{Config, Objects};
+use run_status::{FormerKind, LimitKind, Status};
 use std::alloc::{AllocError, Global};
 
 /// The status of bytes that aren't read as an object.
@@ -58,7 +65,8 @@ fn whole_config(
 ) -> Result<Config, AllocError>
     requires one { objects.now ≡ table.now }
     requires whole { missing table.now (json_of former.now) ≡ None }
-    ensures values { IfOk result (λ config. hints table.now (json_of former.now) ≡ map Some config) }
+    ensures values { IfOk result (λ config. hints table.now (json_of former.now)
+        ≡ map Some config) }
     ensures config { IfOk result (λ config. IsConfiguration table.now config) }
     ensures sets { IfOk result (λ config. HasFullSets table.now config) }
 {
@@ -67,30 +75,25 @@ fn whole_config(
 }
 
 /// The configuration that the bytes are.
-fn config_of(
-    alloc: Global,
-    bytes: &[u8],
-    table: &ClassTable,
-    objects: &Objects<'_>,
-) -> Result<Config, Status>
-    requires one { objects.now ≡ table.now }
-    ensures config { IfOk result (λ config. IsConfigOf table.now bytes.now config) }
-    ensures sets { IfOk result (λ config. HasFullSets table.now config) }
-    ensures refused { IfErr result (IsUngiven table.now bytes.now) }
+fn config_of(alloc: Global, bytes: &[u8], built: Built<'_>) -> Result<Config, Status>
+    requires ready { IsReady built.table.now built.objects.now built.model.now.constraints
+        built.model.now.goals }
+    requires short { IsShort bytes.now }
+    ensures config { IfOk result (λ config. IsConfigOf built.entry.table.now bytes.now config) }
+    ensures sets { IfOk result (λ config. HasFullSets built.entry.table.now config) }
+    ensures refused { IfErr result (λ s. Denied s
+        (IsUnverified built.entry.table.now built.entry.model.now.constraints bytes.now s)) }
 {
     let former = match read_config(alloc, bytes) {
         Ok(former) => former,
         Err(error) => return Err(former_status(error)),
     };
-    match missing(alloc, &former, table, objects) {
-        Ok(None) => {}
-        Ok(Some(path)) => return Err(Status::Broken { place: None, path }),
-        Err(_) => return Err(Status::Memory),
+    match missing(alloc, &former, built.table, built.objects)? {
+        None => {}
+        Some(path) => return Err(Status::Broken { place: None, path }),
     }
-    match whole_config(alloc, &former, table, objects) {
-        Ok(config) => Ok(config),
-        Err(_) => Err(Status::Memory),
-    }
+    let config = whole_config(alloc, &former, built.table, built.objects)?;
+    Ok(config)
 }
 
 /// The path of the object for which a constraint is stated; empty at the top level.
@@ -118,50 +121,83 @@ fn place_of(constraint: &Constraint) -> u32
 /// The status of a constraint that is broken for an object.
 fn broken_status(
     alloc: Global,
-    model: &TypedModel,
-    objects: &Objects<'_>,
+    built: Built<'_>,
     index: u32,
     object: Option<u32>,
-) -> Status
-    requires index { index < length model.now.constraints }
-    requires object { IfSome object (λ n. n < length (all_objects objects.now)) }
-    ensures status { (d : ResolvedConstraint) → IsBrokenStatus (slice_index_or model.now.constraints index d).place (stated_path objects.now object) result }
+) -> Result<Status, AllocError>
+    requires index { index < length built.model.now.constraints }
+    requires object { IfSome object (λ n. n < length (all_objects built.objects.now)) }
+    ensures status { IfOk result (λ s. (d : ResolvedConstraint) → s ≡ Status.Broken
+        (Some (slice_index_or built.entry.model.now.constraints index d).place)
+        (stated_path built.entry.objects.now object)) }
 {
-    match stated_path(alloc, objects, object) {
-        Ok(path) => Status::Broken {
-            place: Some(place_of(&model.constraints()[index as usize])),
-            path,
-        },
-        Err(_) => Status::Memory,
-    }
+    let path = stated_path(alloc, built.objects, object)?;
+    let place = Some(place_of(&built.model.constraints()[index as usize]));
+    Ok(Status::Broken { place, path })
 }
 
 /// The answer to `verify` with these bytes.
-pub(crate) fn verify_bytes(
-    alloc: Global,
-    bytes: &[u8],
-    table: &ClassTable,
-    model: &TypedModel,
-    objects: &Objects<'_>,
-) -> Result<Answer, Status>
-    requires ready { IsReady table.now objects.now model.now.constraints model.now.goals }
-    ensures status { IfOk result (λ a. a.status ≡ Status.Done) }
-    ensures answer { IfOk result (λ a. IsSatisfiedAnswer objects.now model.now.constraints model.now.goals bytes.now a.status a.text.items) }
-    ensures refused { IfErr result (IsUnsatisfied objects.now model.now.constraints bytes.now) }
+fn verify_bytes(alloc: Global, bytes: &[u8], built: Built<'_>) -> Result<Answer, Status>
+    requires ready { IsReady built.table.now built.objects.now built.model.now.constraints
+        built.model.now.goals }
+    requires short { IsShort bytes.now }
+    ensures stage { IfOk result (λ a. stage_of a.status ≡ Answered) }
+    ensures answer { IfOk result (λ a. IsVerified built.entry.objects.now
+        built.entry.model.now.constraints
+        built.entry.model.now.goals bytes.now a.status a.text.items) }
+    ensures log { IfOk result (λ a. a.log ≡ None) }
+    ensures refused { IfErr result (λ s. Denied s
+        (IsUnverified built.entry.objects.now built.entry.model.now.constraints bytes.now s)) }
 {
-    let config = match config_of(alloc, bytes, table, objects) {
-        Ok(config) => config,
-        Err(status) => return Err(status),
-    };
-    match satisfied(alloc, model, objects, &config) {
-        Ok(None) => match satisfied_answer(alloc, model, objects, &config) {
-            Ok(answer) => Ok(answer),
-            Err(_) => Err(Status::Memory),
-        },
-        Ok(Some(BrokenAt::Constraint { index, object })) => {
-            Err(broken_status(alloc, model, objects, index, object))
+    let config = config_of(alloc, bytes, built)?;
+    match satisfied(alloc, built.model, built.objects, &config)? {
+        None => Ok(Answer {
+            status: Status::Done,
+            text: satisfied_text(alloc, built, &config)?,
+            log: None,
+        }),
+        Some(BrokenAt::Constraint { index, object }) => {
+            Err(broken_status(alloc, built, index, object)?)
         }
-        Ok(Some(BrokenAt::SetSize { .. })) => unreachable!(),
-        Err(_) => Err(Status::Memory),
+        Some(BrokenAt::SetSize { .. }) => unreachable!(),
     }
+}
+
+/// The answer to `verify` with the configuration in this file.
+pub(crate) fn verify<D: Desk>(
+    alloc: Global,
+    desk: &mut D,
+    file: &FileName,
+    built: Built<'_>,
+) -> Result<Answer, Status>
+    requires may_read { IsTrue (D.may_read desk.old file.now) }
+    requires ready { IsReady built.table.now built.objects.now built.model.now.constraints
+        built.model.now.goals }
+    ensures stage { IfOk result (λ a. stage_of a.status ≡ Answered) }
+    ensures answer { IfOk result (λ a. OfFile (D.files desk.old) file.now
+        (λ bytes. IsVerified built.entry.objects.now built.entry.model.now.constraints
+        built.entry.model.now.goals bytes a.status a.text.items)) }
+    ensures log { IfOk result (λ a. a.log ≡ None) }
+    ensures refused { IfErr result (λ s. Unreadable (D.read_faults desk.old)
+        (D.read_faults desk.new) s (OfFile (D.files desk.old) file.now
+        (λ bytes. IsUnverified built.entry.objects.now built.entry.model.now.constraints bytes
+        s))) }
+    ensures files { D.files desk.new ≡ D.files desk.old }
+    ensures printed { D.printed desk.new ≡ D.printed desk.old }
+    ensures read_faults { D.read_faults desk.old ≤ D.read_faults desk.new }
+    ensures write_faults { D.write_faults desk.new ≡ D.write_faults desk.old }
+    ensures may_write { D.may_write desk.new ≡ D.may_write desk.old }
+{
+    let bytes = match read_all(alloc, desk, file.as_str(), CONFIG_BYTES) {
+        Ok(bytes) => bytes,
+        Err(ReadError::ReadFault) => return Err(Status::ReadFault),
+        Err(ReadError::TooLong) => {
+            return Err(Status::Limit {
+                kind: LimitKind::Former,
+                place: None,
+            });
+        }
+        Err(ReadError::Memory) => return Err(Status::Memory),
+    };
+    verify_bytes(alloc, &bytes, built)
 }

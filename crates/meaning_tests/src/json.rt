@@ -1,8 +1,8 @@
 //! Configurations as texts, and the values that former texts give, of the model that is given.
-//! `text VALUE ..` asks for the text of a configuration, `hints FORMER` for the values that a former
-//! text gives, `-` where it gives none, and behind a bar the path of the first leaf without a value.
-//! `former TEXT` asks what a former text is refused for, `nested N` the same of one whose one key
-//! holds so many arrays, one in the other.
+//! `text VALUE ..` asks for the text of a configuration, `hints FORMER` for the values that a
+//! former text gives, `-` where it gives none, and behind a bar the path of the first leaf without
+//! a value. `former TEXT` asks what a former text is refused for, `nested N` the same of one whose
+//! one key holds so many arrays, one in the other.
 ghost use Rattle.std.specs.Prelude.{◌≡◌};
 
 use case_files::{Case, Subject, number_at, numbers_of, push_word, words_of};

@@ -24,7 +24,8 @@ type Found = (Option<BrokenAt>, i64, i64, i64);
 /// extent.
 fn is_in(domain: Domain, values: &[i64], i: usize) -> bool
     requires there { i < length values.now }
-    ensures inside { (o : Outline) → result ≡ true → IsInDomain o domain (slice_index_or values.now i (pos 0)) }
+    ensures inside { (o : Outline) → result ≡ true
+        → IsInDomain o domain (slice_index_or values.now i (pos 0)) }
 {
     match domain {
         Domain::Span(low, high) => low <= values[i] && values[i] <= high,

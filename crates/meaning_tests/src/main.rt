@@ -1,14 +1,12 @@
-//! Tests of meaning: what models weigh, what configurations are worth and how they are written, and
-//! which are best. The program runs the cases of the files in `data`, and prints of each file how
+//! Tests of meaning: what models weigh, what configurations are worth, and how they are written. The
+//! program runs the cases of the files in `data`, and prints of each file how
 //! many came out as they say.
 #![tactic(auto)]
 
-mod best;
 mod json;
 mod judged;
 mod weights;
 
-use best::Best;
 use case_files::run_file;
 use json::Json;
 use judged::Judged;
@@ -20,7 +18,6 @@ use weights::Weights;
 fn run_files(rt: &HostRuntime) -> Result<(), AllocError> {
     run_file(rt, "weights.cases", &mut Weights)?;
     run_file(rt, "judged.cases", &mut Judged)?;
-    run_file(rt, "best.cases", &mut Best)?;
     run_file(rt, "texts.cases", &mut Json)?;
     run_file(rt, "hints.cases", &mut Json)?;
     run_file(rt, "former.cases", &mut Json)

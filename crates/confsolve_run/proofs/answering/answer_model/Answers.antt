@@ -1,11 +1,25 @@
-use Rattle.std.proofs.Common.{rules, inr}
-use Rattle.confsolve_run.proofs.EndLaws.{front_given}
+use Rattle.std.proofs.Common.{Err, ap, inr, subst}
+use Rattle.desk_io.specs.Fault.{HasRisen}
+use Rattle.confsolve_run.specs.Delivery.{outside}
+use Rattle.confsolve_run.specs.Ending.{trace}
+use Rattle.confsolve_run.proofs.Endings.{IsBegun, begun_from}
 use Rattle.confsolve_run.proofs.answering.answer_model.Goals as goal
 
 pub returns-in-Err-WriteFault-clause-ends : goal.returns-in-Err-WriteFault-clause-ends
 returns-in-Err-WriteFault-clause-ends g c =
-    (search rules, front_given _ c.args.request.now c.args.program.now c.in-Ok.answer.status c.in-Ok.answer.text.items c.deref.result.now _ _ _ c.in-Ok.ensures.answer c.deref.ensures.value c.in-Ok.ensures.printed c.in-Err-WriteFault.ensures.err)
+    let files = g.D.Desk.files in
+    let printed = g.D.Desk.printed in
+    let t = trace c.args.request.now _ c.outcome.new.journal (outside (files c.args.desk.now) (printed c.args.desk.now)) (outside (files c.deliver.new.desk) (printed c.deliver.new.desk)) (g.D.Desk.read_faults c.args.desk.now) (g.D.Desk.read_faults c.deliver.new.desk) (g.D.Desk.write_faults c.args.desk.now) (g.D.Desk.write_faults c.deliver.new.desk) in
+    let e = c.in-Ok.ensures in
+    let b = begun_from t c.args.program.now c.in-Ok.answer.status _ _ c.in-Ok.answer.text.items _ _ e.files e.printed e.recorded c.log_file.ensures e.log c.in-Err-WriteFault.ensures.broken e.within e.answer in
+    let risen = subst (λ n. HasRisen n (g.D.Desk.write_faults c.deliver.new.desk)) e.write_faults (c.in-Err-WriteFault.ensures.fault (ap Err c.in-Err-WriteFault.field-0-is)) in
+    (risen, b.begins, (b.within, b.breaks))
 
 pub returns-clause-ends : goal.returns-clause-ends
 returns-clause-ends g c =
-    inr (front_given _ c.args.request.now c.args.program.now c.in-Ok.answer.status c.in-Ok.answer.text.items c.deref.result.now _ _ _ c.in-Ok.ensures.answer c.deref.ensures.value c.in-Ok.ensures.printed c.in-Err-Memory.ensures.err)
+    let files = g.D.Desk.files in
+    let printed = g.D.Desk.printed in
+    let t = trace c.args.request.now _ c.outcome.new.journal (outside (files c.args.desk.now) (printed c.args.desk.now)) (outside (files c.deliver.new.desk) (printed c.deliver.new.desk)) (g.D.Desk.read_faults c.args.desk.now) (g.D.Desk.read_faults c.deliver.new.desk) (g.D.Desk.write_faults c.args.desk.now) (g.D.Desk.write_faults c.deliver.new.desk) in
+    let e = c.in-Ok.ensures in
+    let b = begun_from t c.args.program.now c.in-Ok.answer.status _ _ c.in-Ok.answer.text.items _ _ e.files e.printed e.recorded c.log_file.ensures e.log c.in-Err-Memory.ensures.broken e.within e.answer in
+    inr (b.begins, (b.within, b.breaks))

@@ -1,0 +1,84 @@
+-- What is asked of which model. What a reader believes after this file: which text is that of a
+-- request's model, which tree is the text's, and what the request asks of it.
+use Rattle.std.specs.Prelude.{ℕ, ◌≡◌, ◌≤◌, ◌⊎◌, length, List, Option, Some, None, IfSome, IsSomeAnd, String}
+use Rattle.std.specs.Option.{option_and_then}
+use Rattle.std.specs.declared.alloc.Global.{Global}
+use Rattle.conf_request.specs.Words.{request, model_file}
+use Rattle.conf_request.specs.declared.request.Request.{Request}
+use Rattle.conf_request.specs.declared.request.Request.TheVariants.{Solve, Reconfigure, Check, Verify, Gen, Session, Core}
+use Rattle.conf_syntax.specs.Models.{IsProgramOf}
+use Rattle.conf_syntax.specs.Spelling.{Spells}
+use Rattle.conf_syntax.specs.declared.token.Placed.{Placed}
+use Rattle.conf_syntax.specs.declared.tree.Program.{Program}
+use Rattle.desk_io.specs.Desk.{Files, OfFile}
+use Rattle.model_generator.specs.Generated.{generated}
+use Rattle.model_limits.specs.Limits.{config_bytes}
+
+-- these bytes aren't too long for a configuration's text
+abbrev pub IsShort : List ℕ → Type 0
+IsShort bytes = length bytes ≤ config_bytes
+
+-- ---- the model's text
+
+-- where files are told, P holds of the text of the request's model: of the file that it names, or
+-- of the text that is generated
+abbrev pub OfText : Option Files → Request → (List ℕ → Type 0) → Type 0
+OfText told (Gen n) P = P (generated n)
+OfText told r P = IfSome (model_file r) (λ name. OfFile told name P)
+
+-- the text itself, where it is known
+abbrev pub text_of : Option Files → Request → Option (List ℕ)
+text_of told (Gen n) = Some (generated n)
+text_of told r =
+    option_and_then (λ name. option_and_then (λ (files : Files). files name) told) (model_file r)
+
+-- the text is that of the model: it spells the tokens of its tree, which the grammar has, which
+-- doesn't nest too deeply and whose places are those of the tokens
+abbrev pub IsModelOf : List ℕ → Program → Type 0
+IsModelOf text p = (tokens : List Placed) × Spells text tokens × IsProgramOf tokens p
+
+-- P holds of the text's model
+abbrev pub HasModel : List ℕ → (Program → Type 0) → Type 0
+HasModel text P = (p : Program) × IsModelOf text p × P p
+
+-- ---- what is asked of a model
+
+pub data Asked : Type 0 where
+  -- a best configuration, within a budget of decisions and by the order of the chooser of a number
+  Best : ℕ → ℕ → Asked
+  -- the numbers of the model that is generated for n, and its best objectives
+  Generated : ℕ → Asked
+  -- what the log with these bytes shows
+  Checked : List ℕ → Asked
+  -- whether it is satisfied by the configuration whose text has these bytes
+  Satisfied : List ℕ → Asked
+
+-- where files are told, P holds of what the request asks of its model
+abbrev pub OfAsked : Option Files → Request → (Asked → Type 0) → Type 0
+OfAsked told (Solve model budget log order) P = P (Best budget order)
+OfAsked told (Check model log former failed) P = OfFile told log (λ bytes. P (Checked bytes))
+OfAsked told (Verify model config) P = OfFile told config (λ bytes. P (Satisfied bytes))
+OfAsked told (Gen n) P = P (Generated n)
+OfAsked told r P = ⊥
+
+-- ---- files
+
+-- the request reads the file of this name beside that of the model
+abbrev pub IsFurther : Request → List ℕ → Type 0
+IsFurther (Check model log former failed) name = name ≡ log
+IsFurther (Verify model config) name = name ≡ config
+IsFurther r name = ⊥
+
+-- the file that a log is written to, where the request asks for one
+abbrev pub log_file : Request → Option (List ℕ)
+log_file (Solve model budget log order) = log
+log_file r = None
+
+-- the words name this file to be read
+abbrev pub Reads : List (String Global) → List ℕ → Type 0
+Reads words name =
+    IsSomeAnd (request words) (λ r. (model_file r ≡ Some name) ⊎ IsFurther r name)
+
+-- the words name this file to be written
+abbrev pub Writes : List (String Global) → List ℕ → Type 0
+Writes words name = IsSomeAnd (request words) (λ r. log_file r ≡ Some name)

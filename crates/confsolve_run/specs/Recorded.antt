@@ -1,0 +1,48 @@
+-- What the record holds behind an answer, whatever is known of files. What a reader believes after
+-- this file: a ground problem and the lines of a search over it, which are a run, are accepted, and
+-- show what the status says.
+use Rattle.std.specs.Prelude.{◌≡◌, ℕ, [], true, List, None, Some, replicate}
+use Rattle.branch_choice.specs.declared.split.Order.{Order}
+use Rattle.conf_request.specs.declared.request.Request.{Request}
+use Rattle.conf_request.specs.declared.request.Request.TheVariants.{Solve, Reconfigure, Check, Verify, Gen, Session, Core}
+use Rattle.ground_form.specs.WellMade.{IsWellMade}
+use Rattle.ground_form.specs.declared.ground.Ground.{Ground}
+use Rattle.log_check.specs.Verdicts.{ending}
+use Rattle.log_form.specs.Acceptance.{accepted}
+use Rattle.model_search.specs.Findings.{finding}
+use Rattle.model_search.specs.Runs.{is_open}
+use Rattle.proof_log.specs.Rounds.{Journal, empty}
+use Rattle.run_status.specs.declared.status.Status.{Status}
+use Rattle.search_run.specs.Decisions.{decisions, MayDecide}
+use Rattle.search_run.specs.Ordered.{IsOrdered}
+use Rattle.search_run.specs.Replay.{is_run}
+use Rattle.confsolve_run.specs.Answer.{searched_status, order_at, generated_budget}
+
+-- of a search by this order, which had no values to go by, within this budget
+pub record HasSearched (order : Order) (budget : ℕ) (s : Status) (journal : Journal) : Type 0 where
+  pub ground : Ground
+  pub kept : journal.ground ≡ Some ground
+  pub well_made : IsWellMade ground
+  pub run : is_run ground journal.lines ≡ true
+  pub ordered : IsOrdered ground order (replicate ground.search None) journal.lines
+  pub taken : accepted ground journal.lines ≡ true
+  pub status_is : s ≡ searched_status budget (finding ground (ending ground journal.lines))
+  pub all : is_open (finding ground (ending ground journal.lines)) ≡ true
+      → decisions journal.lines ≡ budget
+  pub due : is_open (finding ground (ending ground journal.lines)) ≡ true
+      → MayDecide ground journal.lines
+
+-- of a check, the problem alone
+pub record HasChecked (journal : Journal) : Type 0 where
+  pub ground : Ground
+  pub kept : journal.ground ≡ Some ground
+  pub well_made : IsWellMade ground
+  pub alone : journal.lines ≡ []
+
+abbrev pub IsRecorded : List Order → Request → Status → Journal → Type 0
+IsRecorded os (Solve model budget log order) s journal =
+    HasSearched (order_at os order) budget s journal
+IsRecorded os (Gen n) s journal = HasSearched (order_at os 0) generated_budget s journal
+IsRecorded os (Check model log former failed) s journal = HasChecked journal
+IsRecorded os (Verify model config) s journal = journal ≡ empty
+IsRecorded os r s journal = ⊥

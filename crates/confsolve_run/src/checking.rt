@@ -1,0 +1,177 @@
+//! `check`: what a log shows of a model.
+ghost use Rattle.std.specs.Prelude.{◌≡◌, ◌≤◌, None, IfOk, IfErr, OnOk, IsTrue};
+ghost use Rattle.desk_io.specs.Desk.{OfFile};
+ghost use Rattle.ground_form.specs.WellMade.{IsWellMade};
+ghost use Rattle.log_check.specs.Fed.{IsLogOf};
+ghost use Rattle.log_check.specs.Soundness.{Means, FoundSolves};
+ghost use Rattle.log_check.specs.Verdicts.{shown_of};
+ghost use Rattle.model_search.specs.Findings.{Tells};
+ghost use Rattle.model_search.specs.Problems.{IsProblemOf};
+ghost use Rattle.proof_log.specs.Rounds.{empty};
+ghost use Rattle.confsolve_run.specs.Answer.{IsChecked, check_text, checked_status};
+ghost use Rattle.confsolve_run.specs.Checking.{IsShownBy, file_status};
+ghost use Rattle.confsolve_run.specs.Ready.{IsReady};
+ghost use Rattle.confsolve_run.specs.Recorded.{HasChecked};
+ghost use Rattle.confsolve_run.specs.Refusal.{IsUnfit, IsUnchecked};
+ghost use Rattle.confsolve_run.specs.Stages.{Answered, stage_of, Unreadable};
+
+use crate::answer::{Answer, Built};
+use crate::texts::check_text;
+use conf_request::FileName;
+use desk_io::Desk;
+use ground_form::Ground;
+use log_check::{CheckError, Checker, Verdict};
+use log_file::{FileCheck, LOG_BYTES, check_file};
+use model_search::{Finding, finding_of, problem_of};
+use proof_log::Record;
+use run_status::{LimitKind, Status};
+use std::alloc::{AllocError, Global};
+
+/// The status of what a log tells.
+fn status_of(told: &Finding) -> Status
+    ensures { result ≡ checked_status told.now }
+{
+    match told {
+        Finding::Best(_) | Finding::Open(_) => Status::Done,
+        Finding::NoneExists => Status::NoneExists,
+    }
+}
+
+/// The status of a log's file that wasn't taken in.
+fn refused_file(error: FileCheck) -> Status
+    ensures { result ≡ file_status error }
+{
+    match error {
+        FileCheck::ReadFault => Status::ReadFault,
+        FileCheck::TooLong => Status::Limit {
+            kind: LimitKind::Log,
+            place: None,
+        },
+        FileCheck::Rejected(line) => Status::Rejected { line },
+        FileCheck::Memory => Status::Memory,
+    }
+}
+
+/// The verdict of the log in this file.
+fn verdict_of<D: Desk>(
+    alloc: Global,
+    desk: &mut D,
+    file: &FileName,
+    g: &Ground,
+) -> Result<Verdict, Status>
+    requires may_read { IsTrue (D.may_read desk.old file.now) }
+    requires well_made { IsWellMade g.now }
+    ensures log { IfOk result (λ v. OfFile (D.files desk.old) file.now
+        (λ bytes. IsLogOf g.now bytes v)) }
+    ensures sound { IfOk result (λ v. Means g.now (shown_of v)) }
+    ensures found { IfOk result (λ v. FoundSolves g.now v.found) }
+    ensures refused { IfErr result (λ s. Unreadable (D.read_faults desk.old)
+        (D.read_faults desk.new) s (OfFile (D.files desk.old) file.now
+        (λ bytes. IsUnfit bytes s g.now))) }
+    ensures files { D.files desk.new ≡ D.files desk.old }
+    ensures printed { D.printed desk.new ≡ D.printed desk.old }
+    ensures read_faults { D.read_faults desk.old ≤ D.read_faults desk.new }
+    ensures write_faults { D.write_faults desk.new ≡ D.write_faults desk.old }
+    ensures may_write { D.may_write desk.new ≡ D.may_write desk.old }
+{
+    let mut checker = Checker::new(alloc, g)?;
+    match check_file(alloc, desk, file.as_str(), LOG_BYTES, &mut checker) {
+        Ok(()) => {}
+        Err(error) => return Err(refused_file(error)),
+    }
+    match checker.finish() {
+        Ok(verdict) => Ok(verdict),
+        Err(CheckError::Rejected(line)) => Err(Status::Rejected { line }),
+        Err(CheckError::Memory) => Err(Status::Memory),
+    }
+}
+
+/// What the log in this file tells of a model with this ground problem.
+fn told_by<D: Desk>(
+    alloc: Global,
+    desk: &mut D,
+    file: &FileName,
+    built: Built<'_>,
+    g: &Ground,
+) -> Result<Finding, Status>
+    requires may_read { IsTrue (D.may_read desk.old file.now) }
+    requires problem { IsProblemOf built.objects.now built.model.now.constraints
+        built.model.now.goals g.now }
+    ensures told { IfOk result (λ told. OfFile (D.files desk.old) file.now
+        (λ bytes. IsShownBy g.now bytes told)) }
+    ensures tells { IfOk result (λ told. Tells built.entry.objects.now
+        built.entry.model.now.constraints
+        built.entry.model.now.goals told) }
+    ensures refused { IfErr result (λ s. Unreadable (D.read_faults desk.old)
+        (D.read_faults desk.new) s (OfFile (D.files desk.old) file.now
+        (λ bytes. IsUnfit bytes s g.now))) }
+    ensures files { D.files desk.new ≡ D.files desk.old }
+    ensures printed { D.printed desk.new ≡ D.printed desk.old }
+    ensures read_faults { D.read_faults desk.old ≤ D.read_faults desk.new }
+    ensures write_faults { D.write_faults desk.new ≡ D.write_faults desk.old }
+    ensures may_write { D.may_write desk.new ≡ D.may_write desk.old }
+{
+    let verdict = verdict_of(alloc, desk, file, g)?;
+    let told = finding_of(alloc, built.model, built.objects, g, &verdict)?;
+    Ok(told)
+}
+
+/// The answer that a log tells this.
+fn answer_of(alloc: Global, built: Built<'_>, told: &Finding) -> Result<Answer, AllocError>
+    requires ready { IsReady built.table.now built.objects.now built.model.now.constraints
+        built.model.now.goals }
+    requires tells { Tells built.objects.now built.model.now.constraints built.model.now.goals
+        told.now }
+    ensures status { IfOk result (λ a. a.status ≡ checked_status told.now) }
+    ensures stage { IfOk result (λ a. stage_of a.status ≡ Answered) }
+    ensures text { IfOk result (λ a. a.text.items
+        ≡ check_text built.entry.objects.now built.entry.model.now.goals told.now) }
+    ensures log { IfOk result (λ a. a.log ≡ None) }
+{
+    let text = check_text(alloc, built, told)?;
+    Ok(Answer {
+        status: status_of(told),
+        text,
+        log: None,
+    })
+}
+
+/// The answer to `check` with the log in this file. The record then holds the model's ground
+/// problem, also where the log is refused.
+pub(crate) fn check<D: Desk>(
+    alloc: Global,
+    desk: &mut D,
+    file: &FileName,
+    built: Built<'_>,
+    journal: &mut Record,
+) -> Result<Answer, Status>
+    requires may_read { IsTrue (D.may_read desk.old file.now) }
+    requires ready { IsReady built.table.now built.objects.now built.model.now.constraints
+        built.model.now.goals }
+    requires empty { journal.old ≡ empty }
+    ensures answer { IfOk result (λ a. OfFile (D.files desk.old) file.now
+        (λ bytes. IsChecked built.entry.objects.now built.entry.model.now.constraints
+        built.entry.model.now.goals
+        bytes journal.new a.status a.text.items)) }
+    ensures recorded { OnOk result (HasChecked journal.new) }
+    ensures stage { IfOk result (λ a. stage_of a.status ≡ Answered) }
+    ensures log { IfOk result (λ a. a.log ≡ None) }
+    ensures refused { IfErr result (λ s. Unreadable (D.read_faults desk.old)
+        (D.read_faults desk.new) s (OfFile (D.files desk.old) file.now
+        (λ bytes. IsUnchecked built.entry.objects.now built.entry.model.now.constraints
+        built.entry.model.now.goals journal.new bytes s))) }
+    ensures rounds { journal.new.rounds ≡ journal.old.rounds }
+    ensures files { D.files desk.new ≡ D.files desk.old }
+    ensures printed { D.printed desk.new ≡ D.printed desk.old }
+    ensures read_faults { D.read_faults desk.old ≤ D.read_faults desk.new }
+    ensures write_faults { D.write_faults desk.new ≡ D.write_faults desk.old }
+    ensures may_write { D.may_write desk.new ≡ D.may_write desk.old }
+{
+    let g = problem_of(alloc, built.model, built.objects)?;
+    let told = told_by(alloc, desk, file, built, &g);
+    journal.keep(g);
+    match told {
+        Ok(told) => Ok(answer_of(alloc, built, &told)?),
+        Err(status) => Err(status),
+    }
+}

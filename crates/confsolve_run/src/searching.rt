@@ -1,0 +1,147 @@
+//! `solve` and `gen`: a best configuration of a model, by a search that leaves its log.
+ghost use Rattle.std.specs.Prelude.{map, ◌≡◌, ◌≤◌, None, IfOk};
+ghost use Rattle.std.specs.Option.{option_map};
+ghost use Rattle.model_search.specs.Runs.{HasRun};
+ghost use Rattle.proof_log.specs.Rounds.{empty};
+ghost use Rattle.confsolve_run.specs.Answer.{IsSearched, searched_status, order_at, solve_text, gen_text, generated_budget};
+ghost use Rattle.confsolve_run.specs.Ready.{IsReady};
+ghost use Rattle.confsolve_run.specs.Stages.{Answered, stage_of};
+ghost use Rattle.confsolve_run.specs.Told.{HoldsLog, IsLogOf};
+
+use crate::answer::{Answer, Built, Resources};
+use crate::texts::{GENERATED_BUDGET, gen_text, solve_text};
+use bound_search::Limits;
+use model_search::{Finding, find_best, trimmed_text};
+use proof_log::Record;
+use rule_law::Kit;
+use run_status::Status;
+use std::alloc::{AllocError, Global};
+
+/// What is wanted of a search: its budget of decisions, the number of its order, and whether its
+/// log is.
+#[derive(Clone, Copy)]
+pub(crate) struct Wanted {
+    pub budget: u32,
+    pub order: u8,
+    pub logged: bool,
+}
+
+/// The status of what a search within a budget tells.
+fn status_of(budget: u32, told: &Finding) -> Status
+    ensures { result ≡ searched_status budget told.now }
+{
+    match told {
+        Finding::Best(_) => Status::Done,
+        Finding::NoneExists => Status::NoneExists,
+        Finding::Open(_) => Status::Undecided { decisions: budget },
+    }
+}
+
+/// Searches a model by the chooser of this number.
+fn found(
+    with: Resources<'_>,
+    built: Built<'_>,
+    budget: u32,
+    order: u8,
+    kit: &mut Kit,
+    journal: &mut Record,
+) -> Result<Finding, AllocError>
+    requires ready { IsReady built.table.now built.objects.now built.model.now.constraints
+        built.model.now.goals }
+    requires order { order ≤ 2 }
+    requires empty { journal.old ≡ empty }
+    ensures run { IfOk result (λ told. HasRun built.entry.objects.now
+        built.entry.model.now.constraints
+        built.entry.model.now.goals (order_at (map (λ c. c.order) with.entry.choosers.now) order)
+        budget journal.new
+        told) }
+    ensures rounds { journal.new.rounds ≡ journal.old.rounds }
+{
+    let limits = Limits {
+        alloc: with.alloc,
+        budget,
+    };
+    let choosers = with.choosers;
+    let all = &choosers[..];
+    let chooser = &all[order as usize];
+    find_best(limits, built.model, built.objects, kit, chooser, journal)
+}
+
+/// The text of the record's log, where it is wanted.
+fn wanted_log(alloc: Global, logged: bool, journal: &Record) -> Result<Option<Vec<u8>>, AllocError>
+    requires holds { HoldsLog journal.now }
+    ensures { IfOk result (λ log. IsLogOf logged journal.now
+        (option_map (λ text. text.items) log)) }
+{
+    if !logged {
+        return Ok(None);
+    }
+    match journal.ground() {
+        Some(g) => Ok(Some(trimmed_text(alloc, g, journal.lines())?)),
+        None => unreachable!(),
+    }
+}
+
+/// The answer to `solve`.
+pub(crate) fn solve(
+    with: Resources<'_>,
+    built: Built<'_>,
+    wanted: Wanted,
+    kit: &mut Kit,
+    journal: &mut Record,
+) -> Result<Answer, AllocError>
+    requires ready { IsReady built.table.now built.objects.now built.model.now.constraints
+        built.model.now.goals }
+    requires order { wanted.order ≤ 2 }
+    requires empty { journal.old ≡ empty }
+    ensures answer { IfOk result (λ a. IsSearched built.entry.objects.now
+        built.entry.model.now.constraints
+        built.entry.model.now.goals (order_at (map (λ c. c.order) with.entry.choosers.now)
+        wanted.order) wanted.budget
+        journal.new a.status (solve_text built.entry.objects.now built.entry.model.now.goals
+        wanted.budget)
+        a.text.items) }
+    ensures stage { IfOk result (λ a. stage_of a.status ≡ Answered) }
+    ensures log { IfOk result (λ a. IsLogOf wanted.logged journal.new
+        (option_map (λ text. text.items) a.log)) }
+    ensures rounds { journal.new.rounds ≡ journal.old.rounds }
+{
+    let told = found(with, built, wanted.budget, wanted.order, kit, journal)?;
+    let text = solve_text(with.alloc, built, wanted.budget, &told)?;
+    let log = wanted_log(with.alloc, wanted.logged, journal)?;
+    let status = status_of(wanted.budget, &told);
+    Ok(Answer { status, text, log })
+}
+
+/// The answer to `gen`, of the model that is made for `n`.
+pub(crate) fn generated(
+    with: Resources<'_>,
+    built: Built<'_>,
+    n: u32,
+    kit: &mut Kit,
+    journal: &mut Record,
+) -> Result<Answer, AllocError>
+    requires ready { IsReady built.table.now built.objects.now built.model.now.constraints
+        built.model.now.goals }
+    requires some { 1 ≤ n }
+    requires few { n ≤ 100 }
+    requires empty { journal.old ≡ empty }
+    ensures answer { IfOk result (λ a. IsSearched built.entry.objects.now
+        built.entry.model.now.constraints
+        built.entry.model.now.goals (order_at (map (λ c. c.order) with.entry.choosers.now) 0)
+        generated_budget
+        journal.new a.status (gen_text built.entry.objects.now built.entry.model.now.goals n)
+        a.text.items) }
+    ensures stage { IfOk result (λ a. stage_of a.status ≡ Answered) }
+    ensures log { IfOk result (λ a. a.log ≡ None) }
+    ensures rounds { journal.new.rounds ≡ journal.old.rounds }
+{
+    let told = found(with, built, GENERATED_BUDGET, 0, kit, journal)?;
+    let text = gen_text(with.alloc, built, n, &told)?;
+    let status = status_of(GENERATED_BUDGET, &told);
+    Ok(Answer {
+        status,
+        text,
+        log: None,
+    })
+}
