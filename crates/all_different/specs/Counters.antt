@@ -28,4 +28,6 @@ begins_in a b box = int_le a (low_of box) && int_le (low_of box) b
 -- how many boxes of the list do
 abbrev pub count_begun : ℤ → ℤ → List ℕ → Boxes → ℕ
 count_begun a b [] boxes = 0
-count_begun a b (x ∷ xs) boxes = cond (begins_in a b (box_of boxes x)) (suc (count_begun a b xs boxes)) (count_begun a b xs boxes)
+count_begun a b (x ∷ xs) boxes =
+    cond (begins_in a b (box_of boxes x)) (suc (count_begun a b xs boxes))
+    (count_begun a b xs boxes)

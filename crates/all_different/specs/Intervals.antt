@@ -35,7 +35,9 @@ is_narrow n box = nat_lt (width (low_of box) (high_of box)) n
 
 -- that is so from where any narrow box of the first list begins
 abbrev pub AreAtFixpoint : List ℕ → List ℕ → Boxes → Type 0
-AreAtFixpoint ys xs boxes = All (λ y. is_narrow (length xs) (box_of boxes y) ≡ true → IsFixpointFrom (low_of (box_of boxes y)) xs boxes) ys
+AreAtFixpoint ys xs boxes =
+    All (λ y. is_narrow (length xs) (box_of boxes y) ≡ true
+    → IsFixpointFrom (low_of (box_of boxes y)) xs boxes) ys
 
 -- ---- what is found
 

@@ -14,7 +14,9 @@ ReachesEnd a m n = (m ≡ n) ⊎ (a +ℤ pos m ≡ pos 9223372036854775808)
 -- a..a + d isn't crowded and, where it is full, keeps out the other boxes that begin at a or later
 pub record IsFixpointBehind (a : ℤ) (d : ℕ) (xs : List ℕ) (boxes : Boxes) : Type 0 where
   pub few : count_in a (a +ℤ pos d) xs boxes ≤ suc d
-  pub apart : count_in a (a +ℤ pos d) xs boxes ≡ suc d → All (λ x. int_le a (low_of (box_of boxes x)) ≡ true → apart a (a +ℤ pos d) (box_of boxes x) ≡ true) xs
+  pub apart : count_in a (a +ℤ pos d) xs boxes ≡ suc d
+      → All (λ x. int_le a (low_of (box_of boxes x)) ≡ true → apart a (a +ℤ pos d) (box_of boxes x)
+      ≡ true) xs
 
 -- that is so of the first d intervals from a on, and `full` is the greatest of them that is full
 pub record ArePassed (a : ℤ) (d : ℕ) (full : Option ℕ) (xs : List ℕ) (boxes : Boxes) : Type 0 where

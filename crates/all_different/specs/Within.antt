@@ -8,7 +8,8 @@ use Rattle.rule_law.specs.Reasons.{kept}
 abbrev pub within : ℕ → ℤ → ℤ → List ℕ → Boxes → List ℕ
 within n a b [] boxes = []
 within zero a b (x ∷ xs) boxes = []
-within (suc n) a b (x ∷ xs) boxes = cond (lies_in a b (box_of boxes x)) (x ∷ within n a b xs boxes) (within (suc n) a b xs boxes)
+within (suc n) a b (x ∷ xs) boxes =
+    cond (lies_in a b (box_of boxes x)) (x ∷ within n a b xs boxes) (within (suc n) a b xs boxes)
 
 -- that each of the variables is outside a..b
 abbrev pub outside : ℤ → ℤ → List ℕ → Boxes → Literals

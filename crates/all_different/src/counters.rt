@@ -15,7 +15,8 @@ fn bump(slots: &mut [usize], at: Option<usize>)
     requires within { IfSome at (λ d. d < length slots.old) }
     requires room { IfSome at (λ d. total (suc d) slots.old < 18446744073709551615) }
     ensures size { length slots.new ≡ length slots.old }
-    ensures totals { (e : ℕ) → total (suc e) slots.new ≡ cond (is_upto at e) (suc (total (suc e) slots.old)) (total (suc e) slots.old) }
+    ensures totals { (e : ℕ) → total (suc e) slots.new
+        ≡ cond (is_upto at e) (suc (total (suc e) slots.old)) (total (suc e) slots.old) }
 {
     if let Some(d) = at {
         slots[d] += 1;
@@ -48,7 +49,8 @@ fn add_ends(slots: &mut [usize], vars: &[u32], boxes: &[IntSet], a: Number)
     requires few { length slots.old ≤ length vars.now }
     requires empty { (e : ℕ) → total e slots.old ≡ 0 }
     ensures size { length slots.new ≡ length slots.old }
-    ensures totals { (e : ℕ) → e < length slots.new → total (suc e) slots.new ≡ count_in a.value (a.value +ℤ pos e) vars.now boxes.now }
+    ensures totals { (e : ℕ) → e < length slots.new → total (suc e) slots.new
+        ≡ count_in a.value (a.value +ℤ pos e) vars.now boxes.now }
 {
     for x in vars {
         let at = end_from(&boxes[*x as usize], a, slots.len());
@@ -62,7 +64,8 @@ fn add_starts(slots: &mut [usize], vars: &[u32], boxes: &[IntSet], a: Number)
     requires few { length slots.old ≤ length vars.now }
     requires empty { (e : ℕ) → total e slots.old ≡ 0 }
     ensures size { length slots.new ≡ length slots.old }
-    ensures totals { (e : ℕ) → e < length slots.new → total (suc e) slots.new ≡ count_begun a.value (a.value +ℤ pos e) vars.now boxes.now }
+    ensures totals { (e : ℕ) → e < length slots.new → total (suc e) slots.new
+        ≡ count_begun a.value (a.value +ℤ pos e) vars.now boxes.now }
 {
     for x in vars {
         let at = start_from(&boxes[*x as usize], a, slots.len());
@@ -81,7 +84,8 @@ pub fn count_ends(
     requires named { All (λ x. x < length boxes.now) vars.now }
     requires few { n ≤ length vars.now }
     ensures size { IfOk result (λ u. length slots.new.items ≡ n) }
-    ensures totals { IfOk result (λ u. (e : ℕ) → e < n → total (suc e) slots.new.items ≡ count_in a.value (a.value +ℤ pos e) vars.now boxes.now) }
+    ensures totals { IfOk result (λ u. (e : ℕ) → e < n → total (suc e) slots.new.items
+        ≡ count_in a.value (a.value +ℤ pos e) vars.now boxes.now) }
 {
     reset(slots, n)?;
     add_ends(slots.as_mut_slice(), vars, boxes, a);
@@ -99,7 +103,8 @@ pub fn count_starts(
     requires named { All (λ x. x < length boxes.now) vars.now }
     requires few { n ≤ length vars.now }
     ensures size { IfOk result (λ u. length slots.new.items ≡ n) }
-    ensures totals { IfOk result (λ u. (e : ℕ) → e < n → total (suc e) slots.new.items ≡ count_begun a.value (a.value +ℤ pos e) vars.now boxes.now) }
+    ensures totals { IfOk result (λ u. (e : ℕ) → e < n → total (suc e) slots.new.items
+        ≡ count_begun a.value (a.value +ℤ pos e) vars.now boxes.now) }
 {
     reset(slots, n)?;
     add_starts(slots.as_mut_slice(), vars, boxes, a);

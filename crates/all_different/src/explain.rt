@@ -63,7 +63,8 @@ fn collect(
     requires boxes { All (λ x. x < length boxes.now) vars.now }
     requires domains { All (λ x. x < length domains.now) vars.now }
     requires span { span.now ≡ (a.value, b.value) ∷ [] }
-    ensures { OnOk result (literals.new.items ≡ literals.old.items ++ outside a.value b.value (within need a.value b.value vars.now boxes.now) domains.now) }
+    ensures { OnOk result (literals.new.items ≡ literals.old.items ++ outside a.value b.value
+        (within need a.value b.value vars.now boxes.now) domains.now) }
 {
     let mut left = need;
     for y in vars {
@@ -126,7 +127,8 @@ fn keep_outside(
 ) -> Result<(), AllocError>
     requires domain { x < length domains.now }
     requires span { span.now ≡ (a.value, b.value) ∷ [] }
-    ensures { OnOk result (literals.new.items ≡ literals.old.items ++ kept_one x (less (box_of domains.now x) ((a.value, b.value) ∷ [])) []) }
+    ensures { OnOk result (literals.new.items ≡ literals.old.items
+        ++ kept_one x (less (box_of domains.now x) ((a.value, b.value) ∷ [])) []) }
 {
     keep_out(literals, x, &domains[x as usize], span)
 }

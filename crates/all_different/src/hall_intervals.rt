@@ -104,7 +104,8 @@ fn judge_last(
 ) -> Option<Finding>
     requires named { All (λ x. x < length boxes.now) vars.now }
     requires within { IfSome full (λ d. (a.value +ℤ pos d) ≤ℤ pos 9223372036854775807) }
-    requires full { IfSome full (λ d. suc d ≤ count_in a.value (a.value +ℤ pos d) vars.now boxes.now) }
+    requires full { IfSome full (λ d. suc d ≤ count_in a.value (a.value +ℤ pos d) vars.now
+        boxes.now) }
     ensures some { IfSome result (λ f. IsFinding f vars.now boxes.now) }
     ensures none { IfNone result (IsKept a.value full vars.now boxes.now) }
 {
@@ -132,9 +133,12 @@ fn pass(
     requires few { length ends.now ≤ length vars.now }
     requires some { 0 < length vars.now → 0 < length ends.now }
     requires all { ReachesEnd a.value (length ends.now) (length vars.now) }
-    requires within { (d : ℕ) → d < length ends.now → (a.value +ℤ pos d) ≤ℤ pos 9223372036854775807 }
-    requires starts { (e : ℕ) → e < length ends.now → total (suc e) starts.now ≡ count_begun a.value (a.value +ℤ pos e) vars.now boxes.now }
-    requires ends { (e : ℕ) → e < length ends.now → total (suc e) ends.now ≡ count_in a.value (a.value +ℤ pos e) vars.now boxes.now }
+    requires within { (d : ℕ) → d < length ends.now → (a.value +ℤ pos d) ≤ℤ pos
+        9223372036854775807 }
+    requires starts { (e : ℕ) → e < length ends.now → total (suc e) starts.now
+        ≡ count_begun a.value (a.value +ℤ pos e) vars.now boxes.now }
+    requires ends { (e : ℕ) → e < length ends.now → total (suc e) ends.now
+        ≡ count_in a.value (a.value +ℤ pos e) vars.now boxes.now }
     ensures some { IfSome result (λ f. IsFinding f vars.now boxes.now) }
     ensures none { IfNone result (IsFixpointFrom a.value vars.now boxes.now) }
 {
@@ -219,7 +223,8 @@ fn look_at(
     requires sets { All (λ s. IsValid s) boxes.now }
     requires var { x < length boxes.now }
     ensures some { IfOk result (λ r. IfSome r (λ f. IsFinding f vars.now boxes.now)) }
-    ensures none { IfOk result (λ r. IfNone r (is_narrow (length vars.now) (box_of boxes.now x) ≡ true → IsFixpointFrom (low_of (box_of boxes.now x)) vars.now boxes.now)) }
+    ensures none { IfOk result (λ r. IfNone r (is_narrow (length vars.now) (box_of boxes.now x)
+        ≡ true → IsFixpointFrom (low_of (box_of boxes.now x)) vars.now boxes.now)) }
 {
     match narrow_start(boxes, x, vars.len()) {
         Some(a) => look(alloc, counters, vars, boxes, a),

@@ -47,7 +47,8 @@ pub fn end_from(set: &IntSet, a: Number, n: usize) -> Option<usize>
 /// How far the box begins from `a`, where it begins no earlier and that is below `n`.
 pub fn start_from(set: &IntSet, a: Number, n: usize) -> Option<usize>
     ensures below { IfSome result (λ d. d < n) }
-    ensures slot { (e : ℕ) → e < n → begins_in a.value (a.value +ℤ pos e) set.now ≡ is_upto result e }
+    ensures slot { (e : ℕ) → e < n → begins_in a.value (a.value +ℤ pos e) set.now
+        ≡ is_upto result e }
 {
     let ends = ends_in_order(set);
     if ends.0 < a.value {

@@ -17,8 +17,10 @@ use Rattle.bool_prop.specs.declared.conjunction.Finding.TheVariants.{Quiet, Part
 -- outside (false); None where neither says anything in the boxes
 abbrev pub member_finding : Ranges → Ranges → Ranges → Option Bool
 member_finding flags box set =
-    cond (has flags (pos 1) && (is_disjoint box set || (not (has flags (pos 0)) && not (is_within box set)))) (Some true)
-    (cond (has flags (pos 0) && (is_within box set || (not (has flags (pos 1)) && not (is_disjoint box set)))) (Some false) None)
+    cond (has flags (pos 1) && (is_disjoint box set
+    || (not (has flags (pos 0)) && not (is_within box set)))) (Some true)
+    (cond (has flags (pos 0) && (is_within box set
+    || (not (has flags (pos 1)) && not (is_disjoint box set)))) (Some false) None)
 
 -- ---- conjunctions
 
@@ -43,7 +45,8 @@ open_rest (p ∷ ps) boxes = cond (part_fixed boxes p) (open_rest ps boxes) (p �
 -- all parts but one are fixed, and that one isn't barred
 abbrev pub one_open : List (ℕ × Bool) → Boxes → Bool
 one_open [] boxes = false
-one_open (p ∷ ps) boxes = cond (part_fixed boxes p) (one_open ps boxes) (not (barred boxes p.0 p.1) && all_fixed ps boxes)
+one_open (p ∷ ps) boxes =
+    cond (part_fixed boxes p) (one_open ps boxes) (not (barred boxes p.0 p.1) && all_fixed ps boxes)
 
 -- of each part what it wants
 abbrev pub whole_plan : List (ℕ × Bool) → Literals
@@ -54,17 +57,20 @@ whole_plan (p ∷ ps) = (p.0, (bit p.1, bit p.1) ∷ []) ∷ whole_plan ps
 -- part isn't fixed
 pub record IsPartOpen (flag : ℕ) (p : ℕ × Bool) (boxes : Boxes) : Type 0 where
   pub differ : (p.0 == flag) ≡ false
-  pub acts : ((barred boxes flag true ≡ false) × (barred boxes p.0 p.1 ≡ true)) ⊎ ((barred boxes flag false ≡ true) × (part_fixed boxes p ≡ false))
+  pub acts : ((barred boxes flag true ≡ false) × (barred boxes p.0 p.1 ≡ true))
+      ⊎ ((barred boxes flag false ≡ true) × (part_fixed boxes p ≡ false))
 
 -- the flag can be 0 though all parts are fixed, or has to be 0 though all parts but one are fixed,
 -- or all
 abbrev pub IsWholeOpen : ℕ → List (ℕ × Bool) → Boxes → Type 0
 IsWholeOpen flag parts boxes =
-    ((barred boxes flag false ≡ false) × (all_fixed parts boxes ≡ true)) ⊎ ((barred boxes flag true ≡ true) × (one_open parts boxes ≡ true))
+    ((barred boxes flag false ≡ false) × (all_fixed parts boxes ≡ true))
+    ⊎ ((barred boxes flag true ≡ true) × (one_open parts boxes ≡ true))
 
 -- what a finding says
 abbrev pub Says : ℕ → List (ℕ × Bool) → Boxes → Finding → Type 0
 Says flag parts boxes Quiet = quiet (AndDef flag parts) boxes ≡ true
-Says flag parts boxes (Part i) = (i < length parts) × ((d : ℕ × Bool) → IsPartOpen flag (slice_index_or parts i d) boxes)
+Says flag parts boxes (Part i) =
+    (i < length parts) × ((d : ℕ × Bool) → IsPartOpen flag (slice_index_or parts i d) boxes)
 Says flag parts boxes Whole = IsWholeOpen flag parts boxes
 Says flag parts boxes Unclear = Unit {0}

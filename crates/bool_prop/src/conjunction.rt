@@ -76,7 +76,8 @@ fn is_fixed(boxes: &[IntSet], p: (u32, bool)) -> bool
 fn first_open(parts: &[(u32, bool)], from: usize, boxes: &[IntSet]) -> Option<usize>
     requires { All (λ p. p.0 < length boxes.now) parts.now }
     ensures within { IfSome result (λ i. i < length parts.now) }
-    ensures rest { IfSome result (λ i. open_rest (drop from parts.now) boxes.now ≡ drop i parts.now) }
+    ensures rest { IfSome result (λ i. open_rest (drop from parts.now) boxes.now
+        ≡ drop i parts.now) }
     ensures none { IfNone result (open_rest (drop from parts.now) boxes.now ≡ []) }
 {
     let mut i = from;
@@ -114,7 +115,8 @@ fn find_next(flag: u32, parts: &[(u32, bool)], i: usize, boxes: &[IntSet]) -> Fi
     requires denied { barred boxes.now flag true ≡ true }
     requires within { i < length parts.now }
     requires first { open_rest parts.now boxes.now ≡ drop i parts.now }
-    requires can { (d : _) → barred boxes.now (slice_index_or parts.now i d).0 (slice_index_or parts.now i d).1 ≡ false }
+    requires can { (d : _) → barred boxes.now (slice_index_or parts.now i d).0
+        (slice_index_or parts.now i d).1 ≡ false }
     ensures { Says flag parts.now boxes.now result }
 {
     match first_open(parts, i + 1, boxes) {
@@ -223,7 +225,8 @@ fn keep_part(
     alloc: Global,
 ) -> Result<(), AllocError>
     requires { p.0 < length domains.now }
-    ensures { OnOk result (literals.new.items ≡ literals.old.items ++ kept_one p.0 (less (box_of domains.now p.0) ((bit p.1, bit p.1) ∷ [])) []) }
+    ensures { OnOk result (literals.new.items ≡ literals.old.items
+        ++ kept_one p.0 (less (box_of domains.now p.0) ((bit p.1, bit p.1) ∷ [])) []) }
 {
     keep_out(literals, p.0, &domains[p.0 as usize], &truth(alloc, p.1))?;
     Ok(())
@@ -240,7 +243,8 @@ fn explain_whole(
 ) -> Result<Clause, AllocError>
     requires flag { flag < length domains.now }
     requires parts { All (λ p. p.0 < length domains.now) parts.now }
-    requires reason { IsReason con.now domains.now boxes.now (literals_of domains.now ((flag, (pos 0, pos 0) ∷ []) ∷ whole_plan parts.now)) }
+    requires reason { IsReason con.now domains.now boxes.now
+        (literals_of domains.now ((flag, (pos 0, pos 0) ∷ []) ∷ whole_plan parts.now)) }
     ensures pruning { IfOk result (λ c. IsPruning con.now domains.now boxes.now c) }
 {
     let mut literals = Vec::new(alloc);

@@ -25,9 +25,12 @@ IsNamed (LinDef out terms offset) boxes = (out < length boxes) × AreTermsNamed 
 IsNamed (ReifLe flag terms bound) boxes = (flag < length boxes) × AreTermsNamed terms boxes
 IsNamed (AndDef flag parts) boxes = (flag < length boxes) × All (λ p. p.0 < length boxes) parts
 IsNamed (MemberDef flag var set) boxes = (flag < length boxes) × (var < length boxes)
-IsNamed (EqDef flag left right) boxes = (flag < length boxes) × (left < length boxes) × (right < length boxes)
-IsNamed (ElementDef out index items) boxes = (out < length boxes) × (index < length boxes) × AreTermsNamed items boxes
-IsNamed (CondDef out flag item) boxes = (out < length boxes) × (flag < length boxes) × (item < length boxes)
+IsNamed (EqDef flag left right) boxes =
+    (flag < length boxes) × (left < length boxes) × (right < length boxes)
+IsNamed (ElementDef out index items) boxes =
+    (out < length boxes) × (index < length boxes) × AreTermsNamed items boxes
+IsNamed (CondDef out flag item) boxes =
+    (out < length boxes) × (flag < length boxes) × (item < length boxes)
 IsNamed (ClauseCon clause) boxes = All (λ l. l.0 < length boxes) clause
 IsNamed (AllDiff vars) boxes = All (λ x. x < length boxes) vars
 IsNamed (Pack items) boxes = AreItemsNamed items boxes

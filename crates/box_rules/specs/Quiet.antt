@@ -27,12 +27,14 @@ probed s = cond (nat_le (count_of s) 64) (values_of s) (low_of s ∷ high_of s �
 -- no value of the list, alone in the box of x, refutes the constraint
 abbrev pub none_refutes : Con → Boxes → ℕ → List ℤ → Bool
 none_refutes con boxes x [] = true
-none_refutes con boxes x (v ∷ vs) = not (refuted con (fixing boxes x v)) && none_refutes con boxes x vs
+none_refutes con boxes x (v ∷ vs) =
+    not (refuted con (fixing boxes x v)) && none_refutes con boxes x vs
 
 -- no probed value of a variable of the list does
 abbrev pub quiet_at : Con → Boxes → List ℕ → Bool
 quiet_at con boxes [] = true
-quiet_at con boxes (x ∷ xs) = none_refutes con boxes x (probed (box_of boxes x)) && quiet_at con boxes xs
+quiet_at con boxes (x ∷ xs) =
+    none_refutes con boxes x (probed (box_of boxes x)) && quiet_at con boxes xs
 
 -- the constraint has nothing to say
 unfoldable pub quiet : Con → Boxes → Bool

@@ -58,7 +58,8 @@ lies_in a b s = int_le a (low_of s) && int_le (high_of s) b
 -- how many places of the list have a box within a..b
 abbrev pub count_in : ℤ → ℤ → List ℕ → Boxes → ℕ
 count_in a b [] boxes = 0
-count_in a b (x ∷ xs) boxes = cond (lies_in a b (box_of boxes x)) (suc (count_in a b xs boxes)) (count_in a b xs boxes)
+count_in a b (x ∷ xs) boxes =
+    cond (lies_in a b (box_of boxes x)) (suc (count_in a b xs boxes)) (count_in a b xs boxes)
 
 -- more places than a..b has numbers have a box within it
 abbrev pub crowded : ℤ → ℤ → List ℕ → Boxes → Bool
@@ -67,12 +68,14 @@ crowded a b xs boxes = int_le a b && int_lt ((b -ℤ a) +ℤ pos 1) (pos (count_
 -- a..b is crowded, for some end b of the boxes of the first list
 abbrev pub crowded_from : ℤ → List ℕ → List ℕ → Boxes → Bool
 crowded_from a [] xs boxes = false
-crowded_from a (y ∷ ys) xs boxes = crowded a (high_of (box_of boxes y)) xs boxes || crowded_from a ys xs boxes
+crowded_from a (y ∷ ys) xs boxes =
+    crowded a (high_of (box_of boxes y)) xs boxes || crowded_from a ys xs boxes
 
 -- and for some start a of the boxes of the first list
 abbrev pub some_crowded : List ℕ → List ℕ → Boxes → Bool
 some_crowded [] xs boxes = false
-some_crowded (y ∷ ys) xs boxes = crowded_from (low_of (box_of boxes y)) xs xs boxes || some_crowded ys xs boxes
+some_crowded (y ∷ ys) xs boxes =
+    crowded_from (low_of (box_of boxes y)) xs xs boxes || some_crowded ys xs boxes
 
 -- ---- items to be packed
 
@@ -80,7 +83,8 @@ some_crowded (y ∷ ys) xs boxes = crowded_from (low_of (box_of boxes y)) xs xs 
 abbrev pub fixed_load : ℤ → List (ℕ × ℕ × ℕ) → Boxes → ℤ
 fixed_load v [] boxes = pos 0
 fixed_load v (i ∷ is) boxes =
-    cond (fixed_at (box_of boxes i.0) v) (low_of (box_of boxes i.1) +ℤ fixed_load v is boxes) (fixed_load v is boxes)
+    cond (fixed_at (box_of boxes i.0) v) (low_of (box_of boxes i.1) +ℤ fixed_load v is boxes)
+    (fixed_load v is boxes)
 
 -- the item's place is fixed, and the load there is more than its greatest room
 abbrev pub overfull : ℕ × ℕ × ℕ → List (ℕ × ℕ × ℕ) → Boxes → Bool
@@ -102,7 +106,8 @@ least_sizes (i ∷ is) boxes = low_of (box_of boxes i.1) +ℤ least_sizes is box
 abbrev pub best_room : ℤ → List (ℕ × ℕ × ℕ) → Boxes → ℤ
 best_room v [] boxes = pos 0
 best_room v (i ∷ is) boxes =
-    cond (has (box_of boxes i.0) v) (int_max (high_of (box_of boxes i.2)) (best_room v is boxes)) (best_room v is boxes)
+    cond (has (box_of boxes i.0) v) (int_max (high_of (box_of boxes i.2)) (best_room v is boxes))
+    (best_room v is boxes)
 
 -- that of n values from v on, added up; a value that no place's box holds adds nothing
 abbrev pub rooms_from : ℕ → ℤ → List (ℕ × ℕ × ℕ) → Boxes → ℤ
@@ -147,16 +152,19 @@ excluded (ReifLe flag terms bound) boxes =
     && (barred boxes flag false || int_le (greatest_sum terms boxes) bound)
 -- the flag can't be 1 or some part can't be as wanted, and it can't be 0 or each part is as wanted
 excluded (AndDef flag parts) boxes =
-    (barred boxes flag true || some_barred parts boxes) && (barred boxes flag false || all_fixed parts boxes)
+    (barred boxes flag true || some_barred parts boxes)
+    && (barred boxes flag false || all_fixed parts boxes)
 -- the flag can't be 1 or no value is in the set, and it can't be 0 or all are
 excluded (MemberDef flag var set) boxes =
-    (barred boxes flag true || is_disjoint (box_of boxes var) set) && (barred boxes flag false || is_within (box_of boxes var) set)
+    (barred boxes flag true || is_disjoint (box_of boxes var) set)
+    && (barred boxes flag false || is_within (box_of boxes var) set)
 -- the flag can't be 1 or no value is common, and it can't be 0 or both are one value
 excluded (EqDef flag left right) boxes =
     (barred boxes flag true || is_disjoint (box_of boxes left) (box_of boxes right))
     && (barred boxes flag false || same_single (box_of boxes left) (box_of boxes right))
 -- no item can be the one
-excluded (ElementDef out index items) boxes = none_picked (box_of boxes out) (box_of boxes index) items boxes
+excluded (ElementDef out index items) boxes =
+    none_picked (box_of boxes out) (box_of boxes index) items boxes
 -- the flag can't be 1 or no value is common, and it can't be 0 or out can't be 0
 excluded (CondDef out flag item) boxes =
     (barred boxes flag true || is_disjoint (box_of boxes out) (box_of boxes item))
@@ -166,7 +174,8 @@ excluded (ClauseCon clause) boxes = false_in boxes clause
 -- too many places have to share too few values
 excluded (AllDiff vars) boxes = some_crowded vars vars boxes
 -- a place is overfull, or all sizes are more than all room
-excluded (Pack items) boxes = some_overfull items items boxes || int_lt (all_room items boxes) (least_sizes items boxes)
+excluded (Pack items) boxes =
+    some_overfull items items boxes || int_lt (all_room items boxes) (least_sizes items boxes)
 
 -- the constraint is refuted: a variable of it has an empty box, or its rule excludes the boxes
 abbrev pub refuted : Con → Boxes → Bool

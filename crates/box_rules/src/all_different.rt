@@ -3,8 +3,8 @@
 //! Places that differ can't be crowded: no interval has fewer numbers than places whose boxes lie
 //! within it. It is enough to look at intervals from where some box begins to where some box ends.
 //!
-//! Of at most 64 boxes that is counted by slots (`crowding`). Of more, each pair of ends is looked at
-//! by itself; an interval with as many numbers as there are variables can't be crowded and isn't
+//! Of at most 64 boxes that is counted by slots (`crowding`). Of more, each pair of ends is looked
+//! at by itself; an interval with as many numbers as there are variables can't be crowded and isn't
 //! counted.
 ghost use Rattle.std.specs.Prelude.{◌≡◌, ◌<◌, ◌≤◌, ◌&&◌, ◌+ℤ◌, ◌-ℤ◌, pos, int_le, int_lt, length};
 ghost use Rattle.std.specs.List.{All};
@@ -41,7 +41,8 @@ fn count_in<V: View>(view: &V, vars: &[u32], a: Number, b: Number) -> usize
 
 /// Whether `count` is more than `a..b` has numbers, of which it has some.
 fn is_more(count: usize, a: Number, b: Number) -> bool
-    ensures { result ≡ (int_le a.value b.value && int_lt ((b.value -ℤ a.value) +ℤ pos 1) (pos count)) }
+    ensures { result ≡ (int_le a.value b.value && int_lt ((b.value -ℤ a.value) +ℤ pos 1)
+        (pos count)) }
 {
     a.value <= b.value && 0 < count && b.value.abs_diff(a.value) < count as u64 - 1
 }

@@ -27,7 +27,8 @@ pub fn has_empty<V: View>(con: &Con, view: &V) -> bool
 #[tactic(auto, using(crate::proofs::VarWalks::variable_named))]
 fn is_empty_at<V: View>(con: &Con, view: &V, i: usize) -> bool
     requires { IsNamed con.now (V.boxes view.now) }
-    ensures { IfSome (slice_get (vars_of con.now) i) (λ x. result ≡ is_nil (box_of (V.boxes view.now) x)) }
+    ensures { IfSome (slice_get (vars_of con.now) i) (λ x. result
+        ≡ is_nil (box_of (V.boxes view.now) x)) }
 {
     match con.variable(i) {
         Some(x) => view.is_empty(x),

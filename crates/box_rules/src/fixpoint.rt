@@ -57,8 +57,10 @@ fn first_between(con: &Con, boxes: &[IntSet], x: u32, first: Number, last: Numbe
     requires bounded { IsBounded con.now boxes.now }
     requires var { x < length boxes.now }
     requires order { first.value ≤ℤ last.value }
-    requires members { (v : ℤ) → in_range (first.value, last.value) v ≡ true → has (box_of boxes.now x) v ≡ true }
-    ensures none { not (is_some result) ≡ none_refutes con.now boxes.now x (values_from (width first.value last.value) first.value) }
+    requires members { (v : ℤ) → in_range (first.value, last.value) v ≡ true
+        → has (box_of boxes.now x) v ≡ true }
+    ensures none { not (is_some result) ≡ none_refutes con.now boxes.now x
+        (values_from (width first.value last.value) first.value) }
     ensures some { IfSome result (λ v. IsCulprit con.now boxes.now x v.value) }
 {
     let mut at = first;
@@ -81,7 +83,8 @@ fn first_in_range(con: &Con, boxes: &[IntSet], x: u32, r: (i64, i64)) -> Option<
     requires var { x < length boxes.now }
     requires order { r.0 ≤ℤ r.1 }
     requires members { (v : ℤ) → in_range r v ≡ true → has (box_of boxes.now x) v ≡ true }
-    ensures none { not (is_some result) ≡ none_refutes con.now boxes.now x (values_from (width r.0 r.1) r.0) }
+    ensures none { not (is_some result) ≡ none_refutes con.now boxes.now x
+        (values_from (width r.0 r.1) r.0) }
     ensures some { IfSome result (λ v. IsCulprit con.now boxes.now x v.value) }
 {
     first_between(con, boxes, x, start_of(r), end_of(r))
@@ -111,7 +114,8 @@ fn first_of_all(con: &Con, boxes: &[IntSet], x: u32) -> Option<Number>
     requires named { IsNamed con.now boxes.now }
     requires bounded { IsBounded con.now boxes.now }
     requires var { x < length boxes.now }
-    ensures none { not (is_some result) ≡ none_refutes con.now boxes.now x (values_of (box_of boxes.now x)) }
+    ensures none { not (is_some result) ≡ none_refutes con.now boxes.now x
+        (values_of (box_of boxes.now x)) }
     ensures some { IfSome result (λ v. IsCulprit con.now boxes.now x v.value) }
 {
     first_in_ranges(con, boxes, x, boxes[x as usize].ranges())
@@ -124,7 +128,8 @@ fn first_of_ends(con: &Con, boxes: &[IntSet], x: u32) -> Option<Number>
     requires bounded { IsBounded con.now boxes.now }
     requires var { x < length boxes.now }
     requires some { is_nil (box_of boxes.now x) ≡ false }
-    ensures none { not (is_some result) ≡ none_refutes con.now boxes.now x (low_of (box_of boxes.now x) ∷ high_of (box_of boxes.now x) ∷ []) }
+    ensures none { not (is_some result) ≡ none_refutes con.now boxes.now x
+        (low_of (box_of boxes.now x) ∷ high_of (box_of boxes.now x) ∷ []) }
     ensures some { IfSome result (λ v. IsCulprit con.now boxes.now x v.value) }
 {
     let ends = set_ends(&boxes[x as usize]);
@@ -157,7 +162,8 @@ pub fn first_at(con: &Con, boxes: &[IntSet], x: u32) -> Option<Number>
     requires named { IsNamed con.now boxes.now }
     requires bounded { IsBounded con.now boxes.now }
     requires var { x < length boxes.now }
-    ensures none { not (is_some result) ≡ none_refutes con.now boxes.now x (probed (box_of boxes.now x)) }
+    ensures none { not (is_some result) ≡ none_refutes con.now boxes.now x
+        (probed (box_of boxes.now x)) }
     ensures some { IfSome result (λ v. IsCulprit con.now boxes.now x v.value) }
 {
     if boxes[x as usize].at_most(64) {
@@ -172,7 +178,8 @@ pub fn first_at(con: &Con, boxes: &[IntSet], x: u32) -> Option<Number>
 fn is_quiet_at(con: &Con, boxes: &[IntSet], i: usize) -> bool
     requires named { IsNamed con.now boxes.now }
     requires bounded { IsBounded con.now boxes.now }
-    ensures { IfSome (slice_get (vars_of con.now) i) (λ x. result ≡ none_refutes con.now boxes.now x (probed (box_of boxes.now x))) }
+    ensures { IfSome (slice_get (vars_of con.now) i) (λ x. result ≡ none_refutes con.now boxes.now x
+        (probed (box_of boxes.now x))) }
 {
     match con.variable(i) {
         Some(x) => first_at(con, boxes, x).is_none(),

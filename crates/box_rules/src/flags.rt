@@ -89,7 +89,8 @@ fn are_all_fixed<V: View>(view: &V, parts: &[(u32, bool)]) -> bool
 /// or held.
 pub fn is_flag_excluded<V: View>(view: &V, flag: u32, denied: bool, held: bool) -> bool
     requires { flag < length (V.boxes view.now) }
-    ensures { result ≡ ((barred (V.boxes view.now) flag true || denied) && (barred (V.boxes view.now) flag false || held)) }
+    ensures { result ≡ ((barred (V.boxes view.now) flag true || denied)
+        && (barred (V.boxes view.now) flag false || held)) }
 {
     (is_barred(view, flag, true) || denied) && (is_barred(view, flag, false) || held)
 }
@@ -120,7 +121,8 @@ pub fn excludes_member<V: View>(view: &V, flag: u32, var: u32, set: &IntSet) -> 
 fn is_same_single<V: View>(view: &V, left: u32, right: u32) -> bool
     requires left { left < length (V.boxes view.now) }
     requires right { right < length (V.boxes view.now) }
-    ensures { result ≡ same_single (box_of (V.boxes view.now) left) (box_of (V.boxes view.now) right) }
+    ensures { result ≡ same_single (box_of (V.boxes view.now) left)
+        (box_of (V.boxes view.now) right) }
 {
     let at = least(view, left);
     is_fixed_at(view, left, at) && is_fixed_at(view, right, at)
@@ -164,7 +166,8 @@ fn is_not_picked<V: View>(view: &V, out: u32, index: u32, t: (i64, u32)) -> bool
     requires out { out < length (V.boxes view.now) }
     requires index { index < length (V.boxes view.now) }
     requires item { t.1 < length (V.boxes view.now) }
-    ensures { result ≡ (not (has (box_of (V.boxes view.now) index) t.0) || is_disjoint (box_of (V.boxes view.now) t.1) (box_of (V.boxes view.now) out)) }
+    ensures { result ≡ (not (has (box_of (V.boxes view.now) index) t.0)
+        || is_disjoint (box_of (V.boxes view.now) t.1) (box_of (V.boxes view.now) out)) }
 {
     !view.has(index, t.0) || view.are_disjoint(t.1, out)
 }
@@ -174,7 +177,8 @@ pub fn excludes_element<V: View>(view: &V, out: u32, index: u32, items: &[(i64, 
     requires out { out < length (V.boxes view.now) }
     requires index { index < length (V.boxes view.now) }
     requires items { All (λ t. t.1 < length (V.boxes view.now)) items.now }
-    ensures { result ≡ none_picked (box_of (V.boxes view.now) out) (box_of (V.boxes view.now) index) items.now (V.boxes view.now) }
+    ensures { result ≡ none_picked (box_of (V.boxes view.now) out) (box_of (V.boxes view.now) index)
+        items.now (V.boxes view.now) }
 {
     for t in items {
         if !is_not_picked(view, out, index, *t) {

@@ -25,7 +25,8 @@ fn with_load<V: View>(load: Total, i: (u32, u32, u32), view: &V, at: Number) -> 
     requires item { IsItemNamed i (V.boxes view.now) }
     requires low { pos 0 ≤ℤ (load.value +ℤ pos (2 ^ 127 - 2 ^ 63)) }
     requires high { load.value ≤ℤ pos (2 ^ 127 - 2 ^ 63) }
-    ensures load { result.value ≡ cond (fixed_at (box_of (V.boxes view.now) i.0) at.value) (load.value +ℤ low_of (box_of (V.boxes view.now) i.1)) load.value }
+    ensures load { result.value ≡ cond (fixed_at (box_of (V.boxes view.now) i.0) at.value)
+        (load.value +ℤ low_of (box_of (V.boxes view.now) i.1)) load.value }
     ensures low { load.value ≤ℤ (result.value +ℤ pos (2 ^ 63)) }
     ensures high { result.value ≤ℤ (load.value +ℤ pos (2 ^ 63 - 1)) }
 {
@@ -71,8 +72,8 @@ fn is_some_overfull<V: View>(view: &V, items: &[(u32, u32, u32)]) -> bool
     false
 }
 
-/// Whether the bin of some item is overfull. Of at most 64 items those whose bins are fixed are kept
-/// in a row.
+/// Whether the bin of some item is overfull. Of at most 64 items those whose bins are fixed are
+/// kept in a row.
 fn has_overfull<V: View>(view: &V, items: &[(u32, u32, u32)]) -> bool
     requires { AreItemsNamed items.now (V.boxes view.now) }
     ensures { result ≡ some_overfull items.now items.now (V.boxes view.now) }
@@ -107,7 +108,8 @@ fn may_be_at<V: View>(view: &V, place: u32, at: Number) -> bool
 /// The greatest room so far, with the item's where its place's box has the value.
 fn with_room<V: View>(best: Number, i: (u32, u32, u32), view: &V, at: Number) -> Number
     requires item { IsItemNamed i (V.boxes view.now) }
-    ensures { result.value ≡ cond (has (box_of (V.boxes view.now) i.0) at.value) (int_max best.value (high_of (box_of (V.boxes view.now) i.2))) best.value }
+    ensures { result.value ≡ cond (has (box_of (V.boxes view.now) i.0) at.value)
+        (int_max best.value (high_of (box_of (V.boxes view.now) i.2))) best.value }
 {
     let room = greatest(view, i.2);
     if is_below(best, room) && may_be_at(view, i.0, at) {
@@ -215,7 +217,8 @@ fn bin_behind<V: View>(
 fn rooms_between<V: View>(view: &V, items: &[(u32, u32, u32)], first: Number, last: Number) -> Total
     requires items { AreItemsNamed items.now (V.boxes view.now) }
     requires order { first.value ≤ℤ last.value }
-    ensures { result.value ≡ rooms_from (width first.value last.value) first.value items.now (V.boxes view.now) }
+    ensures { result.value ≡ rooms_from (width first.value last.value) first.value items.now
+        (V.boxes view.now) }
 {
     let mut at = first;
     let mut room = best_room(view, items, at);
@@ -247,7 +250,9 @@ fn all_room<V: View>(view: &V, items: &[(u32, u32, u32)]) -> Total
 /// The rule of items to be packed.
 pub fn excludes_packing<V: View>(view: &V, items: &[(u32, u32, u32)]) -> bool
     requires { AreItemsNamed items.now (V.boxes view.now) }
-    ensures { result ≡ (some_overfull items.now items.now (V.boxes view.now) || int_lt (all_room items.now (V.boxes view.now)) (least_sizes items.now (V.boxes view.now))) }
+    ensures { result ≡ (some_overfull items.now items.now (V.boxes view.now)
+        || int_lt (all_room items.now (V.boxes view.now))
+        (least_sizes items.now (V.boxes view.now))) }
 {
     has_overfull(view, items) || least_sizes(view, items).is_more_than(all_room(view, items))
 }

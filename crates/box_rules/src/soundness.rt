@@ -24,7 +24,8 @@ pub fn refuted_is_false(con: &Con, boxes: &[IntSet])
     requires sets { All (λ s. IsValid s) boxes.now }
     requires con_sets { HasSets con.now }
     ensures no_point { refuted con.now boxes.now ≡ true → HasNoPoint con.now boxes.now }
-    ensures exact { (a : List ℤ) → boxes.now ≡ singles a → refuted con.now boxes.now ≡ not (con_true con.now a) }
+    ensures exact { (a : List ℤ) → boxes.now ≡ singles a → refuted con.now boxes.now
+        ≡ not (con_true con.now a) }
 {}
 
 /// It does nothing; its contract is the law. The rule of values that differ looks at intervals from
@@ -32,7 +33,8 @@ pub fn refuted_is_false(con: &Con, boxes: &[IntSet])
 #[tactic(auto, using(crate::proofs::CrowdLaws::crowded_law))]
 pub fn some_interval_is_crowded(vars: &[u32], boxes: &[IntSet])
     requires { All (λ s. IsValid s) boxes.now }
-    ensures { (some_crowded vars.now vars.now boxes.now ≡ true) ↔ IsCrowdedSomewhere vars.now boxes.now }
+    ensures { (some_crowded vars.now vars.now boxes.now ≡ true) ↔ IsCrowdedSomewhere vars.now
+        boxes.now }
 {}
 
 /// It does nothing; its contract is the law. Whether a constraint is quiet depends on the boxes of

@@ -71,7 +71,8 @@ fn ended(ranges: &[(i64, i64)], at: Number) -> usize
     requires { IsValid ranges.now }
     ensures within { result ≤ length ranges.now }
     ensures left { (u : ℤ) → at.value ≤ℤ u → has (drop result ranges.now) u ≡ has ranges.now u }
-    ensures reached { result < length ranges.now → at.value ≤ℤ (slice_index_or ranges.now result (pos 0, pos 0)).1 }
+    ensures reached { result < length ranges.now
+        → at.value ≤ℤ (slice_index_or ranges.now result (pos 0, pos 0)).1 }
 {
     let mut low = 0;
     let mut high = ranges.len();
@@ -91,7 +92,8 @@ fn begun(ranges: &[(i64, i64)], at: Number) -> usize
     requires { IsValid ranges.now }
     ensures within { result ≤ length ranges.now }
     ensures left { (u : ℤ) → u ≤ℤ at.value → has (take result ranges.now) u ≡ has ranges.now u }
-    ensures reached { 0 < result → (slice_index_or ranges.now (result - 1) (pos 0, pos 0)).0 ≤ℤ at.value }
+    ensures reached { 0 < result → (slice_index_or ranges.now (result - 1) (pos 0, pos 0)).0
+        ≤ℤ at.value }
 {
     let mut low = 0;
     let mut high = ranges.len();

@@ -1,9 +1,10 @@
 //! Views of boxes that needn't be built.
 //!
-//! The rules of the constraints ask little of boxes: their ends, whether they have a value, which is
-//! the first from a number on, and how they lie to a set or to one another. `View` is that face. Behind it stand boxes as they are
-//! (`Plain`), boxes of which one is replaced by a single value (`Fixing`), and domains less the
-//! sets of a clause (`Cut`). So a rule is written once, and takes no memory.
+//! The rules of the constraints ask little of boxes: their ends, whether they have a value, which
+//! is the first from a number on, and how they lie to a set or to one another. `View` is that face.
+//! Behind it stand boxes as they are (`Plain`), boxes of which one is replaced by a single value
+//! (`Fixing`), and domains less the sets of a clause (`Cut`). So a rule is written once, and takes
+//! no memory.
 ghost use Rattle.std.specs.Prelude.{◌≡◌, ◌<◌, ◌≤◌, ◌≤ℤ◌, [], ◌∷◌, IfSome, IfNone, length};
 ghost use Rattle.signed_clause.specs.Ranges.{has, is_nil};
 ghost use Rattle.signed_clause.specs.SetAlgebra.{is_disjoint, is_within};
@@ -31,7 +32,11 @@ pub trait View {
     /// The least and the greatest value of the box of `x`, 0 where it is empty.
     fn ends(&self, x: u32) -> (i64, i64)
         requires { x < length (boxes self.now) }
-        ensures ends { result ≡ (low_of (box_of (boxes self.now) x), high_of (box_of (boxes self.now) x)) }
+        ensures ends { result ≡ (
+          low_of (box_of (boxes self.now) x),
+          high_of
+              (box_of (boxes self.now) x),
+        ) }
         ensures order { low_of (box_of (boxes self.now) x) ≤ℤ high_of (box_of (boxes self.now) x) }
         ensures reach { reach_of (box_of (boxes self.now) x) ≤ reach_of (box_of (outer self.now) x) };
 
@@ -131,7 +136,8 @@ pub fn are_sets_disjoint(a: &IntSet, b: &IntSet) -> bool
 fn first_alone(value: Number, from: Number) -> Option<Number>
     ensures some { IfSome result (λ w.
         IsFirst (λ u. has ((value.value, value.value) ∷ []) u) from.value w.value) }
-    ensures none { IfNone result (HasNoneFrom (λ u. has ((value.value, value.value) ∷ []) u) from.value) }
+    ensures none { IfNone result (HasNoneFrom (λ u. has ((value.value, value.value) ∷ []) u)
+        from.value) }
 {
     if from.value <= value.value {
         Some(value)

@@ -2,9 +2,10 @@
 //!
 //! A line is a word and, behind a space, a text. `given TEXT` says what the cases behind it are
 //! about, up to the next such line, and `more TEXT` adds to that. `gives TEXT` ends a case: it says
-//! what must come, and several such lines that one of theirs must. A line with any other word begins a case: the word says what is asked, and the
-//! text of what. Empty lines, and lines whose word is `#`, are remarks. In a text `\n`, `\r`, `\t`,
-//! `\\` and, with two small hexadecimal digits, `\xHH` stand for one byte each.
+//! what must come, and several such lines that one of theirs must. A line with any other word
+//! begins a case: the word says what is asked, and the text of what. Empty lines, and lines whose
+//! word is `#`, are remarks. In a text `\n`, `\r`, `\t`, `\\` and, with two small hexadecimal
+//! digits, `\xHH` stand for one byte each.
 use std::alloc::{AllocError, Global};
 
 /// One case.

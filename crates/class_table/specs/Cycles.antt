@@ -13,7 +13,9 @@ Leads g c d = (k : ℕ) × (k < length (edges_at g c)) × ((edge_at g c k).to �
 
 -- an edge of c without a place leads to d
 abbrev pub PlainLeads : Graph → ℕ → ℕ → Type 0
-PlainLeads g c d = (k : ℕ) × (k < length (edges_at g c)) × ((edge_at g c k).to ≡ d) × ((edge_at g c k).place ≡ None)
+PlainLeads g c d =
+    (k : ℕ) × (k < length (edges_at g c)) × ((edge_at g c k).to ≡ d)
+    × ((edge_at g c k).place ≡ None)
 
 -- an edge with this place lies on a cycle: from where it leads one comes back
 pub record IsOnCycle (g : Graph) (at : ℕ) : Type 0 where
@@ -45,7 +47,8 @@ rank states c = left_at (state_at states c)
 pub record IsOrdered (g : Graph) (states : List State) : Type 0 where
   pub size : length states ≡ length g
   pub below : (c : ℕ) → c < length g → rank states c < length g
-  pub falls : (c k : ℕ) → c < length g → k < length (edges_at g c) → rank states (edge_at g c k).to < rank states c
+  pub falls : (c k : ℕ) → c < length g → k < length (edges_at g c) → rank states (edge_at g c k).to
+      < rank states c
 
 abbrev pub IsOutcome : Graph → Outcome → Type 0
 IsOutcome g (Ordered states) = IsOrdered g states.items
@@ -60,4 +63,6 @@ NewStays old new = (c : ℕ) → IsNew (state_at new c) → IsNew (state_at old 
 pub record IsScanned (g : Graph) (states : List State) (path : List ℕ) (to at : ℕ) : Type 0 where
   pub within : at ≤ length path
   pub others : (j : ℕ) → at ≤ j → j < length path → slice_index path j ≡ to → ⊥
-  pub plain : (j : ℕ) → at ≤ j → j < length path → (edge_at g (slice_index path j) (looked_at (state_at states (slice_index path j)))).place ≡ None
+  pub plain : (j : ℕ) → at ≤ j → j < length path
+      → (edge_at g (slice_index path j) (looked_at (state_at states (slice_index path j)))).place
+      ≡ None

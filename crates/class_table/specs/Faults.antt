@@ -30,7 +30,8 @@ again false at = []
 
 abbrev pub repeated : List Ident → List (List ℕ) → List ℕ
 repeated [] seen = []
-repeated (i ∷ is) seen = again (list_any (same_name i.name) seen) i.at ++ repeated is (seen ++ i.name ∷ [])
+repeated (i ∷ is) seen =
+    again (list_any (same_name i.name) seen) i.at ++ repeated is (seen ++ i.name ∷ [])
 
 -- an attribute may not have the name of an enumeration or of a class
 abbrev pub taken : Ident → Option Meaning → List TableFault
@@ -75,7 +76,8 @@ empty_range true at = []
 empty_range false at = EmptyRange at ∷ []
 
 abbrev pub shape_faults : Space → List ClassDecl → Shape → List TableFault
-shape_faults names decls (shape.Range low high) = empty_range (int_le (bound_value low) (bound_value high)) low.at
+shape_faults names decls (shape.Range low high) =
+    empty_range (int_le (bound_value low) (bound_value high)) low.at
 shape_faults names decls shape.Int = []
 shape_faults names decls shape.Bool = []
 shape_faults names decls (shape.Named i) = named_faults decls i (means names i.name)
@@ -88,13 +90,15 @@ parent_faults names None = []
 parent_faults names (Some i) = class_faults i (means names i.name)
 
 abbrev pub member_faults : Space → List ClassDecl → Member → List TableFault
-member_faults names decls (member.Var v) = taken v.name (means names v.name.name) ++ shape_faults names decls v.shape
+member_faults names decls (member.Var v) =
+    taken v.name (means names v.name.name) ++ shape_faults names decls v.shape
 member_faults names decls (member.Where w) = []
 
 -- the faults that stand at the names and ranges within one item
 abbrev pub item_faults : Space → List ClassDecl → Item → List TableFault
 item_faults names decls (item.Enum d) = map Duplicate (repeated d.values [])
-item_faults names decls (item.Class d) = parent_faults names d.parent ++ flat_map (member_faults names decls) d.members
+item_faults names decls (item.Class d) =
+    parent_faults names d.parent ++ flat_map (member_faults names decls) d.members
 item_faults names decls (item.Var v) = shape_faults names decls v.shape
 item_faults names decls (item.Where w) = []
 item_faults names decls (item.Goal g) = []
@@ -113,7 +117,8 @@ class_count items = length (classes items)
 
 -- the class's attributes: its parent's and then its own
 abbrev pub attributes_of : List Item → ℕ → List VarDecl
-attributes_of items c = attributes_within (parent_of items) (own_of items) (class_count items) (class_count items) c
+attributes_of items c =
+    attributes_within (parent_of items) (own_of items) (class_count items) (class_count items) c
 
 abbrev pub variable_ident : VarDecl → Ident
 variable_ident v = v.name
@@ -135,7 +140,8 @@ pub record Holds (items : List Item) (v : VarDecl) (d at : ℕ) : Type 0 where
   pub class : class_meant (means (space items) ident.name) ≡ Some d
   pub place : ident.at ≡ at
 
--- an object of class c contains one of class d: an attribute of c, inherited ones too, holds objects of class d
+-- an object of class c contains one of class d: an attribute of c, inherited ones too, holds
+-- objects of class d
 pub record ContainsOne (items : List Item) (c d : ℕ) : Type 0 where
   pub attribute : VarDecl
   pub at : ℕ
@@ -150,15 +156,24 @@ IsParent items c d = parent_of items c ≡ Some d
 
 pub data Stands : List Item → TableFault → Type 0 where
   -- two declarations of one name
-  name_repeated : {items : List Item} {at : ℕ} → Contains (repeated (declared items) []) at → Stands items (Duplicate at)
+  name_repeated : {items : List Item} {at : ℕ} → Contains (repeated (declared items) []) at
+      → Stands items (Duplicate at)
   -- a fault at a name or range within an item
-  within_item : {items : List Item} {fault : TableFault} → Contains (flat_map (item_faults (space items) (classes items)) items) fault → Stands items fault
+  within_item : {items : List Item} {fault : TableFault}
+      → Contains (flat_map (item_faults (space items) (classes items)) items) fault
+      → Stands items fault
   -- two attributes of one name in a class
-  attribute_repeated : {items : List Item} {at : ℕ} (c : ℕ) → c < class_count items → Contains (repeated (map variable_ident (attributes_of items c)) []) at → Stands items (Duplicate at)
+  attribute_repeated : {items : List Item} {at : ℕ} (c : ℕ) → c < class_count items
+      → Contains (repeated (map variable_ident (attributes_of items c)) []) at
+      → Stands items (Duplicate at)
   -- the parent of a class that derives from itself: so many parents on, the class stands again
-  derives_itself : {items : List Item} (c k : ℕ) (d : ClassDecl) (i : Ident) → slice_get (classes items) c ≡ Some d → d.parent ≡ Some i → StepsBy (IsParent items) (suc k) c c → Stands items (InheritCycle i.at)
+  derives_itself : {items : List Item} (c k : ℕ) (d : ClassDecl) (i : Ident)
+      → slice_get (classes items) c ≡ Some d → d.parent ≡ Some i → StepsBy (IsParent items) (suc k)
+      c c → Stands items (InheritCycle i.at)
   -- an attribute, inherited or not, that makes an object of class c contain an object of class c
-  contains_itself : {items : List Item} {at : ℕ} (c d n : ℕ) (v : VarDecl) → Contains (attributes_of items c) v → Holds items v d at → StepsBy (ContainsOne items) n d c → Stands items (ContainCycle at)
+  contains_itself : {items : List Item} {at : ℕ} (c d n : ℕ) (v : VarDecl)
+      → Contains (attributes_of items c) v → Holds items v d at → StepsBy (ContainsOne items) n d c
+      → Stands items (ContainCycle at)
 
 -- P holds of a fault that is told; want of memory has no cause
 abbrev pub OnFault : TableFault → (TableFault → Type 0) → Type 0
@@ -182,8 +197,10 @@ pointed decls = map (λ (decl : Bor ClassDecl). decl.now) decls
 -- no fault stands in how classes derive, in their attributes' names, or in what they contain
 pub record HaveNoFault (items : List Item) : Type 0 where
   pub derivation : (k c : ℕ) → StepsBy (IsParent items) (suc k) c c → ⊥
-  pub attributes : (c : ℕ) → c < class_count items → repeated (map variable_ident (attributes_of items c)) [] ≡ []
-  pub containment : (c d n at : ℕ) (v : VarDecl) → Contains (attributes_of items c) v → Holds items v d at → StepsBy (ContainsOne items) n d c → ⊥
+  pub attributes : (c : ℕ) → c < class_count items
+      → repeated (map variable_ident (attributes_of items c)) [] ≡ []
+  pub containment : (c d n at : ℕ) (v : VarDecl) → Contains (attributes_of items c) v
+      → Holds items v d at → StepsBy (ContainsOne items) n d c → ⊥
 
 -- the numbers of items, of attributes and of each enumeration's values fit 32 bits
 pub record IsSmall (items : List Item) : Type 0 where

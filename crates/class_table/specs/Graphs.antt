@@ -31,9 +31,11 @@ abbrev pub member_edges : Space → Member → List Edge
 member_edges names (member.Var v) = named_edges names (contained_name v.shape)
 member_edges names (member.Where w) = []
 
--- from each class to the classes whose objects its own attributes hold, and without a place to its parent
+-- from each class to the classes whose objects its own attributes hold, and without a place to its
+-- parent
 abbrev pub class_edges : Space → ClassDecl → List Edge
-class_edges names d = flat_map (member_edges names) d.members ++ to_class (parent_named names d.parent) None
+class_edges names d =
+    flat_map (member_edges names) d.members ++ to_class (parent_named names d.parent) None
 
 abbrev pub containment : Space → List ClassDecl → Graph
 containment names decls = map (class_edges names) decls

@@ -27,4 +27,5 @@ IsPlain v = (lacks dot v.name && lacks bracket v.name) ≡ true
 pub record IsNamed (o : Outline) : Type 0 where
   pub roots : All IsPlain o.roots
   pub attributes : (c : ℕ) → All IsPlain (attributes o.classes c)
-  pub meant : (k : ℕ) (v : Variable) → slice_get o.roots k ≡ Some v → means o.names v.name ≡ Some (meaning.Variable k)
+  pub meant : (k : ℕ) (v : Variable) → slice_get o.roots k ≡ Some v → means o.names v.name
+      ≡ Some (meaning.Variable k)

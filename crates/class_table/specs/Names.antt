@@ -1,5 +1,6 @@
--- What a name means: classes, enumerations and top-level variables share one space of names, in which the first declaration of
--- a name counts, and each kind is numbered from 0 in order of declaration.
+-- What a name means: classes, enumerations and top-level variables share one space of names, in
+-- which the first declaration of a name counts, and each kind is numbered from 0 in order of
+-- declaration.
 use Rattle.std.specs.Prelude.{ℕ, ◌+◌, List, [], ◌∷◌, Option}
 use Rattle.std.specs.List.{flat_map}
 use Rattle.std.specs.Map.{lookup}
@@ -23,7 +24,8 @@ Space = List (List ℕ × Meaning)
 abbrev pub space_from : List Item → ℕ → ℕ → ℕ → Space
 space_from [] c e v = []
 space_from (item.Class d ∷ is) c e v = (d.name.name, meaning.Class c) ∷ space_from is (c + 1) e v
-space_from (item.Enum d ∷ is) c e v = (d.name.name, meaning.Enumeration e) ∷ space_from is c (e + 1) v
+space_from (item.Enum d ∷ is) c e v =
+    (d.name.name, meaning.Enumeration e) ∷ space_from is c (e + 1) v
 space_from (item.Var d ∷ is) c e v = (d.name.name, meaning.Variable v) ∷ space_from is c e (v + 1)
 space_from (item.Where w ∷ is) c e v = space_from is c e v
 space_from (item.Goal g ∷ is) c e v = space_from is c e v

@@ -1,5 +1,5 @@
--- The outline of a model: its names, classes, enumerations and top-level variables, with shapes in which each name is resolved.
--- A table is seen as its program's outline.
+-- The outline of a model: its names, classes, enumerations and top-level variables, with shapes in
+-- which each name is resolved. A table is seen as its program's outline.
 use Rattle.std.specs.Prelude.{ℕ, Bool, true, false, List, [], Option, None, Some, ℤ, pos, neg_ℤ, length, map, slice_get}
 use Rattle.std.specs.Option.{option_map_or}
 use Rattle.model_limits.specs.Limits.{least_int, greatest_int}
@@ -81,7 +81,13 @@ abbrev pub variable_of : Space → VarDecl → Variable
 variable_of names v = record { name = v.name.name; shape = resolved names v.shape }
 
 abbrev pub class_of : Space → ClassDecl → Class
-class_of names d = record { name = d.name.name; parent = parent_named names d.parent; own = map (variable_of names) (own d) }
+class_of names d =
+    record {
+      name = d.name.name;
+      parent = parent_named names d.parent;
+      own = map (variable_of names)
+          (own d);
+    }
 
 abbrev pub value_name : Ident → List ℕ
 value_name i = i.name

@@ -1,4 +1,5 @@
--- A walk from classes down to those that derive from them, with the names of the attributes of the class where it stands.
+-- A walk from classes down to those that derive from them, with the names of the attributes of the
+-- class where it stands.
 use Rattle.std.specs.Prelude.{◌≡◌, ℕ, ◌+◌, ◌^◌, ◌<◌, List, [], ◌∷◌, ◌++◌, Option, None, Some, length, map, slice_get, slice_index, Contains}
 use Rattle.std.specs.List.{flat_map}
 use Rattle.std.specs.Option.{option_map_or}
@@ -38,7 +39,8 @@ RootsReached cs n states = (c : ℕ) → c < n → parent_in cs c ≡ None → I
 -- the edges lead from each class to those of the first n classes whose parent it is
 pub record IsChildren (cs : List Class) (n : ℕ) (g : Graph) : Type 0 where
   pub size : length g ≡ length cs
-  pub sound : (q k : ℕ) → k < length (edges_at g q) → ((edge_at g q k).to < length cs) × (parent_in cs (edge_at g q k).to ≡ Some q)
+  pub sound : (q k : ℕ) → k < length (edges_at g q) → ((edge_at g q k).to < length cs)
+      × (parent_in cs (edge_at g q k).to ≡ Some q)
   pub complete : (c q : ℕ) → c < n → parent_in cs c ≡ Some q → Leads g q c
 
 -- an edge to a class
@@ -61,7 +63,9 @@ Differ cs ds c = repeated (map variable_ident (attributes_at cs ds c)) [] ≡ []
 
 -- an attribute of some class has the name of one before it
 abbrev pub IsRepeated : List Class → List ClassDecl → TableFault → Type 0
-IsRepeated cs ds f = (c at : ℕ) × (c < length ds) × (f ≡ Duplicate at) × Contains (repeated (map variable_ident (attributes_at cs ds c)) []) at
+IsRepeated cs ds f =
+    (c at : ℕ) × (c < length ds) × (f ≡ Duplicate at)
+    × Contains (repeated (map variable_ident (attributes_at cs ds c)) []) at
 
 -- how many attributes the open classes declare
 abbrev pub open_weight : State → ℕ → ℕ
@@ -78,11 +82,13 @@ pub record IsScope (cs : List Class) (ds : List ClassDecl) (states : List State)
   pub top : (q : List ℕ) (c : ℕ) → path ≡ q ++ c ∷ [] → names ≡ names_of (attributes_at cs ds c)
   pub empty : path ≡ [] → names ≡ []
   pub root : 0 < length path → parent_in cs (slice_index path 0) ≡ None
-  pub checked : (c : ℕ) → c < length ds → (IsNew (state_at states c) → ⊥) → Differ cs ds c × (slice_index counts c ≡ length (attributes_at cs ds c))
+  pub checked : (c : ℕ) → c < length ds → (IsNew (state_at states c) → ⊥) → Differ cs ds c
+      × (slice_index counts c ≡ length (attributes_at cs ds c))
   pub size : length counts ≡ length ds
   pub open_names : length names ≡ open_own states ds
 
--- what a walk down the classes stands on: the resolved classes, their declarations, and the edges from parents down
+-- what a walk down the classes stands on: the resolved classes, their declarations, and the edges
+-- from parents down
 pub record IsFamily (cs : List Class) (ds : List ClassDecl) (g : Graph) : Type 0 where
   pub size : length cs ≡ length ds
   pub children : IsChildren cs (length cs) g

@@ -19,16 +19,19 @@ held_class (Many c n) = Some c
 held_class (Ref c) = None
 held_class (RefSet c n) = None
 
--- there are ranks, less than the number of classes, that fall from each class to the classes that its attributes hold
+-- there are ranks, less than the number of classes, that fall from each class to the classes that
+-- its attributes hold
 pub record HasNesting (cs : List Class) : Type 0 where
   pub rank : ℕ → ℕ
   pub below : (c : ℕ) → c < length cs → rank c < length cs
-  pub falls : (c d : ℕ) (v : Variable) → Contains (attributes cs c) v → held_class v.shape ≡ Some d → rank d < rank c
+  pub falls : (c d : ℕ) (v : Variable) → Contains (attributes cs c) v → held_class v.shape ≡ Some d
+      → rank d < rank c
 
 pub record IsSound (o : Outline) : Type 0 where
   pub parents : HasParents o.classes
   pub ranks : HasRanks o.classes
   pub nesting : HasNesting o.classes
-  pub differ : (c : ℕ) → c < length o.classes → all_differ (map variable_name (attributes o.classes c)) [] ≡ true
+  pub differ : (c : ℕ) → c < length o.classes
+      → all_differ (map variable_name (attributes o.classes c)) [] ≡ true
   pub closed : IsClosed o
   pub named : IsNamed o

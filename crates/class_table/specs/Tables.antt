@@ -63,15 +63,19 @@ IsMeant n m r None = Unit {0}
 
 -- the shape of variable k of these is one of the outline's
 abbrev pub HasShapes : Outline → List Variable → Type 0
-HasShapes o vs = (k : ℕ) (d : Variable) → k < length vs → IsShapeOf (length o.classes) (length o.enumerations) (slice_index_or vs k d).shape
+HasShapes o vs =
+    (k : ℕ) (d : Variable) → k < length vs → IsShapeOf (length o.classes) (length o.enumerations)
+    (slice_index_or vs k d).shape
 
 -- each number that stands in an outline is that of a class, an enumeration or a variable of it
 pub record IsClosed (o : Outline) : Type 0 where
-  pub meant : (w : List ℕ) → IsMeant (length o.classes) (length o.enumerations) (length o.roots) (means o.names w)
+  pub meant : (w : List ℕ) → IsMeant (length o.classes) (length o.enumerations) (length o.roots)
+      (means o.names w)
   pub attributes_have : (c : ℕ) → HasShapes o (attributes o.classes c)
   pub roots_have : HasShapes o o.roots
 
--- the numbers of attributes are right, their names differ, and each class has a rank above its parent's
+-- the numbers of attributes are right, their names differ, and each class has a rank above its
+-- parent's
 pub record IsTable (cs : List Class) (counts : List ℕ) (order : List State) : Type 0 where
   pub parents : HasParents cs
   pub falls : Falls (parent_in cs) (rank order)

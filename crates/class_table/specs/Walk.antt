@@ -49,7 +49,9 @@ IsDoneBefore t (Done u) = u < t
 
 -- the edges of c from number l on lead to nodes that were left before time t
 abbrev pub LeadsBefore : Graph → List State → ℕ → ℕ → ℕ → Type 0
-LeadsBefore g states t c l = (k : ℕ) → l ≤ k → k < length (edges_at g c) → IsDoneBefore t (state_at states (edge_at g c k).to)
+LeadsBefore g states t c l =
+    (k : ℕ) → l ≤ k → k < length (edges_at g c)
+    → IsDoneBefore t (state_at states (edge_at g c k).to)
 
 -- what holds of the edges of c, by its state
 abbrev pub IsRight : Graph → List State → ℕ → ℕ → State → Type 0
@@ -90,8 +92,10 @@ pub record IsWalk (g : Graph) (states : List State) (path : List ℕ) (time : �
   pub on_graph : (i : ℕ) → i < length path → slice_index path i < length g
   pub opened : (i : ℕ) → i < length path → IsOpen (state_at states (slice_index path i))
   pub apart : (i j : ℕ) → i < j → j < length path → slice_index path i ≡ slice_index path j → ⊥
-  pub on_path : (c : ℕ) → c < length g → IsOpen (state_at states c) → (i : ℕ) × (i < length path) × (slice_index path i ≡ c)
-  pub linked : (i : ℕ) → suc i < length path → Links g (slice_index path i) (state_at states (slice_index path i)) (slice_index path (suc i))
+  pub on_path : (c : ℕ) → c < length g → IsOpen (state_at states c) → (i : ℕ) × (i < length path)
+      × (slice_index path i ≡ c)
+  pub linked : (i : ℕ) → suc i < length path → Links g (slice_index path i)
+      (state_at states (slice_index path i)) (slice_index path (suc i))
 
 -- the states before the first step
 abbrev pub fresh : List Edge → State
@@ -135,7 +139,8 @@ abbrev pub Steps : Graph → List State → List ℕ → ℕ → List State → 
 Steps g old path time new path' (Entered d) = StandsAt g old path d × Enters g old path d new path'
 Steps g old path time new path' Passed = Passes g old path new path'
 Steps g old path time new path' (Left c) = Leaves g old path time c new path'
-Steps g old path time new path' (Closed d) = StandsAt g old path d × IsOpen (state_at old d) × (d < length g) × (new ≡ old) × (path' ≡ path)
+Steps g old path time new path' (Closed d) =
+    StandsAt g old path d × IsOpen (state_at old d) × (d < length g) × (new ≡ old) × (path' ≡ path)
 
 abbrev pub IsClosed : Step → Type 0
 IsClosed (Entered d) = ⊥

@@ -1,7 +1,8 @@
 //! The names of attributes, which must differ in each class from those that it inherits.
 //!
-//! `count_attributes` is the entry. It walks from each class down to those that derive from it, and holds the names of the
-//! attributes of the class where it stands: a class's own names are added on the way down and taken away on the way up.
+//! `count_attributes` is the entry. It walks from each class down to those that derive from it, and
+//! holds the names of the attributes of the class where it stands: a class's own names are added on
+//! the way down and taken away on the way up.
 ghost use Rattle.std.specs.Prelude.{◌≡◌, ℕ, ◌+◌, ◌<◌, ◌≤◌, ◌^◌, ◌++◌, ◌∷◌, [], List, None, Some, length, map, slice_set, slice_index, take, Contains, IfOk, IfErr, OnOk};
 ghost use Rattle.std.specs.List.{flat_map};
 ghost use Rattle.class_table.specs.declared.fault.TableFault.TheVariants.{Duplicate};
@@ -17,7 +18,8 @@ use crate::{Class, TableFault, Values};
 use conf_syntax::{ClassDecl, Member, Name};
 use std::alloc::{AllocError, Global};
 
-/// The names of the attributes of the class where the walk stands, and how many attributes each class has that was met.
+/// The names of the attributes of the class where the walk stands, and how many attributes each
+/// class has that was met.
 #[derive(Drop)]
 struct Scope {
     names: Values,
@@ -56,7 +58,8 @@ fn parent_of(classes: &[Class], class: usize) -> Option<u32>
 /// Adds an edge to a class.
 fn add_child(graph: &mut Vec<Edges>, parent: u32, class: u32) -> Result<(), AllocError>
     requires parent { parent < length graph.old.items }
-    ensures graph { OnOk result (graph.new.items ≡ slice_set graph.old.items parent (edges_at graph.old.items parent ++ child class ∷ [])) }
+    ensures graph { OnOk result (graph.new.items ≡ slice_set graph.old.items parent
+        (edges_at graph.old.items parent ++ child class ∷ [])) }
 {
     graph[parent as usize].push(Edge {
         to: class,
@@ -94,8 +97,10 @@ fn children(alloc: Global, classes: &[Class]) -> Result<Vec<Edges>, AllocError>
 /// Adds the name of a member's attribute.
 fn add_name(alloc: Global, member: &Member, names: &mut Values) -> Result<(), TableFault>
     ensures names { OnOk result (names.new ≡ names.old ++ names_of (member_variable member.now)) }
-    ensures differ { OnOk result (repeated (map variable_ident (member_variable member.now)) names.old ≡ []) }
-    ensures fault { IfErr result (λ fault. OnFault fault (λ f. (at : ℕ) × (f ≡ Duplicate at) × (repeated (map variable_ident (member_variable member.now)) names.old ≡ at ∷ []))) }
+    ensures differ { OnOk result (repeated (map variable_ident (member_variable member.now))
+        names.old ≡ []) }
+    ensures fault { IfErr result (λ fault. OnFault fault (λ f. (at : ℕ) × (f ≡ Duplicate at)
+        × (repeated (map variable_ident (member_variable member.now)) names.old ≡ at ∷ []))) }
 {
     let Member::Var(decl) = member else {
         return Ok(());
@@ -108,9 +113,13 @@ fn add_name(alloc: Global, member: &Member, names: &mut Values) -> Result<(), Ta
 
 /// Adds the names of a class's own attributes.
 fn add_names(alloc: Global, members: &[Member], names: &mut Values) -> Result<(), TableFault>
-    ensures names { OnOk result (names.new ≡ names.old ++ names_of (flat_map member_variable members.now)) }
-    ensures differ { OnOk result (repeated (map variable_ident (flat_map member_variable members.now)) names.old ≡ []) }
-    ensures fault { IfErr result (λ fault. OnFault fault (λ f. (at : ℕ) × (f ≡ Duplicate at) × Contains (repeated (map variable_ident (flat_map member_variable members.now)) names.old) at)) }
+    ensures names { OnOk result (names.new ≡ names.old
+        ++ names_of (flat_map member_variable members.now)) }
+    ensures differ { OnOk result (repeated
+        (map variable_ident (flat_map member_variable members.now)) names.old ≡ []) }
+    ensures fault { IfErr result (λ fault. OnFault fault (λ f. (at : ℕ) × (f ≡ Duplicate at)
+        × Contains (repeated (map variable_ident (flat_map member_variable members.now)) names.old)
+        at)) }
 {
     for member in members {
         if let Err(fault) = add_name(alloc, member, names) {
@@ -130,10 +139,15 @@ fn enter(
     requires class { class < length decls.now }
     requires counts { length scope.old.counts.items ≡ length decls.now }
     requires room { length scope.old.names + length (own_at (pointed decls.now) class) < 2 ^ 32 }
-    ensures names { OnOk result (scope.new.names ≡ scope.old.names ++ names_of (own_at (pointed decls.now) class)) }
-    ensures differ { OnOk result (repeated (map variable_ident (own_at (pointed decls.now) class)) scope.old.names ≡ []) }
-    ensures counts { OnOk result (scope.new.counts.items ≡ slice_set scope.old.counts.items class (length scope.new.names)) }
-    ensures fault { IfErr result (λ fault. OnFault fault (λ f. (at : ℕ) × (f ≡ Duplicate at) × Contains (repeated (map variable_ident (own_at (pointed decls.now) class)) scope.old.names) at)) }
+    ensures names { OnOk result (scope.new.names ≡ scope.old.names
+        ++ names_of (own_at (pointed decls.now) class)) }
+    ensures differ { OnOk result (repeated (map variable_ident (own_at (pointed decls.now) class))
+        scope.old.names ≡ []) }
+    ensures counts { OnOk result (scope.new.counts.items ≡ slice_set scope.old.counts.items class
+        (length scope.new.names)) }
+    ensures fault { IfErr result (λ fault. OnFault fault (λ f. (at : ℕ) × (f ≡ Duplicate at)
+        × Contains (repeated (map variable_ident (own_at (pointed decls.now) class))
+        scope.old.names) at)) }
 {
     if let Err(fault) = add_own(alloc, decls, class, &mut scope.names) {
         return Err(fault);
@@ -151,18 +165,24 @@ fn add_own(
     names: &mut Values,
 ) -> Result<(), TableFault>
     requires class { class < length decls.now }
-    ensures names { OnOk result (names.new ≡ names.old ++ names_of (own_at (pointed decls.now) class)) }
-    ensures differ { OnOk result (repeated (map variable_ident (own_at (pointed decls.now) class)) names.old ≡ []) }
-    ensures fault { IfErr result (λ fault. OnFault fault (λ f. (at : ℕ) × (f ≡ Duplicate at) × Contains (repeated (map variable_ident (own_at (pointed decls.now) class)) names.old) at)) }
+    ensures names { OnOk result (names.new ≡ names.old
+        ++ names_of (own_at (pointed decls.now) class)) }
+    ensures differ { OnOk result (repeated (map variable_ident (own_at (pointed decls.now) class))
+        names.old ≡ []) }
+    ensures fault { IfErr result (λ fault. OnFault fault (λ f. (at : ℕ) × (f ≡ Duplicate at)
+        × Contains (repeated (map variable_ident (own_at (pointed decls.now) class)) names.old)
+        at)) }
 {
     add_names(alloc, decls[class as usize].members.items(), names)
 }
 
 /// How many attributes the class has where the walk stands.
 fn count_at(walk: &Walk, scope: &Scope) -> u32
-    requires counts { (i : ℕ) → i < length walk.now.path.items → slice_index walk.now.path.items i < length scope.now.counts.items }
+    requires counts { (i : ℕ) → i < length walk.now.path.items → slice_index walk.now.path.items i
+        < length scope.now.counts.items }
     ensures none { walk.now.path.items ≡ [] → result ≡ 0 }
-    ensures top { (q : List ℕ) (c : ℕ) → walk.now.path.items ≡ q ++ c ∷ [] → result ≡ slice_index scope.now.counts.items c }
+    ensures top { (q : List ℕ) (c : ℕ) → walk.now.path.items ≡ q ++ c ∷ [] → result
+        ≡ slice_index scope.now.counts.items c }
 {
     if walk.path.is_empty() {
         return 0;
@@ -178,15 +198,21 @@ fn visit(
     walk: &mut Walk,
     scope: &mut Scope,
 ) -> Result<(), TableFault>
-    requires family { IsFamily family.now.classes.now (pointed family.now.decls.now) family.now.graph.now }
-    requires walk { IsWalk family.now.graph.now walk.old.states.items walk.old.path.items walk.old.done }
-    requires scope { IsScope family.now.classes.now (pointed family.now.decls.now) walk.old.states.items walk.old.path.items scope.old.names scope.old.counts.items }
+    requires family { IsFamily family.now.classes.now (pointed family.now.decls.now)
+        family.now.graph.now }
+    requires walk { IsWalk family.now.graph.now walk.old.states.items walk.old.path.items
+        walk.old.done }
+    requires scope { IsScope family.now.classes.now (pointed family.now.decls.now)
+        walk.old.states.items walk.old.path.items scope.old.names scope.old.counts.items }
     requires path { 0 < length walk.old.path.items }
-    ensures walk { OnOk result (IsWalk family.now.graph.now walk.new.states.items walk.new.path.items walk.new.done) }
-    ensures scope { OnOk result (IsScope family.now.classes.now (pointed family.now.decls.now) walk.new.states.items walk.new.path.items scope.new.names scope.new.counts.items) }
+    ensures walk { OnOk result (IsWalk family.now.graph.now walk.new.states.items
+        walk.new.path.items walk.new.done) }
+    ensures scope { OnOk result (IsScope family.now.classes.now (pointed family.now.decls.now)
+        walk.new.states.items walk.new.path.items scope.new.names scope.new.counts.items) }
     ensures stays { OnOk result (NewStays walk.old.states.items walk.new.states.items) }
     ensures fewer { OnOk result (measure walk.new.states.items < measure walk.old.states.items) }
-    ensures fault { IfErr result (λ fault. OnFault fault (IsRepeated family.now.classes.now (pointed family.now.decls.now))) }
+    ensures fault { IfErr result (λ fault. OnFault fault (IsRepeated family.now.classes.now
+        (pointed family.now.decls.now))) }
 {
     let step = walk.step(family.graph)?;
     match step {
@@ -214,18 +240,24 @@ fn visit_from(
     scope: &mut Scope,
     root: u32,
 ) -> Result<(), TableFault>
-    requires family { IsFamily family.now.classes.now (pointed family.now.decls.now) family.now.graph.now }
-    requires walk { IsWalk family.now.graph.now walk.old.states.items walk.old.path.items walk.old.done }
-    requires scope { IsScope family.now.classes.now (pointed family.now.decls.now) walk.old.states.items walk.old.path.items scope.old.names scope.old.counts.items }
+    requires family { IsFamily family.now.classes.now (pointed family.now.decls.now)
+        family.now.graph.now }
+    requires walk { IsWalk family.now.graph.now walk.old.states.items walk.old.path.items
+        walk.old.done }
+    requires scope { IsScope family.now.classes.now (pointed family.now.decls.now)
+        walk.old.states.items walk.old.path.items scope.old.names scope.old.counts.items }
     requires path { walk.old.path.items ≡ [] }
     requires root { root < length family.now.graph.now }
     requires alone { parent_in family.now.classes.now root ≡ None }
-    ensures walk { OnOk result (IsWalk family.now.graph.now walk.new.states.items walk.new.path.items walk.new.done) }
-    ensures scope { OnOk result (IsScope family.now.classes.now (pointed family.now.decls.now) walk.new.states.items walk.new.path.items scope.new.names scope.new.counts.items) }
+    ensures walk { OnOk result (IsWalk family.now.graph.now walk.new.states.items
+        walk.new.path.items walk.new.done) }
+    ensures scope { OnOk result (IsScope family.now.classes.now (pointed family.now.decls.now)
+        walk.new.states.items walk.new.path.items scope.new.names scope.new.counts.items) }
     ensures stays { OnOk result (NewStays walk.old.states.items walk.new.states.items) }
     ensures path { OnOk result (walk.new.path.items ≡ []) }
     ensures reached { OnOk result (IsNew (state_at walk.new.states.items root) → ⊥) }
-    ensures fault { IfErr result (λ fault. OnFault fault (IsRepeated family.now.classes.now (pointed family.now.decls.now))) }
+    ensures fault { IfErr result (λ fault. OnFault fault (IsRepeated family.now.classes.now
+        (pointed family.now.decls.now))) }
 {
     let State::New(edges) = walk.state(root) else {
         return Ok(());
@@ -249,15 +281,22 @@ fn visit_all(
     walk: &mut Walk,
     scope: &mut Scope,
 ) -> Result<(), TableFault>
-    requires family { IsFamily family.now.classes.now (pointed family.now.decls.now) family.now.graph.now }
-    requires walk { IsWalk family.now.graph.now walk.old.states.items walk.old.path.items walk.old.done }
-    requires scope { IsScope family.now.classes.now (pointed family.now.decls.now) walk.old.states.items walk.old.path.items scope.old.names scope.old.counts.items }
+    requires family { IsFamily family.now.classes.now (pointed family.now.decls.now)
+        family.now.graph.now }
+    requires walk { IsWalk family.now.graph.now walk.old.states.items walk.old.path.items
+        walk.old.done }
+    requires scope { IsScope family.now.classes.now (pointed family.now.decls.now)
+        walk.old.states.items walk.old.path.items scope.old.names scope.old.counts.items }
     requires path { walk.old.path.items ≡ [] }
-    ensures scope { OnOk result (IsScope family.now.classes.now (pointed family.now.decls.now) walk.new.states.items walk.new.path.items scope.new.names scope.new.counts.items) }
-    ensures walk { OnOk result (IsWalk family.now.graph.now walk.new.states.items walk.new.path.items walk.new.done) }
+    ensures scope { OnOk result (IsScope family.now.classes.now (pointed family.now.decls.now)
+        walk.new.states.items walk.new.path.items scope.new.names scope.new.counts.items) }
+    ensures walk { OnOk result (IsWalk family.now.graph.now walk.new.states.items
+        walk.new.path.items walk.new.done) }
     ensures path { OnOk result (walk.new.path.items ≡ []) }
-    ensures reached { OnOk result (RootsReached family.now.classes.now (length family.now.classes.now) walk.new.states.items) }
-    ensures fault { IfErr result (λ fault. OnFault fault (IsRepeated family.now.classes.now (pointed family.now.decls.now))) }
+    ensures reached { OnOk result (RootsReached family.now.classes.now
+        (length family.now.classes.now) walk.new.states.items) }
+    ensures fault { IfErr result (λ fault. OnFault fault (IsRepeated family.now.classes.now
+        (pointed family.now.decls.now))) }
 {
     for class in 0..family.classes.len() {
         if parent_of(family.classes, class).is_some() {
@@ -283,11 +322,17 @@ fn zeros(alloc: Global, count: usize) -> Result<Vec<u32>, AllocError>
 
 /// How many attributes each class of a family has, where their names differ.
 fn count_along(alloc: Global, family: &Family<'_>) -> Result<Vec<u32>, TableFault>
-    requires family { IsFamily family.now.classes.now (pointed family.now.decls.now) family.now.graph.now }
-    ensures size { IfOk result (λ counts. length counts.items ≡ length (pointed family.now.decls.now)) }
-    ensures counts { IfOk result (λ counts. (c : ℕ) → c < length (pointed family.now.decls.now) → slice_index counts.items c ≡ length (attributes_at family.now.classes.now (pointed family.now.decls.now) c)) }
-    ensures differ { OnOk result ((c : ℕ) → c < length (pointed family.now.decls.now) → Differ family.now.classes.now (pointed family.now.decls.now) c) }
-    ensures fault { IfErr result (λ fault. OnFault fault (IsRepeated family.now.classes.now (pointed family.now.decls.now))) }
+    requires family { IsFamily family.now.classes.now (pointed family.now.decls.now)
+        family.now.graph.now }
+    ensures size { IfOk result (λ counts. length counts.items
+        ≡ length (pointed family.now.decls.now)) }
+    ensures counts { IfOk result (λ counts. (c : ℕ) → c < length (pointed family.now.decls.now)
+        → slice_index counts.items c ≡ length (attributes_at family.now.classes.now
+        (pointed family.now.decls.now) c)) }
+    ensures differ { OnOk result ((c : ℕ) → c < length (pointed family.now.decls.now)
+        → Differ family.now.classes.now (pointed family.now.decls.now) c) }
+    ensures fault { IfErr result (λ fault. OnFault fault (IsRepeated family.now.classes.now
+        (pointed family.now.decls.now))) }
 {
     let mut walk = Walk::new(alloc, family.graph)?;
     let names = Values::new(alloc);
@@ -312,9 +357,12 @@ pub(crate) fn count_attributes(
     requires classes { length (pointed decls.now) < 2 ^ 32 }
     requires few { length (flat_map own (pointed decls.now)) < 2 ^ 32 }
     ensures size { IfOk result (λ counts. length counts.items ≡ length (pointed decls.now)) }
-    ensures counts { IfOk result (λ counts. (c : ℕ) → c < length (pointed decls.now) → slice_index counts.items c ≡ length (attributes_at classes.now (pointed decls.now) c)) }
-    ensures differ { OnOk result ((c : ℕ) → c < length (pointed decls.now) → Differ classes.now (pointed decls.now) c) }
-    ensures fault { IfErr result (λ fault. OnFault fault (IsRepeated classes.now (pointed decls.now))) }
+    ensures counts { IfOk result (λ counts. (c : ℕ) → c < length (pointed decls.now)
+        → slice_index counts.items c ≡ length (attributes_at classes.now (pointed decls.now) c)) }
+    ensures differ { OnOk result ((c : ℕ) → c < length (pointed decls.now)
+        → Differ classes.now (pointed decls.now) c) }
+    ensures fault { IfErr result (λ fault. OnFault fault
+        (IsRepeated classes.now (pointed decls.now))) }
 {
     let graph = children(alloc, classes)?;
     let family = Family {

@@ -14,7 +14,8 @@ use crate::{Class, TableFault};
 use conf_syntax::{ClassDecl, Item};
 use std::alloc::Global;
 
-/// An order of the classes and the number of each one's attributes, where neither derivation nor attributes have a fault.
+/// An order of the classes and the number of each one's attributes, where neither derivation nor
+/// attributes have a fault.
 #[derive(Drop)]
 pub(crate) struct Order {
     pub order: Vec<State>,
@@ -33,7 +34,8 @@ pub(crate) fn check_classes(
     requires decls { pointed decls.now ≡ classes items.now }
     requires made { made.now ≡ map (class_of (space items.now)) (classes items.now) }
     requires small { IsSmall items.now }
-    ensures table { IfOk result (λ family. IsTable made.now family.counts.items family.order.items) }
+    ensures table { IfOk result (λ family. IsTable made.now family.counts.items
+        family.order.items) }
     ensures right { OnOk result (HaveNoFault items.now) }
     ensures nesting { OnOk result (HasNesting made.now) }
     ensures fault { IfErr result (λ fault. OnFault fault (Stands items.now)) }

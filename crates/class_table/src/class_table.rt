@@ -1,6 +1,7 @@
 //! The table of a model's classes, enumerations and top-level variables.
 //!
-//! `ClassTable::build` makes it. All other methods read it: none takes memory, and none searches a list by a name.
+//! `ClassTable::build` makes it. All other methods read it: none takes memory, and none searches a
+//! list by a name.
 ghost use Rattle.std.specs.Prelude.{◌≡◌, ◌<◌, ◌≤◌, ◌^◌, ℕ, List, [], None, Some, All, length, map, slice_get, slice_index_or, position, option_copied, IfSome, IfOk, IfErr, OnOk};
 ghost use Rattle.model_limits.specs.Limits.{model_bytes};
 ghost use Rattle.class_table.specs.declared.table.Variable.{Variable as AVariable};
@@ -159,7 +160,8 @@ impl ClassTable {
     /// What this name means: a class, an enumeration or a top-level variable.
     pub fn meaning(&self, name: &Name) -> Option<Meaning>
         ensures meaning { result ≡ means self.now.names name.now }
-        ensures exists { IsMeant (length self.now.classes) (length self.now.enumerations) (length self.now.roots) result }
+        ensures exists { IsMeant (length self.now.classes) (length self.now.enumerations)
+            (length self.now.roots) result }
     {
         self.names.get(name).copied()
     }
@@ -205,7 +207,8 @@ impl ClassTable {
         }
     }
 
-    /// Whether class `d` is class `c` or an ancestor of it. The cost is the number of parents between them.
+    /// Whether class `d` is class `c` or an ancestor of it. The cost is the number of parents
+    /// between them.
     pub fn is_a(&self, c: u32, d: u32) -> bool
         requires class { c < length self.now.classes }
         ensures is_a { result ≡ is_a self.now.classes c d }
@@ -239,9 +242,11 @@ impl ClassTable {
     /// A top-level variable, by its number.
     pub fn root(&self, k: u32) -> Attribute<'_>
         requires root { k < length self.now.roots }
-        ensures name { (d : AVariable) → result.name.now ≡ (slice_index_or self.now.roots k d).name }
+        ensures name { (d : AVariable) → result.name.now
+            ≡ (slice_index_or self.now.roots k d).name }
         ensures shape { (d : AVariable) → result.shape ≡ (slice_index_or self.now.roots k d).shape }
-        ensures exists { IsShapeOf (length self.now.classes) (length self.now.enumerations) result.shape }
+        ensures exists { IsShapeOf (length self.now.classes) (length self.now.enumerations)
+            result.shape }
     {
         let root = &self.roots[k as usize];
         Attribute {
@@ -269,14 +274,17 @@ impl ClassTable {
         &self.classes[c as usize].name
     }
 
-    /// An attribute of a class, by its number: the parent's attributes come first. The cost is the number of parents between
-    /// the class and the one that declares the attribute.
+    /// An attribute of a class, by its number: the parent's attributes come first. The cost is the
+    /// number of parents between the class and the one that declares the attribute.
     pub fn attribute(&self, c: u32, k: u32) -> Attribute<'_>
         requires class { c < length self.now.classes }
         requires attribute { k < length (attributes self.now.classes c) }
-        ensures name { (d : AVariable) → result.name.now ≡ (slice_index_or (attributes self.now.classes c) k d).name }
-        ensures shape { (d : AVariable) → result.shape ≡ (slice_index_or (attributes self.now.classes c) k d).shape }
-        ensures exists { IsShapeOf (length self.now.classes) (length self.now.enumerations) result.shape }
+        ensures name { (d : AVariable) → result.name.now
+            ≡ (slice_index_or (attributes self.now.classes c) k d).name }
+        ensures shape { (d : AVariable) → result.shape
+            ≡ (slice_index_or (attributes self.now.classes c) k d).shape }
+        ensures exists { IsShapeOf (length self.now.classes) (length self.now.enumerations)
+            result.shape }
     {
         let attribute = attribute_at(&self.classes, &self.counts, &self.order, c, k);
         Attribute {
@@ -285,11 +293,13 @@ impl ClassTable {
         }
     }
 
-    /// The number of the attribute of this name, an inherited one too. The cost is one look-up by hash for each class from `c`
-    /// up to the one that declares the attribute; where there is none, for each ancestor.
+    /// The number of the attribute of this name, an inherited one too. The cost is one look-up by
+    /// hash for each class from `c` up to the one that declares the attribute; where there is none,
+    /// for each ancestor.
     pub fn attribute_named(&self, c: u32, name: &Name) -> Option<u32>
         requires class { c < length self.now.classes }
-        ensures number { result ≡ position (same_name name.now) (map variable_name (attributes self.now.classes c)) }
+        ensures number { result ≡ position (same_name name.now)
+            (map variable_name (attributes self.now.classes c)) }
         ensures exists { IfSome result (λ k. k < length (attributes self.now.classes c)) }
     {
         self.attribute_spelled(c, name.as_bytes())
@@ -298,7 +308,8 @@ impl ClassTable {
     /// The number of the attribute whose name has these bytes, as `attribute_named` finds it.
     pub fn attribute_spelled(&self, c: u32, name: &[u8]) -> Option<u32>
         requires class { c < length self.now.classes }
-        ensures number { result ≡ position (same_name name.now) (map variable_name (attributes self.now.classes c)) }
+        ensures number { result ≡ position (same_name name.now)
+            (map variable_name (attributes self.now.classes c)) }
         ensures exists { IfSome result (λ k. k < length (attributes self.now.classes c)) }
     {
         number_of(
@@ -314,7 +325,8 @@ impl ClassTable {
     /// How many values an enumeration has.
     pub fn value_count(&self, e: u32) -> u32
         requires enumeration { e < length self.now.enumerations }
-        ensures count { (d : AnEnumeration) → result ≡ length (slice_index_or self.now.enumerations e d).values }
+        ensures count { (d : AnEnumeration) → result
+            ≡ length (slice_index_or self.now.enumerations e d).values }
     {
         self.enumerations[e as usize].values.len() as u32
     }
@@ -322,8 +334,10 @@ impl ClassTable {
     /// The name of a value, by its number in order of declaration.
     pub fn value_name(&self, e: u32, k: u32) -> &Name
         requires enumeration { e < length self.now.enumerations }
-        requires value { (d : AnEnumeration) → k < length (slice_index_or self.now.enumerations e d).values }
-        ensures name { (d : AnEnumeration) → slice_get (slice_index_or self.now.enumerations e d).values k ≡ Some result.now }
+        requires value { (d : AnEnumeration)
+            → k < length (slice_index_or self.now.enumerations e d).values }
+        ensures name { (d : AnEnumeration)
+            → slice_get (slice_index_or self.now.enumerations e d).values k ≡ Some result.now }
     {
         match self.enumerations[e as usize].values.get(k as usize) {
             Some(name) => name,
@@ -334,7 +348,8 @@ impl ClassTable {
     /// The number of the value of this name.
     pub fn value_of(&self, e: u32, name: &Name) -> Option<u32>
         requires enumeration { e < length self.now.enumerations }
-        ensures value { (d : AnEnumeration) → result ≡ position (same_name name.now) (slice_index_or self.now.enumerations e d).values }
+        ensures value { (d : AnEnumeration) → result ≡ position (same_name name.now)
+            (slice_index_or self.now.enumerations e d).values }
     {
         match self.enumerations[e as usize].values.number(name.as_bytes()) {
             Some(number) => Some(number as u32),
@@ -363,7 +378,8 @@ fn attribute_at<'a>(
     requires table { IsTable classes.now counts.now order.now }
     requires class { c < length classes.now }
     requires attribute { k < length (attributes classes.now c) }
-    ensures attribute { (d : AVariable) → result.now ≡ slice_index_or (attributes classes.now c) k d }
+    ensures attribute { (d : AVariable) → result.now ≡ slice_index_or (attributes classes.now c) k
+        d }
 {
     let mut at = c;
     'up: loop {
@@ -391,7 +407,8 @@ fn number_of(
     requires table { IsTable classes.now counts.now order.now }
     requires names { names.now ≡ map own_names classes.now }
     requires class { c < length classes.now }
-    ensures number { result ≡ position (same_name name.now) (map variable_name (attributes classes.now c)) }
+    ensures number { result ≡ position (same_name name.now)
+        (map variable_name (attributes classes.now c)) }
     ensures exists { IfSome result (λ k. k < length (attributes classes.now c)) }
 {
     let mut at = c;

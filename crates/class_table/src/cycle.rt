@@ -1,7 +1,7 @@
 //! Whether a graph has a cycle, and a place on it.
 //!
-//! `find_cycle` is the entry. Where there is no cycle it answers the order in which a walk left the nodes: each edge leads to
-//! a node that was left before.
+//! `find_cycle` is the entry. Where there is no cycle it answers the order in which a walk left the
+//! nodes: each edge leads to a node that was left before.
 ghost use Rattle.std.specs.Prelude.{◌≡◌, ◌<◌, ◌≤◌, ◌^◌, [], length, IfOk, IfSome, IfNone, OnSome};
 ghost use Rattle.class_table.specs.Walk.{IsWalk, InRange, StandsAt, IsOpen, IsDone, IsNew, state_at};
 ghost use Rattle.class_table.specs.Cycles.{IsOutcome, NewStays, IsOnCycle, IsPlainCycle};
@@ -14,7 +14,8 @@ use std::alloc::{AllocError, Global};
 pub(crate) enum Outcome {
     /// There is no cycle; the states say when each node was left.
     Ordered(Vec<State>),
-    /// There is a cycle, and this is the place of an edge on it; None where no edge on it has a place.
+    /// There is a cycle, and this is the place of an edge on it; None where no edge on it has a
+    /// place.
     Cycle(Option<u32>),
 }
 
@@ -39,12 +40,16 @@ fn walk_from(walk: &mut Walk, graph: &[Edges], root: u32) -> Result<Option<u32>,
     requires walk { IsWalk graph.now walk.old.states.items walk.old.path.items walk.old.done }
     requires path { walk.old.path.items ≡ [] }
     requires root { root < length graph.now }
-    ensures walk { IfOk result (λ found. IsWalk graph.now walk.new.states.items walk.new.path.items walk.new.done) }
+    ensures walk { IfOk result (λ found. IsWalk graph.now walk.new.states.items walk.new.path.items
+        walk.new.done) }
     ensures stays { IfOk result (λ found. NewStays walk.old.states.items walk.new.states.items) }
-    ensures reached { IfOk result (λ found. IfNone found (IsNew (state_at walk.new.states.items root) → ⊥)) }
+    ensures reached { IfOk result (λ found. IfNone found
+        (IsNew (state_at walk.new.states.items root) → ⊥)) }
     ensures path { IfOk result (λ found. IfNone found (walk.new.path.items ≡ [])) }
-    ensures stands { IfOk result (λ found. IfSome found (λ to. StandsAt graph.now walk.new.states.items walk.new.path.items to)) }
-    ensures opened { IfOk result (λ found. IfSome found (λ to. IsOpen (state_at walk.new.states.items to))) }
+    ensures stands { IfOk result (λ found. IfSome found
+        (λ to. StandsAt graph.now walk.new.states.items walk.new.path.items to)) }
+    ensures opened { IfOk result (λ found. IfSome found
+        (λ to. IsOpen (state_at walk.new.states.items to))) }
     ensures on_graph { IfOk result (λ found. IfSome found (λ to. to < length graph.now)) }
 {
     let State::New(edges) = walk.state(root) else {
@@ -59,7 +64,8 @@ fn walk_from(walk: &mut Walk, graph: &[Edges], root: u32) -> Result<Option<u32>,
     Ok(None)
 }
 
-/// The place of an edge on the cycle that the path closes with an edge from its last node to this one.
+/// The place of an edge on the cycle that the path closes with an edge from its last node to this
+/// one.
 fn place_on_cycle(graph: &[Edges], walk: &Walk, to: u32) -> Option<u32>
     requires range { InRange graph.now }
     requires walk { IsWalk graph.now walk.now.states.items walk.now.path.items walk.now.done }

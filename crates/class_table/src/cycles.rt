@@ -1,4 +1,5 @@
-//! Classes that derive from themselves, and attributes that make an object contain one of its own class.
+//! Classes that derive from themselves, and attributes that make an object contain one of its own
+//! class.
 ghost use Rattle.std.specs.Prelude.{◌≡◌, ◌<◌, ◌^◌, ℕ, List, length, IfOk, IfErr, OnOk};
 ghost use Rattle.class_table.specs.declared.walk.State.{State as AState};
 ghost use Rattle.class_table.specs.Cycles.{IsOrdered, IsOnCycle, IsPlainCycle};
@@ -13,7 +14,8 @@ use crate::walk::State;
 use conf_syntax::ClassDecl;
 use std::alloc::Global;
 
-/// Refuses a class that derives from itself. The states give an order in which each class stands behind its parent.
+/// Refuses a class that derives from itself. The states give an order in which each class stands
+/// behind its parent.
 #[tactic(auto, using(crate::proofs::RangeLaws::derivation_in_range, crate::proofs::RangeLaws::derivation_length))]
 pub(crate) fn check_derivation(
     alloc: Global,
@@ -23,8 +25,11 @@ pub(crate) fn check_derivation(
     requires numbered { IsNumbered names.now.entries (length decls.now) }
     requires few { length decls.now < 2 ^ 32 }
     requires marked { IsPlainCycle (derivation names.now.entries (pointed decls.now)) → ⊥ }
-    ensures ordered { IfOk result (λ states. IsOrdered (derivation names.now.entries (pointed decls.now)) states.items) }
-    ensures cycle { IfErr result (λ fault. OnFault fault (λ f. (at : ℕ) × (f ≡ TableFault.InheritCycle at) × IsOnCycle (derivation names.now.entries (pointed decls.now)) at)) }
+    ensures ordered { IfOk result (λ states. IsOrdered
+        (derivation names.now.entries (pointed decls.now)) states.items) }
+    ensures cycle { IfErr result (λ fault. OnFault fault (λ f. (at : ℕ)
+        × (f ≡ TableFault.InheritCycle at)
+        × IsOnCycle (derivation names.now.entries (pointed decls.now)) at)) }
 {
     let graph = derivation(alloc, names, decls)?;
     match find_cycle(alloc, &graph)? {
@@ -44,8 +49,11 @@ pub(crate) fn check_containment(
     requires numbered { IsNumbered names.now.entries (length decls.now) }
     requires few { length decls.now < 2 ^ 32 }
     requires marked { IsPlainCycle (containment names.now.entries (pointed decls.now)) → ⊥ }
-    ensures ordered { OnOk result ((states : List AState) × IsOrdered (containment names.now.entries (pointed decls.now)) states) }
-    ensures cycle { IfErr result (λ fault. OnFault fault (λ f. (at : ℕ) × (f ≡ TableFault.ContainCycle at) × IsOnCycle (containment names.now.entries (pointed decls.now)) at)) }
+    ensures ordered { OnOk result ((states : List AState)
+        × IsOrdered (containment names.now.entries (pointed decls.now)) states) }
+    ensures cycle { IfErr result (λ fault. OnFault fault (λ f. (at : ℕ)
+        × (f ≡ TableFault.ContainCycle at)
+        × IsOnCycle (containment names.now.entries (pointed decls.now)) at)) }
 {
     let graph = containment(alloc, names, decls)?;
     match find_cycle(alloc, &graph)? {

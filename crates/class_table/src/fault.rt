@@ -12,7 +12,8 @@ pub enum TableFault {
     NotAClass(u32),
     /// The parent of a class that derives from itself.
     InheritCycle(u32),
-    /// The class of an attribute that contains, at some depth, an object of the attribute's own class.
+    /// The class of an attribute that contains, at some depth, an object of the attribute's own
+    /// class.
     ContainCycle(u32),
     /// An abstract class of which an object is declared.
     AbstractObject(u32),

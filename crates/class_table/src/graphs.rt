@@ -23,7 +23,8 @@ fn class_of(names: &Space, name: &Name) -> Option<u32>
 
 /// Adds an edge to the class that a name means, if it means one.
 fn add_named(names: &Space, ident: &Ident, edges: &mut Vec<Edge>) -> Result<(), AllocError>
-    ensures { OnOk result (edges.new.items ≡ edges.old.items ++ named_edges names.now.entries (Some ident.now)) }
+    ensures { OnOk result (edges.new.items ≡ edges.old.items ++ named_edges names.now.entries
+        (Some ident.now)) }
 {
     if let Some(to) = class_of(names, &ident.name) {
         edges.push(Edge {
@@ -51,7 +52,8 @@ pub(crate) fn derivation(
     names: &Space,
     decls: &[&ClassDecl],
 ) -> Result<Vec<Edges>, AllocError>
-    ensures graph { IfOk result (λ graph. graph.items ≡ derivation names.now.entries (pointed decls.now)) }
+    ensures graph { IfOk result (λ graph. graph.items ≡ derivation names.now.entries
+        (pointed decls.now)) }
 {
     let mut graph = Vec::new(alloc);
     for decl in decls {
@@ -72,7 +74,8 @@ fn contained_name(shape: &Shape) -> Option<&Ident>
 
 /// Adds the edge of a member, if it has one.
 fn add_member(names: &Space, member: &Member, edges: &mut Vec<Edge>) -> Result<(), AllocError>
-    ensures { OnOk result (edges.new.items ≡ edges.old.items ++ member_edges names.now.entries member.now) }
+    ensures { OnOk result (edges.new.items ≡ edges.old.items ++ member_edges names.now.entries
+        member.now) }
 {
     let Member::Var(decl) = member else {
         return Ok(());
@@ -89,7 +92,8 @@ fn edges_of_members(
     names: &Space,
     members: &[Member],
 ) -> Result<Vec<Edge>, AllocError>
-    ensures { IfOk result (λ edges. edges.items ≡ flat_map (member_edges names.now.entries) members.now) }
+    ensures { IfOk result (λ edges. edges.items ≡ flat_map (member_edges names.now.entries)
+        members.now) }
 {
     let mut edges = Vec::new(alloc);
     for member in members {
@@ -117,7 +121,8 @@ pub(crate) fn containment(
     names: &Space,
     decls: &[&ClassDecl],
 ) -> Result<Vec<Edges>, AllocError>
-    ensures graph { IfOk result (λ graph. graph.items ≡ containment names.now.entries (pointed decls.now)) }
+    ensures graph { IfOk result (λ graph. graph.items ≡ containment names.now.entries
+        (pointed decls.now)) }
 {
     let mut graph = Vec::new(alloc);
     for decl in decls {

@@ -1,8 +1,10 @@
-//! The classes, enumerations and top-level variables of a model, resolved: no name stands in them any more but as a label.
+//! The classes, enumerations and top-level variables of a model, resolved: no name stands in them
+//! any more but as a label.
 //!
-//! `ClassTable::build` is the entry: it answers the table of a program in which names, ranges and classes are right, or one
-//! of the faults that stand in it, with its place. `specs` says what each name means, which class derives from which, which
-//! attributes a class has, and where each fault stands.
+//! `ClassTable::build` is the entry: it answers the table of a program in which names, ranges and
+//! classes are right, or one of the faults that stand in it, with its place. `specs` says what each
+//! name means, which class derives from which, which attributes a class has, and where each fault
+//! stands.
 #![tactic(auto)]
 
 mod attributes;

@@ -1,6 +1,7 @@
 //! The one space of names that classes, enumerations and top-level variables share.
 //!
-//! `names_of` is the entry: it numbers the declarations of each kind in their order, and refuses a name that is declared twice.
+//! `names_of` is the entry: it numbers the declarations of each kind in their order, and refuses a
+//! name that is declared twice.
 ghost use Rattle.std.specs.Prelude.{◌≡◌, ◌<◌, ◌≤◌, ◌+◌, ◌-◌, ◌^◌, ◌++◌, ◌∷◌, [], List, true, false, length, map, Contains, IfOk, IfErr, OnOk};
 ghost use Rattle.std.specs.List.{list_any};
 ghost use Rattle.std.specs.Map.{keys_of};
@@ -59,9 +60,12 @@ fn declare(
     ident: &Ident,
     meaning: Meaning,
 ) -> Result<(), TableFault>
-    ensures new { OnOk result (list_any (same_name ident.now.name) (keys_of names.old.entries) ≡ false) }
-    ensures added { OnOk result (names.new.entries ≡ names.old.entries ++ (ident.now.name, meaning) ∷ []) }
-    ensures again { IfErr result (λ fault. OnFault fault (λ f. list_any (same_name ident.now.name) (keys_of names.old.entries) ≡ true)) }
+    ensures new { OnOk result (list_any (same_name ident.now.name) (keys_of names.old.entries)
+        ≡ false) }
+    ensures added { OnOk result (names.new.entries ≡ names.old.entries ++ (ident.now.name, meaning)
+        ∷ []) }
+    ensures again { IfErr result (λ fault. OnFault fault (λ f. list_any (same_name ident.now.name)
+        (keys_of names.old.entries) ≡ true)) }
     ensures fault { IfErr result (λ fault. OnFault fault (λ f. f ≡ Duplicate ident.now.at)) }
 {
     if is_declared(names, &ident.name) {
@@ -80,12 +84,19 @@ fn declare_item(
     requires classes { counts.old.classes < 2 ^ 32 - 1 }
     requires enumerations { counts.old.enumerations < 2 ^ 32 - 1 }
     requires variables { counts.old.variables < 2 ^ 32 - 1 }
-    ensures entries { OnOk result ((rest : List AnItem) → names.new.entries ++ space_from rest counts.new.classes counts.new.enumerations counts.new.variables ≡ names.old.entries ++ space_from (item.now ∷ rest) counts.old.classes counts.old.enumerations counts.old.variables) }
-    ensures new { OnOk result ((rest : List AnItem) → repeated (declared rest) (keys_of names.new.entries) ≡ repeated (declared (item.now ∷ rest)) (keys_of names.old.entries)) }
+    ensures entries { OnOk result ((rest : List AnItem) → names.new.entries
+        ++ space_from rest counts.new.classes counts.new.enumerations counts.new.variables
+        ≡ names.old.entries ++ space_from (item.now ∷ rest) counts.old.classes
+        counts.old.enumerations counts.old.variables) }
+    ensures new { OnOk result ((rest : List AnItem) → repeated (declared rest)
+        (keys_of names.new.entries) ≡ repeated (declared (item.now ∷ rest))
+        (keys_of names.old.entries)) }
     ensures classes { OnOk result (counts.new.classes ≤ counts.old.classes + 1) }
     ensures enumerations { OnOk result (counts.new.enumerations ≤ counts.old.enumerations + 1) }
     ensures variables { OnOk result (counts.new.variables ≤ counts.old.variables + 1) }
-    ensures fault { IfErr result (λ fault. OnFault fault (λ f. (rest : List AnItem) → Contains (map Duplicate (repeated (declared (item.now ∷ rest)) (keys_of names.old.entries))) f)) }
+    ensures fault { IfErr result (λ fault. OnFault fault (λ f. (rest : List AnItem)
+        → Contains (map Duplicate (repeated (declared (item.now ∷ rest))
+        (keys_of names.old.entries))) f)) }
 {
     match item {
         Item::Class(decl) => {
@@ -120,7 +131,8 @@ pub(crate) fn names_of(alloc: Global, items: &[Item]) -> Result<Space, TableFaul
     requires few { length items.now < 2 ^ 32 - 1 }
     ensures names { IfOk result (λ names. names.entries ≡ space items.now) }
     ensures new { OnOk result (repeated (declared items.now) [] ≡ []) }
-    ensures fault { IfErr result (λ fault. OnFault fault (λ f. Contains (map Duplicate (repeated (declared items.now) [])) f)) }
+    ensures fault { IfErr result (λ fault. OnFault fault
+        (λ f. Contains (map Duplicate (repeated (declared items.now) [])) f)) }
 {
     let mut names = Space::new(alloc);
     let mut counts = Counts {

@@ -41,11 +41,15 @@ fn resolve_item(
     parts: &mut Parts,
 ) -> Result<(), TableFault>
     requires numbered { IsNumbered names.now.entries (length decls.now) }
-    ensures classes { OnOk result (parts.new.classes.items ≡ parts.old.classes.items ++ map (class_of names.now.entries) (item_class item.now)) }
-    ensures enumerations { OnOk result (parts.new.enumerations.items ≡ parts.old.enumerations.items ++ map enumeration_of (item_enumeration item.now)) }
-    ensures roots { OnOk result (parts.new.roots.items ≡ parts.old.roots.items ++ map (variable_of names.now.entries) (item_root item.now)) }
+    ensures classes { OnOk result (parts.new.classes.items ≡ parts.old.classes.items
+        ++ map (class_of names.now.entries) (item_class item.now)) }
+    ensures enumerations { OnOk result (parts.new.enumerations.items ≡ parts.old.enumerations.items
+        ++ map enumeration_of (item_enumeration item.now)) }
+    ensures roots { OnOk result (parts.new.roots.items ≡ parts.old.roots.items
+        ++ map (variable_of names.now.entries) (item_root item.now)) }
     ensures right { OnOk result (item_faults names.now.entries (pointed decls.now) item.now ≡ []) }
-    ensures fault { IfErr result (λ fault. OnFault fault (λ f. Contains (item_faults names.now.entries (pointed decls.now) item.now) f)) }
+    ensures fault { IfErr result (λ fault. OnFault fault
+        (λ f. Contains (item_faults names.now.entries (pointed decls.now) item.now) f)) }
 {
     match item {
         Item::Class(decl) => match resolve_class(alloc, names, decls, decl) {
@@ -73,11 +77,17 @@ pub(crate) fn resolve_items(
     items: &[Item],
 ) -> Result<Parts, TableFault>
     requires numbered { IsNumbered names.now.entries (length decls.now) }
-    ensures classes { IfOk result (λ parts. parts.classes.items ≡ map (class_of names.now.entries) (classes items.now)) }
-    ensures enumerations { IfOk result (λ parts. parts.enumerations.items ≡ map enumeration_of (enumerations items.now)) }
-    ensures roots { IfOk result (λ parts. parts.roots.items ≡ map (variable_of names.now.entries) (roots items.now)) }
-    ensures right { OnOk result (flat_map (item_faults names.now.entries (pointed decls.now)) items.now ≡ []) }
-    ensures fault { IfErr result (λ fault. OnFault fault (λ f. Contains (flat_map (item_faults names.now.entries (pointed decls.now)) items.now) f)) }
+    ensures classes { IfOk result (λ parts. parts.classes.items ≡ map (class_of names.now.entries)
+        (classes items.now)) }
+    ensures enumerations { IfOk result (λ parts. parts.enumerations.items
+        ≡ map enumeration_of (enumerations items.now)) }
+    ensures roots { IfOk result (λ parts. parts.roots.items ≡ map (variable_of names.now.entries)
+        (roots items.now)) }
+    ensures right { OnOk result (flat_map (item_faults names.now.entries (pointed decls.now))
+        items.now ≡ []) }
+    ensures fault { IfErr result (λ fault. OnFault fault
+        (λ f. Contains (flat_map (item_faults names.now.entries (pointed decls.now)) items.now)
+        f)) }
 {
     let mut parts = Parts {
         classes: Vec::new(alloc),

@@ -1,7 +1,8 @@
 //! Names in shapes and behind `extends`, resolved to numbers.
 //!
-//! `resolve_class`, `resolve_enumeration` and `resolve_variable` are the entries, one for each kind of declaration. Each answers
-//! what the declaration stands for, or the first fault at a name or range within it.
+//! `resolve_class`, `resolve_enumeration` and `resolve_variable` are the entries, one for each kind
+//! of declaration. Each answers what the declaration stands for, or the first fault at a name or
+//! range within it.
 ghost use Rattle.std.specs.Prelude.{◌≡◌, ◌≤◌, ◌<◌, ◌++◌, ◌∷◌, [], None, Some, true, false, length, map, Contains, IfOk, IfErr, OnOk, int_le};
 ghost use Rattle.std.specs.List.{flat_map};
 ghost use Rattle.class_table.specs.declared.fault.TableFault.TheVariants.{Duplicate};
@@ -32,9 +33,11 @@ fn bound_value(bound: &Bound) -> i64
 
 /// The values of a range.
 fn span(low: &Bound, high: &Bound) -> Result<Resolved, TableFault>
-    ensures span { IfOk result (λ shape. shape ≡ Resolved.Span (bound_value low.now) (bound_value high.now)) }
+    ensures span { IfOk result (λ shape. shape ≡ Resolved.Span (bound_value low.now)
+        (bound_value high.now)) }
     ensures right { OnOk result (int_le (bound_value low.now) (bound_value high.now) ≡ true) }
-    ensures empty { IfErr result (λ fault. int_le (bound_value low.now) (bound_value high.now) ≡ false) }
+    ensures empty { IfErr result (λ fault. int_le (bound_value low.now) (bound_value high.now)
+        ≡ false) }
     ensures fault { IfErr result (λ fault. fault ≡ TableFault.EmptyRange low.now.at) }
 {
     let (least, greatest) = (bound_value(low), bound_value(high));
@@ -47,8 +50,10 @@ fn span(low: &Bound, high: &Bound) -> Result<Resolved, TableFault>
 
 /// The class that a name means.
 fn class_named(names: &Space, ident: &Ident) -> Result<u32, TableFault>
-    ensures class { IfOk result (λ class. means names.now.entries ident.now.name ≡ Some (Meaning.Class class)) }
-    ensures fault { IfErr result (λ fault. class_faults ident.now (means names.now.entries ident.now.name) ≡ fault ∷ []) }
+    ensures class { IfOk result (λ class. means names.now.entries ident.now.name
+        ≡ Some (Meaning.Class class)) }
+    ensures fault { IfErr result (λ fault. class_faults ident.now
+        (means names.now.entries ident.now.name) ≡ fault ∷ []) }
 {
     match meaning_of(names, &ident.name) {
         Some(Meaning::Class(class)) => Ok(class),
@@ -63,8 +68,10 @@ fn class_named(names: &Space, ident: &Ident) -> Result<u32, TableFault>
 fn object_class(decls: &[&ClassDecl], ident: &Ident, class: u32) -> Result<u32, TableFault>
     requires within { class < length decls.now }
     ensures class { IfOk result (λ c. c ≡ class) }
-    ensures right { OnOk result (abstract_object (is_abstract (pointed decls.now) class) ident.now.at ≡ []) }
-    ensures fault { IfErr result (λ fault. abstract_object (is_abstract (pointed decls.now) class) ident.now.at ≡ fault ∷ []) }
+    ensures right { OnOk result (abstract_object (is_abstract (pointed decls.now) class)
+        ident.now.at ≡ []) }
+    ensures fault { IfErr result (λ fault. abstract_object (is_abstract (pointed decls.now) class)
+        ident.now.at ≡ fault ∷ []) }
 {
     if is_abstract(decls, class) {
         Err(TableFault::AbstractObject(ident.at))
@@ -86,8 +93,10 @@ fn is_abstract(decls: &[&ClassDecl], class: u32) -> bool
 fn named(names: &Space, decls: &[&ClassDecl], ident: &Ident) -> Result<Resolved, TableFault>
     requires numbered { IsNumbered names.now.entries (length decls.now) }
     ensures shape { IfOk result (λ shape. shape ≡ named (means names.now.entries ident.now.name)) }
-    ensures right { OnOk result (named_faults (pointed decls.now) ident.now (means names.now.entries ident.now.name) ≡ []) }
-    ensures fault { IfErr result (λ fault. named_faults (pointed decls.now) ident.now (means names.now.entries ident.now.name) ≡ fault ∷ []) }
+    ensures right { OnOk result (named_faults (pointed decls.now) ident.now
+        (means names.now.entries ident.now.name) ≡ []) }
+    ensures fault { IfErr result (λ fault. named_faults (pointed decls.now) ident.now
+        (means names.now.entries ident.now.name) ≡ fault ∷ []) }
 {
     match meaning_of(names, &ident.name) {
         Some(Meaning::Class(class)) => match object_class(decls, ident, class) {
@@ -108,9 +117,12 @@ fn many(
     count: u32,
 ) -> Result<Resolved, TableFault>
     requires numbered { IsNumbered names.now.entries (length decls.now) }
-    ensures shape { IfOk result (λ shape. shape ≡ of_class (λ c. Resolved.Many c count) (means names.now.entries ident.now.name)) }
-    ensures right { OnOk result (many_faults (pointed decls.now) ident.now (means names.now.entries ident.now.name) ≡ []) }
-    ensures fault { IfErr result (λ fault. many_faults (pointed decls.now) ident.now (means names.now.entries ident.now.name) ≡ fault ∷ []) }
+    ensures shape { IfOk result (λ shape. shape ≡ of_class (λ c. Resolved.Many c count)
+        (means names.now.entries ident.now.name)) }
+    ensures right { OnOk result (many_faults (pointed decls.now) ident.now
+        (means names.now.entries ident.now.name) ≡ []) }
+    ensures fault { IfErr result (λ fault. many_faults (pointed decls.now) ident.now
+        (means names.now.entries ident.now.name) ≡ fault ∷ []) }
 {
     match meaning_of(names, &ident.name) {
         Some(Meaning::Class(class)) => match object_class(decls, ident, class) {
@@ -128,8 +140,10 @@ fn many(
 fn shape_of(names: &Space, decls: &[&ClassDecl], shape: &Shape) -> Result<Resolved, TableFault>
     requires numbered { IsNumbered names.now.entries (length decls.now) }
     ensures shape { IfOk result (λ found. found ≡ resolved names.now.entries shape.now) }
-    ensures right { OnOk result (shape_faults names.now.entries (pointed decls.now) shape.now ≡ []) }
-    ensures fault { IfErr result (λ fault. shape_faults names.now.entries (pointed decls.now) shape.now ≡ fault ∷ []) }
+    ensures right { OnOk result (shape_faults names.now.entries (pointed decls.now) shape.now
+        ≡ []) }
+    ensures fault { IfErr result (λ fault. shape_faults names.now.entries (pointed decls.now)
+        shape.now ≡ fault ∷ []) }
 {
     match shape {
         Shape::Range(low, high) => span(low, high),
@@ -152,7 +166,8 @@ fn shape_of(names: &Space, decls: &[&ClassDecl], shape: &Shape) -> Result<Resolv
 fn parent_of(names: &Space, parent: &Option<Ident>) -> Result<Option<u32>, TableFault>
     ensures parent { IfOk result (λ found. found ≡ parent_named names.now.entries parent.now) }
     ensures right { OnOk result (parent_faults names.now.entries parent.now ≡ []) }
-    ensures fault { IfErr result (λ fault. parent_faults names.now.entries parent.now ≡ fault ∷ []) }
+    ensures fault { IfErr result (λ fault. parent_faults names.now.entries parent.now
+        ≡ fault ∷ []) }
 {
     match parent {
         Some(ident) => match class_named(names, ident) {
@@ -166,7 +181,8 @@ fn parent_of(names: &Space, parent: &Option<Ident>) -> Result<Option<u32>, Table
 /// Refuses an attribute that is named as a class or an enumeration.
 fn untaken(names: &Space, ident: &Ident) -> Result<(), TableFault>
     ensures right { OnOk result (taken ident.now (means names.now.entries ident.now.name) ≡ []) }
-    ensures fault { IfErr result (λ fault. taken ident.now (means names.now.entries ident.now.name) ≡ fault ∷ []) }
+    ensures fault { IfErr result (λ fault. taken ident.now (means names.now.entries ident.now.name)
+        ≡ fault ∷ []) }
 {
     match meaning_of(names, &ident.name) {
         Some(Meaning::Class(_) | Meaning::Enumeration(_)) => Err(TableFault::Duplicate(ident.at)),
@@ -183,8 +199,10 @@ pub(crate) fn resolve_variable(
 ) -> Result<Variable, TableFault>
     requires numbered { IsNumbered names.now.entries (length decls.now) }
     ensures variable { IfOk result (λ variable. variable ≡ variable_of names.now.entries decl.now) }
-    ensures right { OnOk result (shape_faults names.now.entries (pointed decls.now) decl.now.shape ≡ []) }
-    ensures fault { IfErr result (λ fault. OnFault fault (λ f. shape_faults names.now.entries (pointed decls.now) decl.now.shape ≡ f ∷ [])) }
+    ensures right { OnOk result (shape_faults names.now.entries (pointed decls.now) decl.now.shape
+        ≡ []) }
+    ensures fault { IfErr result (λ fault. OnFault fault (λ f. shape_faults names.now.entries
+        (pointed decls.now) decl.now.shape ≡ f ∷ [])) }
 {
     let shape = match shape_of(names, decls, &decl.shape) {
         Ok(shape) => shape,
@@ -205,9 +223,12 @@ fn add_member(
     found: &mut Vec<Variable>,
 ) -> Result<(), TableFault>
     requires numbered { IsNumbered names.now.entries (length decls.now) }
-    ensures added { OnOk result (found.new.items ≡ found.old.items ++ map (variable_of names.now.entries) (member_variable member.now)) }
-    ensures right { OnOk result (member_faults names.now.entries (pointed decls.now) member.now ≡ []) }
-    ensures fault { IfErr result (λ fault. OnFault fault (λ f. Contains (member_faults names.now.entries (pointed decls.now) member.now) f)) }
+    ensures added { OnOk result (found.new.items ≡ found.old.items
+        ++ map (variable_of names.now.entries) (member_variable member.now)) }
+    ensures right { OnOk result (member_faults names.now.entries (pointed decls.now) member.now
+        ≡ []) }
+    ensures fault { IfErr result (λ fault. OnFault fault
+        (λ f. Contains (member_faults names.now.entries (pointed decls.now) member.now) f)) }
 {
     let Member::Var(decl) = member else {
         return Ok(());
@@ -230,9 +251,13 @@ fn resolve_members(
     members: &[Member],
 ) -> Result<Vec<Variable>, TableFault>
     requires numbered { IsNumbered names.now.entries (length decls.now) }
-    ensures own { IfOk result (λ found. found.items ≡ map (variable_of names.now.entries) (flat_map member_variable members.now)) }
-    ensures right { OnOk result (flat_map (member_faults names.now.entries (pointed decls.now)) members.now ≡ []) }
-    ensures fault { IfErr result (λ fault. OnFault fault (λ f. Contains (flat_map (member_faults names.now.entries (pointed decls.now)) members.now) f)) }
+    ensures own { IfOk result (λ found. found.items ≡ map (variable_of names.now.entries)
+        (flat_map member_variable members.now)) }
+    ensures right { OnOk result (flat_map (member_faults names.now.entries (pointed decls.now))
+        members.now ≡ []) }
+    ensures fault { IfErr result (λ fault. OnFault fault
+        (λ f. Contains (flat_map (member_faults names.now.entries (pointed decls.now)) members.now)
+        f)) }
 {
     let mut found = Vec::new(alloc);
     for member in members {
@@ -252,8 +277,11 @@ pub(crate) fn resolve_class(
 ) -> Result<Class, TableFault>
     requires numbered { IsNumbered names.now.entries (length decls.now) }
     ensures class { IfOk result (λ class. class ≡ class_of names.now.entries decl.now) }
-    ensures right { OnOk result (parent_faults names.now.entries decl.now.parent ++ flat_map (member_faults names.now.entries (pointed decls.now)) decl.now.members ≡ []) }
-    ensures fault { IfErr result (λ fault. OnFault fault (λ f. Contains (parent_faults names.now.entries decl.now.parent ++ flat_map (member_faults names.now.entries (pointed decls.now)) decl.now.members) f)) }
+    ensures right { OnOk result (parent_faults names.now.entries decl.now.parent
+        ++ flat_map (member_faults names.now.entries (pointed decls.now)) decl.now.members ≡ []) }
+    ensures fault { IfErr result (λ fault. OnFault fault
+        (λ f. Contains (parent_faults names.now.entries decl.now.parent
+        ++ flat_map (member_faults names.now.entries (pointed decls.now)) decl.now.members) f)) }
 {
     let parent = match parent_of(names, &decl.parent) {
         Ok(parent) => parent,
@@ -274,7 +302,8 @@ pub(crate) fn resolve_class(
 fn resolve_values(alloc: Global, idents: &[Ident]) -> Result<Values, TableFault>
     ensures values { IfOk result (λ values. values ≡ map value_name idents.now) }
     ensures right { OnOk result (repeated idents.now [] ≡ []) }
-    ensures fault { IfErr result (λ fault. OnFault fault (λ f. Contains (map Duplicate (repeated idents.now [])) f)) }
+    ensures fault { IfErr result (λ fault. OnFault fault
+        (λ f. Contains (map Duplicate (repeated idents.now [])) f)) }
 {
     let mut values = Values::new(alloc);
     for ident in idents {
@@ -289,7 +318,8 @@ fn resolve_values(alloc: Global, idents: &[Ident]) -> Result<Values, TableFault>
 pub(crate) fn resolve_enumeration(alloc: Global, decl: &EnumDecl) -> Result<Enumeration, TableFault>
     ensures enumeration { IfOk result (λ enumeration. enumeration ≡ enumeration_of decl.now) }
     ensures right { OnOk result (map Duplicate (repeated decl.now.values []) ≡ []) }
-    ensures fault { IfErr result (λ fault. OnFault fault (λ f. Contains (map Duplicate (repeated decl.now.values [])) f)) }
+    ensures fault { IfErr result (λ fault. OnFault fault
+        (λ f. Contains (map Duplicate (repeated decl.now.values [])) f)) }
 {
     let values = match resolve_values(alloc, decl.values.items()) {
         Ok(values) => values,

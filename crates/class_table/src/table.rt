@@ -1,4 +1,5 @@
-//! What the table holds: classes, enumerations and variables, with shapes in which each name is resolved to a number.
+//! What the table holds: classes, enumerations and variables, with shapes in which each name is
+//! resolved to a number.
 ghost use Rattle.std.specs.Prelude.{◌≡◌, ◌++◌, ◌∷◌, [], if◌then◌else◌, not, length, slice_get, take, position, option_copied, IfOk, OnErr};
 ghost use Rattle.std.specs.List.{list_any};
 ghost use Rattle.class_table.specs.Same.{same_name};
@@ -92,7 +93,8 @@ impl Values {
 
     /// Adds a value, where its name is new.
     pub fn insert(&mut self, name: Name) -> Result<bool, AllocError>
-        ensures values { IfOk result (λ new. self.new ≡ (if list_any (same_name name) self.old then self.old else self.old ++ name ∷ [])) }
+        ensures values { IfOk result (λ new. self.new
+            ≡ (if list_any (same_name name) self.old then self.old else self.old ++ name ∷ [])) }
         ensures new { IfOk result (λ new. new ≡ not (list_any (same_name name) self.old)) }
         ensures refused { OnErr result (self.new ≡ self.old) }
     {

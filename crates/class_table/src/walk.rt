@@ -1,8 +1,8 @@
 //! A walk along the edges of a graph, depth first, on a list of its own in place of recursion.
 //!
-//! `Walk::step` is the entry. Nodes are numbers. Each is new, then open while its edges are looked at, from the last to the
-//! first, then done. The open nodes are the path; each leads to the next by the edge that is looked at. An edge to an open
-//! node closes a cycle.
+//! `Walk::step` is the entry. Nodes are numbers. Each is new, then open while its edges are looked
+//! at, from the last to the first, then done. The open nodes are the path; each leads to the next
+//! by the edge that is looked at. An edge to an open node closes a cycle.
 ghost use Rattle.std.specs.Prelude.{◌≡◌};
 
 use std::marker::Model;
@@ -94,7 +94,8 @@ use std::alloc::{AllocError, Global};
 impl Walk {
     /// The walk before its first step.
     pub(crate) fn new(alloc: Global, graph: &[Edges]) -> Result<Self, AllocError>
-        ensures walk { IfOk result (λ walk. IsWalk graph.now walk.states.items walk.path.items walk.done) }
+        ensures walk { IfOk result (λ walk. IsWalk graph.now walk.states.items walk.path.items
+            walk.done) }
         ensures path { IfOk result (λ walk. walk.path.items ≡ []) }
         ensures states { IfOk result (λ walk. walk.states.items ≡ map fresh graph.now) }
     {
@@ -113,7 +114,8 @@ impl Walk {
     fn enter(&mut self, node: u32, edges: usize) -> Result<(), AllocError>
         requires new { state_at self.old.states.items node ≡ New edges }
         requires node { node < length self.old.states.items }
-        ensures states { OnOk result (self.new.states.items ≡ slice_set self.old.states.items node (Open edges)) }
+        ensures states { OnOk result (self.new.states.items ≡ slice_set self.old.states.items node
+            (Open edges)) }
         ensures path { OnOk result (self.new.path.items ≡ self.old.path.items ++ node ∷ []) }
         ensures done { OnOk result (self.new.done ≡ self.old.done) }
     {
@@ -134,8 +136,10 @@ impl Walk {
         requires path { self.old.path.items ≡ [] }
         requires node { node < length graph.now }
         requires new { state_at self.old.states.items node ≡ New edges }
-        ensures walk { OnOk result (IsWalk graph.now self.new.states.items self.new.path.items self.new.done) }
-        ensures enters { OnOk result (Enters graph.now self.old.states.items self.old.path.items node self.new.states.items self.new.path.items) }
+        ensures walk { OnOk result (IsWalk graph.now self.new.states.items self.new.path.items
+            self.new.done) }
+        ensures enters { OnOk result (Enters graph.now self.old.states.items self.old.path.items
+            node self.new.states.items self.new.path.items) }
     {
         self.enter(node, edges)?;
         Ok(())
@@ -144,7 +148,8 @@ impl Walk {
     /// The last node of the path.
     pub(crate) fn last(&self) -> u32
         requires path { 0 < length self.now.path.items }
-        ensures last { self.now.path.items ≡ take (length self.now.path.items - 1) self.now.path.items ++ result ∷ [] }
+        ensures last { self.now.path.items ≡ take (length self.now.path.items - 1)
+            self.now.path.items ++ result ∷ [] }
     {
         self.path[self.path.len() - 1]
     }
@@ -162,7 +167,8 @@ impl Walk {
         requires node { node < length graph.now }
         requires walk { IsWalk graph.now self.now.states.items self.now.path.items self.now.done }
         requires links { HasEdge (state_at self.now.states.items node) }
-        ensures place { result ≡ (edge_at graph.now node (looked_at (state_at self.now.states.items node))).place }
+        ensures place { result ≡ (edge_at graph.now node
+            (looked_at (state_at self.now.states.items node))).place }
     {
         match self.state(node) {
             State::Open(edges) => graph[node as usize].items()[edges - 1].place,
@@ -174,8 +180,10 @@ impl Walk {
     fn leave(&mut self, node: u32)
         requires node { node < length self.old.states.items }
         requires done { self.old.done < length self.old.states.items }
-        ensures states { self.new.states.items ≡ slice_set self.old.states.items node (Done self.old.done) }
-        ensures path { self.new.path.items ≡ take (length self.old.path.items - 1) self.old.path.items }
+        ensures states { self.new.states.items ≡ slice_set self.old.states.items node
+            (Done self.old.done) }
+        ensures path { self.new.path.items ≡ take (length self.old.path.items - 1)
+            self.old.path.items }
         ensures done { self.new.done ≡ self.old.done + 1 }
     {
         self.path.pop();
@@ -188,7 +196,9 @@ impl Walk {
         requires walk { IsWalk graph.now self.old.states.items self.old.path.items self.old.done }
         requires range { InRange graph.now }
         requires path { 0 < length self.old.path.items }
-        ensures made { IfOk result (λ step. Makes graph.now self.old.states.items self.old.path.items self.old.done self.new.states.items self.new.path.items self.new.done step) }
+        ensures made { IfOk result (λ step. Makes graph.now self.old.states.items
+            self.old.path.items self.old.done self.new.states.items self.new.path.items
+            self.new.done step) }
     {
         let node = self.last();
         match self.state(node) {

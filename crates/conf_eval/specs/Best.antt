@@ -7,7 +7,9 @@ use Rattle.conf_eval.specs.Satisfying.{Satisfies, objectives, better}
 
 -- no configuration that satisfies the constraints is better
 abbrev pub IsBest : Outline → List ResolvedConstraint → List ResolvedGoal → List ℤ → Type 0
-IsBest o ks gs t = (u : List ℤ) → IsConfiguration o u → Satisfies o ks u → better gs (objectives o gs u) (objectives o gs t) ≡ false
+IsBest o ks gs t =
+    (u : List ℤ) → IsConfiguration o u → Satisfies o ks u → better gs (objectives o gs u)
+    (objectives o gs t) ≡ false
 
 -- no configuration satisfies the constraints
 abbrev pub HasNone : Outline → List ResolvedConstraint → Type 0

@@ -1,5 +1,5 @@
--- What is broken first at a configuration that doesn't satisfy a model: sets before constraints, constraints in order of place,
--- objects in order of allocation.
+-- What is broken first at a configuration that doesn't satisfy a model: sets before constraints,
+-- constraints in order of place, objects in order of allocation.
 use Rattle.std.specs.Prelude.{◌≡◌, ℕ, List, ◌∷◌, ◌++◌, Option, ℤ, length, All}
 use Rattle.std.specs.List.{flat_map}
 use Rattle.class_table.specs.Outline.{Outline}
@@ -18,8 +18,8 @@ pub record IsFirstNot {X : Type 0} (P : X → Type 0) (xs : List X) (before : Li
   pub hold : All P before
   pub not : P x → ⊥
 
--- the first reference set of another size than its shape's, by the number of its first cell; a set without cells by the number that
--- its first cell would have
+-- the first reference set of another size than its shape's, by the number of its first cell; a set
+-- without cells by the number that its first cell would have
 pub record IsWrongSet (o : Outline) (values : List ℤ) (cell : ℕ) : Type 0 where
   pub before : List Leaf
   pub set : Leaf
@@ -34,7 +34,8 @@ pub record IsWrongConstraint (o : Outline) (ks : List ResolvedConstraint) (value
   pub first : IsFirstNot (Holds o values) ks before constraint
   pub number : index ≡ length before
   pub earlier : List (Option ℕ)
-  pub first_object : IsFirstNot (HoldsFor o values constraint) (stated_for o constraint.class) earlier object
+  pub first_object : IsFirstNot (HoldsFor o values constraint) (stated_for o constraint.class)
+      earlier object
 
 abbrev pub IsFirstBroken : Outline → List ResolvedConstraint → List ℤ → BrokenAt → Type 0
 IsFirstBroken o ks values (SetSize cell) = IsWrongSet o values cell

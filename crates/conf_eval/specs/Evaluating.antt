@@ -17,7 +17,14 @@ use Rattle.conf_eval.specs.Meaning.{Setting, bind, keeps, values_of, all_true, f
 
 -- inside of quantifiers with these objects as their variables
 abbrev pub setting_at : Scene → List ℕ → Setting
-setting_at scene vars = record { outline = scene.objects.now; values = scene.values.now; this = scene.this; vars = vars }
+setting_at scene vars =
+    record {
+      outline = scene.objects.now;
+      values = scene.values.now;
+      this = scene.this;
+      vars
+          = vars;
+    }
 
 -- a configuration of a model's objects
 pub record IsGiven (o : Outline) (values : List ℤ) : Type 0 where
@@ -43,7 +50,8 @@ abbrev mutual
   height (tree.Not at e) = suc (height e)
   height (tree.Dot at e k s) = suc (height e)
   height (tree.Pair at op l r) = suc (max (height l) (height r))
-  height (tree.Quant at q over f bs) = suc (max (height over) (max (filter_height f) (bodies_height bs)))
+  height (tree.Quant at q over f bs) = suc
+      (max (height over) (max (filter_height f) (bodies_height bs)))
 
   pub filter_height : Filter → ℕ
   filter_height NoFilter = 0
@@ -73,7 +81,8 @@ pub record IsRoom (outer xs : List ℕ) : Type 0 where
   pub last : ℕ
   pub is : xs ≡ outer ++ last ∷ []
 
--- whether the filter keeps the member and the bodies are true; `otherwise` where the filter leaves it out
+-- whether the filter keeps the member and the bodies are true; `otherwise` where the filter leaves
+-- it out
 abbrev pub holds : Filter → Bodies → Bool → Setting → Bool
 holds f bs otherwise s = cond (keeps f s) (all_true (values_of bs s)) otherwise
 
@@ -91,4 +100,5 @@ pub record IsSmall (v : ℤ) : Type 0 where
 
 -- where an expression is evaluated that stands in these objects' scope
 abbrev pub env_setting : Outline → List ℤ → Env → Setting
-env_setting o values env = record { outline = o; values = values; this = env.this_object; vars = env.vars }
+env_setting o values env =
+    record { outline = o; values = values; this = env.this_object; vars = env.vars }

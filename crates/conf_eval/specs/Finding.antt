@@ -20,7 +20,8 @@ first_failing test (x ∷ xs) = cond (test x) (first_failing test xs) (Some x)
 
 -- a leaf of this shape has as many members as the shape says, where it is a reference set
 abbrev pub shape_is_full : Outline → List ℤ → Leaf → Resolved → Bool
-shape_is_full o values l (shape.RefSet c n) = nat_eq (length (objects_of (attribute_value o values l.owner l.attribute l.shape))) n
+shape_is_full o values l (shape.RefSet c n) =
+    nat_eq (length (objects_of (attribute_value o values l.owner l.attribute l.shape))) n
 shape_is_full o values l (shape.Span low high) = true
 shape_is_full o values l shape.Truth = true
 shape_is_full o values l (shape.Choice e) = true
@@ -31,10 +32,12 @@ shape_is_full o values l (shape.Ref c) = true
 abbrev pub is_full : Outline → List ℤ → Leaf → Bool
 is_full o values l = shape_is_full o values l l.shape
 
--- the number of the first cell of the first leaf that isn't full, where n cells stand before these leaves
+-- the number of the first cell of the first leaf that isn't full, where n cells stand before these
+-- leaves
 abbrev pub wrong_set : Outline → List ℤ → ℕ → List Leaf → Option ℕ
 wrong_set o values n [] = None
-wrong_set o values n (l ∷ ls) = cond (is_full o values l) (wrong_set o values (n + length (leaf_cells o l)) ls) (Some n)
+wrong_set o values n (l ∷ ls) =
+    cond (is_full o values l) (wrong_set o values (n + length (leaf_cells o l)) ls) (Some n)
 
 abbrev pub holds_for : Outline → List ℤ → ResolvedConstraint → Option ℕ → Bool
 holds_for o values k this = truth_of (value k.tree (setting o values this))
@@ -50,7 +53,8 @@ broken_by n (Some object) rest = Some (Constraint n object)
 -- the first constraint that doesn't hold, where the first of these has number n
 abbrev pub wrong_constraint : Outline → List ℤ → ℕ → List ResolvedConstraint → Option BrokenAt
 wrong_constraint o values n [] = None
-wrong_constraint o values n (k ∷ ks) = broken_by n (wrong_object o values k) (wrong_constraint o values (n + 1) ks)
+wrong_constraint o values n (k ∷ ks) =
+    broken_by n (wrong_object o values k) (wrong_constraint o values (n + 1) ks)
 
 -- the expression may be evaluated where each of these is `this`
 abbrev pub IsStatedFor : Outline → List ℤ → Tree → List (Option ℕ) → Type 0

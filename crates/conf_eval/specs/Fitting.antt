@@ -1,5 +1,5 @@
--- What holds of the values of typed expressions: each is of its expression's type, lists no more objects than the expression
--- reaches, and lies in the expression's interval.
+-- What holds of the values of typed expressions: each is of its expression's type, lists no more
+-- objects than the expression reaches, and lies in the expression's interval.
 use Rattle.std.specs.Prelude.{◌≡◌, ℕ, ◌<◌, ◌≤◌, true, cond, List, [], ◌∷◌, Option, None, Some, ℤ, pos, neg_ℤ, ◌≤ℤ◌, length, slice_get, All, Contains}
 use Rattle.model_limits.specs.Limits.{most_width}
 use Rattle.class_table.specs.declared.table.Resolved.{Resolved}
@@ -41,7 +41,8 @@ pub record Fits (o : Outline) (vs : List ℤ) (p : Place) (s : Setting) : Type 0
   pub this : IsThis o p.class s.this
   pub vars : AreVars o p.locals s.vars
 
--- Expressions that may be evaluated: typed where they stand, in a setting that fits, with narrow numbers
+-- Expressions that may be evaluated: typed where they stand, in a setting that fits, with narrow
+-- numbers
 
 pub record IsEvaluable (o : Outline) (vs : List ℤ) (t : Tree) (s : Setting) : Type 0 where
   pub place : Place
@@ -84,7 +85,8 @@ IsValueOf o t v = ⊥
 
 -- Reach
 
--- an expression that reaches so many objects, of this type and with this value: an object is reached, and so are all of a list
+-- an expression that reaches so many objects, of this type and with this value: an object is
+-- reached, and so are all of a list
 abbrev pub IsReached : ℕ → ExprType → Value → Type 0
 IsReached r (type.Object c) v = 1 ≤ r
 IsReached r (type.Objects c) v = length (objects_of v) ≤ r
@@ -106,7 +108,8 @@ pub record IsNarrow (v : ℤ) : Type 0 where
 
 -- Quantifiers, member by member
 
--- the number that a member adds to a sum: that of the first body, or 0 where the filter leaves it out
+-- the number that a member adds to a sum: that of the first body, or 0 where the filter leaves it
+-- out
 abbrev pub term : Filter → Bodies → Setting → ℕ → ℤ
 term f bs s x = cond (keeps f (bind s x)) (int_of (first_of (values_of bs (bind s x)))) (pos 0)
 

@@ -10,7 +10,8 @@ use Rattle.conf_eval.specs.declared.members.Members.{Members}
 use Rattle.conf_eval.specs.declared.members.Members.TheVariants.{Extent, Parts, Chosen, Nobody}
 use Rattle.conf_eval.specs.Meaning.{chosen}
 
--- one slot for each object: its number, where it is of the extent of class c; the first has number n
+-- one slot for each object: its number, where it is of the extent of class c; the first has number
+-- n
 abbrev pub extent_slots : List Class → ℕ → ℕ → List Object → List (Option ℕ)
 extent_slots cs c n [] = []
 extent_slots cs c n (x ∷ xs) = cond (is_a cs x.class c) (Some n) None ∷ extent_slots cs c (n + 1) xs

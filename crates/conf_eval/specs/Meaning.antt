@@ -1,5 +1,5 @@
--- What a resolved expression means at a configuration: one line for each kind of expression. It is a value for every tree; for a
--- typed one it is a value of its type.
+-- What a resolved expression means at a configuration: one line for each kind of expression. It is
+-- a value for every tree; for a typed one it is a value of its type.
 use Rattle.std.specs.Prelude.{ℕ, zero, suc, ◌+◌, ◌-◌, Bool, true, false, not, ◌&&◌, ◌||◌, cond, List, [], ◌∷◌, ◌++◌, map, Option, None, Some, ℤ, pos, ◌+ℤ◌, ◌-ℤ◌, ◌*ℤ◌, neg_ℤ, int_le, int_lt, length, nat_abs, nat_eq, slice_get, slice_index_or, filter_map, count_by, option_and_then, unwrap_or}
 use Rattle.std.specs.List.{list_all, list_any}
 use Rattle.std.specs.Option.{option_map_or}
@@ -18,8 +18,8 @@ use Rattle.object_alloc.specs.Groups.{parts_of, own_cells}
 use Rattle.conf_eval.specs.declared.value.Value.{Value}
 use Rattle.conf_eval.specs.declared.value.Value.TheVariants.{Int, Truth, Choice, Object, Objects}
 
--- where an expression is evaluated: the model's outline, one value for each cell, the object that is `this`, and the objects of the
--- variables of the quantifiers round it, the innermost last
+-- where an expression is evaluated: the model's outline, one value for each cell, the object that
+-- is `this`, and the objects of the variables of the quantifiers round it, the innermost last
 pub record Setting : Type 0 where
   pub outline : Outline
   pub values : List ℤ
@@ -88,15 +88,22 @@ first_object (x ∷ xs) = x
 
 -- the object that cell i of a reference set stands for, where it is in
 abbrev pub chosen : List Cell → List ℤ → ℕ → Option ℕ
-chosen cs values i = cond (int_same (slice_index_or values i (pos 0)) (pos 1)) (option_and_then (λ (c : Cell). c.element) (slice_get cs i)) None
+chosen cs values i =
+    cond (int_same (slice_index_or values i (pos 0)) (pos 1))
+    (option_and_then (λ (c : Cell). c.element) (slice_get cs i)) None
 
 -- the value of attribute k of this shape, of an object or of the top level
 abbrev pub attribute_value : Outline → List ℤ → Option ℕ → ℕ → Resolved → Value
-attribute_value o values owner k (shape.Span low high) = Int (first_value values (own_cells o owner k))
-attribute_value o values owner k shape.Truth = Truth (int_same (first_value values (own_cells o owner k)) (pos 1))
-attribute_value o values owner k (shape.Choice e) = Choice e (nat_abs (first_value values (own_cells o owner k)))
-attribute_value o values owner k (shape.Ref c) = Object (nat_abs (first_value values (own_cells o owner k)))
-attribute_value o values owner k (shape.RefSet c n) = Objects (filter_map (chosen (cells o) values) (own_cells o owner k))
+attribute_value o values owner k (shape.Span low high) =
+    Int (first_value values (own_cells o owner k))
+attribute_value o values owner k shape.Truth =
+    Truth (int_same (first_value values (own_cells o owner k)) (pos 1))
+attribute_value o values owner k (shape.Choice e) =
+    Choice e (nat_abs (first_value values (own_cells o owner k)))
+attribute_value o values owner k (shape.Ref c) =
+    Object (nat_abs (first_value values (own_cells o owner k)))
+attribute_value o values owner k (shape.RefSet c n) =
+    Objects (filter_map (chosen (cells o) values) (own_cells o owner k))
 attribute_value o values owner k (shape.One c) = Object (first_object (parts_of o owner k))
 attribute_value o values owner k (shape.Many c n) = Objects (parts_of o owner k)
 
@@ -134,7 +141,13 @@ pub record Item : Type 0 where
   pub room : ℤ
 
 abbrev pub item_of : List Value → Item
-item_of vs = record { place = first_of vs; size = int_of (slice_index_or vs 1 (Int (pos 0))); room = int_of (slice_index_or vs 2 (Int (pos 0))) }
+item_of vs =
+    record {
+      place = first_of vs;
+      size = int_of (slice_index_or vs 1 (Int (pos 0)));
+      room = int_of
+          (slice_index_or vs 2 (Int (pos 0)));
+    }
 
 abbrev pub total : List ℤ → ℤ
 total [] = pos 0
@@ -159,12 +172,17 @@ all_true vs = list_all truth_of vs
 
 -- a quantifier over these members, by its filter and the values of its bodies at each
 abbrev pub quantified : QuantKind → List ℕ → (ℕ → Bool) → (ℕ → List Value) → Value
-quantified kind.Forall xs keeps bodies = Truth (list_all (λ x. not (keeps x) || all_true (bodies x)) xs)
+quantified kind.Forall xs keeps bodies =
+    Truth (list_all (λ x. not (keeps x) || all_true (bodies x)) xs)
 quantified kind.Exists xs keeps bodies = Truth (list_any (λ x. keeps x && all_true (bodies x)) xs)
-quantified kind.Sum xs keeps bodies = Int (total (map (λ x. cond (keeps x) (int_of (first_of (bodies x))) (pos 0)) xs))
-quantified kind.Count xs keeps bodies = Int (pos (count_by (λ x. keeps x && all_true (bodies x)) xs))
-quantified kind.AllDifferent xs keeps bodies = Truth (all_differ (map (λ x. first_of (bodies x)) xs))
-quantified kind.Pack xs keeps bodies = Truth (fits_all (map (λ x. item_of (bodies x)) xs) (map (λ x. item_of (bodies x)) xs))
+quantified kind.Sum xs keeps bodies =
+    Int (total (map (λ x. cond (keeps x) (int_of (first_of (bodies x))) (pos 0)) xs))
+quantified kind.Count xs keeps bodies =
+    Int (pos (count_by (λ x. keeps x && all_true (bodies x)) xs))
+quantified kind.AllDifferent xs keeps bodies =
+    Truth (all_differ (map (λ x. first_of (bodies x)) xs))
+quantified kind.Pack xs keeps bodies =
+    Truth (fits_all (map (λ x. item_of (bodies x)) xs) (map (λ x. item_of (bodies x)) xs))
 
 -- Expressions
 
@@ -182,8 +200,10 @@ abbrev mutual
   value (tree.Root at k sh) s = attribute_value s.outline s.values None k sh
   value (tree.Value at e k) s = Choice e k
   value (tree.Class at c) s = Objects (extent s.outline c)
-  value (tree.Dot at e k sh) s = attribute_value s.outline s.values (Some (object_of (value e s))) k sh
-  value (tree.Quant at q over f bs) s = quantified q (objects_of (value over s)) (λ x. keeps f (bind s x)) (λ x. values_of bs (bind s x))
+  value (tree.Dot at e k sh) s = attribute_value s.outline s.values (Some (object_of (value e s))) k
+      sh
+  value (tree.Quant at q over f bs) s = quantified q (objects_of (value over s))
+      (λ x. keeps f (bind s x)) (λ x. values_of bs (bind s x))
   value (tree.Missing at) s = Truth false
 
   pub keeps : Filter → Setting → Bool

@@ -1,4 +1,5 @@
--- When a configuration satisfies a model, what its objectives are, and which of two configurations is better.
+-- When a configuration satisfies a model, what its objectives are, and which of two configurations
+-- is better.
 use Rattle.std.specs.Prelude.{◌≡◌, ℕ, suc, ◌<◌, Bool, true, false, ◌&&◌, cond, List, [], ◌∷◌, map, Option, None, Some, ℤ, int_lt, length, All}
 use Rattle.class_table.specs.declared.table.Resolved.TheVariants as shape
 use Rattle.class_table.specs.Outline.{Outline}
@@ -14,7 +15,9 @@ setting o values this = record { outline = o; values = values; this = this; vars
 
 -- a reference set has as many members as its shape says
 abbrev pub IsFull : Outline → List ℤ → Leaf → Type 0
-IsFull o values l = (c n : ℕ) → l.shape ≡ shape.RefSet c n → length (objects_of (attribute_value o values l.owner l.attribute l.shape)) ≡ n
+IsFull o values l =
+    (c n : ℕ) → l.shape ≡ shape.RefSet c n
+    → length (objects_of (attribute_value o values l.owner l.attribute l.shape)) ≡ n
 
 -- the objects for which a constraint is stated: at the top level once, without `this`
 abbrev pub stated_for : Outline → Option ℕ → List (Option ℕ)
@@ -38,9 +41,11 @@ objective o values g = int_of (value g.tree (setting o values None))
 abbrev pub objectives : Outline → List ResolvedGoal → List ℤ → List ℤ
 objectives o gs values = map (objective o values) gs
 
--- at the first objective where the two differ the first list's value is greater for `maximize`, less for `minimize`
+-- at the first objective where the two differ the first list's value is greater for `maximize`,
+-- less for `minimize`
 abbrev pub better : List ResolvedGoal → List ℤ → List ℤ → Bool
 better [] vs ws = false
 better (g ∷ gs) [] ws = false
 better (g ∷ gs) (v ∷ vs) [] = false
-better (g ∷ gs) (v ∷ vs) (w ∷ ws) = cond (int_same v w) (better gs vs ws) (cond g.max (int_lt w v) (int_lt v w))
+better (g ∷ gs) (v ∷ vs) (w ∷ ws) =
+    cond (int_same v w) (better gs vs ws) (cond g.max (int_lt w v) (int_lt v w))

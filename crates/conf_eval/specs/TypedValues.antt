@@ -1,4 +1,5 @@
--- What the laws on values speak of: an expression of a type, in a setting that gives what is named where it stands.
+-- What the laws on values speak of: an expression of a type, in a setting that gives what is named
+-- where it stands.
 use Rattle.std.specs.Prelude.{◌≡◌, List, Some, ℤ}
 use Rattle.class_table.specs.Outline.{Outline}
 use Rattle.conf_types.specs.declared.types.ExprType.{ExprType}

@@ -46,7 +46,8 @@ pub(crate) fn collect(
     scene: &Scene<'_, '_>,
     list: &Members<'_>,
 ) -> Result<Vec<u32>, AllocError>
-    ensures members { IfOk result (λ numbers. numbers.items ≡ members scene.now.objects.now scene.now.values.now list.now) }
+    ensures members { IfOk result (λ numbers. numbers.items ≡ members scene.now.objects.now
+        scene.now.values.now list.now) }
 {
     let mut numbers = Vec::new(alloc);
     for i in 0..slot_count(scene, list) {
@@ -67,7 +68,8 @@ pub(crate) fn attribute_value(
 ) -> Result<Value, AllocError>
     requires given { IsGiven scene.now.objects.now scene.now.values.now }
     requires shape { HasShape scene.now.objects.now owner k shape }
-    ensures value { IfOk result (λ v. v ≡ attribute_value scene.now.objects.now scene.now.values.now owner k shape) }
+    ensures value { IfOk result (λ v. v ≡ attribute_value scene.now.objects.now scene.now.values.now
+        owner k shape) }
 {
     let cells = scene.objects.own_cells(owner, k);
     match shape {

@@ -21,12 +21,15 @@ use conf_types::{Constraint, TypedModel};
 use object_alloc::{Config, Leaf, Objects};
 use std::alloc::{AllocError, Global};
 
-/// What a configuration breaks first: sets stand before constraints, constraints in order of place, objects in order of allocation.
+/// What a configuration breaks first: sets stand before constraints, constraints in order of place,
+/// objects in order of allocation.
 #[derive(Clone, Copy, Debug, PartialEq, Eq)]
 pub enum BrokenAt {
-    /// A reference set of another size than its shape's. The number is that of its first cell, or the one that it would have.
+    /// A reference set of another size than its shape's. The number is that of its first cell, or
+    /// the one that it would have.
     SetSize { cell: u32 },
-    /// A constraint, by its number in order of place, and the object of its class for which it doesn't hold.
+    /// A constraint, by its number in order of place, and the object of its class for which it
+    /// doesn't hold.
     Constraint { index: u32, object: Option<u32> },
 }
 
@@ -74,7 +77,8 @@ fn cell_count(scene: &Scene<'_, '_>, leaf: &Leaf) -> usize
 /// The number of the first cell of the first reference set of another size than its shape's.
 fn wrong_set(scene: &Scene<'_, '_>) -> Option<u32>
     requires given { IsGiven scene.now.objects.now scene.now.values.now }
-    ensures set { result ≡ wrong_set scene.now.objects.now scene.now.values.now 0 (leaves_in (walk scene.now.objects.now)) }
+    ensures set { result ≡ wrong_set scene.now.objects.now scene.now.values.now 0
+        (leaves_in (walk scene.now.objects.now)) }
 {
     let mut cells = 0;
     for leaf in scene.objects.leaves() {
@@ -94,8 +98,10 @@ fn holds_for(
     this: Option<u32>,
 ) -> Result<bool, AllocError>
     requires given { IsGiven scene.now.objects.now scene.now.values.now }
-    requires expr { IsEvaluable scene.now.objects.now scene.now.values.now constraint.now.tree (setting scene.now.objects.now scene.now.values.now this) }
-    ensures holds { IfOk result (λ b. b ≡ holds_for scene.now.objects.now scene.now.values.now constraint.now this) }
+    requires expr { IsEvaluable scene.now.objects.now scene.now.values.now constraint.now.tree
+        (setting scene.now.objects.now scene.now.values.now this) }
+    ensures holds { IfOk result (λ b. b ≡ holds_for scene.now.objects.now scene.now.values.now
+        constraint.now this) }
 {
     let there = Scene {
         objects: scene.objects,
@@ -114,8 +120,11 @@ fn wrong_member(
     class: u32,
 ) -> Result<Option<u32>, AllocError>
     requires given { IsGiven scene.now.objects.now scene.now.values.now }
-    requires stated { IsStatedFor scene.now.objects.now scene.now.values.now constraint.now.tree (stated_for scene.now.objects.now (Some class)) }
-    ensures member { IfOk result (λ found. found ≡ first_failing (λ n. holds_for scene.now.objects.now scene.now.values.now constraint.now (Some n)) (extent scene.now.objects.now class)) }
+    requires stated { IsStatedFor scene.now.objects.now scene.now.values.now constraint.now.tree
+        (stated_for scene.now.objects.now (Some class)) }
+    ensures member { IfOk result (λ found. found
+        ≡ first_failing (λ n. holds_for scene.now.objects.now scene.now.values.now constraint.now
+        (Some n)) (extent scene.now.objects.now class)) }
 {
     let list = Members::Extent(class);
     for i in 0..slot_count(scene, &list) {
@@ -137,7 +146,8 @@ fn wrong_object(
 ) -> Result<Option<Option<u32>>, AllocError>
     requires given { IsGiven scene.now.objects.now scene.now.values.now }
     requires stated { IsStated scene.now.objects.now scene.now.values.now constraint.now }
-    ensures object { IfOk result (λ found. found ≡ wrong_object scene.now.objects.now scene.now.values.now constraint.now) }
+    ensures object { IfOk result (λ found. found ≡ wrong_object scene.now.objects.now
+        scene.now.values.now constraint.now) }
 {
     match constraint.class {
         Some(class) => {
@@ -163,7 +173,8 @@ fn wrong_constraint(
     requires given { IsGiven scene.now.objects.now scene.now.values.now }
     requires few { length constraints.now < 2 ^ 32 }
     requires stated { All (IsStated scene.now.objects.now scene.now.values.now) constraints.now }
-    ensures constraint { IfOk result (λ found. found ≡ wrong_constraint scene.now.objects.now scene.now.values.now 0 constraints.now) }
+    ensures constraint { IfOk result (λ found. found ≡ wrong_constraint scene.now.objects.now
+        scene.now.values.now 0 constraints.now) }
 {
     for i in 0..constraints.len() {
         if let Some(object) = wrong_object(alloc, scene, &constraints[i])? {
@@ -189,8 +200,10 @@ pub fn satisfied(
     requires narrow { model_narrow objects.now m.now.constraints m.now.goals ≡ true }
     requires config { IsConfiguration objects.now config.now }
     requires few { length m.now.constraints < 2 ^ 32 }
-    ensures none { IfOk result (λ found. IfNone found (Satisfies objects.now m.now.constraints config.now)) }
-    ensures broken { IfOk result (λ found. IfSome found (IsFirstBroken objects.now m.now.constraints config.now)) }
+    ensures none { IfOk result (λ found. IfNone found (Satisfies objects.now m.now.constraints
+        config.now)) }
+    ensures broken { IfOk result (λ found. IfSome found (IsFirstBroken objects.now m.now.constraints
+        config.now)) }
 {
     let _count = objects.count();
     let scene = Scene {

@@ -47,7 +47,8 @@ impl Numbers {
     }
 }
 
-/// The value of an expression of a model at a configuration, where the names in scope stand for these objects.
+/// The value of an expression of a model at a configuration, where the names in scope stand for
+/// these objects.
 ///
 /// It takes memory for quantifiers and lists alone.
 pub fn eval(
@@ -59,8 +60,10 @@ pub fn eval(
     e: &RExpr,
 ) -> Result<Value, AllocError>
     requires config { IsConfiguration objects.now config.now }
-    requires expr { IsEvaluable objects.now config.now (tree_of e.now) (env_setting objects.now config.now env.now) }
-    ensures value { IfOk result (λ v. v ≡ value (tree_of e.now) (env_setting objects.now config.now env.now)) }
+    requires expr { IsEvaluable objects.now config.now (tree_of e.now)
+        (env_setting objects.now config.now env.now) }
+    ensures value { IfOk result (λ v. v ≡ value (tree_of e.now) (env_setting objects.now config.now
+        env.now)) }
 {
     let _count = objects.count();
     let scene = Scene {
@@ -89,7 +92,8 @@ pub fn objectives(
     requires typed { IsTypedModel objects.now model.now.constraints model.now.goals }
     requires narrow { model_narrow objects.now model.now.constraints model.now.goals ≡ true }
     requires config { IsConfiguration objects.now config.now }
-    ensures values { IfOk result (λ numbers. numbers ≡ objectives objects.now model.now.goals config.now) }
+    ensures values { IfOk result (λ numbers. numbers ≡ objectives objects.now model.now.goals
+        config.now) }
 {
     let _count = objects.count();
     let scene = Scene {

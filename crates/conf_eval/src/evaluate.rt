@@ -1,7 +1,7 @@
 //! The values of expressions. The recursion is on the resolved tree.
 //!
-//! `value_at` is the entry. A quantifier and `in` look at the members of a list where they are kept (`members_at`); a list is made
-//! only where its value is asked for.
+//! `value_at` is the entry. A quantifier and `in` look at the members of a list where they are kept
+//! (`members_at`); a list is made only where its value is asked for.
 ghost use Rattle.std.specs.Prelude.{◌≡◌, ◌<◌, ◌^◌, ◌++◌, ◌∷◌, [], ℕ, List, All, true, false, Some, drop, length, map, neg_ℤ, not, IfOk, count_by};
 ghost use Rattle.std.specs.List.{list_all, list_any};
 ghost use Rattle.conf_types.specs.Trees.{tree_of, quant_tree, optional_tree, trees_of};
@@ -45,7 +45,8 @@ pub(crate) fn value_at(
     e: &RExpr,
 ) -> Result<Value, AllocError>
     requires given { IsGiven scene.now.objects.now scene.now.values.now }
-    requires expr { IsEvaluable scene.now.objects.now scene.now.values.now (tree_of e.now) (setting_at scene.now vars.now) }
+    requires expr { IsEvaluable scene.now.objects.now scene.now.values.now (tree_of e.now)
+        (setting_at scene.now vars.now) }
     ensures value { IfOk result (λ v. v ≡ value (tree_of e.now) (setting_at scene.now vars.now)) }
 {
     match &e.node {
@@ -91,8 +92,10 @@ fn minus_at(
     inner: &RExpr,
 ) -> Result<Value, AllocError>
     requires given { IsGiven scene.now.objects.now scene.now.values.now }
-    requires expr { IsEvaluable scene.now.objects.now scene.now.values.now (tree_of inner.now) (setting_at scene.now vars.now) }
-    ensures value { IfOk result (λ v. v ≡ Int (neg_ℤ (int_of (value (tree_of inner.now) (setting_at scene.now vars.now))))) }
+    requires expr { IsEvaluable scene.now.objects.now scene.now.values.now (tree_of inner.now)
+        (setting_at scene.now vars.now) }
+    ensures value { IfOk result (λ v. v
+        ≡ Int (neg_ℤ (int_of (value (tree_of inner.now) (setting_at scene.now vars.now))))) }
 {
     let v = value_at(alloc, scene, vars, inner)?;
     Ok(negated(&v))
@@ -107,8 +110,10 @@ fn not_at(
     inner: &RExpr,
 ) -> Result<Value, AllocError>
     requires given { IsGiven scene.now.objects.now scene.now.values.now }
-    requires expr { IsEvaluable scene.now.objects.now scene.now.values.now (tree_of inner.now) (setting_at scene.now vars.now) }
-    ensures value { IfOk result (λ v. v ≡ Truth (not (truth_of (value (tree_of inner.now) (setting_at scene.now vars.now))))) }
+    requires expr { IsEvaluable scene.now.objects.now scene.now.values.now (tree_of inner.now)
+        (setting_at scene.now vars.now) }
+    ensures value { IfOk result (λ v. v
+        ≡ Truth (not (truth_of (value (tree_of inner.now) (setting_at scene.now vars.now))))) }
 {
     let v = value_at(alloc, scene, vars, inner)?;
     Ok(Value::Truth(!truth_of(&v)))
@@ -125,9 +130,12 @@ fn dot_at(
     shape: Resolved,
 ) -> Result<Value, AllocError>
     requires given { IsGiven scene.now.objects.now scene.now.values.now }
-    requires expr { IsEvaluable scene.now.objects.now scene.now.values.now (tree_of inner.now) (setting_at scene.now vars.now) }
-    requires shape { HasShape scene.now.objects.now (Some (object_of (value (tree_of inner.now) (setting_at scene.now vars.now)))) k shape }
-    ensures value { IfOk result (λ v. v ≡ attribute_value scene.now.objects.now scene.now.values.now (Some (object_of (value (tree_of inner.now) (setting_at scene.now vars.now)))) k shape) }
+    requires expr { IsEvaluable scene.now.objects.now scene.now.values.now (tree_of inner.now)
+        (setting_at scene.now vars.now) }
+    requires shape { HasShape scene.now.objects.now
+        (Some (object_of (value (tree_of inner.now) (setting_at scene.now vars.now)))) k shape }
+    ensures value { IfOk result (λ v. v ≡ attribute_value scene.now.objects.now scene.now.values.now
+        (Some (object_of (value (tree_of inner.now) (setting_at scene.now vars.now)))) k shape) }
 {
     let v = value_at(alloc, scene, vars, inner)?;
     attribute_value(alloc, scene, Some(object_of(&v)), k, shape)
@@ -144,10 +152,16 @@ fn pair_at(
     right: &RExpr,
 ) -> Result<Value, AllocError>
     requires given { IsGiven scene.now.objects.now scene.now.values.now }
-    requires left { IsEvaluable scene.now.objects.now scene.now.values.now (tree_of left.now) (setting_at scene.now vars.now) }
-    requires right { IsEvaluable scene.now.objects.now scene.now.values.now (tree_of right.now) (setting_at scene.now vars.now) }
-    requires number { IsNarrow (int_of (operate op (value (tree_of left.now) (setting_at scene.now vars.now)) (value (tree_of right.now) (setting_at scene.now vars.now)))) }
-    ensures value { IfOk result (λ v. v ≡ operate op (value (tree_of left.now) (setting_at scene.now vars.now)) (value (tree_of right.now) (setting_at scene.now vars.now))) }
+    requires left { IsEvaluable scene.now.objects.now scene.now.values.now (tree_of left.now)
+        (setting_at scene.now vars.now) }
+    requires right { IsEvaluable scene.now.objects.now scene.now.values.now (tree_of right.now)
+        (setting_at scene.now vars.now) }
+    requires number { IsNarrow (int_of
+        (operate op (value (tree_of left.now) (setting_at scene.now vars.now))
+        (value (tree_of right.now) (setting_at scene.now vars.now)))) }
+    ensures value { IfOk result (λ v. v
+        ≡ operate op (value (tree_of left.now) (setting_at scene.now vars.now))
+        (value (tree_of right.now) (setting_at scene.now vars.now))) }
 {
     let v = value_at(alloc, scene, vars, left)?;
     if op == Op::In {
@@ -167,8 +181,10 @@ fn members_at<'a>(
     e: &RExpr,
 ) -> Result<Members<'a>, AllocError>
     requires given { IsGiven scene.now.objects.now scene.now.values.now }
-    requires expr { IsEvaluable scene.now.objects.now scene.now.values.now (tree_of e.now) (setting_at scene.now vars.now) }
-    ensures members { IfOk result (λ list. members scene.now.objects.now scene.now.values.now list ≡ objects_of (value (tree_of e.now) (setting_at scene.now vars.now))) }
+    requires expr { IsEvaluable scene.now.objects.now scene.now.values.now (tree_of e.now)
+        (setting_at scene.now vars.now) }
+    ensures members { IfOk result (λ list. members scene.now.objects.now scene.now.values.now list
+        ≡ objects_of (value (tree_of e.now) (setting_at scene.now vars.now))) }
 {
     match &e.node {
         RNode::Paren(inner) => members_at(alloc, scene, vars, inner),
@@ -199,8 +215,11 @@ fn dotted_at<'a>(
     shape: Resolved,
 ) -> Result<Members<'a>, AllocError>
     requires given { IsGiven scene.now.objects.now scene.now.values.now }
-    requires expr { IsEvaluable scene.now.objects.now scene.now.values.now (tree_of inner.now) (setting_at scene.now vars.now) }
-    ensures members { IfOk result (λ list. members scene.now.objects.now scene.now.values.now list ≡ objects_of (attribute_value scene.now.objects.now scene.now.values.now (Some (object_of (value (tree_of inner.now) (setting_at scene.now vars.now)))) k shape)) }
+    requires expr { IsEvaluable scene.now.objects.now scene.now.values.now (tree_of inner.now)
+        (setting_at scene.now vars.now) }
+    ensures members { IfOk result (λ list. members scene.now.objects.now scene.now.values.now list
+        ≡ objects_of (attribute_value scene.now.objects.now scene.now.values.now
+        (Some (object_of (value (tree_of inner.now) (setting_at scene.now vars.now)))) k shape)) }
 {
     let v = value_at(alloc, scene, vars, inner)?;
     Ok(listed(scene, Some(object_of(&v)), k, shape))
@@ -215,8 +234,10 @@ fn quant_at(
     quant: &RQuant,
 ) -> Result<Value, AllocError>
     requires given { IsGiven scene.now.objects.now scene.now.values.now }
-    requires expr { IsEvaluable scene.now.objects.now scene.now.values.now (quant_tree quant.now 0) (setting_at scene.now vars.now) }
-    ensures value { IfOk result (λ v. v ≡ value (quant_tree quant.now 0) (setting_at scene.now vars.now)) }
+    requires expr { IsEvaluable scene.now.objects.now scene.now.values.now (quant_tree quant.now 0)
+        (setting_at scene.now vars.now) }
+    ensures value { IfOk result (λ v. v ≡ value (quant_tree quant.now 0)
+        (setting_at scene.now vars.now)) }
 {
     parts_at(
         alloc,
@@ -241,8 +262,12 @@ fn parts_at(
     body: &[RExpr],
 ) -> Result<Value, AllocError>
     requires given { IsGiven scene.now.objects.now scene.now.values.now }
-    requires expr { IsEvaluable scene.now.objects.now scene.now.values.now (tree.Quant 0 kind (tree_of over.now) (optional_tree filter.now) (trees_of body.now)) (setting_at scene.now vars.now) }
-    ensures value { IfOk result (λ v. v ≡ value (tree.Quant 0 kind (tree_of over.now) (optional_tree filter.now) (trees_of body.now)) (setting_at scene.now vars.now)) }
+    requires expr { IsEvaluable scene.now.objects.now scene.now.values.now
+        (tree.Quant 0 kind (tree_of over.now) (optional_tree filter.now) (trees_of body.now))
+        (setting_at scene.now vars.now) }
+    ensures value { IfOk result (λ v. v
+        ≡ value (tree.Quant 0 kind (tree_of over.now) (optional_tree filter.now)
+        (trees_of body.now)) (setting_at scene.now vars.now)) }
 {
     let list = members_at(alloc, scene, vars, over)?;
     match kind {
@@ -284,8 +309,13 @@ fn forall_at(
     body: &[RExpr],
 ) -> Result<bool, AllocError>
     requires given { IsGiven scene.now.objects.now scene.now.values.now }
-    requires inner { AreInner scene.now.objects.now scene.now.values.now (optional_tree filter.now) (trees_of body.now) (setting_at scene.now vars.now) (members scene.now.objects.now scene.now.values.now list.now) }
-    ensures all { IfOk result (λ b. b ≡ list_all (λ x. holds (optional_tree filter.now) (trees_of body.now) true (bind (setting_at scene.now vars.now) x)) (members scene.now.objects.now scene.now.values.now list.now)) }
+    requires inner { AreInner scene.now.objects.now scene.now.values.now (optional_tree filter.now)
+        (trees_of body.now) (setting_at scene.now vars.now) (members scene.now.objects.now
+        scene.now.values.now list.now) }
+    ensures all { IfOk result (λ b. b
+        ≡ list_all (λ x. holds (optional_tree filter.now) (trees_of body.now) true
+        (bind (setting_at scene.now vars.now) x)) (members scene.now.objects.now
+        scene.now.values.now list.now)) }
 {
     let mut inner = with_room(alloc, vars)?;
     for i in 0..slot_count(scene, list) {
@@ -311,8 +341,13 @@ fn exists_at(
     body: &[RExpr],
 ) -> Result<bool, AllocError>
     requires given { IsGiven scene.now.objects.now scene.now.values.now }
-    requires inner { AreInner scene.now.objects.now scene.now.values.now (optional_tree filter.now) (trees_of body.now) (setting_at scene.now vars.now) (members scene.now.objects.now scene.now.values.now list.now) }
-    ensures some { IfOk result (λ b. b ≡ list_any (λ x. holds (optional_tree filter.now) (trees_of body.now) false (bind (setting_at scene.now vars.now) x)) (members scene.now.objects.now scene.now.values.now list.now)) }
+    requires inner { AreInner scene.now.objects.now scene.now.values.now (optional_tree filter.now)
+        (trees_of body.now) (setting_at scene.now vars.now) (members scene.now.objects.now
+        scene.now.values.now list.now) }
+    ensures some { IfOk result (λ b. b
+        ≡ list_any (λ x. holds (optional_tree filter.now) (trees_of body.now) false
+        (bind (setting_at scene.now vars.now) x)) (members scene.now.objects.now
+        scene.now.values.now list.now)) }
 {
     let mut inner = with_room(alloc, vars)?;
     for i in 0..slot_count(scene, list) {
@@ -338,8 +373,13 @@ fn count_at(
     body: &[RExpr],
 ) -> Result<usize, AllocError>
     requires given { IsGiven scene.now.objects.now scene.now.values.now }
-    requires inner { AreInner scene.now.objects.now scene.now.values.now (optional_tree filter.now) (trees_of body.now) (setting_at scene.now vars.now) (members scene.now.objects.now scene.now.values.now list.now) }
-    ensures count { IfOk result (λ n. n ≡ count_by (λ x. holds (optional_tree filter.now) (trees_of body.now) false (bind (setting_at scene.now vars.now) x)) (members scene.now.objects.now scene.now.values.now list.now)) }
+    requires inner { AreInner scene.now.objects.now scene.now.values.now (optional_tree filter.now)
+        (trees_of body.now) (setting_at scene.now vars.now) (members scene.now.objects.now
+        scene.now.values.now list.now) }
+    ensures count { IfOk result (λ n. n
+        ≡ count_by (λ x. holds (optional_tree filter.now) (trees_of body.now) false
+        (bind (setting_at scene.now vars.now) x)) (members scene.now.objects.now
+        scene.now.values.now list.now)) }
 {
     let mut inner = with_room(alloc, vars)?;
     let mut count = 0;
@@ -365,9 +405,17 @@ fn sum_at(
     body: &[RExpr],
 ) -> Result<Sum, AllocError>
     requires given { IsGiven scene.now.objects.now scene.now.values.now }
-    requires inner { AreInner scene.now.objects.now scene.now.values.now (optional_tree filter.now) (trees_of body.now) (setting_at scene.now vars.now) (members scene.now.objects.now scene.now.values.now list.now) }
-    requires small { (i : ℕ) → IsNarrow (total (map (λ x. term_of (optional_tree filter.now) (trees_of body.now) (bind (setting_at scene.now vars.now) x)) (held (drop i (slots scene.now.objects.now scene.now.values.now list.now))))) }
-    ensures sum { IfOk result (λ sum. sum.value ≡ total (map (λ x. term_of (optional_tree filter.now) (trees_of body.now) (bind (setting_at scene.now vars.now) x)) (members scene.now.objects.now scene.now.values.now list.now))) }
+    requires inner { AreInner scene.now.objects.now scene.now.values.now (optional_tree filter.now)
+        (trees_of body.now) (setting_at scene.now vars.now) (members scene.now.objects.now
+        scene.now.values.now list.now) }
+    requires small { (i : ℕ) → IsNarrow
+        (total (map (λ x. term_of (optional_tree filter.now) (trees_of body.now)
+        (bind (setting_at scene.now vars.now) x))
+        (held (drop i (slots scene.now.objects.now scene.now.values.now list.now))))) }
+    ensures sum { IfOk result (λ sum. sum.value
+        ≡ total (map (λ x. term_of (optional_tree filter.now) (trees_of body.now)
+        (bind (setting_at scene.now vars.now) x)) (members scene.now.objects.now
+        scene.now.values.now list.now))) }
 {
     let mut inner = with_room(alloc, vars)?;
     let mut sum = Sum { value: 0 };
@@ -392,8 +440,12 @@ fn firsts_at(
     body: &[RExpr],
 ) -> Result<Vec<Value>, AllocError>
     requires given { IsGiven scene.now.objects.now scene.now.values.now }
-    requires inner { All (λ x. AllEvaluable scene.now.objects.now scene.now.values.now (trees_of body.now) (bind (setting_at scene.now vars.now) x)) (members scene.now.objects.now scene.now.values.now list.now) }
-    ensures values { IfOk result (λ values. values.items ≡ map (λ x. first_of (values_of (trees_of body.now) (bind (setting_at scene.now vars.now) x))) (members scene.now.objects.now scene.now.values.now list.now)) }
+    requires inner { All (λ x. AllEvaluable scene.now.objects.now scene.now.values.now
+        (trees_of body.now) (bind (setting_at scene.now vars.now) x)) (members scene.now.objects.now
+        scene.now.values.now list.now) }
+    ensures values { IfOk result (λ values. values.items
+        ≡ map (λ x. first_of (values_of (trees_of body.now) (bind (setting_at scene.now vars.now)
+        x))) (members scene.now.objects.now scene.now.values.now list.now)) }
 {
     let mut inner = with_room(alloc, vars)?;
     let mut values = Vec::new(alloc);
@@ -418,8 +470,12 @@ fn items_at(
     body: &[RExpr],
 ) -> Result<Vec<Item>, AllocError>
     requires given { IsGiven scene.now.objects.now scene.now.values.now }
-    requires inner { All (λ x. AllEvaluable scene.now.objects.now scene.now.values.now (trees_of body.now) (bind (setting_at scene.now vars.now) x)) (members scene.now.objects.now scene.now.values.now list.now) }
-    ensures items { IfOk result (λ items. map item_view items.items ≡ map (λ x. item_of (values_of (trees_of body.now) (bind (setting_at scene.now vars.now) x))) (members scene.now.objects.now scene.now.values.now list.now)) }
+    requires inner { All (λ x. AllEvaluable scene.now.objects.now scene.now.values.now
+        (trees_of body.now) (bind (setting_at scene.now vars.now) x)) (members scene.now.objects.now
+        scene.now.values.now list.now) }
+    ensures items { IfOk result (λ items. map item_view items.items
+        ≡ map (λ x. item_of (values_of (trees_of body.now) (bind (setting_at scene.now vars.now)
+        x))) (members scene.now.objects.now scene.now.values.now list.now)) }
 {
     let mut inner = with_room(alloc, vars)?;
     let mut items = Vec::new(alloc);
@@ -445,9 +501,12 @@ fn holds_at(
     otherwise: bool,
 ) -> Result<bool, AllocError>
     requires given { IsGiven scene.now.objects.now scene.now.values.now }
-    requires filter { IsEvaluableFilter scene.now.objects.now scene.now.values.now (optional_tree filter.now) (setting_at scene.now vars.now) }
-    requires bodies { AllEvaluable scene.now.objects.now scene.now.values.now (trees_of body.now) (setting_at scene.now vars.now) }
-    ensures holds { IfOk result (λ b. b ≡ holds (optional_tree filter.now) (trees_of body.now) otherwise (setting_at scene.now vars.now)) }
+    requires filter { IsEvaluableFilter scene.now.objects.now scene.now.values.now
+        (optional_tree filter.now) (setting_at scene.now vars.now) }
+    requires bodies { AllEvaluable scene.now.objects.now scene.now.values.now (trees_of body.now)
+        (setting_at scene.now vars.now) }
+    ensures holds { IfOk result (λ b. b ≡ holds (optional_tree filter.now) (trees_of body.now)
+        otherwise (setting_at scene.now vars.now)) }
 {
     if keeps_at(alloc, scene, vars, filter)? {
         all_true_at(alloc, scene, vars, body)
@@ -466,9 +525,12 @@ fn term_at(
     body: &[RExpr],
 ) -> Result<Sum, AllocError>
     requires given { IsGiven scene.now.objects.now scene.now.values.now }
-    requires filter { IsEvaluableFilter scene.now.objects.now scene.now.values.now (optional_tree filter.now) (setting_at scene.now vars.now) }
-    requires bodies { AllEvaluable scene.now.objects.now scene.now.values.now (trees_of body.now) (setting_at scene.now vars.now) }
-    ensures term { IfOk result (λ sum. sum.value ≡ term_of (optional_tree filter.now) (trees_of body.now) (setting_at scene.now vars.now)) }
+    requires filter { IsEvaluableFilter scene.now.objects.now scene.now.values.now
+        (optional_tree filter.now) (setting_at scene.now vars.now) }
+    requires bodies { AllEvaluable scene.now.objects.now scene.now.values.now (trees_of body.now)
+        (setting_at scene.now vars.now) }
+    ensures term { IfOk result (λ sum. sum.value ≡ term_of (optional_tree filter.now)
+        (trees_of body.now) (setting_at scene.now vars.now)) }
 {
     if keeps_at(alloc, scene, vars, filter)? {
         let v = first_at(alloc, scene, vars, body)?;
@@ -487,8 +549,10 @@ fn keeps_at(
     filter: &Option<RExpr>,
 ) -> Result<bool, AllocError>
     requires given { IsGiven scene.now.objects.now scene.now.values.now }
-    requires filter { IsEvaluableFilter scene.now.objects.now scene.now.values.now (optional_tree filter.now) (setting_at scene.now vars.now) }
-    ensures keeps { IfOk result (λ b. b ≡ keeps (optional_tree filter.now) (setting_at scene.now vars.now)) }
+    requires filter { IsEvaluableFilter scene.now.objects.now scene.now.values.now
+        (optional_tree filter.now) (setting_at scene.now vars.now) }
+    ensures keeps { IfOk result (λ b. b ≡ keeps (optional_tree filter.now)
+        (setting_at scene.now vars.now)) }
 {
     match filter {
         Some(test) => {
@@ -508,8 +572,10 @@ fn all_true_at(
     body: &[RExpr],
 ) -> Result<bool, AllocError>
     requires given { IsGiven scene.now.objects.now scene.now.values.now }
-    requires bodies { AllEvaluable scene.now.objects.now scene.now.values.now (trees_of body.now) (setting_at scene.now vars.now) }
-    ensures all { IfOk result (λ b. b ≡ all_true (values_of (trees_of body.now) (setting_at scene.now vars.now))) }
+    requires bodies { AllEvaluable scene.now.objects.now scene.now.values.now (trees_of body.now)
+        (setting_at scene.now vars.now) }
+    ensures all { IfOk result (λ b. b
+        ≡ all_true (values_of (trees_of body.now) (setting_at scene.now vars.now))) }
 {
     for e in body {
         let v = value_at(alloc, scene, vars, e)?;
@@ -529,8 +595,10 @@ fn first_at(
     body: &[RExpr],
 ) -> Result<Value, AllocError>
     requires given { IsGiven scene.now.objects.now scene.now.values.now }
-    requires bodies { AllEvaluable scene.now.objects.now scene.now.values.now (trees_of body.now) (setting_at scene.now vars.now) }
-    ensures value { IfOk result (λ v. v ≡ first_of (values_of (trees_of body.now) (setting_at scene.now vars.now))) }
+    requires bodies { AllEvaluable scene.now.objects.now scene.now.values.now (trees_of body.now)
+        (setting_at scene.now vars.now) }
+    ensures value { IfOk result (λ v. v
+        ≡ first_of (values_of (trees_of body.now) (setting_at scene.now vars.now))) }
 {
     match body.first() {
         Some(e) => value_at(alloc, scene, vars, e),
@@ -548,8 +616,10 @@ fn number_at(
     n: usize,
 ) -> Result<Sum, AllocError>
     requires given { IsGiven scene.now.objects.now scene.now.values.now }
-    requires bodies { AllEvaluable scene.now.objects.now scene.now.values.now (trees_of body.now) (setting_at scene.now vars.now) }
-    ensures number { IfOk result (λ sum. sum.value ≡ number_of (trees_of body.now) n (setting_at scene.now vars.now)) }
+    requires bodies { AllEvaluable scene.now.objects.now scene.now.values.now (trees_of body.now)
+        (setting_at scene.now vars.now) }
+    ensures number { IfOk result (λ sum. sum.value ≡ number_of (trees_of body.now) n
+        (setting_at scene.now vars.now)) }
 {
     match body.get(n) {
         Some(e) => {
@@ -569,8 +639,10 @@ fn item_at(
     body: &[RExpr],
 ) -> Result<Item, AllocError>
     requires given { IsGiven scene.now.objects.now scene.now.values.now }
-    requires bodies { AllEvaluable scene.now.objects.now scene.now.values.now (trees_of body.now) (setting_at scene.now vars.now) }
-    ensures item { IfOk result (λ item. item_view item ≡ item_of (values_of (trees_of body.now) (setting_at scene.now vars.now))) }
+    requires bodies { AllEvaluable scene.now.objects.now scene.now.values.now (trees_of body.now)
+        (setting_at scene.now vars.now) }
+    ensures item { IfOk result (λ item. item_view item
+        ≡ item_of (values_of (trees_of body.now) (setting_at scene.now vars.now))) }
 {
     let place = first_at(alloc, scene, vars, body)?;
     let size = number_at(alloc, scene, vars, body, 1)?;
@@ -590,7 +662,8 @@ fn with_room(alloc: Global, vars: &[u32]) -> Result<Vec<u32>, AllocError>
 
 /// Sets the innermost variable.
 fn set_last(inner: &mut Vec<u32>, x: u32)
-    ensures set { (outer : List ℕ) → IsRoom outer inner.old.items → inner.new.items ≡ outer ++ x ∷ [] }
+    ensures set { (outer : List ℕ) → IsRoom outer inner.old.items → inner.new.items ≡ outer
+        ++ x ∷ [] }
 {
     let count = inner.len();
     if count > 0 {

@@ -1,8 +1,10 @@
-//! The meaning of a model: the value of an expression at a configuration, and which configurations satisfy the model.
+//! The meaning of a model: the value of an expression at a configuration, and which configurations
+//! satisfy the model.
 //!
-//! `eval` gives the value of an expression, `satisfied` what is broken first, `objectives` the values of the objectives. `laws`
-//! has what holds of all values. What refuses models whose expressions may cost too much, or may have numbers that are too
-//! large, is `conf_limits`, and passed on.
+//! `eval` gives the value of an expression, `satisfied` what is broken first, `objectives` the
+//! values of the objectives. `laws` has what holds of all values. What refuses models whose
+//! expressions may cost too much, or may have numbers that are too large, is `conf_limits`, and
+//! passed on.
 #![tactic(auto)]
 
 mod attributes;

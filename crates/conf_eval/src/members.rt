@@ -32,7 +32,8 @@ pub(crate) fn listed<'a>(
     k: u32,
     shape: Resolved,
 ) -> Members<'a>
-    ensures members { members scene.now.objects.now scene.now.values.now result ≡ objects_of (attribute_value scene.now.objects.now scene.now.values.now owner k shape) }
+    ensures members { members scene.now.objects.now scene.now.values.now result
+        ≡ objects_of (attribute_value scene.now.objects.now scene.now.values.now owner k shape) }
 {
     match shape {
         Resolved::Many(_, _) => Members::Parts(scene.objects.parts(owner, k)),
@@ -72,7 +73,8 @@ pub(crate) fn chosen_at(scene: &Scene<'_, '_>, cell: u32) -> Option<u32>
 
 /// The object of this number, where it is of the extent of a class.
 fn extent_slot(scene: &Scene<'_, '_>, class: u32, i: usize) -> Option<u32>
-    ensures slot { result ≡ slice_index_or (extent_slots scene.now.objects.now.classes class 0 (all_objects scene.now.objects.now)) i None }
+    ensures slot { result ≡ slice_index_or (extent_slots scene.now.objects.now.classes class 0
+        (all_objects scene.now.objects.now)) i None }
 {
     if i >= scene.objects.count() as usize {
         return None;
@@ -88,7 +90,8 @@ fn extent_slot(scene: &Scene<'_, '_>, class: u32, i: usize) -> Option<u32>
 /// What a slot of a list holds; None behind the last one.
 #[tactic(auto, using(crate::proofs::ListingLaws::some_slot, crate::proofs::ListingLaws::mapped_none, crate::proofs::ListingLaws::mapped_some))]
 pub(crate) fn slot(scene: &Scene<'_, '_>, list: &Members<'_>, i: usize) -> Option<u32>
-    ensures slot { result ≡ slice_index_or (slots scene.now.objects.now scene.now.values.now list.now) i None }
+    ensures slot { result ≡ slice_index_or (slots scene.now.objects.now scene.now.values.now
+        list.now) i None }
 {
     match list {
         Members::Extent(class) => extent_slot(scene, *class, i),
@@ -103,7 +106,8 @@ pub(crate) fn slot(scene: &Scene<'_, '_>, list: &Members<'_>, i: usize) -> Optio
 
 /// Whether an object is a member.
 pub(crate) fn has_member(scene: &Scene<'_, '_>, list: &Members<'_>, object: u32) -> bool
-    ensures member { result ≡ list_any (nat_eq object) (members scene.now.objects.now scene.now.values.now list.now) }
+    ensures member { result ≡ list_any (nat_eq object) (members scene.now.objects.now
+        scene.now.values.now list.now) }
 {
     for i in 0..slot_count(scene, list) {
         if slot(scene, list, i) == Some(object) {

@@ -1,4 +1,5 @@
-//! What is made of the values at the members of a list: sums, differing values, and items that are packed.
+//! What is made of the values at the members of a list: sums, differing values, and items that are
+//! packed.
 ghost use Rattle.std.specs.Prelude.{◌≡◌, ◌+◌, ◌<◌, ◌^◌, ◌+ℤ◌, ℕ, cond, drop, map, not, pos};
 ghost use Rattle.std.specs.List.{list_any};
 ghost use Rattle.conf_eval.specs.declared.value.Value.{Value as AValue};
@@ -115,7 +116,8 @@ fn load(place: &Value, items: &[Item]) -> Sum
 
 /// Whether for each item the sizes at its place add up to at most its room.
 pub(crate) fn fits_all(items: &[Item]) -> bool
-    requires small { (place : AValue) → (i : ℕ) → IsNarrow (load place (drop i (map item_view items.now))) }
+    requires small { (place : AValue) → (i : ℕ)
+        → IsNarrow (load place (drop i (map item_view items.now))) }
     ensures fits { result ≡ fits_all (map item_view items.now) (map item_view items.now) }
 {
     for item in items {

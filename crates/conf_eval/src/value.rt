@@ -18,7 +18,8 @@ pub enum Value {
     Objects(ObjectList),
 }
 
-/// The objects of the names in scope: `this`, and the variables of the quantifiers round an expression, the innermost last.
+/// The objects of the names in scope: `this`, and the variables of the quantifiers round an
+/// expression, the innermost last.
 #[derive(Drop)]
 pub struct Env {
     pub this_object: Option<u32>,
@@ -77,7 +78,8 @@ pub(crate) fn is_listed(value: &Value, object: u32) -> bool
     }
 }
 
-/// Whether two values are equal: numbers, truth values, values of one enumeration, or the same object.
+/// Whether two values are equal: numbers, truth values, values of one enumeration, or the same
+/// object.
 pub(crate) fn same_value(left: &Value, right: &Value) -> bool
     ensures same { result ≡ same_value left.now right.now }
 {

@@ -40,13 +40,19 @@ IsGround (GoalOf p m) = IsProgram p
 
 abbrev pub corner_front : Corner → List Token
 corner_front (HomeAt h) = home_front h
-corner_front (Enums p w vs) = program_tokens p ++ (Key key.Enum ∷ Word w ∷ Mark mark.OpenBrace ∷ values_tokens vs)
-corner_front (ClassHead p a w) = program_tokens p ++ (abstract_tokens a ++ (Key key.Class ∷ Word w ∷ []))
+corner_front (Enums p w vs) =
+    program_tokens p ++ (Key key.Enum ∷ Word w ∷ Mark mark.OpenBrace ∷ values_tokens vs)
+corner_front (ClassHead p a w) =
+    program_tokens p ++ (abstract_tokens a ++ (Key key.Class ∷ Word w ∷ []))
 corner_front (ShapeAt h w) = home_front h ++ (Key key.Var ∷ Word w ∷ Key key.As ∷ [])
-corner_front (HighAt h w low) = home_front h ++ (Key key.Var ∷ Word w ∷ Key key.As ∷ (end_tokens low ++ (Mark mark.DotDot ∷ [])))
-corner_front (CountAt h w r v) = home_front h ++ (Key key.Var ∷ Word w ∷ Key key.As ∷ (ref_tokens r ++ (Word v ∷ [])))
+corner_front (HighAt h w low) =
+    home_front h ++ (Key key.Var ∷ Word w ∷ Key key.As ∷ (end_tokens low
+    ++ (Mark mark.DotDot ∷ [])))
+corner_front (CountAt h w r v) =
+    home_front h ++ (Key key.Var ∷ Word w ∷ Key key.As ∷ (ref_tokens r ++ (Word v ∷ [])))
 corner_front (WhereAt h) = home_front h ++ (Key key.Where ∷ [])
-corner_front (BracesAt h es) = home_front h ++ (Key key.Where ∷ Mark mark.OpenBrace ∷ exprs_tokens es)
+corner_front (BracesAt h es) =
+    home_front h ++ (Key key.Where ∷ Mark mark.OpenBrace ∷ exprs_tokens es)
 
 abbrev pub corner_back : Corner → List Token
 corner_back (HomeAt h) = home_back h
@@ -71,17 +77,25 @@ IsCorner (BracesAt h es) = IsHome h × AreExprs es
 -- what stands before a row
 abbrev pub line_front : Line → List Token
 line_front (EnumLine p) = program_tokens p ++ (Key key.Enum ∷ [])
-line_front (ValueLine p w vs) = program_tokens p ++ (Key key.Enum ∷ Word w ∷ Mark mark.OpenBrace ∷ (values_tokens vs ++ (Mark mark.Comma ∷ [])))
+line_front (ValueLine p w vs) =
+    program_tokens p ++ (Key key.Enum ∷ Word w ∷ Mark mark.OpenBrace ∷ (values_tokens vs
+    ++ (Mark mark.Comma ∷ [])))
 line_front (AbstractLine p) = program_tokens p ++ (Key key.Abstract ∷ [])
 line_front (ClassLine p) = program_tokens p ++ (Key key.Class ∷ [])
-line_front (ParentLine p a w) = program_tokens p ++ (abstract_tokens a ++ (Key key.Class ∷ Word w ∷ Key key.Extends ∷ []))
+line_front (ParentLine p a w) =
+    program_tokens p ++ (abstract_tokens a ++ (Key key.Class ∷ Word w ∷ Key key.Extends ∷ []))
 line_front (VarLine h) = home_front h ++ (Key key.Var ∷ [])
-line_front (LowLine h w) = home_front h ++ (Key key.Var ∷ Word w ∷ Key key.As ∷ Mark mark.Minus ∷ [])
+line_front (LowLine h w) =
+    home_front h ++ (Key key.Var ∷ Word w ∷ Key key.As ∷ Mark mark.Minus ∷ [])
 line_front (DotsLine h w n) = home_front h ++ (Key key.Var ∷ Word w ∷ Key key.As ∷ Number n ∷ [])
-line_front (HighLine h w low) = home_front h ++ (Key key.Var ∷ Word w ∷ Key key.As ∷ (end_tokens low ++ (Mark mark.DotDot ∷ Mark mark.Minus ∷ [])))
+line_front (HighLine h w low) =
+    home_front h ++ (Key key.Var ∷ Word w ∷ Key key.As ∷ (end_tokens low
+    ++ (Mark mark.DotDot ∷ Mark mark.Minus ∷ [])))
 line_front (EndLine h w s) = home_front h ++ (Key key.Var ∷ Word w ∷ Key key.As ∷ shape_tokens s)
 line_front (RefLine h w) = home_front h ++ (Key key.Var ∷ Word w ∷ Key key.As ∷ Key key.Ref ∷ [])
-line_front (CountLine h w r v) = home_front h ++ (Key key.Var ∷ Word w ∷ Key key.As ∷ (ref_tokens r ++ (Word v ∷ Mark mark.OpenBracket ∷ [])))
+line_front (CountLine h w r v) =
+    home_front h ++ (Key key.Var ∷ Word w ∷ Key key.As ∷ (ref_tokens r
+    ++ (Word v ∷ Mark mark.OpenBracket ∷ [])))
 
 -- the program that stands around a row
 abbrev pub line_done : Line → Program
@@ -104,7 +118,9 @@ IsArrival tokens n c = (corner_front c ≡ tokens) × (nesting (corner_done c) �
 
 -- whatever the wanted pieces are, the row leads to its corner
 abbrev pub IsRow : List Piece → List Token → Line → Type 0
-IsRow ws read l = (ts : List Token) → takes_all ws ts ≡ true → IsArrival (line_front l ++ (read ++ ts)) (nesting (line_done l)) (arrive l (read ++ ts))
+IsRow ws read l =
+    (ts : List Token) → takes_all ws ts ≡ true → IsArrival (line_front l ++ (read ++ ts))
+    (nesting (line_done l)) (arrive l (read ++ ts))
 
 -- the tokens that were read before the hole
 abbrev pub front_of : Frame → List Token
@@ -204,8 +220,11 @@ back (Row ws read l) = leasts ws ++ corner_back (arrive l (read ++ leasts ws))
 back (Need p fs) = Word word ∷ after fs p
 back (Have p fs v) = after fs p
 back (Dotted p fs v) = Word word ∷ after fs p
-back (VarAt p fs k) = Word word ∷ Key key.In ∷ Word word ∷ Mark mark.OpenBrace ∷ Word word ∷ (opened_back k ++ after fs p)
-back (NamedAt p fs k w) = Key key.In ∷ Word word ∷ Mark mark.OpenBrace ∷ Word word ∷ (opened_back k ++ after fs p)
+back (VarAt p fs k) =
+    Word word ∷ Key key.In ∷ Word word ∷ Mark mark.OpenBrace ∷ Word word ∷ (opened_back k
+    ++ after fs p)
+back (NamedAt p fs k w) =
+    Key key.In ∷ Word word ∷ Mark mark.OpenBrace ∷ Word word ∷ (opened_back k ++ after fs p)
 back (Next p fs b) = closing_of (quant b) (bodies b) ++ after fs p
 
 -- a state that a token leads to: one token more, nothing less
@@ -216,5 +235,8 @@ GoesOn tokens n (Some s) = (front s ≡ tokens) × (n ≤ nesting (completed s))
 -- what an outcome says of the tokens
 abbrev pub IsReading : ℕ → List Token → Outcome → Type 0
 IsReading most tokens (Whole p) = IsProgramIn most tokens p
-IsReading most tokens (Wrong rest) = (front : List Token) × (tokens ≡ front ++ rest) × IsBegunIn most front × IsRefused front rest
-IsReading most tokens (Deep rest) = (front : List Token) × (tokens ≡ front ++ rest) × IsBegunIn most front × IsTooDeep most front rest
+IsReading most tokens (Wrong rest) =
+    (front : List Token) × (tokens ≡ front ++ rest) × IsBegunIn most front × IsRefused front rest
+IsReading most tokens (Deep rest) =
+    (front : List Token) × (tokens ≡ front ++ rest) × IsBegunIn most front
+    × IsTooDeep most front rest

@@ -54,7 +54,8 @@ next_at b = λ p fs. Next p fs b
 
 -- one place with its tokens is as good as the other with its own
 pub record Leads (least room : ℕ) (s : Place) (tokens : List Token) (s' : Place) (rest : List Token) : Type 0 where
-  pub is : (p : Ground) (fs : List Frame) → Fits p fs least room → reading tokens most_nesting (s p fs) ≡ reading rest most_nesting (s' p fs)
+  pub is : (p : Ground) (fs : List Frame) → Fits p fs least room → reading tokens most_nesting
+      (s p fs) ≡ reading rest most_nesting (s' p fs)
 
 -- an outcome, with the number of tokens that are left
 pub data Shown : Type 0 where
@@ -68,7 +69,8 @@ shown (Wrong rest) = WrongAt (length rest)
 shown (Deep rest) = DeepAt (length rest)
 
 pub record Refuses (least room : ℕ) (s : Place) (tokens : List Token) (out : Shown) : Type 0 where
-  pub is : (p : Ground) (fs : List Frame) → Fits p fs least room → shown (reading tokens most_nesting (s p fs)) ≡ out
+  pub is : (p : Ground) (fs : List Frame) → Fits p fs least room
+      → shown (reading tokens most_nesting (s p fs)) ≡ out
 
 -- whether the rest goes on with a tree
 abbrev pub goes_on : ℕ → ℕ → List Token → Bool
@@ -78,7 +80,8 @@ goes_on least n (token ∷ rest) = goes least n token
 -- Declarations: what stands around them is a home or a program that isn't too deep
 
 pub record Turns {A : Type 0} (low : A → ℕ) (s : A → State) (tokens : List Token) (s' : A → State) (rest : List Token) : Type 0 where
-  pub is : (a : A) → low a ≤ most_nesting → reading tokens most_nesting (s a) ≡ reading rest most_nesting (s' a)
+  pub is : (a : A) → low a ≤ most_nesting → reading tokens most_nesting (s a)
+      ≡ reading rest most_nesting (s' a)
 
 pub record Fails {A : Type 0} (low : A → ℕ) (s : A → State) (tokens : List Token) (out : Shown) : Type 0 where
   pub is : (a : A) → low a ≤ most_nesting → shown (reading tokens most_nesting (s a)) ≡ out
@@ -90,7 +93,8 @@ home_low h = nesting (home_done h)
 abbrev pub missed : List Piece → List Token → Option ℕ
 missed [] tokens = None
 missed (w ∷ ws) [] = Some 0
-missed (w ∷ ws) (token ∷ rest) = cond (takes w token) (missed ws rest) (Some (length (token ∷ rest)))
+missed (w ∷ ws) (token ∷ rest) =
+    cond (takes w token) (missed ws rest) (Some (length (token ∷ rest)))
 
 -- the first token is another
 abbrev pub IsNot : Token → List Token → Type 0

@@ -137,7 +137,8 @@ arrive (ParentLine p a w) (Word v ∷ t ∷ []) = HomeAt (InClass p a w (Some v)
 arrive (VarLine h) (Word w ∷ t ∷ []) = ShapeAt h w
 arrive (LowLine h w) (Number n ∷ t ∷ []) = HighAt h w (EndOf true n)
 arrive (DotsLine h w n) (t ∷ []) = HighAt h w (EndOf false n)
-arrive (HighLine h w low) (Number n ∷ t ∷ []) = HomeAt (home_with h (Var w (Range low (EndOf true n))))
+arrive (HighLine h w low) (Number n ∷ t ∷ []) =
+    HomeAt (home_with h (Var w (Range low (EndOf true n))))
 arrive (EndLine h w s) (t ∷ []) = HomeAt (home_with h (Var w s))
 arrive (RefLine h w) (Word v ∷ []) = CountAt h w true v
 arrive (CountLine h w r v) (Number n ∷ t ∷ u ∷ []) = HomeAt (home_with h (Var w (Counted r v n)))
@@ -152,7 +153,8 @@ settle (w ∷ ws) read l = Row (w ∷ ws) read l
 
 abbrev pub row_step : List Piece → List Token → Line → Token → Option State
 row_step [] read l token = None
-row_step (w ∷ ws) read l token = cond (takes w token) (Some (settle ws (read ++ (token ∷ [])) l)) None
+row_step (w ∷ ws) read l token =
+    cond (takes w token) (Some (settle ws (read ++ (token ∷ [])) l)) None
 
 -- Expressions
 
@@ -265,14 +267,26 @@ single p fs h v _ = None
 -- a token behind a whole tree: it goes on with it, or with what is around it
 abbrev pub have : List Frame → Ground → Tree → Token → Option State
 have [] p v token = cond (goes 1 (level v) token) (Some (gone p [] v token)) (ends p v token)
-have (InRight o l ∷ fs) p v token = cond (goes (right_level o) (level v) token) (Some (gone p (InRight o l ∷ fs) v token)) (have fs p (Two o l v) token)
-have (InUnder s ∷ fs) p v token = cond (goes (sign_level s) (level v) token) (Some (gone p (InUnder s ∷ fs) v token)) (have fs p (Under s v) token)
-have (InRound ∷ fs) p v token = cond (goes 1 (level v) token) (Some (gone p (InRound ∷ fs) v token)) (closes p fs v token)
-have (InOver k w ∷ fs) p v token = cond (goes 11 (level v) token) (Some (gone p (InOver k w ∷ fs) v token)) (over p fs k w v token)
-have (InFilter h ∷ fs) p v token = cond (goes 1 (level v) token) (Some (gone p (InFilter h ∷ fs) v token)) (filters p fs h v token)
-have (InFirst h ∷ fs) p v token = cond (goes 1 (level v) token) (Some (gone p (InFirst h ∷ fs) v token)) (next p fs (First h v) token)
-have (InSingle h ∷ fs) p v token = cond (goes 1 (level v) token) (Some (gone p (InSingle h ∷ fs) v token)) (single p fs h v token)
-have (InThen b ∷ fs) p v token = cond (goes 1 (level v) token) (Some (gone p (InThen b ∷ fs) v token)) (next p fs (Then b v) token)
+have (InRight o l ∷ fs) p v token =
+    cond (goes (right_level o) (level v) token) (Some (gone p (InRight o l ∷ fs) v token))
+    (have fs p (Two o l v) token)
+have (InUnder s ∷ fs) p v token =
+    cond (goes (sign_level s) (level v) token) (Some (gone p (InUnder s ∷ fs) v token))
+    (have fs p (Under s v) token)
+have (InRound ∷ fs) p v token =
+    cond (goes 1 (level v) token) (Some (gone p (InRound ∷ fs) v token)) (closes p fs v token)
+have (InOver k w ∷ fs) p v token =
+    cond (goes 11 (level v) token) (Some (gone p (InOver k w ∷ fs) v token)) (over p fs k w v token)
+have (InFilter h ∷ fs) p v token =
+    cond (goes 1 (level v) token) (Some (gone p (InFilter h ∷ fs) v token)) (filters p fs h v token)
+have (InFirst h ∷ fs) p v token =
+    cond (goes 1 (level v) token) (Some (gone p (InFirst h ∷ fs) v token))
+    (next p fs (First h v) token)
+have (InSingle h ∷ fs) p v token =
+    cond (goes 1 (level v) token) (Some (gone p (InSingle h ∷ fs) v token)) (single p fs h v token)
+have (InThen b ∷ fs) p v token =
+    cond (goes 1 (level v) token) (Some (gone p (InThen b ∷ fs) v token))
+    (next p fs (Then b v) token)
 
 abbrev pub where_room : ℕ → ℕ → State → Option State
 where_room l most s = only_if (nat_le l most) s
@@ -311,7 +325,8 @@ closing _ = Other
 
 abbrev pub again_by : Ground → List Frame → Tree → Token → Closing → Option State
 again_by p fs b token Closes = only_if (may_end (quant b) (bodies b)) (Have p fs (Many b))
-again_by p fs b token Other = cond (may_more (quant b) (bodies b)) (need p (InThen b ∷ fs) token) None
+again_by p fs b token Other =
+    cond (may_more (quant b) (bodies b)) (need p (InThen b ∷ fs) token) None
 
 abbrev pub again : Ground → List Frame → Tree → Token → Option State
 again p fs b token = again_by p fs b token (closing token)
@@ -487,7 +502,8 @@ onward most (Some s) tokens go = cond (nat_le (nesting (completed s)) most) (go 
 
 abbrev pub reading : List Token → ℕ → State → Outcome
 reading [] most s = ended s
-reading (token ∷ rest) most s = onward most (step s token) (token ∷ rest) (λ s'. reading rest most s')
+reading (token ∷ rest) most s =
+    onward most (step s token) (token ∷ rest) (λ s'. reading rest most s')
 
 -- where the tokens lead, whatever the nesting
 abbrev pub onto : Option State → (State → Option State) → Option State

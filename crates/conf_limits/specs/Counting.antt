@@ -10,7 +10,8 @@ use Rattle.conf_limits.specs.Measures.{Interval, bodies_weight, interval, narrow
 -- the wanted interval, from one that was found before the bodies from number k on
 abbrev pub joined : Outline → Option Interval → Bodies → ℕ → ℕ → Option Interval
 joined o found NoBody k wanted = found
-joined o found (Body e bs) k wanted = joined o (chosen (nat_eq k wanted) found (kept (narrow o e) (interval o e))) bs (k + 1) wanted
+joined o found (Body e bs) k wanted =
+    joined o (chosen (nat_eq k wanted) found (kept (narrow o e) (interval o e))) bs (k + 1) wanted
 
 -- with what is left, from number k on, it is that of all
 pub record IsMeasuring (o : Outline) (wanted : ℕ) (m : BodiesMeasure) (k : ℕ) (left all : Bodies) : Type 0 where

@@ -1,4 +1,5 @@
--- Reach, weight and interval as they are counted: in one walk of an expression, and exactly only as far as a limit may ask.
+-- Reach, weight and interval as they are counted: in one walk of an expression, and exactly only as
+-- far as a limit may ask.
 use Rattle.std.specs.Prelude.{◌≡◌, ℕ, ◌+◌, ◌*◌, ◌<◌, ◌≤◌, Bool, true, false, cond, List, Option, None, Some, length, min, IfSome}
 use Rattle.model_limits.specs.Limits.{most_weight, most_width}
 use Rattle.class_table.specs.Outline.{Outline}
@@ -25,9 +26,11 @@ pub record IsWithinMeasures (o : Outline) (ks : List ResolvedConstraint) (gs : L
   pub narrow : model_narrow o ks gs ≡ true
 
 -- why a model is refused: the first limit in this order that it breaks
-abbrev pub IsLimitRefused : Outline → List ResolvedConstraint → List ResolvedGoal → LimitFault → Type 0
+abbrev pub IsLimitRefused : Outline → List ResolvedConstraint → List ResolvedGoal → LimitFault
+    → Type 0
 IsLimitRefused o ks gs TooHeavy = most_weight < model_weight o ks gs
-IsLimitRefused o ks gs TooWide = (model_weight o ks gs ≤ most_weight) × (model_narrow o ks gs ≡ false)
+IsLimitRefused o ks gs TooWide =
+    (model_weight o ks gs ≤ most_weight) × (model_narrow o ks gs ≡ false)
 
 -- What stands in an expression
 
@@ -132,7 +135,8 @@ summed kind.Sum = 0
 summed kind.Count = 0
 summed kind.AllDifferent = 0
 
--- what is measured of an expression: the interval is there where it and those of all that stands in the expression are narrow
+-- what is measured of an expression: the interval is there where it and those of all that stands in
+-- the expression are narrow
 pub record IsMeasure (m : Measure) (o : Outline) (t : Tree) : Type 0 where
   pub reach_is : m.reach ≡ capped (reach o t)
   pub weight_is : m.weight ≡ capped (weight o t)

@@ -1,4 +1,5 @@
--- How much an expression may cost and how large its numbers may be: reach, weight and interval, functions of the source alone.
+-- How much an expression may cost and how large its numbers may be: reach, weight and interval,
+-- functions of the source alone.
 use Rattle.std.specs.Prelude.{ℕ, zero, suc, ◌+◌, ◌*◌, Bool, true, false, ◌&&◌, cond, List, Option, None, Some, ℤ, pos, ◌+ℤ◌, ◌-ℤ◌, ◌*ℤ◌, neg_ℤ, int_le, length, min, sum_by}
 use Rattle.std.specs.List.{list_all}
 use Rattle.std.specs.Int.{int_min, int_max}
@@ -93,14 +94,17 @@ looks_at_reach op.Add objects = false
 looks_at_reach op.Sub objects = false
 looks_at_reach op.Mul objects = false
 
--- a quantifier over something of reach r, which weighs so much, with a filter and bodies that weigh so much
+-- a quantifier over something of reach r, which weighs so much, with a filter and bodies that weigh
+-- so much
 abbrev pub quantifier_weight : QuantKind → ℕ → ℕ → ℕ → ℕ → ℕ
 quantifier_weight kind.Forall r over filter bodies = 1 + r * (1 + over + filter + bodies)
 quantifier_weight kind.Exists r over filter bodies = 1 + r * (1 + over + filter + bodies)
 quantifier_weight kind.Sum r over filter bodies = 1 + r * (1 + over + filter + bodies)
 quantifier_weight kind.Count r over filter bodies = 1 + r * (1 + over + filter + bodies)
-quantifier_weight kind.AllDifferent r over filter bodies = 1 + r * (1 + over + filter + bodies) + r * r
-quantifier_weight kind.Pack r over filter bodies = 1 + r * (1 + over + filter + bodies) + 3 * (r * r)
+quantifier_weight kind.AllDifferent r over filter bodies =
+    1 + r * (1 + over + filter + bodies) + r * r
+quantifier_weight kind.Pack r over filter bodies =
+    1 + r * (1 + over + filter + bodies) + 3 * (r * r)
 
 abbrev mutual
   pub weight : Outline → Tree → ℕ
@@ -116,8 +120,10 @@ abbrev mutual
   weight o (tree.Paren at e) = weight o e + 1
   weight o (tree.Minus at e) = weight o e + 1
   weight o (tree.Not at e) = weight o e + 1
-  weight o (tree.Pair at op l r) = weight o l + weight o r + cond (looks_at_reach op (is_object l)) (min (reach o l) (reach o r)) 0 + 1
-  weight o (tree.Quant at q over f bs) = quantifier_weight q (reach o over) (weight o over) (filter_weight o f) (bodies_weight o bs)
+  weight o (tree.Pair at op l r) = weight o l + weight o r + cond (looks_at_reach op (is_object l))
+      (min (reach o l) (reach o r)) 0 + 1
+  weight o (tree.Quant at q over f bs) = quantifier_weight q (reach o over) (weight o over)
+      (filter_weight o f) (bodies_weight o bs)
   weight o (tree.Missing at) = 0
 
   pub filter_weight : Outline → Filter → ℕ
@@ -162,8 +168,10 @@ shape_interval (shape.RefSet c n) = none
 -- the products of the ends
 abbrev pub times : Interval → Interval → Interval
 times i j = between
-    (int_min (int_min (i.low *ℤ j.low) (i.low *ℤ j.high)) (int_min (i.high *ℤ j.low) (i.high *ℤ j.high)))
-    (int_max (int_max (i.low *ℤ j.low) (i.low *ℤ j.high)) (int_max (i.high *ℤ j.low) (i.high *ℤ j.high)))
+    (int_min (int_min (i.low *ℤ j.low) (i.low *ℤ j.high))
+    (int_min (i.high *ℤ j.low) (i.high *ℤ j.high)))
+    (int_max (int_max (i.low *ℤ j.low) (i.low *ℤ j.high))
+    (int_max (i.high *ℤ j.low) (i.high *ℤ j.high)))
 
 -- so many numbers of the interval, each of which may be left out
 abbrev pub many : ℕ → Interval → Interval
@@ -184,8 +192,8 @@ operator_interval op.Gt i j = none
 operator_interval op.Ge i j = none
 operator_interval op.In i j = none
 
--- of `sum` and `count`, and for `pack` the sum of all sizes: the interval of a quantifier over something of reach r, by those of its
--- first two bodies
+-- of `sum` and `count`, and for `pack` the sum of all sizes: the interval of a quantifier over
+-- something of reach r, by those of its first two bodies
 abbrev pub quantifier_interval : QuantKind → ℕ → Interval → Interval → Interval
 quantifier_interval kind.Sum r first second = many r first
 quantifier_interval kind.Count r first second = between (pos 0) (pos r)
@@ -194,7 +202,8 @@ quantifier_interval kind.Forall r first second = none
 quantifier_interval kind.Exists r first second = none
 quantifier_interval kind.AllDifferent r first second = none
 
--- the interval of an Int expression; what isn't Int has [0, 0], but for `pack` that of its sizes' sum
+-- the interval of an Int expression; what isn't Int has [0, 0], but for `pack` that of its sizes'
+-- sum
 abbrev mutual
   pub interval : Outline → Tree → Interval
   interval o (tree.Number at n) = between (pos n) (pos n)
@@ -204,7 +213,8 @@ abbrev mutual
   interval o (tree.Paren at e) = interval o e
   interval o (tree.Minus at e) = between (neg_ℤ (interval o e).high) (neg_ℤ (interval o e).low)
   interval o (tree.Pair at op l r) = operator_interval op (interval o l) (interval o r)
-  interval o (tree.Quant at q over f bs) = quantifier_interval q (reach o over) (body_interval o bs 0) (body_interval o bs 1)
+  interval o (tree.Quant at q over f bs) = quantifier_interval q (reach o over)
+      (body_interval o bs 0) (body_interval o bs 1)
   interval o (tree.Truth at b) = none
   interval o (tree.This at) = none
   interval o (tree.Not at e) = none
@@ -237,8 +247,11 @@ abbrev mutual
   narrow o (tree.Paren at e) = narrow o e
   narrow o (tree.Minus at e) = narrow o e && is_narrow (interval o (tree.Minus at e))
   narrow o (tree.Not at e) = narrow o e
-  narrow o (tree.Pair at op l r) = (narrow o l && narrow o r) && is_narrow (interval o (tree.Pair at op l r))
-  narrow o (tree.Quant at q over f bs) = (narrow o over && (filter_narrow o f && bodies_narrow o bs)) && is_narrow (interval o (tree.Quant at q over f bs))
+  narrow o (tree.Pair at op l r) = (narrow o l && narrow o r)
+      && is_narrow (interval o (tree.Pair at op l r))
+  narrow o (tree.Quant at q over f bs) = (narrow o over
+      && (filter_narrow o f && bodies_narrow o bs))
+      && is_narrow (interval o (tree.Quant at q over f bs))
   narrow o (tree.Truth at b) = true
   narrow o (tree.This at) = true
   narrow o (tree.Local at k) = true

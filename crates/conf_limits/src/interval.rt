@@ -75,13 +75,15 @@ fn product(a: i64, b: i64) -> i128
 }
 
 fn least(a: i128, b: i128, c: i128, d: i128) -> i128
-    ensures { (x y z w : ℤ) → a ≡ x → b ≡ y → c ≡ z → d ≡ w → result ≡ int_min (int_min x y) (int_min z w) }
+    ensures { (x y z w : ℤ) → a ≡ x → b ≡ y → c ≡ z → d ≡ w → result
+        ≡ int_min (int_min x y) (int_min z w) }
 {
     a.min(b).min(c.min(d))
 }
 
 fn greatest(a: i128, b: i128, c: i128, d: i128) -> i128
-    ensures { (x y z w : ℤ) → a ≡ x → b ≡ y → c ≡ z → d ≡ w → result ≡ int_max (int_max x y) (int_max z w) }
+    ensures { (x y z w : ℤ) → a ≡ x → b ≡ y → c ≡ z → d ≡ w → result
+        ≡ int_max (int_max x y) (int_max z w) }
 {
     a.max(b).max(c.max(d))
 }

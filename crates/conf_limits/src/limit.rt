@@ -43,7 +43,8 @@ fn times_stated(objects: &Objects<'_>, class: Option<u32>) -> u64
 
 /// With one more expression, which is stated so many times.
 fn with_stated(so_far: Total, times: u64, found: Measure) -> Total
-    ensures { (o : Outline) (t : Tree) (w n : ℕ) (b : Bool) → times ≡ capped n → IsMeasure found o t → IsTotal so_far w b → IsTotal result (w + n * weight o t) (b && narrow o t) }
+    ensures { (o : Outline) (t : Tree) (w n : ℕ) (b : Bool) → times ≡ capped n → IsMeasure found o t
+        → IsTotal so_far w b → IsTotal result (w + n * weight o t) (b && narrow o t) }
 {
     let weight = capped_product(times, found.weight);
     Total {
@@ -55,7 +56,8 @@ fn with_stated(so_far: Total, times: u64, found: Measure) -> Total
 /// What is measured of some constraints.
 fn of_constraints(objects: &Objects<'_>, list: &[Constraint]) -> Total
     requires there { All (IsConstraintThere objects.now) list.now }
-    ensures total { IsTotal result (sum_by (constraint_weight objects.now) list.now) (list_all (constraint_narrow objects.now) list.now) }
+    ensures total { IsTotal result (sum_by (constraint_weight objects.now) list.now)
+        (list_all (constraint_narrow objects.now) list.now) }
 {
     let mut total = Total {
         weight: 0,
@@ -71,7 +73,8 @@ fn of_constraints(objects: &Objects<'_>, list: &[Constraint]) -> Total
 /// What is measured of some objectives.
 fn of_goals(objects: &Objects<'_>, list: &[Goal]) -> Total
     requires there { All (IsGoalThere objects.now) list.now }
-    ensures total { IsTotal result (sum_by (goal_weight objects.now) list.now) (list_all (goal_narrow objects.now) list.now) }
+    ensures total { IsTotal result (sum_by (goal_weight objects.now) list.now)
+        (list_all (goal_narrow objects.now) list.now) }
 {
     let mut total = Total {
         weight: 0,
@@ -86,7 +89,8 @@ fn of_goals(objects: &Objects<'_>, list: &[Goal]) -> Total
 /// What is measured of a model.
 pub(crate) fn of_model(objects: &Objects<'_>, constraints: &[Constraint], goals: &[Goal]) -> Total
     requires typed { IsTypedModel objects.now constraints.now goals.now }
-    ensures total { IsTotal result (model_weight objects.now constraints.now goals.now) (model_narrow objects.now constraints.now goals.now) }
+    ensures total { IsTotal result (model_weight objects.now constraints.now goals.now)
+        (model_narrow objects.now constraints.now goals.now) }
 {
     let _objects = objects.count();
     let stated = of_constraints(objects, constraints);
@@ -105,7 +109,8 @@ pub fn model_weight(m: &TypedModel, objects: &Objects<'_>) -> u64
     of_model(objects, m.constraints(), m.goals()).weight
 }
 
-/// Whether a model keeps the limits on weight and on width. It takes no memory, and walks each expression once.
+/// Whether a model keeps the limits on weight and on width. It takes no memory, and walks each
+/// expression once.
 ///
 /// # Errors
 ///

@@ -1,4 +1,5 @@
-//! What is measured of an expression, by what was measured of its parts: one function for each kind of expression.
+//! What is measured of an expression, by what was measured of its parts: one function for each kind
+//! of expression.
 ghost use Rattle.std.specs.Prelude.{◌≡◌, ◌+◌, ◌&&◌, ℕ, Bool, true, false, cond, min};
 ghost use Rattle.class_table.specs.Outline.{Outline};
 ghost use Rattle.class_table.specs.declared.table.Resolved.{Resolved as AShape};
@@ -32,8 +33,8 @@ pub(crate) struct Filter {
     pub narrow: bool,
 }
 
-/// What is measured of a quantifier's bodies: their weight, and the interval of one of them, where all that stands in them is
-/// narrow.
+/// What is measured of a quantifier's bodies: their weight, and the interval of one of them, where
+/// all that stands in them is narrow.
 #[derive(Clone, Copy, Debug)]
 pub(crate) struct Bodies {
     pub weight: u64,
@@ -102,7 +103,8 @@ fn shape_is_object(shape: Resolved) -> bool
 /// What has this weight and is an attribute of this shape, of something with this reach.
 pub(crate) fn attribute(objects: &Objects<'_>, reach: u64, weight: u64, shape: Resolved) -> Measure
     requires shape { IsShapeThere objects.now shape }
-    ensures reach { (r : ℕ) → reach ≡ capped r → result.reach ≡ capped (shape_reach objects.now r shape) }
+    ensures reach { (r : ℕ) → reach ≡ capped r → result.reach
+        ≡ capped (shape_reach objects.now r shape) }
     ensures weight { result.weight ≡ weight }
     ensures objects { result.objects ≡ shape_is_object shape }
     ensures interval { result.interval ≡ narrowed (interval_of shape) }
@@ -118,7 +120,8 @@ pub(crate) fn attribute(objects: &Objects<'_>, reach: u64, weight: u64, shape: R
 /// An attribute of an object.
 pub(crate) fn dot(objects: &Objects<'_>, owner: Measure, shape: Resolved) -> Measure
     requires shape { IsShapeThere objects.now shape }
-    ensures measure { (at k : ℕ) (e : Tree) → IsMeasure owner objects.now e → IsMeasure result objects.now (tree.Dot at e k shape) }
+    ensures measure { (at k : ℕ) (e : Tree) → IsMeasure owner objects.now e
+        → IsMeasure result objects.now (tree.Dot at e k shape) }
 {
     let weight = capped_sum(capped_sum(owner.weight, owner.reach), 1);
     let found = attribute(objects, owner.reach, weight, shape);
@@ -135,7 +138,8 @@ pub(crate) fn dot(objects: &Objects<'_>, owner: Measure, shape: Resolved) -> Mea
 
 /// `( .. )`.
 pub(crate) fn paren(inner: Measure) -> Measure
-    ensures measure { (o : Outline) (at : ℕ) (e : Tree) → IsMeasure inner o e → IsMeasure result o (tree.Paren at e) }
+    ensures measure { (o : Outline) (at : ℕ) (e : Tree) → IsMeasure inner o e
+        → IsMeasure result o (tree.Paren at e) }
 {
     Measure {
         reach: inner.reach,
@@ -147,7 +151,8 @@ pub(crate) fn paren(inner: Measure) -> Measure
 
 /// `- ..`.
 pub(crate) fn minus(inner: Measure) -> Measure
-    ensures measure { (o : Outline) (at : ℕ) (e : Tree) → IsMeasure inner o e → IsMeasure result o (tree.Minus at e) }
+    ensures measure { (o : Outline) (at : ℕ) (e : Tree) → IsMeasure inner o e
+        → IsMeasure result o (tree.Minus at e) }
 {
     let interval = match inner.interval {
         Some(interval) => negated(interval),
@@ -173,7 +178,8 @@ fn emptied(interval: Option<Interval>) -> Option<Interval>
 
 /// `not ..`.
 pub(crate) fn negation(inner: Measure) -> Measure
-    ensures measure { (o : Outline) (at : ℕ) (e : Tree) → IsMeasure inner o e → IsMeasure result o (tree.Not at e) }
+    ensures measure { (o : Outline) (at : ℕ) (e : Tree) → IsMeasure inner o e
+        → IsMeasure result o (tree.Not at e) }
 {
     Measure {
         reach: 0,
@@ -204,7 +210,8 @@ fn looks_at_reach(op: Op, objects: bool) -> bool
 
 /// What an operator looks at of sides with these reaches.
 fn looked_at(op: Op, left: Measure, right: Measure) -> u64
-    ensures { (l r : ℕ) (b : Bool) → left.reach ≡ capped l → right.reach ≡ capped r → left.objects ≡ b → result ≡ capped (cond (looks_at_reach op b) (min l r) 0) }
+    ensures { (l r : ℕ) (b : Bool) → left.reach ≡ capped l → right.reach ≡ capped r → left.objects
+        ≡ b → result ≡ capped (cond (looks_at_reach op b) (min l r) 0) }
 {
     if looks_at_reach(op, left.objects) {
         left.reach.min(right.reach)
@@ -215,7 +222,8 @@ fn looked_at(op: Op, left: Measure, right: Measure) -> u64
 
 /// Two expressions with an operator between them.
 pub(crate) fn pair(op: Op, left: Measure, right: Measure) -> Measure
-    ensures measure { (o : Outline) (at : ℕ) (l r : Tree) → IsMeasure left o l → IsMeasure right o r → IsMeasure result o (tree.Pair at op l r) }
+    ensures measure { (o : Outline) (at : ℕ) (l r : Tree) → IsMeasure left o l → IsMeasure right o r
+        → IsMeasure result o (tree.Pair at op l r) }
 {
     let sides = capped_sum(left.weight, right.weight);
     let looked = looked_at(op, left, right);
@@ -253,7 +261,8 @@ pub(crate) fn no_filter() -> Filter
 
 /// A filter.
 pub(crate) fn some_filter(inner: Measure) -> Filter
-    ensures measure { (o : Outline) (e : Tree) → IsMeasure inner o e → IsFilterMeasure result o (tree.Where e) }
+    ensures measure { (o : Outline) (e : Tree) → IsMeasure inner o e → IsFilterMeasure result o
+        (tree.Where e) }
 {
     Filter {
         weight: inner.weight,
@@ -261,9 +270,12 @@ pub(crate) fn some_filter(inner: Measure) -> Filter
     }
 }
 
-/// The weight of a quantifier over something with this reach, where what stands in it weighs so much.
+/// The weight of a quantifier over something with this reach, where what stands in it weighs so
+/// much.
 fn quantifier_weight(kind: QuantKind, reach: u64, inside: u64) -> u64
-    ensures { (r over filter bodies : ℕ) → reach ≡ capped r → inside ≡ capped (1 + over + filter + bodies) → result ≡ capped (quantifier_weight kind r over filter bodies) }
+    ensures { (r over filter bodies : ℕ) → reach ≡ capped r → inside
+        ≡ capped (1 + over + filter + bodies) → result
+        ≡ capped (quantifier_weight kind r over filter bodies) }
 {
     let each = capped_sum(1, capped_product(reach, inside));
     match kind {
@@ -273,9 +285,11 @@ fn quantifier_weight(kind: QuantKind, reach: u64, inside: u64) -> u64
     }
 }
 
-/// The interval of a quantifier over something with this reach, where the body that it asks for has this one.
+/// The interval of a quantifier over something with this reach, where the body that it asks for has
+/// this one.
 fn quantifier_interval(kind: QuantKind, reach: u64, body: Interval) -> Option<Interval>
-    ensures { (r : ℕ) (all : ℕ → AnInterval) → reach ≡ capped r → body ≡ all (summed kind) → result ≡ narrowed (quantifier_interval kind r (all 0) (all 1)) }
+    ensures { (r : ℕ) (all : ℕ → AnInterval) → reach ≡ capped r → body ≡ all (summed kind) → result
+        ≡ narrowed (quantifier_interval kind r (all 0) (all 1)) }
 {
     match kind {
         QuantKind::Sum | QuantKind::Pack => many(reach, body),
@@ -286,7 +300,11 @@ fn quantifier_interval(kind: QuantKind, reach: u64, body: Interval) -> Option<In
 
 /// The interval of a quantifier, where all that stands in it is narrow.
 fn quantified(kind: QuantKind, over: Measure, filter: Filter, bodies: Bodies) -> Option<Interval>
-    ensures { (r : ℕ) (a b : Bool) (i : AnInterval) (all : ℕ → AnInterval) → over.reach ≡ capped r → over.interval ≡ kept a i → bodies.interval ≡ kept b (all (summed kind)) → result ≡ kept ((a && (filter.narrow && b)) && is_narrow (quantifier_interval kind r (all 0) (all 1))) (quantifier_interval kind r (all 0) (all 1)) }
+    ensures { (r : ℕ) (a b : Bool) (i : AnInterval) (all : ℕ → AnInterval) → over.reach ≡ capped r
+        → over.interval ≡ kept a i → bodies.interval ≡ kept b (all (summed kind)) → result
+        ≡ kept ((a && (filter.narrow && b))
+        && is_narrow (quantifier_interval kind r (all 0) (all 1)))
+        (quantifier_interval kind r (all 0) (all 1)) }
 {
     if over.interval.is_none() {
         return None;
@@ -302,7 +320,9 @@ fn quantified(kind: QuantKind, over: Measure, filter: Filter, bodies: Bodies) ->
 
 /// A quantifier.
 pub(crate) fn quantifier(kind: QuantKind, over: Measure, filter: Filter, bodies: Bodies) -> Measure
-    ensures measure { (o : Outline) (at : ℕ) (e : Tree) (f : AFilter) (bs : AllBodies) → IsMeasure over o e → IsFilterMeasure filter o f → IsBodiesMeasure bodies o (summed kind) bs → IsMeasure result o (tree.Quant at kind e f bs) }
+    ensures measure { (o : Outline) (at : ℕ) (e : Tree) (f : AFilter) (bs : AllBodies)
+        → IsMeasure over o e → IsFilterMeasure filter o f → IsBodiesMeasure bodies o (summed kind)
+        bs → IsMeasure result o (tree.Quant at kind e f bs) }
 {
     let inside = capped_sum(
         capped_sum(capped_sum(1, over.weight), filter.weight),

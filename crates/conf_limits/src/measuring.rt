@@ -70,7 +70,8 @@ fn chosen(first: Option<Interval>, second: Option<Interval>, is_second: bool) ->
 
 /// With one more body, which is the wanted one or another.
 fn with_body(so_far: Bodies, found: Measure, is_wanted: bool) -> Bodies
-    ensures weight { (m n : ℕ) → so_far.weight ≡ capped m → found.weight ≡ capped n → result.weight ≡ capped (m + n) }
+    ensures weight { (m n : ℕ) → so_far.weight ≡ capped m → found.weight ≡ capped n → result.weight
+        ≡ capped (m + n) }
     ensures interval { result.interval ≡ chosen is_wanted so_far.interval found.interval }
 {
     Bodies {

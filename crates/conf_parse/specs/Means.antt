@@ -8,8 +8,8 @@ use Rattle.conf_syntax.specs.Places.{bare}
 use Rattle.conf_parse.specs.declared.parser.ParseError.{ParseError}
 use Rattle.conf_parse.specs.declared.parser.ParseError.TheVariants.{Syntax, TooDeep, Memory}
 
--- The tokens before the place begin a model whose nesting is allowed. With the next token they begin none, whatever its
--- nesting; where no token is left, they are no model.
+-- The tokens before the place begin a model whose nesting is allowed. With the next token they
+-- begin none, whatever its nesting; where no token is left, they are no model.
 pub record IsSyntax (tokens : List Placed) (end at : ℕ) : Type 0 where
   pub front : List Placed
   pub rest : List Placed
@@ -18,8 +18,8 @@ pub record IsSyntax (tokens : List Placed) (end at : ℕ) : Type 0 where
   pub begun : IsBegunIn most_nesting (bare front)
   pub refused : IsRefused (bare front) (bare rest)
 
--- The tokens before the place begin a model whose nesting is allowed. With the next token they begin a model, but none
--- whose nesting is allowed.
+-- The tokens before the place begin a model whose nesting is allowed. With the next token they
+-- begin a model, but none whose nesting is allowed.
 pub record IsDeep (tokens : List Placed) (end at : ℕ) : Type 0 where
   pub front : List Placed
   pub rest : List Placed

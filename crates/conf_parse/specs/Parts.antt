@@ -29,12 +29,16 @@ pub record Errs (least room : ℕ) (s : Place) (tokens : List Token) (e : Stop) 
 
 -- a body with its semicolon
 pub record IsItem (room : ℕ) (tokens : List Token) (v : Tree) (rest : List Token) : Type 0 where
-  pub opened : (least : ℕ) (h : Tree) → 1 + nest h ≤ room → Leads least room (need_in (InFirst h)) tokens (next_at (First h v)) rest
-  pub again : (least : ℕ) (b : Tree) → 1 + nest b ≤ room → Leads least room (need_in (InThen b)) tokens (next_at (Then b v)) rest
+  pub opened : (least : ℕ) (h : Tree) → 1 + nest h ≤ room → Leads least room (need_in (InFirst h))
+      tokens (next_at (First h v)) rest
+  pub again : (least : ℕ) (b : Tree) → 1 + nest b ≤ room → Leads least room (need_in (InThen b))
+      tokens (next_at (Then b v)) rest
 
 pub record ItemErrs (room : ℕ) (tokens : List Token) (e : Stop) : Type 0 where
-  pub opened : (least : ℕ) (h : Tree) → 1 + nest h ≤ room → Errs least room (need_in (InFirst h)) tokens e
-  pub again : (least : ℕ) (b : Tree) → 1 + nest b ≤ room → Errs least room (need_in (InThen b)) tokens e
+  pub opened : (least : ℕ) (h : Tree) → 1 + nest h ≤ room → Errs least room (need_in (InFirst h))
+      tokens e
+  pub again : (least : ℕ) (b : Tree) → 1 + nest b ≤ room → Errs least room (need_in (InThen b))
+      tokens e
 
 abbrev pub opening_tree : Opening → Tree
 opening_tree o = filtered o.filter (Head o.kind o.var.name (tree_of o.over.node))

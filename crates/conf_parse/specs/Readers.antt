@@ -23,7 +23,8 @@ going_of going.Nothing = machine.NoGoing
 
 -- how the token begins an operand
 abbrev pub IsBegin : Token → Begin → Type 0
-IsBegin token (begin.Leaf leaf level) = (begin_by token ≡ plain.ALeaf) × (tree_of leaf ≡ Leaf token) × (level ≡ leaf_level token)
+IsBegin token (begin.Leaf leaf level) =
+    (begin_by token ≡ plain.ALeaf) × (tree_of leaf ≡ Leaf token) × (level ≡ leaf_level token)
 IsBegin token (begin.Sign s) = begin_by token ≡ plain.ASign (sign_of s)
 IsBegin token begin.Paren = begin_by token ≡ plain.AParen
 IsBegin token (begin.Quant k) = begin_by token ≡ plain.AQuant k

@@ -1,4 +1,5 @@
--- Where the places of what is read come from: each reader says what is behind, and that the places are those of the tokens.
+-- Where the places of what is read come from: each reader says what is behind, and that the places
+-- are those of the tokens.
 use Rattle.std.specs.Prelude.{◌≡◌, ◌+◌, ℕ, List, [], ◌∷◌, Option, None, Some, length, drop}
 use Rattle.conf_syntax.specs.declared.token.Ident.{Ident}
 use Rattle.conf_syntax.specs.declared.token.Placed.{Placed}
@@ -41,19 +42,23 @@ list_size k (x ∷ xs) = size x.node + length (body_end k) + list_size k xs
 
 abbrev pub ListStands : List Placed → QuantKind → List Expr → Type 0
 ListStands tokens k [] = Unit {0}
-ListStands tokens k (x ∷ xs) = Stands tokens x.at x.node × ListStands (drop (size x.node + length (body_end k)) tokens) k xs
+ListStands tokens k (x ∷ xs) =
+    Stands tokens x.at x.node × ListStands (drop (size x.node + length (body_end k)) tokens) k xs
 
 -- an operand under its sign
 pub record SignReads (place : ℕ) (inner e : Expr) : Type 0 where
   pub at_is : e.at ≡ place
   pub size_is : size e.node ≡ 1 + size inner.node
-  pub stands : (tokens : List Placed) → place ≡ first_at tokens → Stands (drop 1 tokens) inner.at inner.node → Stands tokens place e.node
+  pub stands : (tokens : List Placed) → place ≡ first_at tokens → Stands (drop 1 tokens) inner.at
+      inner.node → Stands tokens place e.node
 
 -- a quantifier of its parts
 pub record QuantReads (place : ℕ) (o : Opening) (body : List Expr) (e : Expr) : Type 0 where
   pub at_is : e.at ≡ place
-  pub size_is : size e.node ≡ 3 + size o.over.node + filter_size o.filter + 1 + list_size o.kind body + 1
-  pub stands : (tokens inside : List Placed) → place ≡ first_at tokens → OpeningReads tokens o inside → ListStands inside o.kind body → Stands tokens place e.node
+  pub size_is : size e.node ≡ 3 + size o.over.node + filter_size o.filter + 1 + list_size o.kind
+      body + 1
+  pub stands : (tokens inside : List Placed) → place ≡ first_at tokens
+      → OpeningReads tokens o inside → ListStands inside o.kind body → Stands tokens place e.node
 
 -- a body with its semicolon
 pub record ItemReads (tokens : List Placed) (e : Expr) (rest : List Placed) : Type 0 where

@@ -1,4 +1,5 @@
--- Where the places of declarations come from: each reader says what is behind, and that the places are those of the tokens.
+-- Where the places of declarations come from: each reader says what is behind, and that the places
+-- are those of the tokens.
 use Rattle.std.specs.Prelude.{◌≡◌, ◌+◌, ℕ, Bool, true, false, List, [], ◌∷◌, Option, drop}
 use Rattle.conf_syntax.specs.declared.token.Ident.{Ident}
 use Rattle.conf_syntax.specs.declared.token.Placed.{Placed}
@@ -66,8 +67,10 @@ pub record LowReads (tokens : List Placed) (low : Bound) (rest : List Placed) : 
 
 -- a range from behind the points; `front` begins with the low end
 pub record HighReads (low : Bound) (tokens : List Placed) (s : Shape) (rest : List Placed) : Type 0 where
-  pub stands : (front : List Placed) → low.at ≡ first_at front → tokens ≡ drop (bound_size low + 1) front → ShapeStands front s
-  pub rest_is : (front : List Placed) → tokens ≡ drop (bound_size low + 1) front → rest ≡ drop (shape_end s) front
+  pub stands : (front : List Placed) → low.at ≡ first_at front → tokens ≡ drop (bound_size low + 1)
+      front → ShapeStands front s
+  pub rest_is : (front : List Placed) → tokens ≡ drop (bound_size low + 1) front → rest
+      ≡ drop (shape_end s) front
 
 abbrev pub ref_size : Bool → ℕ
 ref_size true = 1
@@ -84,12 +87,15 @@ counted_shape false i n = shape.Many i n
 -- the shape of a name from behind the name; `front` begins with `ref`, if it is there, and the name
 pub record CountReads (r : Bool) (i : Ident) (tokens : List Placed) (s : Shape) (rest : List Placed) : Type 0 where
   pub stands : (front : List Placed) → WordStands (drop (ref_size r) front) i → ShapeStands front s
-  pub rest_is : (front : List Placed) → tokens ≡ drop (ref_size r + 1) front → rest ≡ drop (shape_end s) front
+  pub rest_is : (front : List Placed) → tokens ≡ drop (ref_size r + 1) front → rest
+      ≡ drop (shape_end s) front
 
 -- a class from behind its name; `front` begins with `abstract`, if it is there, and `class`
 pub record ClassBodyReads (a : Bool) (i : Ident) (tokens : List Placed) (c : ClassDecl) (rest : List Placed) : Type 0 where
-  pub stands : (front : List Placed) → WordStands (drop (abstract_size a + 1) front) i → tokens ≡ drop (abstract_size a + 2) front → ClassStands front c
-  pub rest_is : (front : List Placed) → tokens ≡ drop (abstract_size a + 2) front → rest ≡ drop (class_size c) front
+  pub stands : (front : List Placed) → WordStands (drop (abstract_size a + 1) front) i → tokens
+      ≡ drop (abstract_size a + 2) front → ClassStands front c
+  pub rest_is : (front : List Placed) → tokens ≡ drop (abstract_size a + 2) front → rest
+      ≡ drop (class_size c) front
 
 abbrev pub row_size : {X : Type 0} → (X → ℕ) → List X → ℕ
 row_size size [] = 0

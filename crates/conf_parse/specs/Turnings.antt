@@ -1,4 +1,5 @@
--- What the readers of declarations answer: from one state of the machine to another, whatever stands around them.
+-- What the readers of declarations answer: from one state of the machine to another, whatever
+-- stands around them.
 use Rattle.std.specs.Prelude.{◌≡◌, ℕ, List, [], Bool, Option}
 use Rattle.model_limits.specs.Limits.{most_nesting}
 use Rattle.conf_syntax.specs.declared.token.Key.TheVariants as key

@@ -1,4 +1,5 @@
-//! Takes tokens one by one. Each function answers what is behind, as a suffix of the tokens that it was given.
+//! Takes tokens one by one. Each function answers what is behind, as a suffix of the tokens that it
+//! was given.
 ghost use Rattle.std.specs.Prelude.{◌≡◌, ◌∷◌, [], MatchOption};
 ghost use Rattle.conf_syntax.specs.Places.{bare, first_at};
 ghost use Rattle.conf_grammar.specs.Leads.{IsNot, IsNotWord};
@@ -18,7 +19,8 @@ pub fn split(tokens: &[Placed]) -> Option<(&Placed, &[Placed])>
 
 /// What is behind a mark.
 pub fn after_mark(tokens: &[Placed], mark: Mark) -> Option<&[Placed]>
-    ensures { MatchOption result (IsNot (Token.Mark mark) (bare tokens.now)) (λ rest. Takes tokens.now (Token.Mark mark) rest.now) }
+    ensures { MatchOption result (IsNot (Token.Mark mark) (bare tokens.now))
+        (λ rest. Takes tokens.now (Token.Mark mark) rest.now) }
 {
     let (token, rest) = split(tokens)?;
     match token.token {
@@ -29,7 +31,8 @@ pub fn after_mark(tokens: &[Placed], mark: Mark) -> Option<&[Placed]>
 
 /// What is behind a keyword.
 pub fn after_key(tokens: &[Placed], key: Key) -> Option<&[Placed]>
-    ensures { MatchOption result (IsNot (Token.Key key) (bare tokens.now)) (λ rest. Takes tokens.now (Token.Key key) rest.now) }
+    ensures { MatchOption result (IsNot (Token.Key key) (bare tokens.now))
+        (λ rest. Takes tokens.now (Token.Key key) rest.now) }
 {
     let (token, rest) = split(tokens)?;
     match token.token {
@@ -40,7 +43,8 @@ pub fn after_key(tokens: &[Placed], key: Key) -> Option<&[Placed]>
 
 /// A word with its place, and what is behind it.
 pub fn word_at(tokens: &[Placed]) -> Option<(&Name, u32, &[Placed])>
-    ensures { MatchOption result (IsNotWord (bare tokens.now)) (λ x. Names tokens.now x.0.now x.1 x.2.now) }
+    ensures { MatchOption result (IsNotWord (bare tokens.now)) (λ x. Names tokens.now x.0.now x.1
+        x.2.now) }
 {
     let (token, rest) = split(tokens)?;
     match &token.token {

@@ -43,7 +43,9 @@ fn counted_shape(is_ref: bool, ident: Ident, count: u32) -> Shape
 #[tactic(auto, using(crate::proofs::Shapes::count_plain, crate::proofs::Shapes::count_many, crate::proofs::Shapes::count_miss, crate::proofs::Shapes::count_none, crate::proofs::Standing::plain_stands, crate::proofs::Standing::many_stands))]
 fn counted(is_ref: bool, ident: Ident, tokens: &[Placed]) -> Result<(Shape, &[Placed]), Stop>
     ensures places { IfOk result (λ x. CountReads is_ref ident tokens.now x.0 x.1.now) }
-    ensures read { MatchResult result (λ x. Turns naming_low (count_at is_ref ident.name) (bare tokens.now) (var_end (shape_of x.0)) (bare x.1.now)) (λ e. TurnErrs naming_low (count_at is_ref ident.name) (bare tokens.now) e) }
+    ensures read { MatchResult result (λ x. Turns naming_low (count_at is_ref ident.name)
+        (bare tokens.now) (var_end (shape_of x.0)) (bare x.1.now))
+        (λ e. TurnErrs naming_low (count_at is_ref ident.name) (bare tokens.now) e) }
     ensures shorter { IfOk result (λ x. length x.1.now ≤ length tokens.now) }
 {
     if let Some(rest) = after_mark(tokens, Mark::Semicolon) {
@@ -62,7 +64,9 @@ fn counted(is_ref: bool, ident: Ident, tokens: &[Placed]) -> Result<(Shape, &[Pl
 #[tactic(auto, using(crate::proofs::Shapes::high_number, crate::proofs::Shapes::high_number_miss, crate::proofs::Shapes::high_minus, crate::proofs::Shapes::high_minus_miss, crate::proofs::Shapes::high_none, crate::proofs::Standing::high_stands, crate::proofs::Standing::high_minus_stands))]
 fn high_end(low: Bound, tokens: &[Placed]) -> Result<(Shape, &[Placed]), Stop>
     ensures places { IfOk result (λ x. HighReads low tokens.now x.0 x.1.now) }
-    ensures read { MatchResult result (λ x. Turns naming_low (high_at (end_of low)) (bare tokens.now) (var_end (shape_of x.0)) (bare x.1.now)) (λ e. TurnErrs naming_low (high_at (end_of low)) (bare tokens.now) e) }
+    ensures read { MatchResult result (λ x. Turns naming_low (high_at (end_of low))
+        (bare tokens.now) (var_end (shape_of x.0)) (bare x.1.now))
+        (λ e. TurnErrs naming_low (high_at (end_of low)) (bare tokens.now) e) }
     ensures shorter { IfOk result (λ x. length x.1.now ≤ length tokens.now) }
 {
     if let Some((value, at, after)) = number_at(tokens) {
@@ -100,7 +104,9 @@ fn low_end(tokens: &[Placed]) -> Result<(Bound, &[Placed]), Stop>
     requires bool { IsNot (Token.Key Key.Bool) (bare tokens.now) }
     requires ref_key { IsNot (Token.Key Key.Ref) (bare tokens.now) }
     ensures places { IfOk result (λ x. LowReads tokens.now x.0 x.1.now) }
-    ensures read { MatchResult result (λ x. Turns naming_low shape_at (bare tokens.now) (high_at (end_of x.0)) (bare x.1.now)) (λ e. TurnErrs naming_low shape_at (bare tokens.now) e) }
+    ensures read { MatchResult result (λ x. Turns naming_low shape_at (bare tokens.now)
+        (high_at (end_of x.0)) (bare x.1.now)) (λ e. TurnErrs naming_low shape_at (bare tokens.now)
+        e) }
     ensures shorter { IfOk result (λ x. length x.1.now ≤ length tokens.now) }
 {
     if let Some((value, at, after)) = number_at(tokens) {
@@ -139,7 +145,9 @@ fn referred<'a>(
 ) -> Result<(Shape, &'a [Placed]), Stop>
     requires { Takes tokens.now (Token.Key Key.Ref) after.now }
     ensures places { IfOk result (λ x. ShapeReads tokens.now x.0 x.1.now) }
-    ensures read { MatchResult result (λ x. Turns naming_low shape_at (bare tokens.now) (var_end (shape_of x.0)) (bare x.1.now)) (λ e. TurnErrs naming_low shape_at (bare tokens.now) e) }
+    ensures read { MatchResult result (λ x. Turns naming_low shape_at (bare tokens.now)
+        (var_end (shape_of x.0)) (bare x.1.now)) (λ e. TurnErrs naming_low shape_at
+        (bare tokens.now) e) }
     ensures shorter { IfOk result (λ x. length x.1.now ≤ length tokens.now) }
 {
     let (name, at, rest) = match named(after, &[]) {
@@ -161,7 +169,9 @@ fn worded<'a>(
 ) -> Result<(Shape, &'a [Placed]), Stop>
     requires { Names tokens.now name.now place after.now }
     ensures places { IfOk result (λ x. ShapeReads tokens.now x.0 x.1.now) }
-    ensures read { MatchResult result (λ x. Turns naming_low shape_at (bare tokens.now) (var_end (shape_of x.0)) (bare x.1.now)) (λ e. TurnErrs naming_low shape_at (bare tokens.now) e) }
+    ensures read { MatchResult result (λ x. Turns naming_low shape_at (bare tokens.now)
+        (var_end (shape_of x.0)) (bare x.1.now)) (λ e. TurnErrs naming_low shape_at
+        (bare tokens.now) e) }
     ensures shorter { IfOk result (λ x. length x.1.now ≤ length tokens.now) }
 {
     let name = Name::of(alloc, name.as_bytes())?;
@@ -172,7 +182,9 @@ fn worded<'a>(
 #[tactic(auto, using(crate::proofs::Shapes::int_part, crate::proofs::Shapes::int_miss, crate::proofs::Shapes::bool_part, crate::proofs::Shapes::bool_miss, crate::proofs::Shapes::range_part, crate::proofs::Shapes::range_error, crate::proofs::Standing::int_stands, crate::proofs::Standing::bool_stands, crate::proofs::Standing::range_stands))]
 fn shape(alloc: Global, tokens: &[Placed]) -> Result<(Shape, &[Placed]), Stop>
     ensures places { IfOk result (λ x. ShapeReads tokens.now x.0 x.1.now) }
-    ensures read { MatchResult result (λ x. Turns naming_low shape_at (bare tokens.now) (var_end (shape_of x.0)) (bare x.1.now)) (λ e. TurnErrs naming_low shape_at (bare tokens.now) e) }
+    ensures read { MatchResult result (λ x. Turns naming_low shape_at (bare tokens.now)
+        (var_end (shape_of x.0)) (bare x.1.now)) (λ e. TurnErrs naming_low shape_at
+        (bare tokens.now) e) }
     ensures shorter { IfOk result (λ x. length x.1.now ≤ length tokens.now) }
 {
     if let Some((name, at, after)) = word_at(tokens) {
@@ -209,7 +221,9 @@ pub fn var_decl<'a>(
 ) -> Result<(VarDecl, &'a [Placed]), Stop>
     requires { Takes tokens.now (Token.Key Key.Var) after.now }
     ensures places { IfOk result (λ x. VarReads tokens.now x.0 x.1.now) }
-    ensures read { MatchResult result (λ x. Turns home_low home_at (bare tokens.now) (home_and (var_of x.0)) (bare x.1.now)) (λ e. TurnErrs home_low home_at (bare tokens.now) e) }
+    ensures read { MatchResult result (λ x. Turns home_low home_at (bare tokens.now)
+        (home_and (var_of x.0)) (bare x.1.now)) (λ e. TurnErrs home_low home_at (bare tokens.now)
+        e) }
     ensures shorter { IfOk result (λ x. length x.1.now < length tokens.now) }
 {
     let (name, at, mid) = match named(after, &[Piece::As]) {

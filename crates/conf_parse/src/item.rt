@@ -32,7 +32,9 @@ fn enum_decl<'a>(
 ) -> Result<(EnumDecl, &'a [Placed]), Stop>
     requires { Takes tokens.now (Token.Key Key.Enum) after.now }
     ensures places { IfOk result (λ x. EnumReads tokens.now x.0 x.1.now) }
-    ensures read { MatchResult result (λ x. Turns nesting program_at (bare tokens.now) (program_and (enum_of x.0.name.name x.0.values)) (bare x.1.now)) (λ e. TurnErrs nesting program_at (bare tokens.now) e) }
+    ensures read { MatchResult result (λ x. Turns nesting program_at (bare tokens.now)
+        (program_and (enum_of x.0.name.name x.0.values)) (bare x.1.now))
+        (λ e. TurnErrs nesting program_at (bare tokens.now) e) }
     ensures shorter { IfOk result (λ x. length x.1.now < length tokens.now) }
 {
     let (name, at, mid) = match named(after, &[Piece::OpenBrace]) {
@@ -83,7 +85,10 @@ fn parent<'a>(
     tokens: &'a [Placed],
 ) -> Result<(Option<Ident>, &'a [Placed]), Stop>
     ensures places { IfOk result (λ x. ParentReads tokens.now x.0 x.1.now) }
-    ensures read { MatchResult result (λ x. Turns nesting (class_at is_abstract name.now.name) (bare tokens.now) (in_class is_abstract name.now.name (parent_of x.0) NoMember) (bare x.1.now)) (λ e. TurnErrs nesting (class_at is_abstract name.now.name) (bare tokens.now) e) }
+    ensures read { MatchResult result (λ x. Turns nesting (class_at is_abstract name.now.name)
+        (bare tokens.now) (in_class is_abstract name.now.name (parent_of x.0) NoMember)
+        (bare x.1.now)) (λ e. TurnErrs nesting (class_at is_abstract name.now.name)
+        (bare tokens.now) e) }
     ensures shorter { IfOk result (λ x. length x.1.now < length tokens.now) }
 {
     if let Some(after) = after_key(tokens, Key::Extends) {
@@ -104,7 +109,9 @@ fn parent<'a>(
 #[tactic(auto, using(crate::proofs::StandingItems::member_var, crate::proofs::StandingItems::member_where))]
 fn member(alloc: Global, tokens: &[Placed]) -> Result<Option<(Member, &[Placed])>, Stop>
     ensures places { IfOk result (λ o. IfSome o (λ x. MemberReads tokens.now x.0 x.1.now)) }
-    ensures read { MatchResult result (λ o. MatchOption o (IsNoMember (bare tokens.now)) (λ x. Turns home_low home_at (bare tokens.now) (home_and (member_of x.0)) (bare x.1.now))) (λ e. TurnErrs home_low home_at (bare tokens.now) e) }
+    ensures read { MatchResult result (λ o. MatchOption o (IsNoMember (bare tokens.now))
+        (λ x. Turns home_low home_at (bare tokens.now) (home_and (member_of x.0)) (bare x.1.now)))
+        (λ e. TurnErrs home_low home_at (bare tokens.now) e) }
     ensures nested { IfOk result (λ o. IfSome o (λ x. member_nest (member_of x.0) ≤ most_nesting)) }
     ensures shorter { IfOk result (λ o. IfSome o (λ x. length x.1.now < length tokens.now)) }
 {
@@ -134,8 +141,12 @@ fn class_body<'a>(
     tokens: &'a [Placed],
 ) -> Result<(ClassDecl, &'a [Placed]), Stop>
     ensures places { IfOk result (λ x. ClassBodyReads is_abstract name tokens.now x.0 x.1.now) }
-    ensures read { MatchResult result (λ x. Turns nesting (class_at is_abstract name.name) (bare tokens.now) (program_and (Class x.0.is_abstract x.0.name.name (parent_of x.0.parent) (members_from NoMember x.0.members))) (bare x.1.now)) (λ e. TurnErrs nesting (class_at is_abstract name.name) (bare tokens.now) e) }
-    ensures nested { IfOk result (λ x. members_nest (members_from NoMember x.0.members) ≤ most_nesting) }
+    ensures read { MatchResult result (λ x. Turns nesting (class_at is_abstract name.name)
+        (bare tokens.now) (program_and (Class x.0.is_abstract x.0.name.name (parent_of x.0.parent)
+        (members_from NoMember x.0.members))) (bare x.1.now))
+        (λ e. TurnErrs nesting (class_at is_abstract name.name) (bare tokens.now) e) }
+    ensures nested { IfOk result (λ x. members_nest (members_from NoMember x.0.members)
+        ≤ most_nesting) }
     ensures shorter { IfOk result (λ x. length x.1.now < length tokens.now) }
 {
     let (parent, inside) = match parent(alloc, is_abstract, &name, tokens) {
@@ -176,8 +187,12 @@ fn class_decl<'a>(
 ) -> Result<(ClassDecl, &'a [Placed]), Stop>
     requires { Takes tokens.now (Token.Key Key.Class) after.now }
     ensures places { IfOk result (λ x. ClassReads tokens.now x.0 x.1.now) }
-    ensures read { MatchResult result (λ x. Turns nesting program_at (bare tokens.now) (program_and (Class x.0.is_abstract x.0.name.name (parent_of x.0.parent) (members_from NoMember x.0.members))) (bare x.1.now)) (λ e. TurnErrs nesting program_at (bare tokens.now) e) }
-    ensures nested { IfOk result (λ x. members_nest (members_from NoMember x.0.members) ≤ most_nesting) }
+    ensures read { MatchResult result (λ x. Turns nesting program_at (bare tokens.now)
+        (program_and (Class x.0.is_abstract x.0.name.name (parent_of x.0.parent)
+        (members_from NoMember x.0.members))) (bare x.1.now)) (λ e. TurnErrs nesting program_at
+        (bare tokens.now) e) }
+    ensures nested { IfOk result (λ x. members_nest (members_from NoMember x.0.members)
+        ≤ most_nesting) }
     ensures shorter { IfOk result (λ x. length x.1.now < length tokens.now) }
 {
     let (word, at, mid) = match named(after, &[]) {
@@ -197,8 +212,12 @@ fn abstract_decl<'a>(
 ) -> Result<(ClassDecl, &'a [Placed]), Stop>
     requires { Takes tokens.now (Token.Key Key.Abstract) after.now }
     ensures places { IfOk result (λ x. ClassReads tokens.now x.0 x.1.now) }
-    ensures read { MatchResult result (λ x. Turns nesting program_at (bare tokens.now) (program_and (Class x.0.is_abstract x.0.name.name (parent_of x.0.parent) (members_from NoMember x.0.members))) (bare x.1.now)) (λ e. TurnErrs nesting program_at (bare tokens.now) e) }
-    ensures nested { IfOk result (λ x. members_nest (members_from NoMember x.0.members) ≤ most_nesting) }
+    ensures read { MatchResult result (λ x. Turns nesting program_at (bare tokens.now)
+        (program_and (Class x.0.is_abstract x.0.name.name (parent_of x.0.parent)
+        (members_from NoMember x.0.members))) (bare x.1.now)) (λ e. TurnErrs nesting program_at
+        (bare tokens.now) e) }
+    ensures nested { IfOk result (λ x. members_nest (members_from NoMember x.0.members)
+        ≤ most_nesting) }
     ensures shorter { IfOk result (λ x. length x.1.now < length tokens.now) }
 {
     let mid = match fixed(after, &[Piece::Class]) {
@@ -218,7 +237,9 @@ fn abstract_decl<'a>(
 pub fn item(alloc: Global, tokens: &[Placed]) -> Result<(Item, &[Placed]), Stop>
     requires { length tokens.now ≢ 0 }
     ensures places { IfOk result (λ x. TopLevelReads tokens.now x.0 x.1.now) }
-    ensures read { MatchResult result (λ x. Turns nesting program_at (bare tokens.now) (program_and (item_of x.0)) (bare x.1.now)) (λ e. TurnErrs nesting program_at (bare tokens.now) e) }
+    ensures read { MatchResult result (λ x. Turns nesting program_at (bare tokens.now)
+        (program_and (item_of x.0)) (bare x.1.now)) (λ e. TurnErrs nesting program_at
+        (bare tokens.now) e) }
     ensures nested { IfOk result (λ x. item_nest (item_of x.0) ≤ most_nesting) }
     ensures shorter { IfOk result (λ x. length x.1.now < length tokens.now) }
 {
@@ -271,7 +292,8 @@ pub fn item(alloc: Global, tokens: &[Placed]) -> Result<(Item, &[Placed]), Stop>
 #[tactic(auto, using(crate::proofs::Items::all_more, crate::proofs::Items::all_nest, crate::proofs::Items::all_start, crate::proofs::Items::none_nest, crate::proofs::Items::all_end, crate::proofs::Items::all_error, crate::proofs::Standing::row_begins))]
 pub fn items(alloc: Global, tokens: &[Placed]) -> Result<Vec<Item>, Stop>
     ensures places { IfOk result (λ v. InRow ItemStands item_size tokens.now v.items) }
-    ensures read { MatchResult result (λ v. reading (bare tokens.now) most_nesting start ≡ Whole (program_of v.items)) (λ e. IsFault (bare tokens.now) e) }
+    ensures read { MatchResult result (λ v. reading (bare tokens.now) most_nesting start
+        ≡ Whole (program_of v.items)) (λ e. IsFault (bare tokens.now) e) }
 {
     let mut list = Vec::new(alloc);
     let mut rest = tokens;

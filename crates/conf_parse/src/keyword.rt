@@ -89,7 +89,8 @@ fn spells(key: Key, word: &[u8]) -> bool
 
 /// The keyword that a word spells.
 pub(crate) fn keyword(word: &[u8]) -> Option<Key>
-    ensures { MatchOption result ((k : Key) → IsKeySpelling k word.now → ⊥) (λ k. IsKeySpelling k word.now) }
+    ensures { MatchOption result ((k : Key) → IsKeySpelling k word.now → ⊥)
+        (λ k. IsKeySpelling k word.now) }
 {
     for key in KEYS {
         if spells(key, word) {

@@ -1,5 +1,5 @@
-//! Takes a text apart into tokens. `lex` goes through the text once, from piece to piece: a blank byte, a comment, or the
-//! longest token that begins where it stands.
+//! Takes a text apart into tokens. `lex` goes through the text once, from piece to piece: a blank
+//! byte, a comment, or the longest token that begins where it stands.
 ghost use Rattle.std.specs.Prelude.{◌≡◌, ◌<◌, ◌≤◌, ℕ, List, false, length, IfOk, IfErr, MatchOption, MatchResult};
 ghost use Rattle.model_limits.specs.Limits.{model_bytes};
 ghost use Rattle.conf_syntax.specs.declared.token.Placed.{Placed};
@@ -82,11 +82,12 @@ fn token_at(alloc: Global, text: &[u8], at: u32) -> Result<(Token, usize), LexEr
     mark_at(text).ok_or(LexError::BadByte(at))
 }
 
-/// The tokens of a text of at most `MODEL_BYTES` bytes, each with the place of its first byte. At each place the longest
-/// token is taken.
+/// The tokens of a text of at most `MODEL_BYTES` bytes, each with the place of its first byte. At
+/// each place the longest token is taken.
 ///
-/// A text that spells no tokens is refused at the first place that cannot be passed: `BadByte` where nothing begins,
-/// `LiteralTooLarge` where a number above `MOST_LITERAL` begins. `Memory` says only that there was none.
+/// A text that spells no tokens is refused at the first place that cannot be passed: `BadByte`
+/// where nothing begins, `LiteralTooLarge` where a number above `MOST_LITERAL` begins. `Memory`
+/// says only that there was none.
 pub fn lex(alloc: Global, text: &[u8]) -> Result<Vec<Placed>, LexError>
     requires size { length text.now ≤ model_bytes }
     ensures tokens { IfOk result (λ tokens. Spells text.now tokens.items) }
@@ -94,9 +95,11 @@ pub fn lex(alloc: Global, text: &[u8]) -> Result<Vec<Placed>, LexError>
     ensures words { IfOk result (λ tokens. AreWords (bare tokens.items)) }
     ensures refusal { IfErr result (IsRefusedAs text.now) }
     // a text that spells tokens is not refused for another reason than memory
-    ensures only { (tokens : List Placed) → Spells text.now tokens → MatchResult result (λ found. found.items ≡ tokens) (λ e. e ≡ LexError.Memory) }
+    ensures only { (tokens : List Placed) → Spells text.now tokens
+        → MatchResult result (λ found. found.items ≡ tokens) (λ e. e ≡ LexError.Memory) }
     ensures bad_byte { (at : ℕ) → IsStuckAtByte text.now at → Refuses result (LexError.BadByte at) }
-    ensures too_large { (at : ℕ) → IsStuckAtNumber text.now at → Refuses result (LexError.LiteralTooLarge at) }
+    ensures too_large { (at : ℕ) → IsStuckAtNumber text.now at
+        → Refuses result (LexError.LiteralTooLarge at) }
     // of these three at most one holds, and of one list or place
     ensures one_way { IsReadOneWay text.now }
 {

@@ -1,11 +1,12 @@
 //! From the text of a model to its tree.
 //!
-//! `lexer` takes the text apart into tokens with their places, or refuses it at the first place that it cannot pass;
-//! `token`, `run`, `keyword`, `mark` and `literal` each read one thing for it. `parser` has `parse`: the tree of a model, or
-//! the first place that no model has there. `item`, `declaration` and `statement` read what stands at the top level and
-//! in classes, `operand` reads expressions, `table` says how tightly operators bind, `row` reads straight rows, and `cursor`
-//! takes tokens one by one. What is proved of each reader is what the machine of `conf_grammar` does with the same tokens,
-//! whatever stands around them.
+//! `lexer` takes the text apart into tokens with their places, or refuses it at the first place
+//! that it cannot pass; `token`, `run`, `keyword`, `mark` and `literal` each read one thing for it.
+//! `parser` has `parse`: the tree of a model, or the first place that no model has there. `item`,
+//! `declaration` and `statement` read what stands at the top level and in classes, `operand` reads
+//! expressions, `table` says how tightly operators bind, `row` reads straight rows, and `cursor`
+//! takes tokens one by one. What is proved of each reader is what the machine of `conf_grammar`
+//! does with the same tokens, whatever stands around them.
 #![tactic(auto)]
 
 mod cursor;

@@ -7,7 +7,8 @@ use model_limits::MOST_LITERAL;
 
 /// The value of a row of digits, if it is at most the greatest.
 pub(crate) fn literal(digits: &[u8]) -> Option<u32>
-    ensures { MatchOption result (most_literal < number_of digits.now) (λ n. (number_of digits.now ≡ n) × (n ≤ most_literal)) }
+    ensures { MatchOption result (most_literal < number_of digits.now)
+        (λ n. (number_of digits.now ≡ n) × (n ≤ most_literal)) }
 {
     let mut value = 0u64;
     for digit in digits {

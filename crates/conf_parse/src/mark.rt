@@ -7,7 +7,8 @@ use conf_syntax::{Key, Mark, Token};
 
 /// The token that two bytes spell, if they are a mark.
 pub(crate) fn pair(first: u8, second: u8) -> Option<Token>
-    ensures { MatchOption result (is_pair first second ≡ false) (λ token. (is_pair first second ≡ true) × IsSpelling token (first ∷ second ∷ [])) }
+    ensures { MatchOption result (is_pair first second ≡ false)
+        (λ token. (is_pair first second ≡ true) × IsSpelling token (first ∷ second ∷ [])) }
 {
     let token = match (first, second) {
         (b'.', b'.') => Token::Mark(Mark::DotDot),
@@ -25,7 +26,8 @@ pub(crate) fn pair(first: u8, second: u8) -> Option<Token>
 
 /// The token that one byte spells, if it is a mark.
 pub(crate) fn single(byte: u8) -> Option<Token>
-    ensures { MatchOption result (is_single byte ≡ false) (λ token. (is_single byte ≡ true) × IsSpelling token (byte ∷ [])) }
+    ensures { MatchOption result (is_single byte ≡ false) (λ token. (is_single byte ≡ true)
+        × IsSpelling token (byte ∷ [])) }
 {
     let mark = match byte {
         b'{' => Mark::OpenBrace,

@@ -1,9 +1,9 @@
 //! Reads expressions.
 //!
-//! `operand` is the entry point: it reads an operand of at least a level, up to the first token that
-//! doesn't go on with it. `room` is how deep the operand may be; it goes down with each node, so the
-//! readers call one another at most `MOST_NESTING` deep, and operators to the left, in a row, are
-//! read in a loop. Quantifiers are read in `quantifier`.
+//! `operand` is the entry point: it reads an operand of at least a level, up to the first token
+//! that doesn't go on with it. `room` is how deep the operand may be; it goes down with each node,
+//! so the readers call one another at most `MOST_NESTING` deep, and operators to the left, in a
+//! row, are read in a loop. Quantifiers are read in `quantifier`.
 ghost use Rattle.std.specs.Prelude.{◌≡◌, ◌+◌, ◌-◌, ◌<◌, ◌≤◌, length, IfOk, MatchResult, true, false};
 ghost use Rattle.model_limits.specs.Limits.{most_nesting};
 ghost use Rattle.conf_syntax.specs.Places.{bare, first_at};
@@ -42,7 +42,9 @@ fn first(alloc: Global, tokens: &[Placed], least: u32, room: u32) -> Result<(Par
     requires most { room ≤ most_nesting }
     ensures operand { IfOk result (λ x. IsPart room x.0) }
     ensures places { IfOk result (λ x. Reads tokens.now x.0.tree x.1.now) }
-    ensures read { MatchResult result (λ x. Leads least room Need (bare tokens.now) (at (tree_of x.0.tree.node)) (bare x.1.now)) (λ e. Errs least room Need (bare tokens.now) e) }
+    ensures read { MatchResult result (λ x. Leads least room Need (bare tokens.now)
+        (at (tree_of x.0.tree.node)) (bare x.1.now)) (λ e. Errs least room Need (bare tokens.now)
+        e) }
     ensures shorter { IfOk result (λ x. length x.1.now ≤ length tokens.now) }
 {
     let Some((token, after)) = split(tokens) else {
@@ -79,7 +81,9 @@ fn leaf<'a>(
     requires level { level ≡ plain.leaf_level token.now.token }
     ensures operand { IfOk result (λ x. IsPart room x.0) }
     ensures places { IfOk result (λ x. Reads tokens.now x.0.tree x.1.now) }
-    ensures read { MatchResult result (λ x. Leads least room Need (bare tokens.now) (at (tree_of x.0.tree.node)) (bare x.1.now)) (λ e. Errs least room Need (bare tokens.now) e) }
+    ensures read { MatchResult result (λ x. Leads least room Need (bare tokens.now)
+        (at (tree_of x.0.tree.node)) (bare x.1.now)) (λ e. Errs least room Need (bare tokens.now)
+        e) }
     ensures shorter { IfOk result (λ x. length x.1.now ≤ length tokens.now) }
 {
     if least > level {
@@ -113,7 +117,9 @@ fn paren<'a>(
     requires begin { begin_by token.now.token ≡ plain.AParen }
     ensures operand { IfOk result (λ x. IsPart room x.0) }
     ensures places { IfOk result (λ x. Reads tokens.now x.0.tree x.1.now) }
-    ensures read { MatchResult result (λ x. Leads least room Need (bare tokens.now) (at (tree_of x.0.tree.node)) (bare x.1.now)) (λ e. Errs least room Need (bare tokens.now) e) }
+    ensures read { MatchResult result (λ x. Leads least room Need (bare tokens.now)
+        (at (tree_of x.0.tree.node)) (bare x.1.now)) (λ e. Errs least room Need (bare tokens.now)
+        e) }
     ensures shorter { IfOk result (λ x. length x.1.now ≤ length tokens.now) }
 {
     if least > 10 {
@@ -146,7 +152,8 @@ fn paren<'a>(
 /// The expression under a sign.
 #[tactic(auto, using(crate::proofs::Placing::minus_reads, crate::proofs::Placing::not_reads))]
 fn under(alloc: Global, sign: Sign, place: u32, inner: Expr) -> Result<Expr, AllocError>
-    ensures tree { IfOk result (λ x. tree_of x.node ≡ plain.Under (sign_of sign) (tree_of inner.node)) }
+    ensures tree { IfOk result (λ x. tree_of x.node ≡ plain.Under (sign_of sign)
+        (tree_of inner.node)) }
     ensures places { IfOk result (λ x. SignReads place inner x) }
 {
     let inner = Box::new(alloc, inner)?;
@@ -175,7 +182,9 @@ fn signed<'a>(
     requires begin { begin_by token.now.token ≡ plain.ASign (sign_of sign) }
     ensures operand { IfOk result (λ x. IsPart room x.0) }
     ensures places { IfOk result (λ x. Reads tokens.now x.0.tree x.1.now) }
-    ensures read { MatchResult result (λ x. Leads least room Need (bare tokens.now) (at (tree_of x.0.tree.node)) (bare x.1.now)) (λ e. Errs least room Need (bare tokens.now) e) }
+    ensures read { MatchResult result (λ x. Leads least room Need (bare tokens.now)
+        (at (tree_of x.0.tree.node)) (bare x.1.now)) (λ e. Errs least room Need (bare tokens.now)
+        e) }
     ensures shorter { IfOk result (λ x. length x.1.now ≤ length tokens.now) }
 {
     let level = sign_level(sign);
@@ -217,8 +226,11 @@ fn grow<'a>(
     requires places { Reads start.now left.tree tokens.now }
     ensures operand { IfOk result (λ x. IsPart room x.0) }
     ensures places { IfOk result (λ x. Reads start.now x.0.tree x.1.now) }
-    ensures read { MatchResult result (λ x. Leads least room (at (tree_of left.tree.node)) (bare tokens.now) (at (tree_of x.0.tree.node)) (bare x.1.now)) (λ e. Errs least room (at (tree_of left.tree.node)) (bare tokens.now) e) }
-    ensures stops { IfOk result (λ x. x.2 ≡ false → goes_on least x.0.level (bare x.1.now) ≡ false) }
+    ensures read { MatchResult result (λ x. Leads least room (at (tree_of left.tree.node))
+        (bare tokens.now) (at (tree_of x.0.tree.node)) (bare x.1.now))
+        (λ e. Errs least room (at (tree_of left.tree.node)) (bare tokens.now) e) }
+    ensures stops { IfOk result (λ x. x.2 ≡ false → goes_on least x.0.level (bare x.1.now)
+        ≡ false) }
     ensures shorter { IfOk result (λ x. x.2 ≡ true → length x.1.now < length tokens.now) }
     ensures no_longer { IfOk result (λ x. length x.1.now ≤ length tokens.now) }
 {
@@ -267,7 +279,9 @@ fn named<'a>(
     requires nest { left.nest < room }
     ensures operand { IfOk result (λ x. IsPart room x.0) }
     ensures places { IfOk result (λ x. Reads start.now x.0.tree x.1.now) }
-    ensures read { MatchResult result (λ x. Leads least room (at (tree_of left.tree.node)) (bare tokens.now) (at (tree_of x.0.tree.node)) (bare x.1.now)) (λ e. Errs least room (at (tree_of left.tree.node)) (bare tokens.now) e) }
+    ensures read { MatchResult result (λ x. Leads least room (at (tree_of left.tree.node))
+        (bare tokens.now) (at (tree_of x.0.tree.node)) (bare x.1.now))
+        (λ e. Errs least room (at (tree_of left.tree.node)) (bare tokens.now) e) }
     ensures shorter { IfOk result (λ x. length x.1.now < length tokens.now) }
 {
     let Some((name, at, rest)) = word_at(after) else {
@@ -311,7 +325,9 @@ fn pair<'a>(
     requires nest { left.nest < room }
     ensures operand { IfOk result (λ x. IsPart room x.0) }
     ensures places { IfOk result (λ x. Reads start.now x.0.tree x.1.now) }
-    ensures read { MatchResult result (λ x. Leads least room (at (tree_of left.tree.node)) (bare tokens.now) (at (tree_of x.0.tree.node)) (bare x.1.now)) (λ e. Errs least room (at (tree_of left.tree.node)) (bare tokens.now) e) }
+    ensures read { MatchResult result (λ x. Leads least room (at (tree_of left.tree.node))
+        (bare tokens.now) (at (tree_of x.0.tree.node)) (bare x.1.now))
+        (λ e. Errs least room (at (tree_of left.tree.node)) (bare tokens.now) e) }
     ensures shorter { IfOk result (λ x. length x.1.now < length tokens.now) }
 {
     let place = token.at;
@@ -348,7 +364,9 @@ pub fn operand(
     requires most { room ≤ most_nesting }
     ensures operand { IfOk result (λ x. IsPart room x.0) }
     ensures places { IfOk result (λ x. Reads tokens.now x.0.tree x.1.now) }
-    ensures read { MatchResult result (λ x. Leads least room Need (bare tokens.now) (at (tree_of x.0.tree.node)) (bare x.1.now)) (λ e. Errs least room Need (bare tokens.now) e) }
+    ensures read { MatchResult result (λ x. Leads least room Need (bare tokens.now)
+        (at (tree_of x.0.tree.node)) (bare x.1.now)) (λ e. Errs least room Need (bare tokens.now)
+        e) }
     ensures stops { IfOk result (λ x. goes_on least x.0.level (bare x.1.now) ≡ false) }
     ensures shorter { IfOk result (λ x. length x.1.now ≤ length tokens.now) }
 {

@@ -20,11 +20,11 @@ use std::alloc::Global;
 /// Why tokens are no model, with the place in the text.
 #[derive(Debug, Drop)]
 pub enum ParseError {
-    /// The tokens before the place begin a model; with the token at the place they begin none. Where the place is the
-    /// end of the text, they are no model.
+    /// The tokens before the place begin a model; with the token at the place they begin none.
+    /// Where the place is the end of the text, they are no model.
     Syntax(u32),
-    /// The tokens before the place begin a model whose expressions are at most `MOST_NESTING` deep; with the token at the place
-    /// only deeper ones.
+    /// The tokens before the place begin a model whose expressions are at most `MOST_NESTING` deep;
+    /// with the token at the place only deeper ones.
     TooDeep(u32),
     /// Memory ran out.
     Memory,
@@ -55,10 +55,14 @@ fn place(tokens: &[Placed], end: u32, left: usize) -> u32
 #[tactic(auto, using(crate::proofs::Ends::program_right, crate::proofs::Ends::program_only, crate::proofs::Ends::syntax_means, crate::proofs::Ends::deep_means, crate::proofs::Ends::syntax_never, crate::proofs::Ends::deep_never, crate::proofs::Ends::program_again, crate::proofs::Ends::syntax_again, crate::proofs::Ends::deep_again))]
 fn read(alloc: Global, tokens: &[Placed], end: u32) -> Result<Program, ParseError>
     ensures ok { IfOk result (λ p. IsProgramOf tokens.now p) }
-    ensures plain { IfOk result (λ p. IsProgramIn most_nesting (bare tokens.now) (program_of p.items)) }
+    ensures plain { IfOk result (λ p. IsProgramIn most_nesting (bare tokens.now)
+        (program_of p.items)) }
     ensures refusal { IfErr result (λ e. Means tokens.now end e) }
-    ensures only { (p : plain.Program) → IsProgramIn most_nesting (bare tokens.now) p → MatchResult result (λ q. program_of q.items ≡ p) (λ e. e ≡ ParseError.Memory) }
-    ensures again { (p : Program) → IsTreeOf tokens.now p → MatchResult result (λ q. program_of q.items ≡ program_of p.items) (λ e. e ≡ ParseError.Memory) }
+    ensures only { (p : plain.Program) → IsProgramIn most_nesting (bare tokens.now) p
+        → MatchResult result (λ q. program_of q.items ≡ p) (λ e. e ≡ ParseError.Memory) }
+    ensures again { (p : Program) → IsTreeOf tokens.now p
+        → MatchResult result (λ q. program_of q.items ≡ program_of p.items) (λ e. e
+        ≡ ParseError.Memory) }
 {
     match items(alloc, tokens) {
         Ok(list) => Ok(Program {
@@ -74,23 +78,31 @@ fn read(alloc: Global, tokens: &[Placed], end: u32) -> Result<Program, ParseErro
 ///
 /// The places of the tree and of the errors are counted in bytes from the beginning of the text.
 pub fn parse(alloc: Global, tokens: &[Placed], end: u32) -> Result<Program, ParseError>
-    // The model has these tokens, is one that the grammar has, its expressions are at most `MOST_NESTING` deep, and each of its places
-    // is that of its token.
+    // The model has these tokens, is one that the grammar has, its expressions are at most
+    // `MOST_NESTING` deep, and each of its places is that of its token.
     ensures ok { IfOk result (λ p. IsProgramOf tokens.now p) }
     // A refusal stands at the first token that no model has there.
     ensures refusal { IfErr result (λ e. Means tokens.now end e) }
-    // The tokens of a model are read as that model, its places and pointers aside, unless memory runs out. Hence tokens are
-    // those of at most one model.
-    ensures only { (p : plain.Program) → IsProgramIn most_nesting (bare tokens.now) p → MatchResult result (λ q. program_of q.items ≡ p) (λ e. e ≡ ParseError.Memory) }
-    ensures again { (p : Program) → IsTreeOf tokens.now p → MatchResult result (λ q. program_of q.items ≡ program_of p.items) (λ e. e ≡ ParseError.Memory) }
-    // Where the places are those of the tokens too, the model that is read has the same ones. Hence tokens are those of at
-    // most one model with its places.
-    ensures places { (p : Program) → IsProgramOf tokens.now p → MatchResult result (λ q. program_places q ≡ program_places p) (λ e. e ≡ ParseError.Memory) }
+    // The tokens of a model are read as that model, its places and pointers aside, unless memory
+    // runs out. Hence tokens are those of at most one model.
+    ensures only { (p : plain.Program) → IsProgramIn most_nesting (bare tokens.now) p
+        → MatchResult result (λ q. program_of q.items ≡ p) (λ e. e ≡ ParseError.Memory) }
+    ensures again { (p : Program) → IsTreeOf tokens.now p
+        → MatchResult result (λ q. program_of q.items ≡ program_of p.items) (λ e. e
+        ≡ ParseError.Memory) }
+    // Where the places are those of the tokens too, the model that is read has the same ones. Hence
+    // tokens are those of at most one model with its places.
+    ensures places { (p : Program) → IsProgramOf tokens.now p
+        → MatchResult result (λ q. program_places q ≡ program_places p) (λ e. e
+        ≡ ParseError.Memory) }
     // Tokens are those of at most one model with its places, whatever is answered.
-    ensures one_model { (p q : Program) → IsProgramOf tokens.now p → IsProgramOf tokens.now q → (program_of p.items ≡ program_of q.items) × (program_places p ≡ program_places q) }
+    ensures one_model { (p q : Program) → IsProgramOf tokens.now p → IsProgramOf tokens.now q
+        → (program_of p.items ≡ program_of q.items) × (program_places p ≡ program_places q) }
     // Where a refusal would stand at a place, it is answered, unless memory runs out.
-    ensures syntax { (at : ℕ) → IsSyntax tokens.now end at → MatchResult result (λ p. ⊥) (IsSameOrMemory (ParseError.Syntax at)) }
-    ensures too_deep { (at : ℕ) → IsDeep tokens.now end at → MatchResult result (λ p. ⊥) (IsSameOrMemory (ParseError.TooDeep at)) }
+    ensures syntax { (at : ℕ) → IsSyntax tokens.now end at → MatchResult result (λ p. ⊥)
+        (IsSameOrMemory (ParseError.Syntax at)) }
+    ensures too_deep { (at : ℕ) → IsDeep tokens.now end at → MatchResult result (λ p. ⊥)
+        (IsSameOrMemory (ParseError.TooDeep at)) }
 {
     read(alloc, tokens, end)
 }

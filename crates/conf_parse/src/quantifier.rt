@@ -50,7 +50,9 @@ fn head<'a>(
     ensures fits { IfOk result (λ x. (least ≤ 10) × (2 ≤ room)) }
     ensures operand { IfOk result (λ x. IsPart (room - 1) x.1) }
     ensures places { IfOk result (λ x. HeadReads tokens.now x.0 x.1.tree x.2.now) }
-    ensures read { MatchResult result (λ x. Leads least room Need (bare tokens.now) (have_in (InOver kind x.0.name) (tree_of x.1.tree.node)) (bare x.2.now)) (λ e. Errs least room Need (bare tokens.now) e) }
+    ensures read { MatchResult result (λ x. Leads least room Need (bare tokens.now)
+        (have_in (InOver kind x.0.name) (tree_of x.1.tree.node)) (bare x.2.now))
+        (λ e. Errs least room Need (bare tokens.now) e) }
     ensures stops { IfOk result (λ x. goes_on 11 x.1.level (bare x.2.now) ≡ false) }
     ensures shorter { IfOk result (λ x. length x.2.now ≤ length tokens.now) }
 {
@@ -94,7 +96,9 @@ fn before_body<'a>(
     ensures kind { IfOk result (λ x. x.0.kind ≡ kind) }
     ensures nest { IfOk result (λ x. (x.0.nest ≡ nest (opening_tree x.0)) × (x.0.nest < room)) }
     ensures places { IfOk result (λ x. OpeningReads tokens.now x.0 x.1.now) }
-    ensures read { MatchResult result (λ x. Leads least room Need (bare tokens.now) (need_in (body (opening_tree x.0))) (bare x.1.now)) (λ e. Errs least room Need (bare tokens.now) e) }
+    ensures read { MatchResult result (λ x. Leads least room Need (bare tokens.now)
+        (need_in (body (opening_tree x.0))) (bare x.1.now))
+        (λ e. Errs least room Need (bare tokens.now) e) }
     ensures shorter { IfOk result (λ x. length x.1.now ≤ length tokens.now) }
 {
     let (var, over, rest) = match head(alloc, kind, tokens, token, after, least, room) {
@@ -147,7 +151,8 @@ fn item(alloc: Global, tokens: &[Placed], room: u32) -> Result<(Part, &[Placed])
     requires most { room ≤ most_nesting }
     ensures operand { IfOk result (λ x. IsPart (room - 1) x.0) }
     ensures places { IfOk result (λ x. ItemReads tokens.now x.0.tree x.1.now) }
-    ensures read { MatchResult result (λ x. IsItem room (bare tokens.now) (tree_of x.0.tree.node) (bare x.1.now)) (λ e. ItemErrs room (bare tokens.now) e) }
+    ensures read { MatchResult result (λ x. IsItem room (bare tokens.now) (tree_of x.0.tree.node)
+        (bare x.1.now)) (λ e. ItemErrs room (bare tokens.now) e) }
     ensures shorter { IfOk result (λ x. length x.1.now < length tokens.now) }
 {
     let (part, behind) = match operand(alloc, tokens, 1, room - 1) {
@@ -162,7 +167,8 @@ fn item(alloc: Global, tokens: &[Placed], room: u32) -> Result<(Part, &[Placed])
 
 /// The quantifier with these bodies.
 fn made(alloc: Global, place: u32, start: Opening, body: Vec<Expr>) -> Result<Expr, AllocError>
-    ensures tree { IfOk result (λ x. tree_of x.node ≡ closed (plain.semicolons start.kind) (chain (opening_tree start) body.items)) }
+    ensures tree { IfOk result (λ x. tree_of x.node ≡ closed (plain.semicolons start.kind)
+        (chain (opening_tree start) body.items)) }
     ensures places { IfOk result (λ x. QuantReads place start body.items x) }
 {
     let quant = Quant {
@@ -195,7 +201,9 @@ pub(crate) fn quant<'a>(
     requires begin { begin_by token.now.token ≡ plain.AQuant kind }
     ensures operand { IfOk result (λ x. IsPart room x.0) }
     ensures places { IfOk result (λ x. Reads tokens.now x.0.tree x.1.now) }
-    ensures read { MatchResult result (λ x. Leads least room Need (bare tokens.now) (at (tree_of x.0.tree.node)) (bare x.1.now)) (λ e. Errs least room Need (bare tokens.now) e) }
+    ensures read { MatchResult result (λ x. Leads least room Need (bare tokens.now)
+        (at (tree_of x.0.tree.node)) (bare x.1.now)) (λ e. Errs least room Need (bare tokens.now)
+        e) }
     ensures shorter { IfOk result (λ x. length x.1.now ≤ length tokens.now) }
 {
     let (start, inside) = match before_body(alloc, kind, tokens, token, after, least, room) {
@@ -227,13 +235,16 @@ fn single<'a>(
     requires most { room ≤ most_nesting }
     requires nest { start.nest ≡ nest (opening_tree start) }
     requires nested { start.nest < room }
-    requires read { Leads least room Need (bare tokens.now) (need_in (body (opening_tree start))) (bare inside.now) }
+    requires read { Leads least room Need (bare tokens.now) (need_in (body (opening_tree start)))
+        (bare inside.now) }
     requires places { OpeningReads tokens.now start inside.now }
     requires place { place ≡ first_at tokens.now }
     requires shorter { length inside.now ≤ length tokens.now }
     ensures operand { IfOk result (λ x. IsPart room x.0) }
     ensures places { IfOk result (λ x. Reads tokens.now x.0.tree x.1.now) }
-    ensures read { MatchResult result (λ x. Leads least room Need (bare tokens.now) (at (tree_of x.0.tree.node)) (bare x.1.now)) (λ e. Errs least room Need (bare tokens.now) e) }
+    ensures read { MatchResult result (λ x. Leads least room Need (bare tokens.now)
+        (at (tree_of x.0.tree.node)) (bare x.1.now)) (λ e. Errs least room Need (bare tokens.now)
+        e) }
     ensures shorter { IfOk result (λ x. length x.1.now ≤ length tokens.now) }
 {
     let (only, rest) = match operand(alloc, inside, 1, room - 1) {
@@ -275,13 +286,16 @@ fn many<'a>(
     requires most { room ≤ most_nesting }
     requires nest { start.nest ≡ nest (opening_tree start) }
     requires nested { start.nest < room }
-    requires read { Leads least room Need (bare tokens.now) (need_in (body (opening_tree start))) (bare inside.now) }
+    requires read { Leads least room Need (bare tokens.now) (need_in (body (opening_tree start)))
+        (bare inside.now) }
     requires places { OpeningReads tokens.now start inside.now }
     requires place { place ≡ first_at tokens.now }
     requires shorter { length inside.now ≤ length tokens.now }
     ensures operand { IfOk result (λ x. IsPart room x.0) }
     ensures places { IfOk result (λ x. Reads tokens.now x.0.tree x.1.now) }
-    ensures read { MatchResult result (λ x. Leads least room Need (bare tokens.now) (at (tree_of x.0.tree.node)) (bare x.1.now)) (λ e. Errs least room Need (bare tokens.now) e) }
+    ensures read { MatchResult result (λ x. Leads least room Need (bare tokens.now)
+        (at (tree_of x.0.tree.node)) (bare x.1.now)) (λ e. Errs least room Need (bare tokens.now)
+        e) }
     ensures shorter { IfOk result (λ x. length x.1.now ≤ length tokens.now) }
 {
     let kind = start.kind;

@@ -12,7 +12,8 @@ use conf_syntax::{Key, Mark, Name, Placed, Token};
 
 /// A number with its place, and what is behind it.
 pub fn number_at(tokens: &[Placed]) -> Option<(u32, u32, &[Placed])>
-    ensures { MatchOption result (IsNotNumber (bare tokens.now)) (λ x. Numbers tokens.now x.0 x.1 x.2.now) }
+    ensures { MatchOption result (IsNotNumber (bare tokens.now)) (λ x. Numbers tokens.now x.0 x.1
+        x.2.now) }
 {
     let (token, rest) = split(tokens)?;
     match token.token {
@@ -53,7 +54,8 @@ fn split_pieces(wanted: &[Piece]) -> Option<(Piece, &[Piece])>
 #[tactic(auto, using(crate::proofs::Rowed::fixed_nil, crate::proofs::Rowed::fixed_none, crate::proofs::Rowed::fixed_other, crate::proofs::Rowed::fixed_on, crate::proofs::Rowed::fixed_miss, crate::proofs::Rowed::fixed_rest))]
 pub fn fixed<'a>(tokens: &'a [Placed], wanted: &[Piece]) -> Result<&'a [Placed], usize>
     requires fixed { list_all is_fixed wanted.now ≡ true }
-    ensures { MatchResult result (λ rest. Follows tokens.now (leasts wanted.now) rest.now) (λ left. missed wanted.now (bare tokens.now) ≡ Some left) }
+    ensures { MatchResult result (λ rest. Follows tokens.now (leasts wanted.now) rest.now)
+        (λ left. missed wanted.now (bare tokens.now) ≡ Some left) }
 {
     let Some((first, more)) = split_pieces(wanted) else {
         return Ok(tokens);
@@ -74,7 +76,8 @@ pub fn named<'a>(
     wanted: &[Piece],
 ) -> Result<(&'a Name, u32, &'a [Placed]), usize>
     requires fixed { list_all is_fixed wanted.now ≡ true }
-    ensures { MatchResult result (λ x. NamesThen tokens.now x.0.now x.1 (leasts wanted.now) x.2.now) (λ left. missed (Piece.Word ∷ wanted.now) (bare tokens.now) ≡ Some left) }
+    ensures { MatchResult result (λ x. NamesThen tokens.now x.0.now x.1 (leasts wanted.now) x.2.now)
+        (λ left. missed (Piece.Word ∷ wanted.now) (bare tokens.now) ≡ Some left) }
 {
     let Some((name, at, after)) = word_at(tokens) else {
         return Err(tokens.len());
@@ -92,7 +95,8 @@ pub fn numbered<'a>(
     wanted: &[Piece],
 ) -> Result<(u32, u32, &'a [Placed]), usize>
     requires fixed { list_all is_fixed wanted.now ≡ true }
-    ensures { MatchResult result (λ x. NumbersThen tokens.now x.0 x.1 (leasts wanted.now) x.2.now) (λ left. missed (Piece.Number ∷ wanted.now) (bare tokens.now) ≡ Some left) }
+    ensures { MatchResult result (λ x. NumbersThen tokens.now x.0 x.1 (leasts wanted.now) x.2.now)
+        (λ left. missed (Piece.Number ∷ wanted.now) (bare tokens.now) ≡ Some left) }
 {
     let Some((value, at, after)) = number_at(tokens) else {
         return Err(tokens.len());

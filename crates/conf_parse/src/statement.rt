@@ -21,7 +21,9 @@ use std::alloc::Global;
 #[tactic(auto, using(crate::proofs::Wheres::expr_part, crate::proofs::Wheres::expr_open, crate::proofs::Wheres::expr_error, crate::proofs::Standing::statement_stands))]
 fn statement(alloc: Global, tokens: &[Placed]) -> Result<(Part, &[Placed]), Stop>
     ensures places { IfOk result (λ x. StatementReads tokens.now x.0.tree x.1.now) }
-    ensures read { MatchResult result (λ x. Turns ground_base need_at (bare tokens.now) (ground_and (tree_of x.0.tree.node)) (bare x.1.now)) (λ e. TurnErrs ground_base need_at (bare tokens.now) e) }
+    ensures read { MatchResult result (λ x. Turns ground_base need_at (bare tokens.now)
+        (ground_and (tree_of x.0.tree.node)) (bare x.1.now)) (λ e. TurnErrs ground_base need_at
+        (bare tokens.now) e) }
     ensures nest { IfOk result (λ x. x.0.nest ≡ nest (tree_of x.0.tree.node)) }
     ensures nested { IfOk result (λ x. x.0.nest ≤ most_nesting) }
     ensures shorter { IfOk result (λ x. length x.1.now < length tokens.now) }
@@ -47,7 +49,9 @@ fn braces<'a>(
     requires key { Takes tokens.now (Token.Key Key.Where) after.now }
     requires brace { Takes after.now (Token.Mark Mark.OpenBrace) inside.now }
     ensures places { IfOk result (λ x. WhereReads tokens.now x.0 x.1.now) }
-    ensures read { MatchResult result (λ x. Turns home_low home_at (bare tokens.now) (home_and (where_of x.0.braces x.0.list)) (bare x.1.now)) (λ e. TurnErrs home_low home_at (bare tokens.now) e) }
+    ensures read { MatchResult result (λ x. Turns home_low home_at (bare tokens.now)
+        (home_and (where_of x.0.braces x.0.list)) (bare x.1.now)) (λ e. TurnErrs home_low home_at
+        (bare tokens.now) e) }
     ensures shorter { IfOk result (λ x. length x.1.now < length tokens.now) }
     ensures nested { IfOk result (λ x. member_nest (where_of x.0.braces x.0.list) ≤ most_nesting) }
 {
@@ -81,7 +85,9 @@ fn lone<'a>(
     requires key { Takes tokens.now (Token.Key Key.Where) after.now }
     requires brace { IsNot (Token.Mark Mark.OpenBrace) (bare after.now) }
     ensures places { IfOk result (λ x. WhereReads tokens.now x.0 x.1.now) }
-    ensures read { MatchResult result (λ x. Turns home_low home_at (bare tokens.now) (home_and (where_of x.0.braces x.0.list)) (bare x.1.now)) (λ e. TurnErrs home_low home_at (bare tokens.now) e) }
+    ensures read { MatchResult result (λ x. Turns home_low home_at (bare tokens.now)
+        (home_and (where_of x.0.braces x.0.list)) (bare x.1.now)) (λ e. TurnErrs home_low home_at
+        (bare tokens.now) e) }
     ensures shorter { IfOk result (λ x. length x.1.now < length tokens.now) }
     ensures nested { IfOk result (λ x. member_nest (where_of x.0.braces x.0.list) ≤ most_nesting) }
 {
@@ -107,7 +113,9 @@ pub fn where_decl<'a>(
 ) -> Result<(WhereDecl, &'a [Placed]), Stop>
     requires key { Takes tokens.now (Token.Key Key.Where) after.now }
     ensures places { IfOk result (λ x. WhereReads tokens.now x.0 x.1.now) }
-    ensures read { MatchResult result (λ x. Turns home_low home_at (bare tokens.now) (home_and (where_of x.0.braces x.0.list)) (bare x.1.now)) (λ e. TurnErrs home_low home_at (bare tokens.now) e) }
+    ensures read { MatchResult result (λ x. Turns home_low home_at (bare tokens.now)
+        (home_and (where_of x.0.braces x.0.list)) (bare x.1.now)) (λ e. TurnErrs home_low home_at
+        (bare tokens.now) e) }
     ensures shorter { IfOk result (λ x. length x.1.now < length tokens.now) }
     ensures nested { IfOk result (λ x. member_nest (where_of x.0.braces x.0.list) ≤ most_nesting) }
 {
@@ -127,7 +135,9 @@ pub fn goal_decl<'a>(
 ) -> Result<(GoalDecl, &'a [Placed]), Stop>
     requires key { Takes tokens.now (goal_key max) after.now }
     ensures places { IfOk result (λ x. GoalReads tokens.now x.0 x.1.now) }
-    ensures read { MatchResult result (λ x. Turns nesting program_at (bare tokens.now) (program_and (Goal x.0.max (tree_of x.0.expr.node))) (bare x.1.now)) (λ e. TurnErrs nesting program_at (bare tokens.now) e) }
+    ensures read { MatchResult result (λ x. Turns nesting program_at (bare tokens.now)
+        (program_and (Goal x.0.max (tree_of x.0.expr.node))) (bare x.1.now))
+        (λ e. TurnErrs nesting program_at (bare tokens.now) e) }
     ensures shorter { IfOk result (λ x. length x.1.now < length tokens.now) }
     ensures nested { IfOk result (λ x. nest (tree_of x.0.expr.node) ≤ most_nesting) }
 {

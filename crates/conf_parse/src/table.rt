@@ -1,7 +1,7 @@
 //! How tightly operators bind: every expression has a level, every place for one a least level.
 //!
-//! `->` is 1, `or` 2, `and` 3, `not` 4, a comparison 5, a sum 6, a product 7, unary minus 8, `.name` 9, all else 10; a
-//! path, which may stand behind `in`, is 11.
+//! `->` is 1, `or` 2, `and` 3, `not` 4, a comparison 5, a sum 6, a product 7, unary minus 8,
+//! `.name` 9, all else 10; a path, which may stand behind `in`, is 11.
 ghost use Rattle.std.specs.Prelude.{◌≡◌, ◌≤◌, IfOk, IfErr};
 ghost use Rattle.conf_syntax.specs.Plain.{right_level, sign_level, dotted, semicolons, may_more, may_end};
 ghost use Rattle.conf_syntax.specs.Trees.{op_level, left_level, may_filter};

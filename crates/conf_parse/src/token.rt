@@ -39,7 +39,8 @@ pub(crate) fn word_at(alloc: Global, text: &[u8]) -> Result<(Token, usize), Allo
 // The token of a row of digits, if its value is not too large.
 fn number_token(digits: &[u8]) -> Option<Token>
     requires { is_digits digits.now ≡ true }
-    ensures { MatchOption result (most_literal < number_of digits.now) (λ token. IsSpelling token digits.now) }
+    ensures { MatchOption result (most_literal < number_of digits.now)
+        (λ token. IsSpelling token digits.now) }
 {
     let value = literal(digits)?;
     Some(Token::Number(value))

@@ -1,4 +1,5 @@
--- All places of a model, as a list: of each node its own and then those of its parts, from left to right.
+-- All places of a model, as a list: of each node its own and then those of its parts, from left to
+-- right.
 use Rattle.std.specs.Prelude.{ℕ, List, [], ◌∷◌, ◌++◌, Option, None, Some}
 use Rattle.std.specs.List.{flat_map}
 use Rattle.conf_syntax.specs.declared.token.Ident.{Ident}
@@ -32,7 +33,8 @@ abbrev mutual
   node_places at (node.Quant' p q) = at ∷ quant_places q
 
   pub quant_places : quant.Quant → List ℕ
-  quant_places (quant.Quant' k var i over filter shape body) = var.at ∷ (node_places i over ++ (filter_places filter ++ row_places body))
+  quant_places (quant.Quant' k var i over filter shape body) = var.at ∷ (node_places i over
+      ++ (filter_places filter ++ row_places body))
 
   pub filter_places : quant.Held-Quant-filter → List ℕ
   filter_places quant.None' = []

@@ -1,4 +1,5 @@
--- What it means that a model is that of some tokens: its tokens, its grammar, its nesting and its places.
+-- What it means that a model is that of some tokens: its tokens, its grammar, its nesting and its
+-- places.
 use Rattle.std.specs.Prelude.{◌≡◌, ◌≤◌, ℕ, true, List, [], ◌∷◌}
 use Rattle.model_limits.specs.Limits.{most_nesting}
 use Rattle.conf_syntax.specs.declared.token.Placed.{Placed}

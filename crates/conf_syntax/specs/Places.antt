@@ -1,5 +1,5 @@
--- That each place in a tree is that of its token: an expression's the place of its first token, and a pair's that of its
--- operator. The tokens begin with those of the tree.
+-- That each place in a tree is that of its token: an expression's the place of its first token, and
+-- a pair's that of its operator. The tokens begin with those of the tree.
 use Rattle.std.specs.Prelude.{◌≡◌, ◌+◌, ℕ, List, [], ◌∷◌, length, drop}
 use Rattle.conf_syntax.specs.declared.token.Placed.{Placed}
 use Rattle.conf_syntax.specs.declared.token.Token.{Token}
@@ -33,17 +33,21 @@ abbrev mutual
   Stands tokens at node.This = at ≡ first_at tokens
   Stands tokens at (node.Named w) = at ≡ first_at tokens
   Stands tokens at (node.Paren' p inner e) = (at ≡ first_at tokens) × Stands (drop 1 tokens) inner e
-  Stands tokens at (node.Dot' p inner e i) = (at ≡ first_at tokens) × Stands tokens inner e × (i.at ≡ at_index (size e + 1) tokens)
+  Stands tokens at (node.Dot' p inner e i) = (at ≡ first_at tokens) × Stands tokens inner e
+      × (i.at ≡ at_index (size e + 1) tokens)
   Stands tokens at (node.Minus' p inner e) = (at ≡ first_at tokens) × Stands (drop 1 tokens) inner e
   Stands tokens at (node.Not' p inner e) = (at ≡ first_at tokens) × Stands (drop 1 tokens) inner e
-  Stands tokens at (node.Pair' o p left l q right r) = (at ≡ at_index (size l) tokens) × Stands tokens left l × Stands (drop (size l + 1) tokens) right r
+  Stands tokens at (node.Pair' o p left l q right r) = (at ≡ at_index (size l) tokens)
+      × Stands tokens left l × Stands (drop (size l + 1) tokens) right r
   Stands tokens at (node.Quant' p q) = (at ≡ first_at tokens) × QuantStands tokens q
 
   -- the keyword, the variable, `in`, the path, the filter, a brace, the bodies
   pub QuantStands : List Placed → quant.Quant → Type 0
   QuantStands tokens (quant.Quant' k var at over filter shape body) =
-      (var.at ≡ at_index 1 tokens) × Stands (drop 3 tokens) at over × FilterStands (drop (size over) (drop 3 tokens)) filter
-      × BodyStands (drop (length (filter_tokens filter) + 1) (drop (size over) (drop 3 tokens))) k body
+      (var.at ≡ at_index 1 tokens) × Stands (drop 3 tokens) at over
+      × FilterStands (drop (size over) (drop 3 tokens)) filter
+      × BodyStands (drop (length (filter_tokens filter) + 1) (drop (size over) (drop 3 tokens))) k
+      body
 
   pub FilterStands : List Placed → quant.Held-Quant-filter → Type 0
   FilterStands tokens quant.None' = Unit {0}
@@ -51,4 +55,5 @@ abbrev mutual
 
   pub BodyStands : {m : _} → List Placed → QuantKind → quant.Row_of-Expr m → Type 0
   BodyStands tokens k quant.end_of-Expr = Unit {0}
-  BodyStands tokens k (quant.more_of-Expr at e rest) = Stands tokens at e × BodyStands (drop (size e + length (body_end k)) tokens) k rest
+  BodyStands tokens k (quant.more_of-Expr at e rest) = Stands tokens at e
+      × BodyStands (drop (size e + length (body_end k)) tokens) k rest

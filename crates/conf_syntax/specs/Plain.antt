@@ -1,5 +1,6 @@
--- Plain trees: the trees of models with neither pointers nor places. Their tokens, their grammar and their nesting are those
--- of Trees.antt, said once more for trees of any size; `Views` says which plain tree a tree of the program is.
+-- Plain trees: the trees of models with neither pointers nor places. Their tokens, their grammar
+-- and their nesting are those of Trees.antt, said once more for trees of any size; `Views` says
+-- which plain tree a tree of the program is.
 use Rattle.std.specs.Prelude.{◌≡◌, ◌≤◌, ◌+◌, ◌*◌, ◌-◌, ℕ, max, nat_le, Bool, true, false, ◌==◌, List, [], ◌∷◌, ◌++◌, Option, None, Some}
 use Rattle.conf_syntax.specs.declared.token.Key.TheVariants as key
 use Rattle.conf_syntax.specs.declared.token.Mark.TheVariants as mark
@@ -18,8 +19,9 @@ pub data Sign : Type 0 where
   Negative : Sign
   Negation : Sign
 
--- Expressions, and the parts of a quantifier, each of which holds the part before it: its head, the head with its filter, and
--- so many bodies with their semicolons. `Many` closes bodies, `Single` is a quantifier whose one body has no semicolon.
+-- Expressions, and the parts of a quantifier, each of which holds the part before it: its head, the
+-- head with its filter, and so many bodies with their semicolons. `Many` closes bodies, `Single` is
+-- a quantifier whose one body has no semicolon.
 pub data Tree : Type 0 where
   Leaf : Token → Tree
   Round : Tree → Tree
@@ -181,10 +183,12 @@ tokens_of (Dot e w) = tokens_of e ++ (Mark mark.Dot ∷ Word w ∷ [])
 tokens_of (Under s e) = sign_token s ∷ tokens_of e
 tokens_of (Two o l r) = tokens_of l ++ (op_token o ∷ tokens_of r)
 tokens_of (Many b) = tokens_of b ++ (Mark mark.CloseBrace ∷ [])
-tokens_of (Single h e) = tokens_of h ++ (Mark mark.OpenBrace ∷ (tokens_of e ++ (Mark mark.CloseBrace ∷ [])))
+tokens_of (Single h e) =
+    tokens_of h ++ (Mark mark.OpenBrace ∷ (tokens_of e ++ (Mark mark.CloseBrace ∷ [])))
 tokens_of (Head k w v) = kind_token k ∷ Word w ∷ Key key.In ∷ tokens_of v
 tokens_of (HeadIf h f) = tokens_of h ++ (Key key.Where ∷ tokens_of f)
-tokens_of (First h e) = tokens_of h ++ (Mark mark.OpenBrace ∷ (tokens_of e ++ (Mark mark.Semicolon ∷ [])))
+tokens_of (First h e) =
+    tokens_of h ++ (Mark mark.OpenBrace ∷ (tokens_of e ++ (Mark mark.Semicolon ∷ [])))
 tokens_of (Then b e) = tokens_of b ++ (tokens_of e ++ (Mark mark.Semicolon ∷ []))
 
 -- an expression of at least a level
@@ -207,7 +211,8 @@ IsGood (Single h e) = IsGood h × IsGood e × IsHead h × IsAt 1 e × (semicolon
 IsGood (Head k w v) = IsGood v × IsAt 11 v
 IsGood (HeadIf h f) = IsGood h × IsGood f × (part h ≡ 1) × IsAt 1 f × (may_filter (quant h) ≡ true)
 IsGood (First h e) = IsGood h × IsGood e × IsHead h × IsAt 1 e × (semicolons (quant h) ≡ true)
-IsGood (Then b e) = IsGood b × IsGood e × (part b ≡ 3) × IsAt 1 e × (may_more (quant b) (bodies b) ≡ true)
+IsGood (Then b e) =
+    IsGood b × IsGood e × (part b ≡ 3) × IsAt 1 e × (may_more (quant b) (bodies b) ≡ true)
 
 -- a leaf is 1, each node above it adds 1
 abbrev pub nest : Tree → ℕ
@@ -286,9 +291,11 @@ exprs_tokens NoExpr = []
 exprs_tokens (WithExpr es e) = exprs_tokens es ++ (tokens_of e ++ (Mark mark.Semicolon ∷ []))
 
 abbrev pub member_tokens : Member → List Token
-member_tokens (Var w s) = Key key.Var ∷ Word w ∷ Key key.As ∷ (shape_tokens s ++ (Mark mark.Semicolon ∷ []))
+member_tokens (Var w s) =
+    Key key.Var ∷ Word w ∷ Key key.As ∷ (shape_tokens s ++ (Mark mark.Semicolon ∷ []))
 member_tokens (Where e) = Key key.Where ∷ (tokens_of e ++ (Mark mark.Semicolon ∷ []))
-member_tokens (Braces es) = Key key.Where ∷ Mark mark.OpenBrace ∷ (exprs_tokens es ++ (Mark mark.CloseBrace ∷ []))
+member_tokens (Braces es) =
+    Key key.Where ∷ Mark mark.OpenBrace ∷ (exprs_tokens es ++ (Mark mark.CloseBrace ∷ []))
 
 abbrev pub members_tokens : Members → List Token
 members_tokens NoMember = []
@@ -300,11 +307,14 @@ parent_tokens (Some w) = Key key.Extends ∷ Word w ∷ []
 
 -- a class up to its opening brace
 abbrev pub class_tokens : Bool → List ℕ → Option (List ℕ) → List Token
-class_tokens a w o = abstract_tokens a ++ (Key key.Class ∷ Word w ∷ (parent_tokens o ++ (Mark mark.OpenBrace ∷ [])))
+class_tokens a w o =
+    abstract_tokens a ++ (Key key.Class ∷ Word w ∷ (parent_tokens o ++ (Mark mark.OpenBrace ∷ [])))
 
 abbrev pub item_tokens : Item → List Token
-item_tokens (Enum w vs) = Key key.Enum ∷ Word w ∷ Mark mark.OpenBrace ∷ (values_tokens vs ++ (Mark mark.CloseBrace ∷ []))
-item_tokens (Class a w o ms) = class_tokens a w o ++ (members_tokens ms ++ (Mark mark.CloseBrace ∷ []))
+item_tokens (Enum w vs) =
+    Key key.Enum ∷ Word w ∷ Mark mark.OpenBrace ∷ (values_tokens vs ++ (Mark mark.CloseBrace ∷ []))
+item_tokens (Class a w o ms) =
+    class_tokens a w o ++ (members_tokens ms ++ (Mark mark.CloseBrace ∷ []))
 item_tokens (Alone m) = member_tokens m
 item_tokens (Goal m e) = goal_key m ∷ (tokens_of e ++ (Mark mark.Semicolon ∷ []))
 

@@ -1,5 +1,6 @@
--- That each place in a model is that of its token: a name's that of its word, a bound's that of its first token, that of a
--- `where` and of a goal that of its keyword. The tokens begin with those of what stands there.
+-- That each place in a model is that of its token: a name's that of its word, a bound's that of its
+-- first token, that of a `where` and of a goal that of its keyword. The tokens begin with those of
+-- what stands there.
 use Rattle.std.specs.Prelude.{◌≡◌, ◌+◌, ℕ, Bool, true, false, List, [], ◌∷◌, Option, None, Some, length, drop}
 use Rattle.conf_syntax.specs.declared.token.Ident.{Ident}
 use Rattle.conf_syntax.specs.declared.token.Placed.{Placed}
@@ -66,7 +67,8 @@ item_size i = length (item_tokens i)
 -- Where each stands
 
 -- each of a row stands where those before it end
-abbrev pub InRow : {X : Type 0} → (List Placed → X → Type 0) → (X → ℕ) → List Placed → List X → Type 0
+abbrev pub InRow : {X : Type 0} → (List Placed → X → Type 0) → (X → ℕ) → List Placed → List X
+    → Type 0
 InRow Stand size tokens [] = Unit {0}
 InRow Stand size tokens (x ∷ xs) = Stand tokens x × InRow Stand size (drop (size x) tokens) xs
 
@@ -78,7 +80,8 @@ ExprStands tokens e = Stands tokens e.at e.node
 
 -- the high end stands behind the low one and the points, a name behind `ref`
 abbrev pub ShapeStands : List Placed → Shape → Type 0
-ShapeStands tokens (shape.Range low high) = (low.at ≡ first_at tokens) × (high.at ≡ at_index (bound_size low + 1) tokens)
+ShapeStands tokens (shape.Range low high) =
+    (low.at ≡ first_at tokens) × (high.at ≡ at_index (bound_size low + 1) tokens)
 ShapeStands tokens shape.Int = Unit {0}
 ShapeStands tokens shape.Bool = Unit {0}
 ShapeStands tokens (shape.Named i) = WordStands tokens i
@@ -96,14 +99,17 @@ before_constraints true = 2
 before_constraints false = 1
 
 abbrev pub WhereStands : List Placed → WhereDecl → Type 0
-WhereStands tokens w = (w.at ≡ first_at tokens) × InRow ExprStands statement_size (drop (before_constraints w.braces) tokens) w.list
+WhereStands tokens w =
+    (w.at ≡ first_at tokens) × InRow ExprStands statement_size (drop (before_constraints w.braces)
+    tokens) w.list
 
 abbrev pub GoalStands : List Placed → GoalDecl → Type 0
 GoalStands tokens g = (g.at ≡ first_at tokens) × ExprStands (drop 1 tokens) g.expr
 
 -- `enum`, the name, a brace, the values
 abbrev pub EnumStands : List Placed → EnumDecl → Type 0
-EnumStands tokens e = WordStands (drop 1 tokens) e.name × InRow WordStands value_size (drop 3 tokens) e.values
+EnumStands tokens e =
+    WordStands (drop 1 tokens) e.name × InRow WordStands value_size (drop 3 tokens) e.values
 
 abbrev pub MemberStands : List Placed → Member → Type 0
 MemberStands tokens (member.Var v) = VarStands tokens v
@@ -116,11 +122,15 @@ ParentStands tokens (Some i) = WordStands (drop 1 tokens) i
 
 -- from behind the name: the parent, a brace, the members
 abbrev pub ClassBodyStands : List Placed → ClassDecl → Type 0
-ClassBodyStands tokens c = ParentStands tokens c.parent × InRow MemberStands member_size (drop (parent_size c.parent + 1) tokens) c.members
+ClassBodyStands tokens c =
+    ParentStands tokens c.parent × InRow MemberStands member_size (drop (parent_size c.parent + 1)
+    tokens) c.members
 
 -- `abstract` where it is, `class`, the name, the body
 abbrev pub ClassStands : List Placed → ClassDecl → Type 0
-ClassStands tokens c = WordStands (drop (abstract_size c.is_abstract + 1) tokens) c.name × ClassBodyStands (drop (abstract_size c.is_abstract + 2) tokens) c
+ClassStands tokens c =
+    WordStands (drop (abstract_size c.is_abstract + 1) tokens) c.name
+    × ClassBodyStands (drop (abstract_size c.is_abstract + 2) tokens) c
 
 abbrev pub ItemStands : List Placed → Item → Type 0
 ItemStands tokens (item.Enum e) = EnumStands tokens e

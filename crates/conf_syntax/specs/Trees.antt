@@ -80,7 +80,8 @@ abbrev mutual
 
   pub quant_tokens : quant.Quant → List Token
   quant_tokens (quant.Quant' k var at over filter shape body) =
-      kind_token k ∷ Word var.name ∷ Key key.In ∷ (tokens_of over ++ filter_tokens filter ++ Mark mark.OpenBrace ∷ (body_tokens body k ++ Mark mark.CloseBrace ∷ []))
+      kind_token k ∷ Word var.name ∷ Key key.In ∷ (tokens_of over ++ filter_tokens filter
+      ++ Mark mark.OpenBrace ∷ (body_tokens body k ++ Mark mark.CloseBrace ∷ []))
 
   pub filter_tokens : quant.Held-Quant-filter → List Token
   filter_tokens quant.None' = []
@@ -117,10 +118,12 @@ shape_tokens (shape.Ref i) = Key key.Ref ∷ Word i.name ∷ []
 shape_tokens (shape.RefSet i n) = Key key.Ref ∷ Word i.name ∷ count_tokens n
 
 abbrev pub var_tokens : VarDecl → List Token
-var_tokens v = Key key.Var ∷ Word v.name.name ∷ Key key.As ∷ (shape_tokens v.shape ++ Mark mark.Semicolon ∷ [])
+var_tokens v =
+    Key key.Var ∷ Word v.name.name ∷ Key key.As ∷ (shape_tokens v.shape ++ Mark mark.Semicolon ∷ [])
 
 abbrev pub where_body : Bool → List Expr → List Token
-where_body true list = Mark mark.OpenBrace ∷ (flat_map statement_tokens list ++ Mark mark.CloseBrace ∷ [])
+where_body true list =
+    Mark mark.OpenBrace ∷ (flat_map statement_tokens list ++ Mark mark.CloseBrace ∷ [])
 where_body false list = flat_map statement_tokens list
 
 abbrev pub where_tokens : WhereDecl → List Token
@@ -141,7 +144,9 @@ values_tokens [] = []
 values_tokens (i ∷ is) = Word i.name ∷ flat_map further_tokens is
 
 abbrev pub enum_tokens : EnumDecl → List Token
-enum_tokens e = Key key.Enum ∷ Word e.name.name ∷ Mark mark.OpenBrace ∷ (values_tokens e.values ++ Mark mark.CloseBrace ∷ [])
+enum_tokens e =
+    Key key.Enum ∷ Word e.name.name ∷ Mark mark.OpenBrace ∷ (values_tokens e.values
+    ++ Mark mark.CloseBrace ∷ [])
 
 abbrev pub abstract_tokens : Bool → List Token
 abstract_tokens true = Key key.Abstract ∷ []
@@ -157,7 +162,8 @@ member_tokens (member.Where w) = where_tokens w
 
 abbrev pub class_tokens : ClassDecl → List Token
 class_tokens c =
-    abstract_tokens c.is_abstract ++ Key key.Class ∷ Word c.name.name ∷ (parent_tokens c.parent ++ Mark mark.OpenBrace ∷ (flat_map member_tokens c.members ++ Mark mark.CloseBrace ∷ []))
+    abstract_tokens c.is_abstract ++ Key key.Class ∷ Word c.name.name ∷ (parent_tokens c.parent
+    ++ Mark mark.OpenBrace ∷ (flat_map member_tokens c.members ++ Mark mark.CloseBrace ∷ []))
 
 abbrev pub item_tokens : Item → List Token
 item_tokens (item.Enum e) = enum_tokens e
@@ -276,12 +282,14 @@ abbrev mutual
   well_formed (node.Dot' p at e i) = well_formed e && nat_le 9 (level e)
   well_formed (node.Minus' p at e) = well_formed e && nat_le 8 (level e)
   well_formed (node.Not' p at e) = well_formed e && nat_le 4 (level e)
-  well_formed (node.Pair' o p at l q at' r) = well_formed l && (well_formed r && (nat_le (left_level o) (level l) && right_fits o r))
+  well_formed (node.Pair' o p at l q at' r) = well_formed l
+      && (well_formed r && (nat_le (left_level o) (level l) && right_fits o r))
   well_formed (node.Quant' p q) = quant_fits q
 
   pub quant_fits : quant.Quant → Bool
   quant_fits (quant.Quant' k var at over filter shape body) =
-      well_formed over && (is_path over && (filter_fits filter k && (body_fits body && body_count_fits k (row_length body))))
+      well_formed over && (is_path over
+      && (filter_fits filter k && (body_fits body && body_count_fits k (row_length body))))
 
   pub filter_fits : quant.Held-Quant-filter → QuantKind → Bool
   filter_fits quant.None' k = true
@@ -330,7 +338,8 @@ abbrev mutual
   depth (node.Quant' p q) = 1 + quant_depth q
 
   pub quant_depth : quant.Quant → ℕ
-  quant_depth (quant.Quant' k var at over filter shape body) = max (depth over) (max (filter_depth filter) (body_depth body))
+  quant_depth (quant.Quant' k var at over filter shape body) = max (depth over)
+      (max (filter_depth filter) (body_depth body))
 
   pub filter_depth : quant.Held-Quant-filter → ℕ
   filter_depth quant.None' = 0

@@ -42,7 +42,8 @@ abbrev mutual
   tree_of (node.Quant' p q) = quant_of q
 
   pub quant_of : quant.Quant → Tree
-  quant_of (quant.Quant' k var at over filter shape body) = closed (semicolons k) (bodies_of body (filter_of filter (Head k var.name (tree_of over))))
+  quant_of (quant.Quant' k var at over filter shape body) = closed (semicolons k)
+      (bodies_of body (filter_of filter (Head k var.name (tree_of over))))
 
   pub filter_of : quant.Held-Quant-filter → Tree → Tree
   filter_of quant.None' h = h
@@ -109,7 +110,8 @@ parent_of (Some i) = Some i.name
 
 abbrev pub item_of : items.Item → Item
 item_of (item.Enum e) = enum_of e.name.name e.values
-item_of (item.Class c) = Class c.is_abstract c.name.name (parent_of c.parent) (members_from NoMember c.members)
+item_of (item.Class c) =
+    Class c.is_abstract c.name.name (parent_of c.parent) (members_from NoMember c.members)
 item_of (item.Var v) = Alone (Var v.name.name (shape_of v.shape))
 item_of (item.Where w) = Alone (where_of w.braces w.list)
 item_of (item.Goal g) = Goal g.max (tree_of g.expr.node)

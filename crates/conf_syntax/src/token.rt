@@ -1,7 +1,8 @@
 //! Tokens: words, numbers, keywords and marks, each with its place in the text.
 use crate::Name;
 
-/// A keyword. `foreach` is a second spelling of `forall`; `&&`, `||` and `!` are second spellings of `and`, `or` and
+/// A keyword. `foreach` is a second spelling of `forall`; `&&`, `||` and `!` are second spellings
+/// of `and`, `or` and
 /// `not`.
 #[derive(Clone, Copy, Debug, PartialEq, Eq)]
 pub enum Key {

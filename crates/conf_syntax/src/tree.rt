@@ -1,6 +1,7 @@
 //! Trees of models: declarations, shapes and expressions.
 //!
-//! Each `at` is the place of the first token of what it stands in, and for `Pair` that of its operator.
+//! Each `at` is the place of the first token of what it stands in, and for `Pair` that of its
+//! operator.
 use crate::{Exprs, Ident, Idents, Items, Members, Name};
 
 /// A whole model.

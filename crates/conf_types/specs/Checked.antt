@@ -1,4 +1,5 @@
--- What the checker's parts say of a resolved expression and its type: that they are those of a reading.
+-- What the checker's parts say of a resolved expression and its type: that they are those of a
+-- reading.
 use Rattle.std.specs.Prelude.{◌≡◌, ℕ, ◌<◌, true, List, [], ◌∷◌, Option, None, Some, map, length, IfSome}
 use Rattle.class_table.specs.Outline.{Outline}
 use Rattle.class_table.specs.Tables.{IsShapeOf}
@@ -84,16 +85,22 @@ readings o s es = map (read o s) es
 
 -- the scope inside of a quantifier over this
 abbrev pub scope_inside : Outline → Scope → Ident → Expr → Scope
-scope_inside o s var over = within s var.name (list_class (over_reading over.at (alone o over.node s) (read o s over)).type)
+scope_inside o s var over =
+    within s var.name (list_class (over_reading over.at (alone o over.node s) (read o s over)).type)
 
 -- the reading of a quantifier, by its parts
-abbrev pub quantifier_of : Outline → ℕ → Scope → QuantKind → Ident → Expr → Option Expr → List Expr → Reading
+abbrev pub quantifier_of : Outline → ℕ → Scope → QuantKind → Ident → Expr → Option Expr → List Expr
+    → Reading
 quantifier_of o at s k var over filter body =
-    quantifier_reading at k var.at (meaning_of o s var.name) (over_reading over.at (alone o over.node s) (read o s over))
-    (optional_reading o (scope_inside o s var over) filter) (readings o (scope_inside o s var over) body)
+    quantifier_reading at k var.at (meaning_of o s var.name)
+    (over_reading over.at (alone o over.node s) (read o s over))
+    (optional_reading o (scope_inside o s var over) filter) (readings o (scope_inside o s var over)
+    body)
 
 abbrev pub quantifier_at : Outline → ℕ → Scope → quant.Quant → Reading
-quantifier_at o at s q = quantifier_of o at s (quant.out-Quant q).kind (quant.out-Quant q).var (quant.out-Quant q).over (quant.out-Quant q).filter (quant.out-Quant q).body.items
+quantifier_at o at s q =
+    quantifier_of o at s (quant.out-Quant q).kind (quant.out-Quant q).var (quant.out-Quant q).over
+    (quant.out-Quant q).filter (quant.out-Quant q).body.items
 
 -- the trees of some expressions, and then these
 abbrev pub trees_onto : List RExpr → Bodies → Bodies

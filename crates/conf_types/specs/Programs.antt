@@ -16,7 +16,8 @@ pub use Rattle.conf_types.specs.Resolved.{ResolvedConstraint, ResolvedGoal}
 use Rattle.conf_types.specs.Scopes.{Scope}
 use Rattle.conf_types.specs.Trees.{Missing}
 
--- a constraint as it is stated: the class for whose objects, or none at the top level, and its expression
+-- a constraint as it is stated: the class for whose objects, or none at the top level, and its
+-- expression
 pub record Stated : Type 0 where
   pub class : Option ℕ
   pub expr : Expr
@@ -83,11 +84,18 @@ goal_faults o g = needed need.Int (goal_reading o g)
 
 -- the faults that stand in the expressions of a model
 abbrev pub faults : Outline → List Item → List TypeFault
-faults o items = flat_map (constraint_faults o) (constraints items) ++ flat_map (goal_faults o) (goals items)
+faults o items =
+    flat_map (constraint_faults o) (constraints items) ++ flat_map (goal_faults o) (goals items)
 
 -- Resolved, each name of them: the place is that of the expression's first token
 abbrev pub resolved_constraint : Outline → Stated → ResolvedConstraint
-resolved_constraint o k = record { class = k.class; place = (constraint_reading o k).first; tree = (constraint_reading o k).tree }
+resolved_constraint o k =
+    record {
+      class = k.class;
+      place = (constraint_reading o k).first;
+      tree
+          = (constraint_reading o k).tree;
+    }
 
 abbrev pub resolved_goal : Outline → GoalDecl → ResolvedGoal
 resolved_goal o g = record { max = g.max; tree = (goal_reading o g).tree }

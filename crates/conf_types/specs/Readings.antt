@@ -1,6 +1,7 @@
--- The types of expressions, the faults that stand in them, and what they are resolved to: one definition for each kind of
--- expression. An expression has a type where each of its parts has one and what is needed is met; the faults of a kind stand
--- beside those of its parts, whether or not these have a type.
+-- The types of expressions, the faults that stand in them, and what they are resolved to: one
+-- definition for each kind of expression. An expression has a type where each of its parts has one
+-- and what is needed is met; the faults of a kind stand beside those of its parts, whether or not
+-- these have a type.
 use Rattle.std.specs.Prelude.{ℕ, ◌+◌, Bool, true, false, ◌&&◌, cond, List, [], ◌∷◌, ◌++◌, Option, None, Some, position, slice_index_or}
 use Rattle.class_table.specs.Outline.{Outline}
 use Rattle.class_table.specs.Same.{same_name}
@@ -22,8 +23,8 @@ use Rattle.conf_types.specs.Trees.{Tree, Filter, Bodies, NoFilter, Where, NoBody
 use Rattle.conf_types.specs.Trees as tree
 use Rattle.conf_types.specs.Types.{shape_type, meets, left_need, right_need, takes, result_of, keeps_literal, is_linear, is_in, body_need, quant_result}
 
--- what is told of an expression where it stands: its type, if it has one; all faults that stand in it; what it is resolved to;
--- the place of its first token; whether it is built of literals
+-- what is told of an expression where it stands: its type, if it has one; all faults that stand in
+-- it; what it is resolved to; the place of its first token; whether it is built of literals
 pub record Reading : Type 0 where
   pub type : Option ExprType
   pub faults : List TypeFault
@@ -57,15 +58,26 @@ typed_if false t = None
 -- Leaves
 
 abbrev pub number_reading : ℕ → ℕ → Reading
-number_reading at n = record { type = Some Int; faults = []; tree = tree.Number at n; first = at; literal = true }
+number_reading at n =
+    record { type = Some Int; faults = []; tree = tree.Number at n; first = at; literal = true }
 
 abbrev pub truth_reading : ℕ → Bool → Reading
-truth_reading at b = record { type = Some Truth; faults = []; tree = tree.Truth at b; first = at; literal = false }
+truth_reading at b =
+    record { type = Some Truth; faults = []; tree = tree.Truth at b; first = at; literal = false }
 
 -- `this` stands in a class
 abbrev pub this_reading : ℕ → Option ℕ → Reading
-this_reading at (Some c) = record { type = Some (Object c); faults = []; tree = tree.This at; first = at; literal = false }
-this_reading at None = record { type = None; faults = Unknown at ∷ []; tree = tree.Missing at; first = at; literal = false }
+this_reading at (Some c) =
+    record { type = Some (Object c); faults = []; tree = tree.This at; first = at; literal = false }
+this_reading at None =
+    record {
+      type = None;
+      faults = Unknown at ∷ [];
+      tree = tree.Missing at;
+      first = at;
+      literal
+          = false;
+    }
 
 abbrev pub object_of : Option ℕ → Option ExprType
 object_of None = None
@@ -73,20 +85,53 @@ object_of (Some c) = Some (Object c)
 
 -- a word that means nothing where it stands
 abbrev pub unknown_reading : ℕ → Reading
-unknown_reading at = record { type = None; faults = Unknown at ∷ []; tree = tree.Missing at; first = at; literal = false }
+unknown_reading at =
+    record {
+      type = None;
+      faults = Unknown at ∷ [];
+      tree = tree.Missing at;
+      first = at;
+      literal
+          = false;
+    }
 
 -- a word: a variable or an attribute. An enumeration and a class mean nothing here
 abbrev pub word_reading : ℕ → Sense → Reading
-word_reading at (ALocal k c) = record { type = object_of c; faults = []; tree = tree.Local at k; first = at; literal = false }
-word_reading at (AnOwn k s) = record { type = Some (shape_type s); faults = []; tree = tree.Own at k s; first = at; literal = false }
-word_reading at (ARoot k s) = record { type = Some (shape_type s); faults = []; tree = tree.Root at k s; first = at; literal = false }
+word_reading at (ALocal k c) =
+    record { type = object_of c; faults = []; tree = tree.Local at k; first = at; literal = false }
+word_reading at (AnOwn k s) =
+    record {
+      type = Some (shape_type s);
+      faults = [];
+      tree = tree.Own at k s;
+      first = at;
+      literal
+          = false;
+    }
+word_reading at (ARoot k s) =
+    record {
+      type = Some (shape_type s);
+      faults = [];
+      tree = tree.Root at k s;
+      first = at;
+      literal
+          = false;
+    }
 word_reading at (AnEnumeration e) = unknown_reading at
 word_reading at (AClass c) = unknown_reading at
 word_reading at Nothing = unknown_reading at
 
 -- a class behind `in`, as the whole of what stands there; all else is read as elsewhere
 abbrev pub over_reading : ℕ → Sense → Reading → Reading
-over_reading at (AClass c) r = record { type = Some (Class c); faults = []; tree = tree.Class at c; first = at; literal = false }
+over_reading at (AClass c) r =
+    record {
+      type = Some (Class c);
+      faults = [];
+      tree = tree.Class at c;
+      first = at;
+      literal
+          = false;
+    }
 over_reading at (ALocal k c) r = r
 over_reading at (AnOwn k s) r = r
 over_reading at (ARoot k s) r = r
@@ -96,7 +141,15 @@ over_reading at Nothing r = r
 -- Parentheses, `-` and `not`
 
 abbrev pub paren_reading : ℕ → Reading → Reading
-paren_reading at r = record { type = r.type; faults = r.faults; tree = tree.Paren at r.tree; first = at; literal = r.literal }
+paren_reading at r =
+    record {
+      type = r.type;
+      faults = r.faults;
+      tree = tree.Paren at r.tree;
+      first = at;
+      literal
+          = r.literal;
+    }
 
 abbrev pub minus_reading : ℕ → Reading → Reading
 minus_reading at r = record {
@@ -124,17 +177,57 @@ values_of o e = (slice_index_or o.enumerations e (record { name = []; values = [
 
 -- `E.v`, with the number of v among the values of enumeration e
 abbrev pub value_reading : ℕ → ℕ → Ident → Option ℕ → Reading
-value_reading at e i (Some k) = record { type = Some (Choice e); faults = []; tree = tree.Value at e k; first = at; literal = false }
-value_reading at e i None = record { type = None; faults = Unknown i.at ∷ []; tree = tree.Missing at; first = at; literal = false }
+value_reading at e i (Some k) =
+    record {
+      type = Some (Choice e);
+      faults = [];
+      tree = tree.Value at e k;
+      first = at;
+      literal
+          = false;
+    }
+value_reading at e i None =
+    record {
+      type = None;
+      faults = Unknown i.at ∷ [];
+      tree = tree.Missing at;
+      first = at;
+      literal
+          = false;
+    }
 
 -- `x.a`, with the attribute a of the class of x
 abbrev pub found_reading : ℕ → Reading → Ident → Option Found → Reading
-found_reading at r i (Some f) = record { type = Some (shape_type f.shape); faults = r.faults; tree = tree.Dot at r.tree f.number f.shape; first = r.first; literal = false }
-found_reading at r i None = record { type = None; faults = r.faults ++ Unknown i.at ∷ []; tree = tree.Missing at; first = r.first; literal = false }
+found_reading at r i (Some f) =
+    record {
+      type = Some (shape_type f.shape);
+      faults = r.faults;
+      tree = tree.Dot at r.tree f.number
+          f.shape;
+      first = r.first;
+      literal = false;
+    }
+found_reading at r i None =
+    record {
+      type = None;
+      faults = r.faults ++ Unknown i.at ∷ [];
+      tree = tree.Missing at;
+      first
+          = r.first;
+      literal = false;
+    }
 
 -- x is no object: it is wrong, and so is the name behind it
 abbrev pub wrong_reading : ℕ → Reading → Ident → Reading
-wrong_reading at r i = record { type = None; faults = r.faults ++ WrongType r.first ∷ Unknown i.at ∷ []; tree = tree.Missing at; first = r.first; literal = false }
+wrong_reading at r i =
+    record {
+      type = None;
+      faults = r.faults ++ WrongType r.first ∷ Unknown i.at ∷ [];
+      tree
+          = tree.Missing at;
+      first = r.first;
+      literal = false;
+    }
 
 abbrev pub attribute_reading : Outline → ℕ → Reading → Ident → Option ExprType → Reading
 attribute_reading o at r i (Some (Object c)) = found_reading at r i (attribute_named o c i.name)
@@ -143,11 +236,20 @@ attribute_reading o at r i (Some Truth) = wrong_reading at r i
 attribute_reading o at r i (Some (Choice e)) = wrong_reading at r i
 attribute_reading o at r i (Some (Objects c)) = wrong_reading at r i
 attribute_reading o at r i (Some (Class c)) = wrong_reading at r i
-attribute_reading o at r i None = record { type = None; faults = r.faults; tree = tree.Missing at; first = r.first; literal = false }
+attribute_reading o at r i None =
+    record {
+      type = None;
+      faults = r.faults;
+      tree = tree.Missing at;
+      first = r.first;
+      literal
+          = false;
+    }
 
 -- an enumeration stands before a dot as a word alone
 abbrev pub dot_reading : Outline → ℕ → Sense → Reading → Ident → Reading
-dot_reading o at (AnEnumeration e) r i = value_reading at e i (position (same_name i.name) (values_of o e))
+dot_reading o at (AnEnumeration e) r i =
+    value_reading at e i (position (same_name i.name) (values_of o e))
 dot_reading o at (ALocal k c) r i = attribute_reading o at r i r.type
 dot_reading o at (AnOwn k s) r i = attribute_reading o at r i r.type
 dot_reading o at (ARoot k s) r i = attribute_reading o at r i r.type
@@ -162,7 +264,8 @@ takes_both o (Some a) (Some b) = takes o a b
 takes_both o (Some a) None = false
 takes_both o None b = false
 
--- a comparison whose sides both have a type and aren't a pair that it takes is wrong at its first token
+-- a comparison whose sides both have a type and aren't a pair that it takes is wrong at its first
+-- token
 abbrev pub mismatch : Op → Option ExprType → Option ExprType → ℕ → List TypeFault
 mismatch o (Some a) (Some b) at = wrong_unless (takes o a b) at
 mismatch o (Some a) None at = []
@@ -175,8 +278,11 @@ nonlinear_unless false at = NonLinear at ∷ []
 -- `at` is the operator's place
 abbrev pub pair_reading : ℕ → Op → Reading → Reading → Reading
 pair_reading at o l r = record {
-  type = typed_if (has (left_need o) l.type && (has (right_need o) r.type && (takes_both o l.type r.type && is_linear o l.literal r.literal))) (result_of o);
-  faults = needed (left_need o) l ++ (needed (right_need o) r ++ (mismatch o l.type r.type l.first ++ nonlinear_unless (is_linear o l.literal r.literal) at));
+  type = typed_if (has (left_need o) l.type
+      && (has (right_need o) r.type && (takes_both o l.type r.type
+      && is_linear o l.literal r.literal))) (result_of o);
+  faults = needed (left_need o) l ++ (needed (right_need o) r ++ (mismatch o l.type r.type l.first
+      ++ nonlinear_unless (is_linear o l.literal r.literal) at));
   tree = tree.Pair at o l.tree r.tree;
   first = l.first;
   literal = keeps_literal o && (l.literal && r.literal);
@@ -233,10 +339,13 @@ bodies_tree [] = NoBody
 bodies_tree (r ∷ rs) = Body r.tree (bodies_tree rs)
 
 -- a quantifier, with what its variable's name means outside
-abbrev pub quantifier_reading : ℕ → QuantKind → ℕ → Sense → Reading → Option Reading → List Reading → Reading
+abbrev pub quantifier_reading : ℕ → QuantKind → ℕ → Sense → Reading → Option Reading → List Reading
+    → Reading
 quantifier_reading at k name_at outside over filter bodies = record {
-  type = typed_if (has need.List over.type && (filter_holds filter && bodies_hold k bodies 0)) (quant_result k);
-  faults = shadow name_at outside ++ (needed need.List over ++ (filter_faults filter ++ bodies_faults k bodies 0));
+  type = typed_if (has need.List over.type && (filter_holds filter && bodies_hold k bodies 0))
+      (quant_result k);
+  faults = shadow name_at outside
+      ++ (needed need.List over ++ (filter_faults filter ++ bodies_faults k bodies 0));
   tree = tree.Quant at k over.tree (filter_tree filter) (bodies_tree bodies);
   first = at;
   literal = false;
@@ -267,14 +376,18 @@ abbrev mutual
   reading o (node.Dot' p i e name) at s = dot_reading o at (alone o e s) (reading o e i s) name
   reading o (node.Minus' p i e) at s = minus_reading at (reading o e i s)
   reading o (node.Not' p i e) at s = not_reading at (reading o e i s)
-  reading o (node.Pair' op p i l q j r) at s = pair_reading at op (reading o l i s) (right_reading op j (alone o r s) (reading o r j s))
+  reading o (node.Pair' op p i l q j r) at s = pair_reading at op (reading o l i s)
+      (right_reading op j (alone o r s) (reading o r j s))
   reading o (node.Quant' p q) at s = quant_reading o q at s
 
   pub quant_reading : Outline → quant.Quant → ℕ → Scope → Reading
   quant_reading o (quant.Quant' k var i over filter shape body) at s =
-      quantifier_reading at k var.at (sense o s var.name) (over_reading i (alone o over s) (reading o over i s))
-      (held_reading o filter (within s var.name (list_class (over_reading i (alone o over s) (reading o over i s)).type)))
-      (row_readings o body (within s var.name (list_class (over_reading i (alone o over s) (reading o over i s)).type)))
+      quantifier_reading at k var.at (sense o s var.name) (over_reading i (alone o over s)
+      (reading o over i s))
+      (held_reading o filter (within s var.name
+      (list_class (over_reading i (alone o over s) (reading o over i s)).type)))
+      (row_readings o body (within s var.name
+      (list_class (over_reading i (alone o over s) (reading o over i s)).type)))
 
   pub held_reading : Outline → quant.Held-Quant-filter → Scope → Option Reading
   held_reading o quant.None' s = None

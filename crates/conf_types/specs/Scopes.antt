@@ -1,5 +1,5 @@
--- What a word at the head of an expression means where it stands: the first of these that fits is a quantifier's variable, an
--- attribute of `this`, a top-level variable, an enumeration, a class.
+-- What a word at the head of an expression means where it stands: the first of these that fits is a
+-- quantifier's variable, an attribute of `this`, a top-level variable, an enumeration, a class.
 use Rattle.std.specs.Prelude.{ℕ, cond, List, [], ◌∷◌, ◌++◌, Option, None, Some, length, map, position, slice_index_or}
 use Rattle.class_table.specs.declared.names.Meaning.{Meaning}
 use Rattle.class_table.specs.declared.names.Meaning.TheVariants as meaning
@@ -12,8 +12,8 @@ use Rattle.class_table.specs.Same.{same_name}
 use Rattle.class_table.specs.Tables.{variable_name}
 use Rattle.conf_types.specs.declared.scope.Found.{Found}
 
--- where an expression stands: the class of `this`, if it stands in one, and the variables of the quantifiers round it, each with
--- its name and its class, if it has one. The outermost comes first.
+-- where an expression stands: the class of `this`, if it stands in one, and the variables of the
+-- quantifiers round it, each with its name and its class, if it has one. The outermost comes first.
 pub record Scope : Type 0 where
   pub class : Option ℕ
   pub locals : List (List ℕ × Option ℕ)
@@ -22,8 +22,9 @@ pub record Scope : Type 0 where
 abbrev pub within : Scope → List ℕ → Option ℕ → Scope
 within s w c = record { class = s.class; locals = s.locals ++ (w, c) ∷ [] }
 
--- what a word means: a quantifier's variable by its distance, 0 for the innermost, with its class; an attribute of `this` or a
--- top-level variable, by its number; an enumeration; a class; or nothing
+-- what a word means: a quantifier's variable by its distance, 0 for the innermost, with its class;
+-- an attribute of `this` or a top-level variable, by its number; an enumeration; a class; or
+-- nothing
 pub data Sense : Type 0 where
   ALocal : ℕ → Option ℕ → Sense
   AnOwn : ℕ → Resolved → Sense
@@ -42,7 +43,9 @@ with_shape vs (Some k) = Some (record { number = k; shape = shape_at vs k })
 
 -- the attribute of this name of a class, inherited ones too
 abbrev pub attribute_named : Outline → ℕ → List ℕ → Option Found
-attribute_named o c w = with_shape (attributes o.classes c) (position (same_name w) (map variable_name (attributes o.classes c)))
+attribute_named o c w =
+    with_shape (attributes o.classes c)
+    (position (same_name w) (map variable_name (attributes o.classes c)))
 
 abbrev pub own_named : Outline → Option ℕ → List ℕ → Option Found
 own_named o None w = None
@@ -65,4 +68,5 @@ declared_sense o (Some (meaning.Class c)) = AClass c
 declared_sense o None = Nothing
 
 abbrev pub sense : Outline → Scope → List ℕ → Sense
-sense o s w = local_or (own_or (declared_sense o (means o.names w)) (own_named o s.class w)) w s.locals
+sense o s w =
+    local_or (own_or (declared_sense o (means o.names w)) (own_named o s.class w)) w s.locals

@@ -28,14 +28,17 @@ abbrev mutual
   tree_code (Paren i t) = tagged 3 i (tree_code t)
   tree_code (Minus i t) = tagged 4 i (tree_code t)
   tree_code (Not i t) = tagged 5 i (tree_code t)
-  tree_code (Pair i o l r) = tagged 6 i (gcons (op.the_row.coded.code o) (gcons (tree_code l) (tree_code r)))
+  tree_code (Pair i o l r) = tagged 6 i (gcons (op.the_row.coded.code o)
+      (gcons (tree_code l) (tree_code r)))
   tree_code (Local i k) = tagged 7 i (gnum k)
   tree_code (Own i k s) = tagged 8 i (gcons (gnum k) (shape.the_row.coded.code s))
   tree_code (Root i k s) = tagged 9 i (gcons (gnum k) (shape.the_row.coded.code s))
   tree_code (Value i e k) = tagged 10 i (gcons (gnum e) (gnum k))
   tree_code (Class i c) = tagged 11 i (gnum c)
-  tree_code (Dot i t k s) = tagged 12 i (gcons (tree_code t) (gcons (gnum k) (shape.the_row.coded.code s)))
-  tree_code (Quant i q t f bs) = tagged 13 i (gcons (kind.the_row.coded.code q) (gcons (tree_code t) (gcons (filter_code f) (bodies_code bs))))
+  tree_code (Dot i t k s) = tagged 12 i
+      (gcons (tree_code t) (gcons (gnum k) (shape.the_row.coded.code s)))
+  tree_code (Quant i q t f bs) = tagged 13 i (gcons (kind.the_row.coded.code q)
+      (gcons (tree_code t) (gcons (filter_code f) (bodies_code bs))))
   tree_code (Missing i) = tagged 14 i gnil
 
   pub filter_code : Filter → Gv
@@ -129,8 +132,11 @@ coded_tree = record { code = tree_code; inj = tree_inj }
 
 abbrev pub coded_constraint : Coded ResolvedConstraint
 coded_constraint =
-    code_by (Option ℕ × (ℕ × Tree)) (coded× (coded_option coded_ℕ) (coded× coded_ℕ coded_tree)) (λ k. (k.class, (k.place, k.tree)))
+    code_by (Option ℕ × (ℕ × Tree)) (coded× (coded_option coded_ℕ) (coded× coded_ℕ coded_tree))
+    (λ k. (k.class, (k.place, k.tree)))
     (λ p. record { class = p.0; place = p.1.0; tree = p.1.1 }) (λ _. refl)
 
 abbrev pub coded_goal : Coded ResolvedGoal
-coded_goal = code_by (Bool × Tree) (coded× coded_bool coded_tree) (λ g. (g.max, g.tree)) (λ p. record { max = p.0; tree = p.1 }) (λ _. refl)
+coded_goal =
+    code_by (Bool × Tree) (coded× coded_bool coded_tree) (λ g. (g.max, g.tree))
+    (λ p. record { max = p.0; tree = p.1 }) (λ _. refl)

@@ -52,7 +52,8 @@ abbrev mutual
   node_tree (node.Quant' p q) at = quant_tree q at
 
   pub quant_tree : quant.RQuant → ℕ → Tree
-  quant_tree (quant.RQuant' k i over filter shape body) at = Quant at k (node_tree over i) (filter_tree filter) (body_trees body)
+  quant_tree (quant.RQuant' k i over filter shape body) at = Quant at k (node_tree over i)
+      (filter_tree filter) (body_trees body)
 
   pub filter_tree : quant.Held-RQuant-filter → Filter
   filter_tree quant.None' = NoFilter

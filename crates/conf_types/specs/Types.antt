@@ -1,4 +1,5 @@
--- What is needed of types: by operators, by quantifiers, by `not` and `-`. One line for each row of the table of expressions.
+-- What is needed of types: by operators, by quantifiers, by `not` and `-`. One line for each row of
+-- the table of expressions.
 use Rattle.std.specs.Prelude.{ℕ, nat_eq, Bool, true, false, not, ◌&&◌, ◌||◌, cond}
 use Rattle.class_table.specs.declared.table.Resolved.{Resolved}
 use Rattle.class_table.specs.declared.table.Resolved.TheVariants.{Span, One, Many, Ref, RefSet}

@@ -1,4 +1,5 @@
--- The types of resolved expressions: one line for each kind, as in the table of types. What stands in a typed model has one.
+-- The types of resolved expressions: one line for each kind, as in the table of types. What stands
+-- in a typed model has one.
 use Rattle.std.specs.Prelude.{◌≡◌, ℕ, suc, ◌-◌, Bool, true, false, ◌&&◌, cond, List, [], ◌∷◌, ◌++◌, Option, None, Some, int_le, length, nat_eq, nat_lt, slice_get, All}
 use Rattle.std.specs.Option.{option_map_or}
 use Rattle.class_table.specs.declared.table.Enumeration.{Enumeration}
@@ -16,8 +17,8 @@ use Rattle.conf_types.specs.Trees.{Tree, Filter, NoFilter, Where, Bodies, NoBody
 use Rattle.conf_types.specs.Trees as tree
 use Rattle.conf_types.specs.Types.{shape_type, left_need, right_need, result_of, keeps_literal, is_linear, body_need, quant_result}
 
--- where a resolved expression stands: the class of `this`, if it stands in one, and the classes of the variables of the
--- quantifiers round it, the outermost first
+-- where a resolved expression stands: the class of `this`, if it stands in one, and the classes of
+-- the variables of the quantifiers round it, the outermost first
 pub record Place : Type 0 where
   pub class : Option ℕ
   pub locals : List ℕ
@@ -30,7 +31,8 @@ abbrev pub local_class : List ℕ → ℕ → Option ℕ
 local_class cs k = cond (nat_lt k (length cs)) (slice_get cs (length cs - suc k)) None
 
 abbrev pub same_shape : Resolved → Resolved → Bool
-same_shape (shape.Span a b) (shape.Span c d) = (int_le a c && int_le c a) && (int_le b d && int_le d b)
+same_shape (shape.Span a b) (shape.Span c d) =
+    (int_le a c && int_le c a) && (int_le b d && int_le d b)
 same_shape shape.Truth shape.Truth = true
 same_shape (shape.Choice d) (shape.Choice e) = nat_eq d e
 same_shape (shape.One c) (shape.One d) = nat_eq c d
@@ -57,7 +59,9 @@ attribute_type o (Some (Class c)) k s = None
 attribute_type o None k s = None
 
 abbrev pub value_there : Outline → ℕ → ℕ → Bool
-value_there o e k = option_map_or (λ (d : Enumeration). nat_lt k (length d.values)) (slice_get o.enumerations e) false
+value_there o e k =
+    option_map_or (λ (d : Enumeration). nat_lt k (length d.values)) (slice_get o.enumerations e)
+    false
 
 -- built of literals
 abbrev pub is_literal : Tree → Bool
@@ -77,7 +81,8 @@ is_literal (tree.Dot at e k s) = false
 is_literal (tree.Quant at q over f bs) = false
 is_literal (tree.Missing at) = false
 
--- the type of a quantifier, from the class that it stands over, whether its filter is Bool and whether its bodies are as needed
+-- the type of a quantifier, from the class that it stands over, whether its filter is Bool and
+-- whether its bodies are as needed
 abbrev pub quantifier_type : QuantKind → Option ℕ → Bool → Option ExprType
 quantifier_type q None fits = None
 quantifier_type q (Some c) fits = typed_if fits (quant_result q)
@@ -95,14 +100,19 @@ abbrev mutual
   tree_type o (tree.Paren at e) p = tree_type o e p
   tree_type o (tree.Minus at e) p = typed_if (has need.Int (tree_type o e p)) Int
   tree_type o (tree.Not at e) p = typed_if (has need.Truth (tree_type o e p)) Truth
-  tree_type o (tree.Pair at op l r) p = typed_if (has (left_need op) (tree_type o l p) && (has (right_need op) (tree_type o r p) && (takes_both op (tree_type o l p) (tree_type o r p) && is_linear op (is_literal l) (is_literal r)))) (result_of op)
+  tree_type o (tree.Pair at op l r) p = typed_if (has (left_need op) (tree_type o l p)
+      && (has (right_need op) (tree_type o r p)
+      && (takes_both op (tree_type o l p) (tree_type o r p) && is_linear op (is_literal l)
+      (is_literal r)))) (result_of op)
   tree_type o (tree.Local at k) p = object_of (local_class p.locals k)
   tree_type o (tree.Own at k s) p = attribute_type o (object_of p.class) k s
   tree_type o (tree.Root at k s) p = variable_type o.roots k s
   tree_type o (tree.Value at e k) p = typed_if (value_there o e k) (Choice e)
   tree_type o (tree.Class at c) p = typed_if (nat_lt c (length o.classes)) (Class c)
   tree_type o (tree.Dot at e k s) p = attribute_type o (tree_type o e p) k s
-  tree_type o (tree.Quant at q over f bs) p = quantifier_type q (list_class (tree_type o over p)) (filter_fits o f (within p (list_class (tree_type o over p))) && bodies_fit o q bs 0 (within p (list_class (tree_type o over p))))
+  tree_type o (tree.Quant at q over f bs) p = quantifier_type q (list_class (tree_type o over p))
+      (filter_fits o f (within p (list_class (tree_type o over p)))
+      && bodies_fit o q bs 0 (within p (list_class (tree_type o over p))))
   tree_type o (tree.Missing at) p = None
 
   pub filter_fits : Outline → Filter → Place → Bool
@@ -112,7 +122,8 @@ abbrev mutual
   -- the bodies from number n on
   pub bodies_fit : Outline → QuantKind → Bodies → ℕ → Place → Bool
   bodies_fit o q NoBody n p = true
-  bodies_fit o q (Body e bs) n p = has (body_need q n) (tree_type o e p) && bodies_fit o q bs (suc n) p
+  bodies_fit o q (Body e bs) n p = has (body_need q n) (tree_type o e p)
+      && bodies_fit o q bs (suc n) p
 
 -- no quantifier stands round a constraint or an objective
 abbrev pub outermost : Option ℕ → Place

@@ -44,9 +44,11 @@ impl TypedModel {
     pub fn only(&self, alloc: Global, keep: &[u32]) -> Result<TypedModel, AllocError>
         requires ascend { AllPairs ◌<◌ keep.now }
         requires exist { All (λ k. k < length self.now.constraints) keep.now }
-        ensures constraints { IfOk result (λ m. m.constraints ≡ map (constraint_at self.now.constraints) keep.now) }
+        ensures constraints { IfOk result (λ m. m.constraints
+            ≡ map (constraint_at self.now.constraints) keep.now) }
         ensures goals { IfOk result (λ m. m.goals ≡ []) }
-        ensures typed { (o : Outline) → IsTypedModel o self.now.constraints self.now.goals → IfOk result (λ m. IsTypedModel o m.constraints m.goals) }
+        ensures typed { (o : Outline) → IsTypedModel o self.now.constraints self.now.goals
+            → IfOk result (λ m. IsTypedModel o m.constraints m.goals) }
     {
         let constraints = copy_constraints(alloc, self.constraints.items(), keep)?;
         Ok(TypedModel {
@@ -85,10 +87,12 @@ fn check_constraint(
     requires sound { IsSound table.now }
     requires class { IfSome class (λ c. c < length table.now.classes) }
     requires depth { depth expr.now.node ≤ most_nesting }
-    ensures constraint { IfOk result (λ k. k ≡ resolved_constraint table.now (stated class expr.now)) }
+    ensures constraint { IfOk result (λ k. k ≡ resolved_constraint table.now
+        (stated class expr.now)) }
     ensures right { OnOk result (constraint_faults table.now (stated class expr.now) ≡ []) }
     ensures typed { IfOk result (λ k. IsTypedConstraint table.now k) }
-    ensures fault { IfErr result (λ f. OnFault f (λ g. Contains (constraint_faults table.now (stated class expr.now)) g)) }
+    ensures fault { IfErr result (λ f. OnFault f
+        (λ g. Contains (constraint_faults table.now (stated class expr.now)) g)) }
 {
     let scope = outside(alloc, class);
     match check_needed(alloc, table, &scope, expr, Need::Truth) {
@@ -108,7 +112,8 @@ fn check_goal(alloc: Global, table: &ClassTable, decl: &GoalDecl) -> Result<Goal
     ensures goal { IfOk result (λ k. k ≡ resolved_goal table.now decl.now) }
     ensures right { OnOk result (goal_faults table.now decl.now ≡ []) }
     ensures typed { IfOk result (λ k. IsTypedGoal table.now k) }
-    ensures fault { IfErr result (λ f. OnFault f (λ g. Contains (goal_faults table.now decl.now) g)) }
+    ensures fault { IfErr result (λ f. OnFault f (λ g. Contains (goal_faults table.now decl.now)
+        g)) }
 {
     let scope = outside(alloc, None);
     match check_needed(alloc, table, &scope, &decl.expr, Need::Int) {
@@ -131,10 +136,14 @@ fn check_list(
     requires sound { IsSound table.now }
     requires class { IfSome class (λ c. c < length table.now.classes) }
     requires depth { depth_of_all list.now ≤ most_nesting }
-    ensures constraints { OnOk result (found.new.items ≡ found.old.items ++ map (resolved_constraint table.now) (map (stated class) list.now)) }
-    ensures right { OnOk result (flat_map (constraint_faults table.now) (map (stated class) list.now) ≡ []) }
-    ensures typed { OnOk result (All (IsTypedConstraint table.now) found.old.items → All (IsTypedConstraint table.now) found.new.items) }
-    ensures fault { IfErr result (λ f. OnFault f (λ g. Contains (flat_map (constraint_faults table.now) (map (stated class) list.now)) g)) }
+    ensures constraints { OnOk result (found.new.items ≡ found.old.items
+        ++ map (resolved_constraint table.now) (map (stated class) list.now)) }
+    ensures right { OnOk result (flat_map (constraint_faults table.now)
+        (map (stated class) list.now) ≡ []) }
+    ensures typed { OnOk result (All (IsTypedConstraint table.now) found.old.items
+        → All (IsTypedConstraint table.now) found.new.items) }
+    ensures fault { IfErr result (λ f. OnFault f
+        (λ g. Contains (flat_map (constraint_faults table.now) (map (stated class) list.now)) g)) }
 {
     for expr in list {
         match check_constraint(alloc, table, class, expr) {
@@ -156,10 +165,16 @@ fn check_members(
     requires sound { IsSound table.now }
     requires class { class < length table.now.classes }
     requires depth { depth_of_members members.now ≤ most_nesting }
-    ensures constraints { OnOk result (found.new.items ≡ found.old.items ++ map (resolved_constraint table.now) (map (stated (Some class)) (flat_map member_exprs members.now))) }
-    ensures right { OnOk result (flat_map (constraint_faults table.now) (map (stated (Some class)) (flat_map member_exprs members.now)) ≡ []) }
-    ensures typed { OnOk result (All (IsTypedConstraint table.now) found.old.items → All (IsTypedConstraint table.now) found.new.items) }
-    ensures fault { IfErr result (λ f. OnFault f (λ g. Contains (flat_map (constraint_faults table.now) (map (stated (Some class)) (flat_map member_exprs members.now))) g)) }
+    ensures constraints { OnOk result (found.new.items ≡ found.old.items
+        ++ map (resolved_constraint table.now)
+        (map (stated (Some class)) (flat_map member_exprs members.now))) }
+    ensures right { OnOk result (flat_map (constraint_faults table.now)
+        (map (stated (Some class)) (flat_map member_exprs members.now)) ≡ []) }
+    ensures typed { OnOk result (All (IsTypedConstraint table.now) found.old.items
+        → All (IsTypedConstraint table.now) found.new.items) }
+    ensures fault { IfErr result (λ f. OnFault f
+        (λ g. Contains (flat_map (constraint_faults table.now)
+        (map (stated (Some class)) (flat_map member_exprs members.now))) g)) }
 {
     for member in members {
         let Member::Where(decl) = member else {
@@ -183,12 +198,19 @@ fn check_item(
     requires sound { IsSound table.now }
     requires class { class + length (item_class item.now) ≤ length table.now.classes }
     requires depth { item_depth item.now ≤ most_nesting }
-    ensures constraints { OnOk result (found.new.constraints.items ≡ found.old.constraints.items ++ map (resolved_constraint table.now) (item_constraints item.now class)) }
-    ensures goals { OnOk result (found.new.goals.items ≡ found.old.goals.items ++ map (resolved_goal table.now) (item_goal item.now)) }
-    ensures right_constraints { OnOk result (flat_map (constraint_faults table.now) (item_constraints item.now class) ≡ []) }
+    ensures constraints { OnOk result (found.new.constraints.items ≡ found.old.constraints.items
+        ++ map (resolved_constraint table.now) (item_constraints item.now class)) }
+    ensures goals { OnOk result (found.new.goals.items ≡ found.old.goals.items
+        ++ map (resolved_goal table.now) (item_goal item.now)) }
+    ensures right_constraints { OnOk result (flat_map (constraint_faults table.now)
+        (item_constraints item.now class) ≡ []) }
     ensures right_goals { OnOk result (flat_map (goal_faults table.now) (item_goal item.now) ≡ []) }
-    ensures typed { OnOk result (IsTypedModel table.now found.old.constraints.items found.old.goals.items → IsTypedModel table.now found.new.constraints.items found.new.goals.items) }
-    ensures fault { IfErr result (λ f. OnFault f (λ g. Contains (flat_map (constraint_faults table.now) (item_constraints item.now class) ++ flat_map (goal_faults table.now) (item_goal item.now)) g)) }
+    ensures typed { OnOk result (IsTypedModel table.now found.old.constraints.items
+        found.old.goals.items → IsTypedModel table.now found.new.constraints.items
+        found.new.goals.items) }
+    ensures fault { IfErr result (λ f. OnFault f
+        (λ g. Contains (flat_map (constraint_faults table.now) (item_constraints item.now class)
+        ++ flat_map (goal_faults table.now) (item_goal item.now)) g)) }
 {
     match item {
         Item::Class(decl) => check_members(
@@ -233,8 +255,10 @@ fn check_items(alloc: Global, table: &ClassTable, items: &[Item]) -> Result<Part
     requires sound { IsSound table.now }
     requires few { length items.now < 2 ^ 32 - 1 }
     requires depth { depth_of_items items.now ≤ most_nesting }
-    ensures constraints { IfOk result (λ m. m.constraints.items ≡ map (resolved_constraint table.now) (constraints items.now)) }
-    ensures goals { IfOk result (λ m. m.goals.items ≡ map (resolved_goal table.now) (goals items.now)) }
+    ensures constraints { IfOk result (λ m. m.constraints.items
+        ≡ map (resolved_constraint table.now) (constraints items.now)) }
+    ensures goals { IfOk result (λ m. m.goals.items ≡ map (resolved_goal table.now)
+        (goals items.now)) }
     ensures right { OnOk result (faults table.now items.now ≡ []) }
     ensures typed { IfOk result (λ m. IsTypedModel table.now m.constraints.items m.goals.items) }
     ensures fault { IfErr result (λ f. OnFault f (λ g. Contains (faults table.now items.now) g)) }
@@ -257,18 +281,21 @@ fn check_items(alloc: Global, table: &ClassTable, items: &[Item]) -> Result<Part
 ///
 /// # Errors
 ///
-/// A fault that stands in the expressions, at its place; `Memory` where there is none left. No fault is passed over: where
-/// one stands, there is no typed model.
+/// A fault that stands in the expressions, at its place; `Memory` where there is none left. No
+/// fault is passed over: where one stands, there is no typed model.
 pub fn check(alloc: Global, program: &Program, table: &ClassTable) -> Result<TypedModel, TypeFault>
     requires table { table.now ≡ outline program.now.items }
     requires tokens { length (program_tokens program.now) ≤ model_bytes }
     requires nesting { nesting program.now ≤ most_nesting }
-    ensures constraints { IfOk result (λ m. m.constraints ≡ map (resolved_constraint table.now) (constraints program.now.items)) }
+    ensures constraints { IfOk result (λ m. m.constraints ≡ map (resolved_constraint table.now)
+        (constraints program.now.items)) }
     ensures few { IfOk result (λ m. length m.constraints ≤ model_bytes) }
-    ensures goals { IfOk result (λ m. m.goals ≡ map (resolved_goal table.now) (goals program.now.items)) }
+    ensures goals { IfOk result (λ m. m.goals ≡ map (resolved_goal table.now)
+        (goals program.now.items)) }
     ensures right { OnOk result (faults table.now program.now.items ≡ []) }
     ensures typed { IfOk result (λ m. IsTypedModel table.now m.constraints m.goals) }
-    ensures fault { IfErr result (λ f. OnFault f (λ g. Contains (faults table.now program.now.items) g)) }
+    ensures fault { IfErr result (λ f. OnFault f (λ g. Contains (faults table.now program.now.items)
+        g)) }
 {
     let _classes = table.class_count();
     match check_items(alloc, table, program.items.items()) {

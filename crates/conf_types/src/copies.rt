@@ -120,7 +120,8 @@ pub(crate) fn copy_constraints(
     keep: &[u32],
 ) -> Result<Vec<Constraint>, AllocError>
     requires exist { All (λ k. k < length constraints.now) keep.now }
-    ensures constraints { IfOk result (λ found. found.items ≡ map (constraint_at constraints.now) keep.now) }
+    ensures constraints { IfOk result (λ found. found.items ≡ map (constraint_at constraints.now)
+        keep.now) }
 {
     let mut found = Vec::with_capacity(alloc, keep.len())?;
     for k in keep {

@@ -1,7 +1,8 @@
-//! Expressions, walked once from left to right: each is typed and resolved, or the walk stops at the first fault that it meets.
+//! Expressions, walked once from left to right: each is typed and resolved, or the walk stops at
+//! the first fault that it meets.
 //!
-//! `check_expr` is the entry, with one part for each kind of expression; what a kind makes of its typed parts stands in `rules`.
-//! The recursion is on the tree, which nests at most `MOST_NESTING`.
+//! `check_expr` is the entry, with one part for each kind of expression; what a kind makes of its
+//! typed parts stands in `rules`. The recursion is on the tree, which nests at most `MOST_NESTING`.
 ghost use Rattle.std.specs.Prelude.{◌≡◌, ◌≤◌, ◌+◌, true, length, Contains, IfOk, IfErr};
 ghost use Rattle.model_limits.specs.Limits.{most_nesting};
 ghost use Rattle.conf_syntax.specs.Trees.{depth, depth_of_all, quant_depth};
@@ -33,7 +34,8 @@ pub(crate) fn check_expr<'a>(
     requires room { length scope.now.locals.items + depth expr.now.node ≤ most_nesting }
     ensures read { IfOk result (λ x. IsRead x (read table.now (scope_of scope.now) expr.now)) }
     ensures exists { IfOk result (λ x. IsTypeOf table.now x.kind) }
-    ensures fault { IfErr result (λ f. OnFault f (λ g. Contains (faults_of table.now (scope_of scope.now) expr.now) g)) }
+    ensures fault { IfErr result (λ f. OnFault f
+        (λ g. Contains (faults_of table.now (scope_of scope.now) expr.now) g)) }
 {
     match &expr.node {
         Node::Number(value) => Ok(number(expr.at, *value)),
@@ -63,7 +65,8 @@ pub(crate) fn check_needed<'a>(
     ensures read { IfOk result (λ x. IsRead x (read table.now (scope_of scope.now) expr.now)) }
     ensures exists { IfOk result (λ x. IsTypeOf table.now x.kind) }
     ensures met { IfOk result (λ x. meets need x.kind ≡ true) }
-    ensures fault { IfErr result (λ f. OnFault f (λ g. Contains (needed need (read table.now (scope_of scope.now) expr.now)) g)) }
+    ensures fault { IfErr result (λ f. OnFault f
+        (λ g. Contains (needed need (read table.now (scope_of scope.now) expr.now)) g)) }
 {
     let x = match check_expr(alloc, table, scope, expr) {
         Ok(x) => x,
@@ -86,9 +89,12 @@ fn check_paren<'a>(
 ) -> Result<Checked, TypeFault>
     requires scope { IsScope table.now scope.now }
     requires room { length scope.now.locals.items + depth inner.now.node ≤ most_nesting }
-    ensures read { IfOk result (λ x. IsRead x (paren_reading at (read table.now (scope_of scope.now) inner.now))) }
+    ensures read { IfOk result (λ x. IsRead x
+        (paren_reading at (read table.now (scope_of scope.now) inner.now))) }
     ensures exists { IfOk result (λ x. IsTypeOf table.now x.kind) }
-    ensures fault { IfErr result (λ f. OnFault f (λ g. Contains (paren_reading at (read table.now (scope_of scope.now) inner.now)).faults g)) }
+    ensures fault { IfErr result (λ f. OnFault f
+        (λ g. Contains (paren_reading at (read table.now (scope_of scope.now) inner.now)).faults
+        g)) }
 {
     match check_expr(alloc, table, scope, inner) {
         Ok(x) => paren(alloc, at, x),
@@ -107,9 +113,12 @@ fn check_minus<'a>(
 ) -> Result<Checked, TypeFault>
     requires scope { IsScope table.now scope.now }
     requires room { length scope.now.locals.items + depth inner.now.node ≤ most_nesting }
-    ensures read { IfOk result (λ x. IsRead x (minus_reading at (read table.now (scope_of scope.now) inner.now))) }
+    ensures read { IfOk result (λ x. IsRead x
+        (minus_reading at (read table.now (scope_of scope.now) inner.now))) }
     ensures exists { IfOk result (λ x. IsTypeOf table.now x.kind) }
-    ensures fault { IfErr result (λ f. OnFault f (λ g. Contains (minus_reading at (read table.now (scope_of scope.now) inner.now)).faults g)) }
+    ensures fault { IfErr result (λ f. OnFault f
+        (λ g. Contains (minus_reading at (read table.now (scope_of scope.now) inner.now)).faults
+        g)) }
 {
     match check_needed(alloc, table, scope, inner, Need::Int) {
         Ok(x) => minus(alloc, at, x),
@@ -128,9 +137,11 @@ fn check_not<'a>(
 ) -> Result<Checked, TypeFault>
     requires scope { IsScope table.now scope.now }
     requires room { length scope.now.locals.items + depth inner.now.node ≤ most_nesting }
-    ensures read { IfOk result (λ x. IsRead x (not_reading at (read table.now (scope_of scope.now) inner.now))) }
+    ensures read { IfOk result (λ x. IsRead x
+        (not_reading at (read table.now (scope_of scope.now) inner.now))) }
     ensures exists { IfOk result (λ x. IsTypeOf table.now x.kind) }
-    ensures fault { IfErr result (λ f. OnFault f (λ g. Contains (not_reading at (read table.now (scope_of scope.now) inner.now)).faults g)) }
+    ensures fault { IfErr result (λ f. OnFault f
+        (λ g. Contains (not_reading at (read table.now (scope_of scope.now) inner.now)).faults g)) }
 {
     match check_needed(alloc, table, scope, inner, Need::Truth) {
         Ok(x) => negation(alloc, at, x),
@@ -150,9 +161,13 @@ fn check_attribute<'a>(
 ) -> Result<Checked, TypeFault>
     requires scope { IsScope table.now scope.now }
     requires room { length scope.now.locals.items + depth inner.now.node ≤ most_nesting }
-    ensures read { IfOk result (λ x. IsRead x (attribute_reading table.now at (read table.now (scope_of scope.now) inner.now) name.now (read table.now (scope_of scope.now) inner.now).type)) }
+    ensures read { IfOk result (λ x. IsRead x (attribute_reading table.now at
+        (read table.now (scope_of scope.now) inner.now) name.now
+        (read table.now (scope_of scope.now) inner.now).type)) }
     ensures exists { IfOk result (λ x. IsTypeOf table.now x.kind) }
-    ensures fault { IfErr result (λ f. OnFault f (λ g. Contains (attribute_reading table.now at (read table.now (scope_of scope.now) inner.now) name.now (read table.now (scope_of scope.now) inner.now).type).faults g)) }
+    ensures fault { IfErr result (λ f. OnFault f
+        (λ g. Contains (attribute_reading table.now at (read table.now (scope_of scope.now)
+        inner.now) name.now (read table.now (scope_of scope.now) inner.now).type).faults g)) }
 {
     match check_expr(alloc, table, scope, inner) {
         Ok(x) => attribute(alloc, table, at, x, name),
@@ -172,9 +187,13 @@ fn check_dot<'a>(
 ) -> Result<Checked, TypeFault>
     requires scope { IsScope table.now scope.now }
     requires room { length scope.now.locals.items + depth inner.now.node ≤ most_nesting }
-    ensures read { IfOk result (λ x. IsRead x (dot_reading table.now at (alone table.now inner.now.node (scope_of scope.now)) (read table.now (scope_of scope.now) inner.now) name.now)) }
+    ensures read { IfOk result (λ x. IsRead x
+        (dot_reading table.now at (alone table.now inner.now.node (scope_of scope.now))
+        (read table.now (scope_of scope.now) inner.now) name.now)) }
     ensures exists { IfOk result (λ x. IsTypeOf table.now x.kind) }
-    ensures fault { IfErr result (λ f. OnFault f (λ g. Contains (dot_reading table.now at (alone table.now inner.now.node (scope_of scope.now)) (read table.now (scope_of scope.now) inner.now) name.now).faults g)) }
+    ensures fault { IfErr result (λ f. OnFault f
+        (λ g. Contains (dot_reading table.now at (alone table.now inner.now.node
+        (scope_of scope.now)) (read table.now (scope_of scope.now) inner.now) name.now).faults g)) }
 {
     match alone(table, scope, inner) {
         Sense::Enumeration(enumeration) => value(table, at, enumeration, name),
@@ -196,10 +215,15 @@ fn check_over<'a>(
 ) -> Result<Checked, TypeFault>
     requires scope { IsScope table.now scope.now }
     requires room { length scope.now.locals.items + depth expr.now.node ≤ most_nesting }
-    ensures read { IfOk result (λ x. IsRead x (over_reading expr.now.at (alone table.now expr.now.node (scope_of scope.now)) (read table.now (scope_of scope.now) expr.now))) }
+    ensures read { IfOk result (λ x. IsRead x
+        (over_reading expr.now.at (alone table.now expr.now.node (scope_of scope.now))
+        (read table.now (scope_of scope.now) expr.now))) }
     ensures exists { IfOk result (λ x. IsTypeOf table.now x.kind) }
     ensures met { IfOk result (λ x. meets Need.List x.kind ≡ true) }
-    ensures fault { IfErr result (λ f. OnFault f (λ g. Contains (needed Need.List (over_reading expr.now.at (alone table.now expr.now.node (scope_of scope.now)) (read table.now (scope_of scope.now) expr.now))) g)) }
+    ensures fault { IfErr result (λ f. OnFault f
+        (λ g. Contains (needed Need.List
+        (over_reading expr.now.at (alone table.now expr.now.node (scope_of scope.now))
+        (read table.now (scope_of scope.now) expr.now))) g)) }
 {
     match alone(table, scope, expr) {
         Sense::Class(number) => Ok(class(expr.at, number)),
@@ -222,10 +246,15 @@ fn check_right<'a>(
 ) -> Result<Checked, TypeFault>
     requires scope { IsScope table.now scope.now }
     requires room { length scope.now.locals.items + depth expr.now.node ≤ most_nesting }
-    ensures read { IfOk result (λ x. IsRead x (right_reading op expr.now.at (alone table.now expr.now.node (scope_of scope.now)) (read table.now (scope_of scope.now) expr.now))) }
+    ensures read { IfOk result (λ x. IsRead x
+        (right_reading op expr.now.at (alone table.now expr.now.node (scope_of scope.now))
+        (read table.now (scope_of scope.now) expr.now))) }
     ensures exists { IfOk result (λ x. IsTypeOf table.now x.kind) }
     ensures met { IfOk result (λ x. meets (right_need op) x.kind ≡ true) }
-    ensures fault { IfErr result (λ f. OnFault f (λ g. Contains (needed (right_need op) (right_reading op expr.now.at (alone table.now expr.now.node (scope_of scope.now)) (read table.now (scope_of scope.now) expr.now))) g)) }
+    ensures fault { IfErr result (λ f. OnFault f
+        (λ g. Contains (needed (right_need op)
+        (right_reading op expr.now.at (alone table.now expr.now.node (scope_of scope.now))
+        (read table.now (scope_of scope.now) expr.now))) g)) }
 {
     if is_in(op) {
         check_over(alloc, table, scope, expr)
@@ -248,9 +277,15 @@ fn check_pair<'a>(
     requires scope { IsScope table.now scope.now }
     requires left { length scope.now.locals.items + depth left.now.node ≤ most_nesting }
     requires right { length scope.now.locals.items + depth right.now.node ≤ most_nesting }
-    ensures read { IfOk result (λ x. IsRead x (pair_reading at op (read table.now (scope_of scope.now) left.now) (right_reading op right.now.at (alone table.now right.now.node (scope_of scope.now)) (read table.now (scope_of scope.now) right.now)))) }
+    ensures read { IfOk result (λ x. IsRead x
+        (pair_reading at op (read table.now (scope_of scope.now) left.now)
+        (right_reading op right.now.at (alone table.now right.now.node (scope_of scope.now))
+        (read table.now (scope_of scope.now) right.now)))) }
     ensures exists { IfOk result (λ x. IsTypeOf table.now x.kind) }
-    ensures fault { IfErr result (λ f. OnFault f (λ g. Contains (pair_reading at op (read table.now (scope_of scope.now) left.now) (right_reading op right.now.at (alone table.now right.now.node (scope_of scope.now)) (read table.now (scope_of scope.now) right.now))).faults g)) }
+    ensures fault { IfErr result (λ f. OnFault f
+        (λ g. Contains (pair_reading at op (read table.now (scope_of scope.now) left.now)
+        (right_reading op right.now.at (alone table.now right.now.node (scope_of scope.now))
+        (read table.now (scope_of scope.now) right.now))).faults g)) }
 {
     let x = match check_needed(alloc, table, scope, left, left_need(op)) {
         Ok(x) => x,
@@ -273,8 +308,11 @@ fn check_filter<'a>(
 ) -> Result<Option<RExpr>, TypeFault>
     requires scope { IsScope table.now scope.now }
     requires room { length scope.now.locals.items + optional_depth filter.now ≤ most_nesting }
-    ensures read { IfOk result (λ x. IsFilter x (optional_reading table.now (scope_of scope.now) filter.now)) }
-    ensures fault { IfErr result (λ f. OnFault f (λ g. Contains (filter_faults (optional_reading table.now (scope_of scope.now) filter.now)) g)) }
+    ensures read { IfOk result (λ x. IsFilter x (optional_reading table.now (scope_of scope.now)
+        filter.now)) }
+    ensures fault { IfErr result (λ f. OnFault f
+        (λ g. Contains (filter_faults (optional_reading table.now (scope_of scope.now) filter.now))
+        g)) }
 {
     match filter {
         Some(expr) => match check_needed(alloc, table, scope, expr, Need::Truth) {
@@ -296,8 +334,11 @@ fn check_bodies<'a>(
 ) -> Result<Vec<RExpr>, TypeFault>
     requires scope { IsScope table.now scope.now }
     requires room { length scope.now.locals.items + depth_of_all body.now ≤ most_nesting }
-    ensures read { IfOk result (λ xs. AreBodies kind xs.items (readings table.now (scope_of scope.now) body.now) 0) }
-    ensures fault { IfErr result (λ f. OnFault f (λ g. Contains (bodies_faults kind (readings table.now (scope_of scope.now) body.now) 0) g)) }
+    ensures read { IfOk result (λ xs. AreBodies kind xs.items
+        (readings table.now (scope_of scope.now) body.now) 0) }
+    ensures fault { IfErr result (λ f. OnFault f
+        (λ g. Contains (bodies_faults kind (readings table.now (scope_of scope.now) body.now) 0)
+        g)) }
 {
     let mut found = Vec::new(alloc);
     for (k, expr) in body.iter().enumerate() {
@@ -320,9 +361,11 @@ fn check_parts<'a>(
 ) -> Result<Checked, TypeFault>
     requires scope { IsScope table.now scope.now }
     requires room { length scope.now.locals.items + 1 + quant_depth quant.now ≤ most_nesting }
-    ensures read { IfOk result (λ x. IsRead x (quantifier_at table.now at (scope_of scope.now) quant.now)) }
+    ensures read { IfOk result (λ x. IsRead x (quantifier_at table.now at (scope_of scope.now)
+        quant.now)) }
     ensures exists { IfOk result (λ x. IsTypeOf table.now x.kind) }
-    ensures fault { IfErr result (λ f. OnFault f (λ g. Contains (quantifier_at table.now at (scope_of scope.now) quant.now).faults g)) }
+    ensures fault { IfErr result (λ f. OnFault f
+        (λ g. Contains (quantifier_at table.now at (scope_of scope.now) quant.now).faults g)) }
 {
     if let Err(fault) = unknown(sense_of(table, scope, &quant.var.name), quant.var.at) {
         return Err(fault);
@@ -354,9 +397,11 @@ fn check_quant<'a>(
 ) -> Result<Checked, TypeFault>
     requires scope { IsScope table.now scope.now }
     requires room { length scope.now.locals.items + 1 + quant_depth quant.now ≤ most_nesting }
-    ensures read { IfOk result (λ x. IsRead x (quant_reading table.now quant.now at (scope_of scope.now))) }
+    ensures read { IfOk result (λ x. IsRead x (quant_reading table.now quant.now at
+        (scope_of scope.now))) }
     ensures exists { IfOk result (λ x. IsTypeOf table.now x.kind) }
-    ensures fault { IfErr result (λ f. OnFault f (λ g. Contains (quant_reading table.now quant.now at (scope_of scope.now)).faults g)) }
+    ensures fault { IfErr result (λ f. OnFault f
+        (λ g. Contains (quant_reading table.now quant.now at (scope_of scope.now)).faults g)) }
 {
     match check_parts(alloc, table, scope, at, quant) {
         Ok(x) => Ok(x),

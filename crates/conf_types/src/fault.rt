@@ -6,8 +6,8 @@ use std::alloc::{AllocError, AllocFailed};
 pub enum TypeFault {
     /// A name that means nothing where it stands, or `this` outside a class.
     Unknown(u32),
-    /// The first token of an expression whose type isn't the one that is needed, or of a comparison of two types that don't
-    /// compare.
+    /// The first token of an expression whose type isn't the one that is needed, or of a comparison
+    /// of two types that don't compare.
     WrongType(u32),
     /// A `*` with no side that is built of literals.
     NonLinear(u32),

@@ -11,7 +11,9 @@ use conf_syntax::Program;
 #[tactic(auto, using(crate::proofs::WholePrograms::one_constraints, crate::proofs::WholePrograms::one_goals, crate::proofs::WholePrograms::one_type_faults))]
 pub fn one_model_states_the_same(one: &Program, other: &Program)
     requires one_model { AreOneModel one.now other.now }
-    ensures constraints { (o : Outline) → map (resolved_constraint o) (constraints one.now.items) ≡ map (resolved_constraint o) (constraints other.now.items) }
-    ensures goals { (o : Outline) → map (resolved_goal o) (goals one.now.items) ≡ map (resolved_goal o) (goals other.now.items) }
+    ensures constraints { (o : Outline) → map (resolved_constraint o) (constraints one.now.items)
+        ≡ map (resolved_constraint o) (constraints other.now.items) }
+    ensures goals { (o : Outline) → map (resolved_goal o) (goals one.now.items)
+        ≡ map (resolved_goal o) (goals other.now.items) }
     ensures faults { (o : Outline) → faults o one.now.items ≡ faults o other.now.items }
 {}

@@ -1,7 +1,9 @@
-//! The types of a model's expressions: each expression is resolved and typed, or refused with a fault that stands in it.
+//! The types of a model's expressions: each expression is resolved and typed, or refused with a
+//! fault that stands in it.
 //!
-//! `check` is the entry. `specs` says what a word means where it stands (`Scopes`), and then, one row for each kind of
-//! expression, its type, the faults that stand in it and what it is resolved to (`Readings`).
+//! `check` is the entry. `specs` says what a word means where it stands (`Scopes`), and then, one
+//! row for each kind of expression, its type, the faults that stand in it and what it is resolved
+//! to (`Readings`).
 #![tactic(auto)]
 
 mod checker;

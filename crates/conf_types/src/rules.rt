@@ -16,7 +16,8 @@ use class_table::ClassTable;
 use conf_syntax::{Ident, Name, Op, QuantKind};
 use std::alloc::{AllocError, Global};
 
-/// A typed expression: what it is resolved to, its type, the place of its first token, and whether it is built of literals.
+/// A typed expression: what it is resolved to, its type, the place of its first token, and whether
+/// it is built of literals.
 #[derive(Drop)]
 pub(crate) struct Checked {
     pub expr: RExpr,
@@ -68,7 +69,8 @@ pub(crate) fn truth(at: u32, value: bool) -> Checked
 /// `this`, in this class or in none.
 pub(crate) fn this(at: u32, class: Option<u32>) -> Result<Checked, TypeFault>
     ensures read { IfOk result (λ x. IsRead x (this_reading at class)) }
-    ensures exists { (o : Outline) → IfSome class (λ c. c < length o.classes) → IfOk result (λ x. IsTypeOf o x.kind) }
+    ensures exists { (o : Outline) → IfSome class (λ c. c < length o.classes)
+        → IfOk result (λ x. IsTypeOf o x.kind) }
     ensures fault { IfErr result (λ f. OnFault f (λ g. Contains (this_reading at class).faults g)) }
 {
     match class {
@@ -81,7 +83,8 @@ pub(crate) fn this(at: u32, class: Option<u32>) -> Result<Checked, TypeFault>
 pub(crate) fn word(at: u32, sense: Sense) -> Result<Checked, TypeFault>
     ensures read { IfOk result (λ x. IsRead x (word_reading at (told sense))) }
     ensures exists { (o : Outline) → IsSenseOf o sense → IfOk result (λ x. IsTypeOf o x.kind) }
-    ensures fault { IfErr result (λ f. OnFault f (λ g. Contains (word_reading at (told sense)).faults g)) }
+    ensures fault { IfErr result (λ f. OnFault f
+        (λ g. Contains (word_reading at (told sense)).faults g)) }
 {
     match sense {
         Sense::Local(distance, class) => Ok(plain(
@@ -169,9 +172,12 @@ pub(crate) fn value(
     name: &Ident,
 ) -> Result<Checked, TypeFault>
     requires exists { enumeration < length table.now.enumerations }
-    ensures read { IfOk result (λ y. IsRead y (value_reading at enumeration name.now (position (same_name name.now.name) (values_of table.now enumeration)))) }
+    ensures read { IfOk result (λ y. IsRead y (value_reading at enumeration name.now
+        (position (same_name name.now.name) (values_of table.now enumeration)))) }
     ensures kind { IfOk result (λ y. y.kind ≡ ExprType.Choice enumeration) }
-    ensures fault { IfErr result (λ f. OnFault f (λ g. Contains (value_reading at enumeration name.now (position (same_name name.now.name) (values_of table.now enumeration))).faults g)) }
+    ensures fault { IfErr result (λ f. OnFault f
+        (λ g. Contains (value_reading at enumeration name.now (position (same_name name.now.name)
+        (values_of table.now enumeration))).faults g)) }
 {
     match table.value_of(enumeration, &name.name) {
         Some(value) => Ok(plain(
@@ -185,7 +191,8 @@ pub(crate) fn value(
 
 /// An attribute of an object, which was found.
 fn dotted(alloc: Global, at: u32, x: Checked, found: Found) -> Result<Checked, TypeFault>
-    ensures read { (r : Reading) (name : AnIdent) → IsRead x r → IfOk result (λ y. IsRead y (found_reading at r name (Some found))) }
+    ensures read { (r : Reading) (name : AnIdent) → IsRead x r
+        → IfOk result (λ y. IsRead y (found_reading at r name (Some found))) }
     ensures kind { IfOk result (λ y. y.kind ≡ shape_type found.shape) }
     ensures fault { IfErr result (λ f. f ≡ TypeFault.Memory) }
 {
@@ -209,9 +216,11 @@ pub(crate) fn attribute(
     name: &Ident,
 ) -> Result<Checked, TypeFault>
     requires exists { IsTypeOf table.now x.kind }
-    ensures read { (r : Reading) → IsRead x r → IfOk result (λ y. IsRead y (attribute_reading table.now at r name.now r.type)) }
+    ensures read { (r : Reading) → IsRead x r
+        → IfOk result (λ y. IsRead y (attribute_reading table.now at r name.now r.type)) }
     ensures exists { IfOk result (λ y. IsTypeOf table.now y.kind) }
-    ensures fault { IfErr result (λ f. OnFault f (λ g. (r : Reading) → IsRead x r → Contains (attribute_reading table.now at r name.now r.type).faults g)) }
+    ensures fault { IfErr result (λ f. OnFault f (λ g. (r : Reading) → IsRead x r
+        → Contains (attribute_reading table.now at r name.now r.type).faults g)) }
 {
     match x.kind {
         ExprType::Object(class) => match attribute_of(table, class, &name.name) {
@@ -236,9 +245,11 @@ pub(crate) fn pair(
 ) -> Result<Checked, TypeFault>
     requires left { meets (left_need op) left.kind ≡ true }
     requires right { meets (right_need op) right.kind ≡ true }
-    ensures read { (l r : Reading) → IsRead left l → IsRead right r → IfOk result (λ y. IsRead y (pair_reading at op l r)) }
+    ensures read { (l r : Reading) → IsRead left l → IsRead right r
+        → IfOk result (λ y. IsRead y (pair_reading at op l r)) }
     ensures kind { IfOk result (λ y. y.kind ≡ result_of op) }
-    ensures fault { IfErr result (λ f. OnFault f (λ g. (l r : Reading) → IsRead left l → IsRead right r → Contains (pair_reading at op l r).faults g)) }
+    ensures fault { IfErr result (λ f. OnFault f (λ g. (l r : Reading) → IsRead left l
+        → IsRead right r → Contains (pair_reading at op l r).faults g)) }
 {
     if !takes(op, left.kind, right.kind) {
         return Err(TypeFault::WrongType(left.first));
@@ -284,8 +295,10 @@ pub(crate) fn scope_over<'a>(
     requires scope { IsScope table.now scope.now }
     requires exists { IsTypeOf table.now kind }
     requires met { meets Need.List kind ≡ true }
-    ensures scope { IfOk result (λ inner. scope_of inner ≡ within (scope_of scope.now) name.now (list_class (Some kind))) }
-    ensures more { IfOk result (λ inner. length inner.locals.items ≡ length scope.now.locals.items + 1) }
+    ensures scope { IfOk result (λ inner. scope_of inner ≡ within (scope_of scope.now) name.now
+        (list_class (Some kind))) }
+    ensures more { IfOk result (λ inner. length inner.locals.items ≡ length scope.now.locals.items
+        + 1) }
     ensures exists { IfOk result (λ inner. IsScope table.now inner) }
 {
     match list_class(kind) {
@@ -322,7 +335,9 @@ pub(crate) fn quantifier(
     body: Vec<RExpr>,
 ) -> Result<Checked, TypeFault>
     requires met { meets Need.List over.kind ≡ true }
-    ensures read { (name_at : ℕ) (r : Reading) (f : Option Reading) (b : List Reading) → IsRead over r → IsFilter filter f → AreBodies kind body.items b 0 → IfOk result (λ y. IsRead y (quantifier_reading at kind name_at Nothing r f b)) }
+    ensures read { (name_at : ℕ) (r : Reading) (f : Option Reading) (b : List Reading)
+        → IsRead over r → IsFilter filter f → AreBodies kind body.items b 0
+        → IfOk result (λ y. IsRead y (quantifier_reading at kind name_at Nothing r f b)) }
     ensures kind { IfOk result (λ y. y.kind ≡ quant_result kind) }
     ensures fault { IfErr result (λ f. f ≡ TypeFault.Memory) }
 {

@@ -1,7 +1,7 @@
 //! What a word at the head of an expression means where it stands.
 //!
-//! `sense_of` is the entry. The look-ups are by hash but for the variables of the quantifiers round an expression, which are
-//! fewer than the nodes that it may nest.
+//! `sense_of` is the entry. The look-ups are by hash but for the variables of the quantifiers round
+//! an expression, which are fewer than the nodes that it may nest.
 ghost use Rattle.std.specs.Prelude.{◌≡◌, ◌<◌, ◌≤◌, ◌+◌, ℕ, Some, cond, length, IfOk, IfSome};
 ghost use Rattle.model_limits.specs.Limits.{most_nesting};
 ghost use Rattle.class_table.specs.Names.{means};
@@ -59,10 +59,13 @@ pub(crate) fn scope_within<'a>(
     name: &'a Name,
     class: u32,
 ) -> Result<Scope<'a>, AllocError>
-    ensures scope { IfOk result (λ inner. scope_of inner ≡ within (scope_of scope.now) name.now (Some class)) }
-    ensures more { IfOk result (λ inner. length inner.locals.items ≡ length scope.now.locals.items + 1) }
+    ensures scope { IfOk result (λ inner. scope_of inner ≡ within (scope_of scope.now) name.now
+        (Some class)) }
+    ensures more { IfOk result (λ inner. length inner.locals.items ≡ length scope.now.locals.items
+        + 1) }
     ensures class { IfOk result (λ inner. inner.class ≡ scope.now.class) }
-    ensures locals { IfOk result (λ inner. (n : ℕ) → AreLocals n scope.now.locals.items → class < n → AreLocals n inner.locals.items) }
+    ensures locals { IfOk result (λ inner. (n : ℕ) → AreLocals n scope.now.locals.items → class < n
+        → AreLocals n inner.locals.items) }
 {
     let mut locals = Vec::with_capacity(alloc, scope.locals.len() + 1)?;
     for local in &scope.locals {
@@ -79,7 +82,8 @@ pub(crate) fn scope_within<'a>(
 pub(crate) fn attribute_of(table: &ClassTable, class: u32, name: &Name) -> Option<Found>
     requires class { class < length table.now.classes }
     ensures found { result ≡ attribute_named table.now class name.now }
-    ensures exists { IfSome result (λ f. IsShapeOf (length table.now.classes) (length table.now.enumerations) f.shape) }
+    ensures exists { IfSome result (λ f. IsShapeOf (length table.now.classes)
+        (length table.now.enumerations) f.shape) }
 {
     match table.attribute_named(class, name) {
         Some(number) => Some(Found {
@@ -94,7 +98,8 @@ pub(crate) fn attribute_of(table: &ClassTable, class: u32, name: &Name) -> Optio
 fn own_named(table: &ClassTable, class: Option<u32>, name: &Name) -> Option<Found>
     requires class { IfSome class (λ c. c < length table.now.classes) }
     ensures found { result ≡ own_named table.now class name.now }
-    ensures exists { IfSome result (λ f. IsShapeOf (length table.now.classes) (length table.now.enumerations) f.shape) }
+    ensures exists { IfSome result (λ f. IsShapeOf (length table.now.classes)
+        (length table.now.enumerations) f.shape) }
 {
     match class {
         Some(class) => attribute_of(table, class, name),
@@ -118,7 +123,9 @@ fn declared_sense(table: &ClassTable, name: &Name) -> Sense
 /// The attribute, where there is one.
 fn own_or(other: Sense, own: Option<Found>) -> Sense
     ensures sense { told result ≡ own_or (told other) own }
-    ensures exists { (o : Outline) → IsSenseOf o other → IfSome own (λ f. IsShapeOf (length o.classes) (length o.enumerations) f.shape) → IsSenseOf o result }
+    ensures exists { (o : Outline) → IsSenseOf o other
+        → IfSome own (λ f. IsShapeOf (length o.classes) (length o.enumerations) f.shape)
+        → IsSenseOf o result }
 {
     match own {
         Some(found) => Sense::Own(found.number, found.shape),
@@ -129,8 +136,10 @@ fn own_or(other: Sense, own: Option<Found>) -> Sense
 /// The variable, where it has this name. So many variables stand behind it.
 fn local_or(other: Sense, name: &Name, local: &Local<'_>, behind: usize) -> Sense
     requires few { behind < most_nesting }
-    ensures sense { told result ≡ cond (same_name name.now local.now.name.now) (ALocal behind (Some local.now.class)) (told other) }
-    ensures exists { (o : Outline) → IsSenseOf o other → local.now.class < length o.classes → IsSenseOf o result }
+    ensures sense { told result ≡ cond (same_name name.now local.now.name.now)
+        (ALocal behind (Some local.now.class)) (told other) }
+    ensures exists { (o : Outline) → IsSenseOf o other → local.now.class < length o.classes
+        → IsSenseOf o result }
 {
     if name == local.name {
         Sense::Local(behind as u32, local.class)
@@ -143,7 +152,8 @@ fn local_or(other: Sense, name: &Name, local: &Local<'_>, behind: usize) -> Sens
 fn nearest(other: Sense, name: &Name, locals: &[Local<'_>]) -> Sense
     requires few { length locals.now ≤ most_nesting }
     ensures sense { told result ≡ local_or (told other) name.now (locals_of locals.now) }
-    ensures exists { (o : Outline) → IsSenseOf o other → AreLocals (length o.classes) locals.now → IsSenseOf o result }
+    ensures exists { (o : Outline) → IsSenseOf o other → AreLocals (length o.classes) locals.now
+        → IsSenseOf o result }
 {
     let mut found = other;
     for (k, local) in locals.iter().enumerate() {

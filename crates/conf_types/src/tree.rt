@@ -1,7 +1,7 @@
 //! Resolved expressions: no name stands in them, each is a number of the class table.
 //!
-//! Each `at` is the place that the expression has in the model's tree. Constraints and objectives are
-//! seen by clauses without their pointers.
+//! Each `at` is the place that the expression has in the model's tree. Constraints and objectives
+//! are seen by clauses without their pointers.
 use class_table::Resolved;
 use conf_syntax::{Op, QuantKind};
 use std::marker::Model;
@@ -50,7 +50,8 @@ pub struct RQuant {
     pub body: Vec<RExpr>,
 }
 
-/// A constraint: the class for whose objects it is stated, or none at the top level, and the place of its first token.
+/// A constraint: the class for whose objects it is stated, or none at the top level, and the place
+/// of its first token.
 #[derive(Drop)]
 pub struct Constraint {
     pub class: Option<u32>,

@@ -1,5 +1,5 @@
-//! Types, what a place needs of the type of the expression that stands there, and the tables of both for operators and
-//! quantifiers.
+//! Types, what a place needs of the type of the expression that stands there, and the tables of
+//! both for operators and quantifiers.
 ghost use Rattle.std.specs.Prelude.{◌≡◌};
 ghost use Rattle.conf_types.specs.Types.{meets, shape_type, is_comparable, left_need, right_need, takes, result_of, keeps_literal, is_linear, is_in, body_need, quant_result, is_int, is_truth, is_object, is_choice, is_list};
 
@@ -161,7 +161,8 @@ pub(crate) fn right_need(op: Op) -> Need
     }
 }
 
-/// Whether a comparison takes a pair of such types. What isn't a comparison takes all pairs that meet its needs.
+/// Whether a comparison takes a pair of such types. What isn't a comparison takes all pairs that
+/// meet its needs.
 pub(crate) fn takes(op: Op, left: ExprType, right: ExprType) -> bool
     ensures { result ≡ takes op left right }
 {

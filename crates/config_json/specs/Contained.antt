@@ -7,4 +7,5 @@ use Rattle.object_alloc.specs.Walk.{objects}
 -- each is an object, with a number above its owner's
 abbrev pub AreContained : Outline → Option ℕ → List ℕ → Type 0
 AreContained o owner [] = Unit {0}
-AreContained o owner (n ∷ ns) = (IsBefore owner n × (n < length (objects o))) × AreContained o owner ns
+AreContained o owner (n ∷ ns) =
+    (IsBefore owner n × (n < length (objects o))) × AreContained o owner ns

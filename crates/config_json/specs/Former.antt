@@ -1,4 +1,5 @@
--- The values that a former JSON value gives: of each leaf the value at the leaf's place, where it is one of the leaf's.
+-- The values that a former JSON value gives: of each leaf the value at the leaf's place, where it
+-- is one of the leaf's.
 use Rattle.std.specs.Prelude.{ℕ, zero, suc, Bool, ◌&&◌, cond, List, [], ◌∷◌, ◌++◌, Option, None, Some, ℤ, pos, int_le, is_some, length, map, nat_eq, position, replicate, slice_get, option_map, option_and_then}
 use Rattle.std.specs.List.{flat_map, list_any}
 use Rattle.std.specs.Option.{option_map_or}
@@ -38,7 +39,9 @@ under_name vs k d = option_and_then (λ (v : Variable). get (text_of v.name) d) 
 
 -- where an object stands, from where its owner stands
 abbrev pub step_to : List Variable → Object → Data → Option Data
-step_to vs x d = option_and_then (λ (v : Variable). option_and_then (element_of v.shape x.element) (get (text_of v.name) d)) (slice_get vs x.attribute)
+step_to vs x d =
+    option_and_then (λ (v : Variable). option_and_then (element_of v.shape x.element)
+    (get (text_of v.name) d)) (slice_get vs x.attribute)
 
 abbrev pub owner_place : (ℕ → Option Data) → Data → Option ℕ → Option Data
 owner_place place_of d None = Some d
@@ -47,7 +50,9 @@ owner_place place_of d (Some n) = place_of n
 -- the place of object n, where at most so many objects hold one another
 abbrev pub place_within : Outline → Data → ℕ → ℕ → Option Data
 place_within o d zero n = None
-place_within o d (suc steps) n = option_and_then (λ (x : Object). option_and_then (step_to (variables_of o x.owner) x) (owner_place (place_within o d steps) d x.owner)) (slice_get (objects o) n)
+place_within o d (suc steps) n =
+    option_and_then (λ (x : Object). option_and_then (step_to (variables_of o x.owner) x)
+    (owner_place (place_within o d steps) d x.owner)) (slice_get (objects o) n)
 
 -- the place of object n: each object is held by one with a lesser number
 abbrev pub object_place : Outline → Data → ℕ → Option Data
@@ -55,7 +60,9 @@ object_place o d n = place_within o d (suc n) n
 
 -- the place of a leaf
 abbrev pub leaf_place : Outline → Data → Leaf → Option Data
-leaf_place o d l = option_and_then (under_name (variables_of o l.owner) l.attribute) (owner_place (object_place o d) d l.owner)
+leaf_place o d l =
+    option_and_then (under_name (variables_of o l.owner) l.attribute)
+    (owner_place (object_place o d) d l.owner)
 
 -- Values, by the shape of the leaf: a number for each of its cells
 
@@ -64,14 +71,18 @@ one v = v ∷ []
 
 -- a number that is kept as a whole number, within the range
 abbrev pub whole_in : ℤ → ℤ → Data → Option ℤ
-whole_in low high d = option_and_then (λ v. cond (int_le low v && int_le v high) (Some v) None) (option_and_then as_integer (as_number d))
+whole_in low high d =
+    option_and_then (λ v. cond (int_le low v && int_le v high) (Some v) None)
+    (option_and_then as_integer (as_number d))
 
 abbrev pub truth_number : Bool → ℤ
 truth_number b = cond b (pos 1) (pos 0)
 
 -- the number of the value of an enumeration with this name
 abbrev pub value_number : Outline → ℕ → List ℕ → Option ℤ
-value_number o e name = option_and_then (λ (x : Enumeration). option_map pos (position (same_name name) x.values)) (slice_get o.enumerations e)
+value_number o e name =
+    option_and_then (λ (x : Enumeration). option_map pos (position (same_name name) x.values))
+    (slice_get o.enumerations e)
 
 abbrev pub of_extent : Outline → ℕ → ℕ → Option ℕ
 of_extent o c n = cond (list_any (nat_eq n) (extent o c)) (Some n) None
@@ -80,10 +91,13 @@ of_extent o c n = cond (list_any (nat_eq n) (extent o c)) (Some n) None
 abbrev pub object_in : Outline → ℕ → Data → Option ℕ
 object_in o c d = option_and_then (of_extent o c) (option_and_then (object_named o) (as_str d))
 
--- strings that are paths of objects of the extent, none of which stands among them twice or among those seen before
+-- strings that are paths of objects of the extent, none of which stands among them twice or among
+-- those seen before
 abbrev pub members_in : Outline → ℕ → List ℕ → Items → Option (List ℕ)
 members_in o c seen no_items = Some seen
-members_in o c seen (item d ds) = option_and_then (λ n. cond (list_any (nat_eq n) seen) None (members_in o c (seen ++ n ∷ []) ds)) (object_in o c d)
+members_in o c seen (item d ds) =
+    option_and_then (λ n. cond (list_any (nat_eq n) seen) None (members_in o c (seen ++ n ∷ []) ds))
+    (object_in o c d)
 
 -- for each object of the extent whether it is among the members: 1 is in, 0 is out
 abbrev pub marks : List ℕ → List ℕ → List ℤ
@@ -91,7 +105,8 @@ marks extent members = map (λ n. truth_number (list_any (nat_eq n) members)) ex
 
 -- an array of so many such strings
 abbrev pub set_in : Outline → ℕ → ℕ → Items → Option (List ℤ)
-set_in o c count ds = cond (nat_eq (items_len ds) count) (option_map (marks (extent o c)) (members_in o c [] ds)) None
+set_in o c count ds =
+    cond (nat_eq (items_len ds) count) (option_map (marks (extent o c)) (members_in o c [] ds)) None
 
 abbrev pub value_in : Outline → Resolved → Data → Option (List ℤ)
 value_in o (Span low high) d = option_map one (whole_in low high d)
@@ -109,7 +124,8 @@ former o d l = option_and_then (value_in o l.shape) (leaf_place o d l)
 -- Hints: the cells of a leaf have its former value, or none of them has one
 
 abbrev pub leaf_hints : Outline → Data → Leaf → List (Option ℤ)
-leaf_hints o d l = option_map_or (map Some) (former o d l) (replicate (length (leaf_cells o l)) None)
+leaf_hints o d l =
+    option_map_or (map Some) (former o d l) (replicate (length (leaf_cells o l)) None)
 
 abbrev pub hints : Outline → Data → List (Option ℤ)
 hints o d = flat_map (leaf_hints o d) (leaves_in (walk o))
@@ -119,13 +135,15 @@ hints o d = flat_map (leaf_hints o d) (leaves_in (walk o))
 abbrev pub variable_name : List Variable → ℕ → List ℕ
 variable_name vs k = option_map_or (λ (v : Variable). v.name) (slice_get vs k) []
 
--- the path of a leaf: that of its object, a dot, and the name of the attribute; at the top level the name alone
+-- the path of a leaf: that of its object, a dot, and the name of the attribute; at the top level
+-- the name alone
 abbrev pub leaf_path : Outline → Leaf → List ℕ
 leaf_path o l = owner_path (path o) l.owner ++ variable_name (variables_of o l.owner) l.attribute
 
 abbrev pub first_missing : Outline → Data → List Leaf → Option (List ℕ)
 first_missing o d [] = None
-first_missing o d (l ∷ ls) = cond (is_some (former o d l)) (first_missing o d ls) (Some (leaf_path o l))
+first_missing o d (l ∷ ls) =
+    cond (is_some (former o d l)) (first_missing o d ls) (Some (leaf_path o l))
 
 abbrev pub missing : Outline → Data → Option (List ℕ)
 missing o d = first_missing o d (leaves_in (walk o))

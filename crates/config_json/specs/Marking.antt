@@ -6,9 +6,11 @@ use Rattle.object_alloc.specs.Walk.{objects}
 use Rattle.serde_json.specs.Data.{Items}
 use Rattle.config_json.specs.Former.{members_in}
 
--- the marks are those of the objects that were named so far; with the strings that are left they are those of all
+-- the marks are those of the objects that were named so far; with the strings that are left they
+-- are those of all
 pub record IsMarking (o : Outline) (c : ℕ) (all left : Items) (flags : List Bool) : Type 0 where
   pub seen : List ℕ
   pub left_is : members_in o c seen left ≡ members_in o c [] all
   pub count : length flags ≡ length (objects o)
-  pub flags_are : (n : ℕ) → n < length (objects o) → slice_index_or flags n false ≡ list_any (nat_eq n) seen
+  pub flags_are : (n : ℕ) → n < length (objects o) → slice_index_or flags n false
+      ≡ list_any (nat_eq n) seen

@@ -12,4 +12,5 @@ seen found = option_map (λ (v : Bor Value). view v.now) found
 
 -- the places of the first so many objects
 abbrev pub ArePlaces : Outline → Data → ℕ → List (Option (Bor Value)) → Type 0
-ArePlaces o d count places = (n : ℕ) → n < count → seen (slice_index_or places n None) ≡ object_place o d n
+ArePlaces o d count places =
+    (n : ℕ) → n < count → seen (slice_index_or places n None) ≡ object_place o d n

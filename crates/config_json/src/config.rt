@@ -46,7 +46,8 @@ fn path_value(alloc: Global, objects: &Objects<'_>, n: u64) -> Result<Value, All
 /// The name of a value of an enumeration as a string; nothing where there is no such value.
 fn name_value(alloc: Global, table: &ClassTable, e: u32, k: u64) -> Result<Value, AllocError>
     requires enumeration { e < length table.now.enumerations }
-    ensures value { IfOk result (λ value. view value ≡ string (text_of (value_name table.now e k))) }
+    ensures value { IfOk result (λ value. view value
+        ≡ string (text_of (value_name table.now e k))) }
 {
     if k >= table.value_count(e) as u64 {
         let nothing = text_value(alloc, &[])?;
@@ -95,7 +96,8 @@ fn members_of(
     values: &[i64],
     own: &[u32],
 ) -> Result<Vec<u32>, AllocError>
-    ensures members { IfOk result (λ members. members.items ≡ filter_map (member_at (all_cells objects.now) values.now) own.now) }
+    ensures members { IfOk result (λ members. members.items
+        ≡ filter_map (member_at (all_cells objects.now) values.now) own.now) }
 {
     let mut members = Vec::new(alloc);
     for i in own {
@@ -112,7 +114,8 @@ fn path_values(
     objects: &Objects<'_>,
     numbers: &[u32],
 ) -> Result<Vec<Value>, AllocError>
-    ensures paths { IfOk result (λ paths. items_view paths.items ≡ paths_data objects.now numbers.now) }
+    ensures paths { IfOk result (λ paths. items_view paths.items
+        ≡ paths_data objects.now numbers.now) }
 {
     let mut paths = Vec::new(alloc);
     for n in numbers {
@@ -133,7 +136,8 @@ fn leaf_value(
 ) -> Result<Value, AllocError>
     requires same { objects.now ≡ table.now }
     requires shape { IsShapeOf (length table.now.classes) (length table.now.enumerations) shape }
-    ensures value { IfOk result (λ value. view value ≡ leaf_data table.now values.now own.now shape) }
+    ensures value { IfOk result (λ value. view value ≡ leaf_data table.now values.now own.now
+        shape) }
 {
     match shape {
         Resolved::Span(_, _) => Ok(Value::from(only_value(values, own))),
@@ -162,7 +166,8 @@ fn put_value(
     name: &Name,
     value: Value,
 ) -> Result<(), AllocError>
-    ensures members { OnOk result (members_view members.new.entries ≡ put (text_of name.now) (view value) (members_view members.old.entries)) }
+    ensures members { OnOk result (members_view members.new.entries
+        ≡ put (text_of name.now) (view value) (members_view members.old.entries)) }
 {
     let key = String::from_utf8_lossy(alloc, name.as_bytes())?;
     drop(members.insert(key, value)?);
@@ -178,7 +183,8 @@ fn class_members(
 ) -> Result<Map<String, Value>, AllocError>
     requires same { objects.now ≡ table.now }
     requires object { n < length (all_objects table.now) }
-    ensures members { IfOk result (λ members. members_view members.entries ≡ class_member table.now n) }
+    ensures members { IfOk result (λ members. members_view members.entries
+        ≡ class_member table.now n) }
 {
     let class = table.class_name(objects.class(n));
     let name = text_value(alloc, class.as_bytes())?;
@@ -206,7 +212,8 @@ fn object_value(
     Ok(Value::Object(members))
 }
 
-/// The keys found so far, with one for each attribute of an object, or for each variable of the top level.
+/// The keys found so far, with one for each attribute of an object, or for each variable of the top
+/// level.
 #[cycle(tree)]
 fn with_variables(
     alloc: Global,
@@ -219,7 +226,9 @@ fn with_variables(
     requires sound { IsSound table.now }
     requires same { objects.now ≡ table.now }
     requires owner { IfSome owner (λ n. n < length (all_objects table.now)) }
-    ensures members { IfOk result (λ members. members_view members.entries ≡ with_variables (object_data table.now values.now) table.now values.now owner 0 (variables_of table.now owner) (members_view found.entries)) }
+    ensures members { IfOk result (λ members. members_view members.entries
+        ≡ with_variables (object_data table.now values.now) table.now values.now owner 0
+        (variables_of table.now owner) (members_view found.entries)) }
 {
     let mut members = found;
     for k in 0..objects.shape_count(owner) {
@@ -245,7 +254,8 @@ fn attribute_value(
     requires same { objects.now ≡ table.now }
     requires owner { IfSome owner (λ n. n < length (all_objects table.now)) }
     requires shape { IsShapeOf (length table.now.classes) (length table.now.enumerations) shape }
-    ensures value { IfOk result (λ value. view value ≡ attribute_data (object_data table.now values.now) table.now values.now owner k shape) }
+    ensures value { IfOk result (λ value. view value
+        ≡ attribute_data (object_data table.now values.now) table.now values.now owner k shape) }
 {
     match shape {
         Resolved::One(_) => {
@@ -298,7 +308,8 @@ fn first_value(
     requires same { objects.now ≡ table.now }
     requires owner { IfSome owner (λ n. n < length (all_objects table.now)) }
     requires parts { AreContained table.now owner parts.now }
-    ensures value { IfOk result (λ value. view value ≡ first_data (object_data table.now values.now) parts.now) }
+    ensures value { IfOk result (λ value. view value ≡ first_data (object_data table.now values.now)
+        parts.now) }
 {
     match parts.first() {
         Some(n) => {
@@ -323,7 +334,8 @@ fn object_values(
     requires same { objects.now ≡ table.now }
     requires owner { IfSome owner (λ n. n < length (all_objects table.now)) }
     requires parts { AreContained table.now owner parts.now }
-    ensures items { IfOk result (λ items. items_view items.items ≡ all_data (object_data table.now values.now) parts.now) }
+    ensures items { IfOk result (λ items. items_view items.items
+        ≡ all_data (object_data table.now values.now) parts.now) }
 {
     let mut items = Vec::new(alloc);
     for n in parts {
@@ -359,7 +371,8 @@ pub fn config_text(
 ) -> Result<Vec<u8>, AllocError>
     requires same { objects.now ≡ table.now }
     ensures text { IfOk result (λ text. text.items ≡ config_bytes table.now config.now) }
-    ensures read { IfOk result (λ text. value_read text.items ≡ Some (config_data table.now config.now)) }
+    ensures read { IfOk result (λ text. value_read text.items
+        ≡ Some (config_data table.now config.now)) }
 {
     let _count = objects.count();
     let value = to_json(alloc, table, objects, config)?;

@@ -27,8 +27,8 @@ pub enum FormerError {
 ///
 /// # Errors
 ///
-/// `NotJson` where `serde_json` reads no value, as for bytes that aren't UTF-8; `NotObject` where the value is no object;
-/// `Memory` where there is none left.
+/// `NotJson` where `serde_json` reads no value, as for bytes that aren't UTF-8; `NotObject` where
+/// the value is no object; `Memory` where there is none left.
 pub fn read_config(alloc: Global, bytes: &[u8]) -> Result<Former, FormerError>
     ensures value { IfOk result (λ former. value_read bytes.now ≡ Some (json_of former)) }
     ensures object { IfOk result (λ former. IsSome (as_object (json_of former))) }

@@ -36,7 +36,8 @@ fn leaf_place<'v>(
     requires same { objects.now ≡ table.now }
     requires leaf { IsHeldLeaf table.now leaf }
     requires count { length places.now ≡ length (all_objects table.now) }
-    requires places { ArePlaces table.now (view json.now) (length (all_objects table.now)) places.now }
+    requires places { ArePlaces table.now (view json.now) (length (all_objects table.now))
+        places.now }
     ensures place { IfOk result (λ found. seen found ≡ leaf_place table.now (view json.now) leaf) }
 {
     let Some(owner) = owner_place(json, places, leaf.owner) else {
@@ -60,8 +61,11 @@ fn former_of(
     requires same { objects.now ≡ table.now }
     requires leaf { IsHeldLeaf table.now leaf }
     requires count { length places.now ≡ length (all_objects table.now) }
-    requires places { ArePlaces table.now (view json.now) (length (all_objects table.now)) places.now }
-    ensures value { IfOk result (λ found. option_map (numbers_of (member_extent table.now leaf.shape)) found ≡ former table.now (view json.now) leaf) }
+    requires places { ArePlaces table.now (view json.now) (length (all_objects table.now))
+        places.now }
+    ensures value { IfOk result (λ found. option_map
+        (numbers_of (member_extent table.now leaf.shape)) found ≡ former table.now (view json.now)
+        leaf) }
 {
     match leaf_place(alloc, table, objects, json, places, leaf)? {
         Some(value) => {
@@ -99,7 +103,8 @@ fn push_members(
     own: &[u32],
     marks: &[bool],
 ) -> Result<(), AllocError>
-    ensures hints { OnOk result (hints.new.items ≡ hints.old.items ++ map Some (marked (filter_map (element_at (all_cells objects.now)) own.now) marks.now)) }
+    ensures hints { OnOk result (hints.new.items ≡ hints.old.items
+        ++ map Some (marked (filter_map (element_at (all_cells objects.now)) own.now) marks.now)) }
 {
     for i in own {
         if let Some(n) = element_at(objects, *i) {
@@ -128,7 +133,9 @@ fn push_hints(
 ) -> Result<(), AllocError>
     requires sound { IsSound objects.now }
     requires leaf { IsHeldLeaf objects.now leaf }
-    ensures hints { OnOk result (hints.new.items ≡ hints.old.items ++ option_map_or (map Some) (option_map (numbers_of (member_extent objects.now leaf.shape)) found) (replicate (length (leaf_cells objects.now leaf)) None)) }
+    ensures hints { OnOk result (hints.new.items ≡ hints.old.items ++ option_map_or (map Some)
+        (option_map (numbers_of (member_extent objects.now leaf.shape)) found)
+        (replicate (length (leaf_cells objects.now leaf)) None)) }
 {
     let own = objects.own_cells(leaf.owner, leaf.attribute);
     match found {
@@ -141,8 +148,9 @@ fn push_hints(
     Ok(())
 }
 
-/// For each cell the former value of its leaf: the cells of one leaf have all a value, or none of them has one; each value lies in
-/// its cell's domain, and a reference set has its size or no value. Where no leaf lacks one they are a configuration.
+/// For each cell the former value of its leaf: the cells of one leaf have all a value, or none of
+/// them has one; each value lies in its cell's domain, and a reference set has its size or no
+/// value. Where no leaf lacks one they are a configuration.
 pub fn hints_of(
     alloc: Global,
     former: &Former,
@@ -152,7 +160,8 @@ pub fn hints_of(
     requires same { objects.now ≡ table.now }
     ensures hints { IfOk result (λ found. found ≡ hints table.now (json_of former.now)) }
     ensures form { IfOk result (λ found. AreHints table.now found) }
-    ensures whole { IfOk result (λ found. missing table.now (json_of former.now) ≡ None → IsWhole table.now found) }
+    ensures whole { IfOk result (λ found. missing table.now (json_of former.now) ≡ None
+        → IsWhole table.now found) }
 {
     let _classes = table.class_count();
     let json = &former.value;
@@ -201,8 +210,8 @@ fn leaf_text(
     PathText::of(alloc, &text)
 }
 
-/// The path of the first leaf, in the order of the walk, that has no former value; None where each leaf has one. A leaf that has
-/// no cell counts.
+/// The path of the first leaf, in the order of the walk, that has no former value; None where each
+/// leaf has one. A leaf that has no cell counts.
 pub fn missing(
     alloc: Global,
     former: &Former,

@@ -27,8 +27,10 @@ pub(crate) fn variable_of<'t>(
     requires same { objects.now ≡ table.now }
     requires owner { IfSome owner (λ n. n < length (all_objects table.now)) }
     requires attribute { k < length (variables_of table.now owner) }
-    ensures variable { slice_get (variables_of table.now owner) k ≡ Some (record { name = result.name.now; shape = result.shape }) }
-    ensures exists { IsShapeOf (length table.now.classes) (length table.now.enumerations) result.shape }
+    ensures variable { slice_get (variables_of table.now owner) k
+        ≡ Some (record { name = result.name.now; shape = result.shape }) }
+    ensures exists { IsShapeOf (length table.now.classes) (length table.now.enumerations)
+        result.shape }
 {
     match owner {
         Some(n) => table.attribute(objects.class(n), k),
@@ -65,7 +67,8 @@ pub(crate) fn owner_place<'v>(
     owner: Option<u32>,
 ) -> Option<&'v Value>
     requires owner { IfSome owner (λ n. n < length places.now) }
-    ensures place { seen result ≡ owner_place (λ n. seen (slice_index_or places.now n None)) (view former.now) owner }
+    ensures place { seen result ≡ owner_place (λ n. seen (slice_index_or places.now n None))
+        (view former.now) owner }
 {
     match owner {
         Some(n) => places[n as usize],
@@ -93,7 +96,8 @@ fn step_to<'v>(
     requires same { objects.now ≡ table.now }
     requires owner { IfSome object.owner (λ n. n < length (all_objects table.now)) }
     requires attribute { object.attribute < length (variables_of table.now object.owner) }
-    ensures place { IfOk result (λ found. seen found ≡ step_to (variables_of table.now object.owner) object (view owner.now)) }
+    ensures place { IfOk result (λ found. seen found ≡ step_to (variables_of table.now object.owner)
+        object (view owner.now)) }
 {
     let variable = variable_of(table, objects, object.owner, object.attribute);
     match named(alloc, owner, variable.name)? {
@@ -102,7 +106,8 @@ fn step_to<'v>(
     }
 }
 
-/// The place of an object, from the places of those before it: an object is held by one with a lesser number.
+/// The place of an object, from the places of those before it: an object is held by one with a
+/// lesser number.
 fn place_of<'v>(
     alloc: Global,
     table: &ClassTable,
@@ -138,7 +143,8 @@ pub(crate) fn places_of<'v>(
     requires sound { IsSound table.now }
     requires same { objects.now ≡ table.now }
     ensures count { IfOk result (λ places. length places.items ≡ length (all_objects table.now)) }
-    ensures places { IfOk result (λ places. ArePlaces table.now (view former.now) (length (all_objects table.now)) places.items) }
+    ensures places { IfOk result (λ places. ArePlaces table.now (view former.now)
+        (length (all_objects table.now)) places.items) }
 {
     let mut places = Vec::new(alloc);
     for n in 0..objects.count() {

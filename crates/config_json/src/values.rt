@@ -45,7 +45,8 @@ pub(crate) fn value_number(
     value: &Value,
 ) -> Result<Option<i64>, AllocError>
     requires enumeration { enumeration < length table.now.enumerations }
-    ensures number { IfOk result (λ number. number ≡ option_and_then (value_number table.now enumeration) (as_str (view value.now))) }
+    ensures number { IfOk result (λ number. number
+        ≡ option_and_then (value_number table.now enumeration) (as_str (view value.now))) }
 {
     let Some(text) = value.as_str() else {
         return Ok(None);
@@ -125,8 +126,8 @@ fn unmarked(alloc: Global, count: u32) -> Result<Vec<bool>, AllocError>
     Ok(marks)
 }
 
-/// Marks the objects that the strings of an array name; None where one names no object of the class's extent, or one that is
-/// named twice.
+/// Marks the objects that the strings of an array name; None where one names no object of the
+/// class's extent, or one that is named twice.
 fn members_in(
     alloc: Global,
     table: &ClassTable,
@@ -136,7 +137,9 @@ fn members_in(
 ) -> Result<Option<Vec<bool>>, AllocError>
     requires sound { IsSound table.now }
     requires same { objects.now ≡ table.now }
-    ensures members { IfOk result (λ found. option_map (λ flags. marked (extent table.now class) flags.items) found ≡ option_map (marks (extent table.now class)) (members_in table.now class [] (items_view items.now))) }
+    ensures members { IfOk result (λ found. option_map (λ flags. marked (extent table.now class)
+        flags.items) found ≡ option_map (marks (extent table.now class))
+        (members_in table.now class [] (items_view items.now))) }
 {
     let mut marks = unmarked(alloc, objects.count())?;
     for item in items {
@@ -162,7 +165,8 @@ fn set_in(
 ) -> Result<Option<FormerValue>, AllocError>
     requires sound { IsSound table.now }
     requires same { objects.now ≡ table.now }
-    ensures set { IfOk result (λ found. option_map (numbers_of (extent table.now class)) found ≡ option_and_then (set_in table.now class count) (as_array (view value.now))) }
+    ensures set { IfOk result (λ found. option_map (numbers_of (extent table.now class)) found
+        ≡ option_and_then (set_in table.now class count) (as_array (view value.now))) }
 {
     let Some(items) = value.as_array() else {
         return Ok(None);
@@ -178,7 +182,8 @@ fn set_in(
 
 /// The value of a leaf's one cell.
 fn one(value: Option<i64>) -> Option<FormerValue>
-    ensures one { (members : List ℕ) → option_map (numbers_of members) result ≡ option_map one value }
+    ensures one { (members : List ℕ) → option_map (numbers_of members) result
+        ≡ option_map one value }
 {
     match value {
         Some(value) => Some(FormerValue::One(value)),
@@ -197,7 +202,8 @@ pub(crate) fn value_in(
     requires sound { IsSound table.now }
     requires same { objects.now ≡ table.now }
     requires shape { IsShapeOf (length table.now.classes) (length table.now.enumerations) shape }
-    ensures value { IfOk result (λ found. option_map (numbers_of (member_extent table.now shape)) found ≡ value_in table.now shape (view value.now)) }
+    ensures value { IfOk result (λ found. option_map (numbers_of (member_extent table.now shape))
+        found ≡ value_in table.now shape (view value.now)) }
 {
     match shape {
         Resolved::Span(low, high) => Ok(one(whole_in(value, low, high))),

@@ -1,5 +1,5 @@
--- How whole files and texts stand to the pieces that a desk gives and takes: what one more piece adds,
--- what is left where the desk stops, and which error hands on which.
+-- How whole files and texts stand to the pieces that a desk gives and takes: what one more piece
+-- adds, what is left where the desk stops, and which error hands on which.
 use Rattle.std.specs.Prelude.{ℕ, ◌≤◌, ◌≡◌, ◌↔◌, ◌⊎◌, ◌++◌, List, length, take, drop, Option}
 use Rattle.std.specs.Option.{option_map}
 use Rattle.desk_io.specs.Desk.{Files, with_file, with_printed}

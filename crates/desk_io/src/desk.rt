@@ -48,11 +48,13 @@ pub trait Desk {
         requires name { IsTrue (may_read self.old name.now) }
         requires room { 0 < length buf.old }
         ensures count { IfOk result (λ n. n ≤ length buf.new) }
-        ensures bytes { IfOk result (λ n. OfFile (files self.old) name.now (λ file. ReadsAt file at n buf.new)) }
+        ensures bytes { IfOk result (λ n. OfFile (files self.old) name.now
+            (λ file. ReadsAt file at n buf.new)) }
         ensures files { files self.new ≡ files self.old }
         ensures printed { printed self.new ≡ printed self.old }
 
-        ensures cause { IsErrOf result Failed → HasRisen (read_faults self.old) (read_faults self.new) }
+        ensures cause { IsErrOf result Failed → HasRisen (read_faults self.old)
+            (read_faults self.new) }
         ensures read_faults { read_faults self.old ≤ read_faults self.new }
         ensures write_faults { write_faults self.new ≡ write_faults self.old }
         ensures may_read { may_read self.new ≡ may_read self.old }
@@ -61,11 +63,13 @@ pub trait Desk {
     /// Makes the file empty, or makes an empty file.
     fn create(&mut self, name: &str) -> Result<(), DeskError>
         requires { IsTrue (may_write self.old name.now) }
-        ensures ok { OnOk result (files self.new ≡ option_map (with_file name.now []) (files self.old)) }
+        ensures ok { OnOk result (files self.new ≡ option_map (with_file name.now [])
+            (files self.old)) }
         ensures err { OnErr result (files self.new ≡ files self.old) }
         ensures printed { printed self.new ≡ printed self.old }
 
-        ensures cause { IsErrOf result Failed → HasRisen (write_faults self.old) (write_faults self.new) }
+        ensures cause { IsErrOf result Failed → HasRisen (write_faults self.old)
+            (write_faults self.new) }
         ensures write_faults { write_faults self.old ≤ write_faults self.new }
         ensures read_faults { read_faults self.new ≡ read_faults self.old }
         ensures may_read { may_read self.new ≡ may_read self.old }
@@ -82,7 +86,8 @@ pub trait Desk {
         ensures err { OnErr result (files self.new ≡ files self.old) }
         ensures printed { printed self.new ≡ printed self.old }
 
-        ensures cause { IsErrOf result Failed → HasRisen (write_faults self.old) (write_faults self.new) }
+        ensures cause { IsErrOf result Failed → HasRisen (write_faults self.old)
+            (write_faults self.new) }
         ensures write_faults { write_faults self.old ≤ write_faults self.new }
         ensures read_faults { read_faults self.new ≡ read_faults self.old }
         ensures may_read { may_read self.new ≡ may_read self.old }
@@ -92,11 +97,13 @@ pub trait Desk {
     fn print(&mut self, piece: &[u8]) -> Result<usize, DeskError>
         requires { 0 < length piece.now }
         ensures count { IfOk result (λ n. (0 < n) × (n ≤ length piece.now)) }
-        ensures ok { IfOk result (λ n. printed self.new ≡ with_printed (take n piece.now) (printed self.old)) }
+        ensures ok { IfOk result (λ n. printed self.new ≡ with_printed (take n piece.now)
+            (printed self.old)) }
         ensures err { OnErr result (printed self.new ≡ printed self.old) }
         ensures files { files self.new ≡ files self.old }
 
-        ensures cause { IsErrOf result Failed → HasRisen (write_faults self.old) (write_faults self.new) }
+        ensures cause { IsErrOf result Failed → HasRisen (write_faults self.old)
+            (write_faults self.new) }
         ensures write_faults { write_faults self.old ≤ write_faults self.new }
         ensures read_faults { read_faults self.new ≡ read_faults self.old }
         ensures may_read { may_read self.new ≡ may_read self.old }

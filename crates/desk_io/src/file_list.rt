@@ -37,7 +37,8 @@ pub fn bytes_of<'a>(files: &'a [StoredFile], name: &str) -> Option<&'a [u8]>
 
 /// Makes a file empty, or makes an empty file.
 pub fn make_empty(alloc: Global, files: &mut Vec<StoredFile>, name: &str) -> Result<(), AllocError>
-    ensures ok { OnOk result (stored files.new.items ≡ with_file name.now [] (stored files.old.items)) }
+    ensures ok { OnOk result (stored files.new.items
+        ≡ with_file name.now [] (stored files.old.items)) }
     ensures err { OnErr result (stored files.new.items ≡ stored files.old.items) }
 {
     match place_of(files, name) {
@@ -54,7 +55,8 @@ pub fn add_bytes(
     name: &str,
     piece: &[u8],
 ) -> Result<(), AllocError>
-    ensures ok { OnOk result (stored files.new.items ≡ with_more name.now piece.now (stored files.old.items)) }
+    ensures ok { OnOk result (stored files.new.items ≡ with_more name.now piece.now
+        (stored files.old.items)) }
     ensures err { OnErr result (stored files.new.items ≡ stored files.old.items) }
 {
     match place_of(files, name) {

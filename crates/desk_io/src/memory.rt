@@ -118,12 +118,14 @@ impl Desk for MemoryDesk {
 
         // It fails where its number is listed or the file is missing. Else it reads as much as
         // step, `buf` and file allow. It takes no memory.
-        ensures fails { IsErrOf result Failed ↔ (Fails self.old ⊎ (stored_in self.old name.now ≡ None)) }
+        ensures fails { IsErrOf result Failed
+            ↔ (Fails self.old ⊎ (stored_in self.old name.now ≡ None)) }
         ensures takes_no_memory { IsErrOf result Memory → ⊥ }
         ensures amount { IfOk result (λ n. IfSome (stored_in self.old name.now)
             (λ file. n ≡ handled (step_of self.old) (min (length buf.old) (length file - at)))) }
         ensures counted { CountsCall self.old self.new }
-        ensures failures_alone { (IsErrOf result Failed → ⊥) → read_faults_of self.new ≡ read_faults_of self.old }
+        ensures failures_alone { (IsErrOf result Failed → ⊥) → read_faults_of self.new
+            ≡ read_faults_of self.old }
 
         // The trait's, of this desk.
         ensures count { IfOk result (λ n. n ≤ length buf.new) }
@@ -131,7 +133,8 @@ impl Desk for MemoryDesk {
             (λ n. (file : List ℕ) × (stored_in self.old name.now ≡ Some file) × ReadsAt file at n buf.new) }
         ensures files { stored_in self.new ≡ stored_in self.old }
         ensures printed { printed_by self.new ≡ printed_by self.old }
-        ensures cause { IsErrOf result Failed → HasRisen (read_faults_of self.old) (read_faults_of self.new) }
+        ensures cause { IsErrOf result Failed → HasRisen (read_faults_of self.old)
+            (read_faults_of self.new) }
         ensures read_faults { read_faults_of self.old ≤ read_faults_of self.new }
         ensures write_faults { write_faults_of self.new ≡ write_faults_of self.old }
     {
@@ -148,13 +151,15 @@ impl Desk for MemoryDesk {
         // It fails exactly where its number is listed.
         ensures fails { IsErrOf result Failed ↔ Fails self.old }
         ensures counted { CountsCall self.old self.new }
-        ensures failures_alone { (IsErrOf result Failed → ⊥) → write_faults_of self.new ≡ write_faults_of self.old }
+        ensures failures_alone { (IsErrOf result Failed → ⊥) → write_faults_of self.new
+            ≡ write_faults_of self.old }
 
         // The trait's, of this desk.
         ensures ok { OnOk result (stored_in self.new ≡ with_file name.now [] (stored_in self.old)) }
         ensures err { OnErr result (stored_in self.new ≡ stored_in self.old) }
         ensures printed { printed_by self.new ≡ printed_by self.old }
-        ensures cause { IsErrOf result Failed → HasRisen (write_faults_of self.old) (write_faults_of self.new) }
+        ensures cause { IsErrOf result Failed → HasRisen (write_faults_of self.old)
+            (write_faults_of self.new) }
         ensures write_faults { write_faults_of self.old ≤ write_faults_of self.new }
         ensures read_faults { read_faults_of self.new ≡ read_faults_of self.old }
     {
@@ -172,7 +177,8 @@ impl Desk for MemoryDesk {
         ensures fails { IsErrOf result Failed ↔ Fails self.old }
         ensures amount { IfOk result (λ n. n ≡ handled (step_of self.old) (length piece.now)) }
         ensures counted { CountsCall self.old self.new }
-        ensures failures_alone { (IsErrOf result Failed → ⊥) → write_faults_of self.new ≡ write_faults_of self.old }
+        ensures failures_alone { (IsErrOf result Failed → ⊥) → write_faults_of self.new
+            ≡ write_faults_of self.old }
 
         // The trait's, of this desk.
         ensures count { IfOk result (λ n. (0 < n) × (n ≤ length piece.now)) }
@@ -180,7 +186,8 @@ impl Desk for MemoryDesk {
             (λ n. stored_in self.new ≡ with_more name.now (take n piece.now) (stored_in self.old)) }
         ensures err { OnErr result (stored_in self.new ≡ stored_in self.old) }
         ensures printed { printed_by self.new ≡ printed_by self.old }
-        ensures cause { IsErrOf result Failed → HasRisen (write_faults_of self.old) (write_faults_of self.new) }
+        ensures cause { IsErrOf result Failed → HasRisen (write_faults_of self.old)
+            (write_faults_of self.new) }
         ensures write_faults { write_faults_of self.old ≤ write_faults_of self.new }
         ensures read_faults { read_faults_of self.new ≡ read_faults_of self.old }
     {
@@ -200,14 +207,17 @@ impl Desk for MemoryDesk {
         ensures fails { IsErrOf result Failed ↔ Fails self.old }
         ensures amount { IfOk result (λ n. n ≡ handled (step_of self.old) (length piece.now)) }
         ensures counted { CountsCall self.old self.new }
-        ensures failures_alone { (IsErrOf result Failed → ⊥) → write_faults_of self.new ≡ write_faults_of self.old }
+        ensures failures_alone { (IsErrOf result Failed → ⊥) → write_faults_of self.new
+            ≡ write_faults_of self.old }
 
         // The trait's, of this desk.
         ensures count { IfOk result (λ n. (0 < n) × (n ≤ length piece.now)) }
-        ensures ok { IfOk result (λ n. printed_by self.new ≡ printed_by self.old ++ take n piece.now) }
+        ensures ok { IfOk result (λ n. printed_by self.new ≡ printed_by self.old
+            ++ take n piece.now) }
         ensures err { OnErr result (printed_by self.new ≡ printed_by self.old) }
         ensures files { stored_in self.new ≡ stored_in self.old }
-        ensures cause { IsErrOf result Failed → HasRisen (write_faults_of self.old) (write_faults_of self.new) }
+        ensures cause { IsErrOf result Failed → HasRisen (write_faults_of self.old)
+            (write_faults_of self.new) }
         ensures write_faults { write_faults_of self.old ≤ write_faults_of self.new }
         ensures read_faults { read_faults_of self.new ≡ read_faults_of self.old }
     {

@@ -21,10 +21,11 @@ struct Opening<F: Drop> {
 /// Real files and the standard output. A call that the system refuses, a folder that is read, and a
 /// write that takes nothing are failures. It permits every name.
 ///
-/// A file that is read from its beginning, piece behind piece, is read through one opening of it: so
-/// what the pieces hold together is what that opening gave, also where another file takes the name
-/// meanwhile, and a pipe can be read. What a file that is written in place gives while it is read,
-/// is left to the outside. A piece from elsewhere in a file is read through an opening of its own.
+/// A file that is read from its beginning, piece behind piece, is read through one opening of it:
+/// so what the pieces hold together is what that opening gave, also where another file takes the
+/// name meanwhile, and a pipe can be read. What a file that is written in place gives while it is
+/// read, is left to the outside. A piece from elsewhere in a file is read through an opening of its
+/// own.
 #[derive(Drop)]
 pub struct RealDesk<R: Runtime + AllocGlobal> {
     rt: R,
@@ -52,7 +53,8 @@ impl<R: Runtime + AllocGlobal> RealDesk<R> {
     // What a call answers whose write took so many bytes. One that took none has failed.
     fn after_write(&mut self, taken: io::Result<usize>) -> Result<usize, DeskError>
         ensures taken { IfOk result (λ n. (0 < n) × (taken ≡ Ok n)) }
-        ensures failed { IsErr result → HasRisen (write_faults_of self.old) (write_faults_of self.new) }
+        ensures failed { IsErr result → HasRisen (write_faults_of self.old)
+            (write_faults_of self.new) }
         ensures write_faults { write_faults_of self.old ≤ write_faults_of self.new }
         ensures read_faults { read_faults_of self.new ≡ read_faults_of self.old }
     {

@@ -87,7 +87,8 @@ impl Desk for SteadyDesk {
 
     fn create(&mut self, name: &str) -> Result<(), DeskError>
         ensures never_fails { IsErrOf result Failed → ⊥ }
-        ensures stored { OnOk result (stored_in self.new ≡ with_file name.now [] (stored_in self.old)) }
+        ensures stored { OnOk result (stored_in self.new
+            ≡ with_file name.now [] (stored_in self.old)) }
 
         // The trait's, of this desk.
         ensures ok { OnOk result (steady (stored_in self.new) ≡ with_file name.now [] (steady
@@ -104,7 +105,8 @@ impl Desk for SteadyDesk {
         // It never fails, and adds the whole piece.
         ensures never_fails { IsErrOf result Failed → ⊥ }
         ensures amount { IfOk result (λ n. n ≡ length piece.now) }
-        ensures stored { OnOk result (stored_in self.new ≡ with_more name.now piece.now (stored_in self.old)) }
+        ensures stored { OnOk result (stored_in self.new ≡ with_more name.now piece.now
+            (stored_in self.old)) }
 
         // The trait's, of this desk.
         ensures count { IfOk result (λ n. (0 < n) × (n ≤ length piece.now)) }
@@ -126,7 +128,8 @@ impl Desk for SteadyDesk {
 
         // The trait's, of this desk.
         ensures count { IfOk result (λ n. (0 < n) × (n ≤ length piece.now)) }
-        ensures ok { IfOk result (λ n. printed_by self.new ≡ printed_by self.old ++ take n piece.now) }
+        ensures ok { IfOk result (λ n. printed_by self.new ≡ printed_by self.old
+            ++ take n piece.now) }
         ensures err { OnErr result (printed_by self.new ≡ printed_by self.old) }
         ensures files { stored_in self.new ≡ stored_in self.old }
     {

@@ -102,7 +102,8 @@ pub fn read_all<D: Desk>(
     limit: u64,
 ) -> Result<Vec<u8>, ReadError>
     requires { IsTrue (D.may_read desk.old name.now) }
-    ensures whole { IfOk result (λ bytes. OfFile (D.files desk.old) name.now (λ file. file ≡ bytes.items)) }
+    ensures whole { IfOk result (λ bytes. OfFile (D.files desk.old) name.now (λ file. file
+        ≡ bytes.items)) }
     ensures within { IfOk result (λ bytes. vec_len bytes ≤ limit) }
     ensures too_long { IsErrOf result ReadError.TooLong → OfFile (D.files desk.old) name.now
         (λ file. limit < length file) }
@@ -153,7 +154,8 @@ pub fn store_all<D: Desk>(desk: &mut D, name: &str, bytes: &[u8]) -> Result<(), 
     requires { IsTrue (D.may_write desk.old name.now) }
     ensures ok { OnOk result (D.files desk.new ≡ option_map (with_file name.now bytes.now)
         (D.files desk.old)) }
-    ensures err { OnErr result (StoresFront name.now bytes.now (D.files desk.old) (D.files desk.new)) }
+    ensures err { OnErr result (StoresFront name.now bytes.now (D.files desk.old)
+        (D.files desk.new)) }
     ensures fault { IsErrOf result WriteError.WriteFault → HasRisen (D.write_faults desk.old)
         (D.write_faults desk.new) }
 

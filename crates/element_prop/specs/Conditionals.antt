@@ -21,12 +21,15 @@ pub record IsCalm (out flags item : Ranges) : Type 0 where
 -- the flag can be 0 though out can't, or has to be 0 though out can be something else
 abbrev pub HasToBeZero : Ranges → Ranges → Type 0
 HasToBeZero out flags =
-    ((has flags (pos 0) ≡ true) × (has out (pos 0) ≡ false)) ⊎ ((has flags (pos 1) ≡ false) × (is_within out ((pos 0, pos 0) ∷ []) ≡ false))
+    ((has flags (pos 0) ≡ true) × (has out (pos 0) ≡ false)) ⊎ ((has flags (pos 1) ≡ false)
+    × (is_within out ((pos 0, pos 0) ∷ []) ≡ false))
 
 -- what the clause leaves that says that out is 0 or has a value that the item's box has, or that
 -- the item is outside its box
 abbrev pub either_plan : Boxes → Boxes → ℕ → ℕ → Literals
-either_plan domains boxes o i = (o, less (less (box_of domains o) ((pos 0, pos 0) ∷ [])) (box_of boxes i)) ∷ (i, box_of boxes i) ∷ []
+either_plan domains boxes o i =
+    (o, less (less (box_of domains o) ((pos 0, pos 0) ∷ [])) (box_of boxes i)) ∷ (i, box_of boxes i)
+    ∷ []
 
 -- what a finding says
 abbrev pub Says : Ranges → Ranges → Ranges → Finding → Type 0

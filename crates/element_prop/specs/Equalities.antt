@@ -17,15 +17,18 @@ pub record IsCalm (flags left right : Ranges) : Type 0 where
   pub left_within : has flags (pos 0) ≡ false → is_within left right ≡ true
   pub right_within : has flags (pos 0) ≡ false → is_within right left ≡ true
   pub differ : has flags (pos 0) ≡ true → same_single left right ≡ false
-  pub left_value : has flags (pos 1) ≡ false → (v : ℤ) → fixed_at left v ≡ true → has right v ≡ false
-  pub right_value : has flags (pos 1) ≡ false → (v : ℤ) → fixed_at right v ≡ true → has left v ≡ false
+  pub left_value : has flags (pos 1) ≡ false → (v : ℤ) → fixed_at left v ≡ true → has right v
+      ≡ false
+  pub right_value : has flags (pos 1) ≡ false → (v : ℤ) → fixed_at right v ≡ true → has left v
+      ≡ false
 
 -- both are the value though the flag can be 0, or one is and the other has it though the flag has
 -- to be 0
 abbrev pub AreBothAt : Ranges → Ranges → Ranges → ℤ → Type 0
 AreBothAt flags left right v =
     ((has flags (pos 0) ≡ true) × (fixed_at left v ≡ true) × (fixed_at right v ≡ true))
-    ⊎ ((has flags (pos 1) ≡ false) × (((fixed_at left v ≡ true) × (has right v ≡ true)) ⊎ ((fixed_at right v ≡ true) × (has left v ≡ true))))
+    ⊎ ((has flags (pos 1) ≡ false) × (((fixed_at left v ≡ true) × (has right v ≡ true))
+    ⊎ ((fixed_at right v ≡ true) × (has left v ≡ true))))
 
 -- what the clause leaves that says that the flag is 1 or one of both isn't the value
 abbrev pub same_plan : ℕ → ℕ → ℕ → ℤ → Literals

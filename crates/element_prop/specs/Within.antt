@@ -8,8 +8,11 @@ use Rattle.signed_clause.specs.Clauses.{Boxes, Literals, box_of}
 -- inside the other
 abbrev pub HasToLie : Ranges → Ranges → Ranges → Type 0
 HasToLie flags box other =
-    ((has flags (pos 1) ≡ true) × (is_disjoint box other ≡ true)) ⊎ ((has flags (pos 0) ≡ false) × (is_within box other ≡ false))
+    ((has flags (pos 1) ≡ true) × (is_disjoint box other ≡ true)) ⊎ ((has flags (pos 0) ≡ false)
+    × (is_within box other ≡ false))
 
 -- what its clause leaves: the flag 1, of x what y's box hasn't, of y its box
 abbrev pub within_plan : Boxes → Boxes → ℕ → ℕ → ℕ → Literals
-within_plan domains boxes f x y = (f, (pos 1, pos 1) ∷ []) ∷ (x, less (box_of domains x) (box_of boxes y)) ∷ (y, box_of boxes y) ∷ []
+within_plan domains boxes f x y =
+    (f, (pos 1, pos 1) ∷ []) ∷ (x, less (box_of domains x) (box_of boxes y)) ∷ (y, box_of boxes y)
+    ∷ []

@@ -143,7 +143,8 @@ fn explain_either(
     requires out { out < length domains.now }
     requires item { item < length domains.now }
     requires size { length boxes.now ≡ length domains.now }
-    requires reason { IsReason con.now domains.now boxes.now (literals_of domains.now (either_plan domains.now boxes.now out item)) }
+    requires reason { IsReason con.now domains.now boxes.now
+        (literals_of domains.now (either_plan domains.now boxes.now out item)) }
     ensures pruning { IfOk result (λ c. IsPruning con.now domains.now boxes.now c) }
 {
     let domain = &domains[out as usize];

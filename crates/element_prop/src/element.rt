@@ -62,7 +62,8 @@ pub enum Further {
 fn is_item_out(t: (i64, u32), out: &IntSet, index: &IntSet, boxes: &[IntSet]) -> bool
     requires { t.1 < length boxes.now }
     ensures said { result ≡ true → HasToPick index.now t.0 (box_of boxes.now t.1) out.now }
-    ensures met { result ≡ false → (not (has index.now t.0) || not (is_disjoint (box_of boxes.now t.1) out.now)) ≡ true }
+    ensures met { result ≡ false → (not (has index.now t.0)
+        || not (is_disjoint (box_of boxes.now t.1) out.now)) ≡ true }
 {
     let at = &boxes[t.1 as usize];
     index.contains(t.0)
@@ -163,10 +164,14 @@ fn find_outside(items: &[(i64, u32)], vars: (u32, u32), boxes: &[IntSet]) -> Fur
     requires index { vars.1 < length boxes.now }
     requires items { All (λ t. t.1 < length boxes.now) items.now }
     requires apart { AreHeadsApart vars.0 vars.1 items.now }
-    requires met { all_meet items.now (box_of boxes.now vars.0) (box_of boxes.now vars.1) boxes.now ≡ true }
-    requires full { count_of (box_of boxes.now vars.1) ≤ count_possible items.now (box_of boxes.now vars.1) }
-    requires open { none_picked (box_of boxes.now vars.0) (box_of boxes.now vars.1) items.now boxes.now ≡ false }
-    requires offered { all_offered (probed (box_of boxes.now vars.0)) items.now (box_of boxes.now vars.1) boxes.now ≡ true }
+    requires met { all_meet items.now (box_of boxes.now vars.0) (box_of boxes.now vars.1) boxes.now
+        ≡ true }
+    requires full { count_of (box_of boxes.now vars.1) ≤ count_possible items.now
+        (box_of boxes.now vars.1) }
+    requires open { none_picked (box_of boxes.now vars.0) (box_of boxes.now vars.1) items.now
+        boxes.now ≡ false }
+    requires offered { all_offered (probed (box_of boxes.now vars.0)) items.now
+        (box_of boxes.now vars.1) boxes.now ≡ true }
     ensures { IsFurther items.now vars.0 vars.1 boxes.now result }
 {
     let out = &boxes[vars.0 as usize];
@@ -195,9 +200,12 @@ fn find_further(items: &[(i64, u32)], vars: (u32, u32), boxes: &[IntSet]) -> Fur
     requires some { is_nil (box_of boxes.now vars.0) ≡ false }
     requires sets { All (λ s. IsValid s) boxes.now }
     requires apart { AreHeadsApart vars.0 vars.1 items.now }
-    requires met { all_meet items.now (box_of boxes.now vars.0) (box_of boxes.now vars.1) boxes.now ≡ true }
-    requires full { count_of (box_of boxes.now vars.1) ≤ count_possible items.now (box_of boxes.now vars.1) }
-    requires open { none_picked (box_of boxes.now vars.0) (box_of boxes.now vars.1) items.now boxes.now ≡ false }
+    requires met { all_meet items.now (box_of boxes.now vars.0) (box_of boxes.now vars.1) boxes.now
+        ≡ true }
+    requires full { count_of (box_of boxes.now vars.1) ≤ count_possible items.now
+        (box_of boxes.now vars.1) }
+    requires open { none_picked (box_of boxes.now vars.0) (box_of boxes.now vars.1) items.now
+        boxes.now ≡ false }
     ensures { IsFurther items.now vars.0 vars.1 boxes.now result }
 {
     match unoffered(
@@ -250,7 +258,8 @@ fn prune_index(
     requires sets { All (λ d. IsValid d) domains.now }
     requires domain { vars.1 < length domains.now }
     requires index { vars.1 < length boxes.now }
-    requires more { count_possible items.now (box_of boxes.now vars.1) < count_of (box_of boxes.now vars.1) }
+    requires more { count_possible items.now (box_of boxes.now vars.1) < count_of
+        (box_of boxes.now vars.1) }
     ensures pruning { IfOk result (λ c. IsPruning con.now domains.now boxes.now c) }
 {
     let rest = without_items(items, &domains[vars.1 as usize], alloc)?;
@@ -266,7 +275,8 @@ fn without_box(
     boxes: &[IntSet],
 ) -> Result<IntSet, AllocError>
     requires { t.1 < length boxes.now }
-    ensures { IfOk result (λ s. s ≡ cond (has index.now t.0) (less set (box_of boxes.now t.1)) set) }
+    ensures { IfOk result (λ s. s ≡ cond (has index.now t.0) (less set (box_of boxes.now t.1))
+        set) }
 {
     if index.contains(t.0) {
         let rest = set.less(&boxes[t.1 as usize])?;
@@ -323,7 +333,8 @@ fn plan_out(
 ) -> Result<Vec<(u32, IntSet)>, AllocError>
     requires index { vars.1 < length boxes.now }
     requires items { All (λ t. t.1 < length domains.now) items.now }
-    ensures { IfOk result (λ plan. plan.items ≡ out_plan items.now domains.now boxes.now vars.0 vars.1 set.now) }
+    ensures { IfOk result (λ plan. plan.items ≡ out_plan items.now domains.now boxes.now vars.0
+        vars.1 set.now) }
 {
     let index = &boxes[vars.1 as usize];
     let mut plan = vec![in alloc; (vars.0, set.copy()?), (vars.1, index.copy()?)]?;
@@ -355,7 +366,8 @@ fn prune_out(
     requires domain_items { All (λ t. t.1 < length domains.now) items.now }
     requires differ { no_repeat (vars_of con.now) ≡ true }
     requires member { has (box_of boxes.now vars.0) at.value ≡ true }
-    requires unoffered { some_offers items.now at.value (box_of boxes.now vars.1) boxes.now ≡ false }
+    requires unoffered { some_offers items.now at.value (box_of boxes.now vars.1) boxes.now
+        ≡ false }
     ensures pruning { IfOk result (λ c. IsPruning con.now domains.now boxes.now c) }
 {
     let domain = &domains[vars.0 as usize];
@@ -386,7 +398,8 @@ fn prune_open(
     requires out { vars.0 < length boxes.now }
     requires index { vars.1 < length boxes.now }
     requires items { All (λ t. t.1 < length boxes.now) items.now }
-    requires met { all_meet items.now (box_of boxes.now vars.0) (box_of boxes.now vars.1) boxes.now ≡ true }
+    requires met { all_meet items.now (box_of boxes.now vars.0) (box_of boxes.now vars.1) boxes.now
+        ≡ true }
     ensures answer { IfOk result (λ a. IsAnswer con.now domains.now boxes.now a) }
 {
     let index = &boxes[vars.1 as usize];
@@ -431,7 +444,8 @@ fn explain_pick(
     requires var { var < length domains.now }
     requires other { other < length domains.now }
     requires size { length boxes.now ≡ length domains.now }
-    requires reason { IsReason con.now domains.now boxes.now (literals_of domains.now (pick_plan domains.now boxes.now index values.now var other)) }
+    requires reason { IsReason con.now domains.now boxes.now
+        (literals_of domains.now (pick_plan domains.now boxes.now index values.now var other)) }
     ensures pruning { IfOk result (λ c. IsPruning con.now domains.now boxes.now c) }
 {
     let outside = domains[var as usize].less(&boxes[other as usize])?;

@@ -143,7 +143,8 @@ fn explain_same(
     requires flag { vars.0 < length domains.now }
     requires left { vars.1 < length domains.now }
     requires right { vars.2 < length domains.now }
-    requires reason { IsReason con.now domains.now boxes.now (literals_of domains.now (same_plan vars.0 vars.1 vars.2 at.value)) }
+    requires reason { IsReason con.now domains.now boxes.now
+        (literals_of domains.now (same_plan vars.0 vars.1 vars.2 at.value)) }
     ensures pruning { IfOk result (λ c. IsPruning con.now domains.now boxes.now c) }
 {
     let plan = [

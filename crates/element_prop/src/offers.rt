@@ -77,7 +77,8 @@ fn set_ends(set: &IntSet) -> (Number, Number)
 fn reach_in(set: &IntSet, at: Number) -> Option<Number>
     ensures none { IfNone result (has set.now at.value ≡ false) }
     ensures order { IfSome result (λ end. at.value ≤ℤ end.value) }
-    ensures some { IfSome result (λ end. (v : ℤ) → at.value ≤ℤ v → v ≤ℤ end.value → has set.now v ≡ true) }
+    ensures some { IfSome result (λ end. (v : ℤ) → at.value ≤ℤ v → v ≤ℤ end.value → has set.now v
+        ≡ true) }
 {
     for r in set.ranges() {
         if is_in(*r, at) {
@@ -90,7 +91,8 @@ fn reach_in(set: &IntSet, at: Number) -> Option<Number>
 /// How far, from the value on, the item offers each value.
 fn reach_of(t: (i64, u32), at: Number, index: &IntSet, boxes: &[IntSet]) -> Option<Number>
     requires { t.1 < length boxes.now }
-    ensures none { IfNone result ((has index.now t.0 && has (box_of boxes.now t.1) at.value) ≡ false) }
+    ensures none { IfNone result ((has index.now t.0 && has (box_of boxes.now t.1) at.value)
+        ≡ false) }
     ensures order { IfSome result (λ end. at.value ≤ℤ end.value) }
     ensures some { IfSome result (λ end. (v : ℤ) → at.value ≤ℤ v → v ≤ℤ end.value
         → (has index.now t.0 && has (box_of boxes.now t.1) v) ≡ true) }
@@ -165,7 +167,8 @@ fn unoffered_in(
 ) -> Option<Number>
     requires items { All (λ t. t.1 < length boxes.now) items.now }
     requires order { range.0 ≤ℤ range.1 }
-    ensures none { IfNone result ((v : ℤ) → in_range range v ≡ true → some_offers items.now v index.now boxes.now ≡ true) }
+    ensures none { IfNone result ((v : ℤ) → in_range range v ≡ true → some_offers items.now v
+        index.now boxes.now ≡ true) }
     ensures some { IfSome result (λ v. some_offers items.now v.value index.now boxes.now ≡ false) }
     ensures within { IfSome result (λ v. in_range range v.value ≡ true) }
 {
@@ -180,7 +183,8 @@ fn unoffered_of(
     boxes: &[IntSet],
 ) -> Option<Number>
     requires { All (λ t. t.1 < length boxes.now) items.now }
-    ensures none { IfNone result ((v : ℤ) → has set.now v ≡ true → some_offers items.now v index.now boxes.now ≡ true) }
+    ensures none { IfNone result ((v : ℤ) → has set.now v ≡ true → some_offers items.now v index.now
+        boxes.now ≡ true) }
     ensures some { IfSome result (λ v. some_offers items.now v.value index.now boxes.now ≡ false) }
     ensures within { IfSome result (λ v. has set.now v.value ≡ true) }
 {
@@ -202,8 +206,10 @@ fn unoffered_end(
 ) -> Option<Number>
     requires items { All (λ t. t.1 < length boxes.now) items.now }
     requires some { is_nil set.now ≡ false }
-    ensures low { IfNone result (some_offers items.now (low_of set.now) index.now boxes.now ≡ true) }
-    ensures high { IfNone result (some_offers items.now (high_of set.now) index.now boxes.now ≡ true) }
+    ensures low { IfNone result (some_offers items.now (low_of set.now) index.now boxes.now
+        ≡ true) }
+    ensures high { IfNone result (some_offers items.now (high_of set.now) index.now boxes.now
+        ≡ true) }
     ensures some { IfSome result (λ v. some_offers items.now v.value index.now boxes.now ≡ false) }
     ensures within { IfSome result (λ v. has set.now v.value ≡ true) }
 {
@@ -227,7 +233,8 @@ pub fn unoffered(
     requires items { All (λ t. t.1 < length boxes.now) items.now }
     requires some { is_nil out.now ≡ false }
     requires sets { All (λ s. IsValid s) boxes.now }
-    ensures none { IfNone result (all_offered (probed out.now) items.now index.now boxes.now ≡ true) }
+    ensures none { IfNone result (all_offered (probed out.now) items.now index.now boxes.now
+        ≡ true) }
     ensures some { IfSome result (λ v. some_offers items.now v.value index.now boxes.now ≡ false) }
     ensures within { IfSome result (λ v. has out.now v.value ≡ true) }
 {

@@ -28,7 +28,8 @@ pub fn explain_within(
     requires var { var < length domains.now }
     requires other { other < length domains.now }
     requires size { length boxes.now ≡ length domains.now }
-    requires reason { IsReason con.now domains.now boxes.now (literals_of domains.now (within_plan domains.now boxes.now flag var other)) }
+    requires reason { IsReason con.now domains.now boxes.now
+        (literals_of domains.now (within_plan domains.now boxes.now flag var other)) }
     ensures pruning { IfOk result (λ c. IsPruning con.now domains.now boxes.now c) }
 {
     let outside = domains[var as usize].less(&boxes[other as usize])?;

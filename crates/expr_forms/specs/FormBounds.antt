@@ -60,7 +60,8 @@ IsFrom o boxes d (choice.Mapped x map) = Unit {0}
 
 -- ---- lists
 
--- the object may be a member of a list of class c, and whether it is asks for a variable that exists
+-- the object may be a member of a list of class c, and whether it is asks for a variable that
+-- exists
 pub record IsMember (o : Outline) (boxes : Boxes) (c : ℕ) (m : Member) : Type 0 where
   pub may : Contains (extent o c) m.object
   pub is : HasVariable (length boxes) m.is
@@ -80,7 +81,8 @@ pub record IsSlot (o : Outline) (boxes : Boxes) (c x : ℕ) (map : List (ℤ × 
 abbrev pub IsListing : Outline → Boxes → ℕ → Listing → Type 0
 IsListing o boxes c (listing.All xs) = All (Contains (extent o c)) xs.items
 IsListing o boxes c (listing.Some ms) = All (IsMember o boxes c) ms.items
-IsListing o boxes c (listing.Owned x map ss) = (x < length boxes) × All (IsSlot o boxes c x map.items) ss.items
+IsListing o boxes c (listing.Owned x map ss) =
+    (x < length boxes) × All (IsSlot o boxes c x map.items) ss.items
 
 -- how many objects may be members
 abbrev pub slot_count : Listing → ℕ
@@ -94,8 +96,10 @@ slot_count (listing.Owned x map ss) = length ss.items
 abbrev pub IsFormOf : Outline → Boxes → ExprType → Form → Type 0
 IsFormOf o boxes type.Int (form.Number f) = Unit {0}
 IsFormOf o boxes type.Truth (form.Truth t) = Unit {0}
-IsFormOf o boxes (type.Choice e) (form.Choice d c) = (d ≡ e) × IsChoiceOf boxes (λ n. n < value_count o e) c
-IsFormOf o boxes (type.Object c) (form.Object d x) = IsChoiceOf boxes (Contains (extent o c)) x × IsFrom o boxes d x
+IsFormOf o boxes (type.Choice e) (form.Choice d c) =
+    (d ≡ e) × IsChoiceOf boxes (λ n. n < value_count o e) c
+IsFormOf o boxes (type.Object c) (form.Object d x) =
+    IsChoiceOf boxes (Contains (extent o c)) x × IsFrom o boxes d x
 IsFormOf o boxes (type.Objects c) (form.List l) = IsListing o boxes c l
 IsFormOf o boxes (type.Class c) (form.List l) = IsListing o boxes c l
 IsFormOf o boxes t f = ⊥
@@ -118,7 +122,8 @@ target_count o (form.Choice e c) = 0
 pub record IsForm (o : Outline) (boxes : Boxes) (t : Tree) (this : Option ℕ) (vars : List ℕ) (f : Form) : Type 0 where
   pub number : IsSum boxes (interval o t).low (interval o t).high (number_part f)
   pub truth : HasVariable (length boxes) (truth_part f)
-  pub typed : (p : Place) (ty : ExprType) → Fits o [] p (bare_setting o this vars) → tree_type o t p ≡ Some ty → IsFormOf o boxes ty f
+  pub typed : (p : Place) (ty : ExprType) → Fits o [] p (bare_setting o this vars) → tree_type o t p
+      ≡ Some ty → IsFormOf o boxes ty f
   pub reached : target_count o f ≤ reach o t
 
 -- the form stands for the expression, and keeps to its bounds

@@ -43,7 +43,8 @@ cell_for owner (p ∷ ps) a = cond (nat_eq p.0 owner) (value_of a p.1) (cell_for
 abbrev pub owned_at : ℕ → List Slot → List ℤ → List ℕ
 owned_at owner [] a = []
 owned_at owner (s ∷ ss) a =
-    cond (int_eq (cell_for owner s.cells.items a) (pos 1)) (s.object ∷ owned_at owner ss a) (owned_at owner ss a)
+    cond (int_eq (cell_for owner s.cells.items a) (pos 1)) (s.object ∷ owned_at owner ss a)
+    (owned_at owner ss a)
 
 -- the objects of a list
 abbrev pub listing_at : Listing → List ℤ → List ℕ

@@ -30,14 +30,17 @@ pub record HasCells (o : Outline) (g : Ground) : Type 0 where
 
 -- the setting of a world: the configuration is its front
 abbrev pub world_setting : Outline → Ground → List ℤ → Option ℕ → List ℕ → Setting
-world_setting o g a this vars = record { outline = o; values = take g.search a; this = this; vars = vars }
+world_setting o g a this vars =
+    record { outline = o; values = take g.search a; this = this; vars = vars }
 
 -- in every world the form has the expression's value
 abbrev pub Stands : Outline → Ground → List (ℕ × ℤ) → Tree → Option ℕ → List ℕ → Form → Type 0
 Stands o g known t this vars f =
-    (a : List ℤ) → IsWorld g a → AreKnown known a → value t (world_setting o g a this vars) ≡ form_value f a
+    (a : List ℤ) → IsWorld g a → AreKnown known a → value t (world_setting o g a this vars)
+    ≡ form_value f a
 
 -- whether the expression's truth in a world is the wanted one
 abbrev pub is_wanted : Outline → Ground → Tree → Option ℕ → List ℕ → Bool → List ℤ → Bool
 is_wanted o g t this vars want a =
-    cond want (truth_of (value t (world_setting o g a this vars))) (not (truth_of (value t (world_setting o g a this vars))))
+    cond want (truth_of (value t (world_setting o g a this vars)))
+    (not (truth_of (value t (world_setting o g a this vars))))

@@ -15,7 +15,8 @@ IsOpen box = low_of box <ℤ high_of box
 abbrev pub AreTerms : Boxes → ℕ → List (ℤ × ℕ) → Type 0
 AreTerms boxes n [] = Unit {0}
 AreTerms boxes n (t ∷ ts) =
-    (n ≤ t.1) × (t.1 < length boxes) × (t.0 ≢ pos 0) × IsOpen (box_of boxes t.1) × AreTerms boxes (suc t.1) ts
+    (n ≤ t.1) × (t.1 < length boxes) × (t.0 ≢ pos 0) × IsOpen (box_of boxes t.1)
+    × AreTerms boxes (suc t.1) ts
 
 -- the greatest absolute value of a sum over the boxes
 abbrev pub linear_weight : Linear → Boxes → ℕ

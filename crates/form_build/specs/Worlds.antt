@@ -44,13 +44,15 @@ pub record Grows (old new : Ground) : Type 0 where
   pub domains : new.domains ≡ old.domains ++ more
   pub added : List Con
   pub cons : new.cons ≡ old.cons ++ added
-  pub keeps : (t a : List ℤ) → IsOnlyExtension old t a → (b : List ℤ) × IsOnlyExtension new t (a ++ b)
+  pub keeps : (t a : List ℤ) → IsOnlyExtension old t a → (b : List ℤ)
+      × IsOnlyExtension new t (a ++ b)
 
 -- what was added says this in every world in which the known variables have their values, and no
 -- more
 pub record Adds (known : List (ℕ × ℤ)) (old new : Ground) (says : List ℤ → Bool) : Type 0 where
   pub grows : Grows old new
-  pub holds : (a : List ℤ) → IsWorld new a → AreKnown known a → AllHold new a ↔ (AllHold old a × (says a ≡ true))
+  pub holds : (a : List ℤ) → IsWorld new a → AreKnown known a → AllHold new a
+      ↔ (AllHold old a × (says a ≡ true))
 
 -- only definitions were added, and what follows from what stood
 abbrev pub Defines : Ground → Ground → Type 0
@@ -79,7 +81,8 @@ pub record IsVariableOf (g : Ground) (x : ℕ) (least greatest : ℤ) (says : Li
 pub record IsPickOf (g : Ground) (x : ℕ) (values : Ranges) (index : ℕ) (items : List (ℤ × ℕ)) : Type 0 where
   pub exists : x < length g.domains
   pub box : box_of g.domains x ≡ values
-  pub value : (a : List ℤ) → IsWorld g a → All (λ t. value_of a index ≡ t.0 → value_of a x ≡ value_of a t.1) items
+  pub value : (a : List ℤ) → IsWorld g a → All (λ t. value_of a index ≡ t.0 → value_of a x
+      ≡ value_of a t.1) items
 
 -- x has this box, and in every world it is the item where the flag is 1, and 0 where that is 0
 pub record IsItemWhere (g : Ground) (x : ℕ) (values : Ranges) (flag item : ℕ) : Type 0 where

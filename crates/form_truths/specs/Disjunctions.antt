@@ -10,7 +10,8 @@ use Rattle.signed_clause.specs.Clauses.{Literals, clause_true}
 abbrev pub with_literal : ℕ → Ranges → Literals → Literals
 with_literal x s [] = (x, s) ∷ []
 with_literal x s (l ∷ ls) =
-    cond (nat_lt l.0 x) (l ∷ with_literal x s ls) (cond (nat_lt x l.0) ((x, s) ∷ l ∷ ls) ((l.0, join l.1 s) ∷ ls))
+    cond (nat_lt l.0 x) (l ∷ with_literal x s ls) (cond (nat_lt x l.0) ((x, s) ∷ l ∷ ls)
+    ((l.0, join l.1 s) ∷ ls))
 
 -- whether the disjunction holds: some part that is no literal does, or some literal
 abbrev pub disjunction_at : Bool × Literals → List ℤ → Bool

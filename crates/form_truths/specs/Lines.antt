@@ -42,4 +42,5 @@ pub record IsLineOf (l : Line) (x : ℕ) (f : Linear) : Type 0 where
 
 -- the line is one over the span of the variable's box
 abbrev pub IsLineOver : Boxes → ℕ → Line → Type 0
-IsLineOver boxes x l = (s : Span) → s.low ≡ low_of (box_of boxes x) → s.high ≡ high_of (box_of boxes x) → IsLine s l
+IsLineOver boxes x l =
+    (s : Span) → s.low ≡ low_of (box_of boxes x) → s.high ≡ high_of (box_of boxes x) → IsLine s l

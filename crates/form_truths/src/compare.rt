@@ -1,7 +1,7 @@
 //! Sums compared with 0, as truths.
 //!
-//! A sum of one variable asks whether its value lies in a set, which takes no new variable. A sum of
-//! none is fixed.
+//! A sum of one variable asks whether its value lies in a set, which takes no new variable. A sum
+//! of none is fixed.
 ghost use Rattle.std.specs.Prelude.{◌≡◌, ◌<◌, ◌≤◌, ◌^◌, ◌-ℤ◌, ℕ, ℤ, Bool, List, [], true, not, int_le, length, unsigned_abs, pos, IfOk, IfSome};
 ghost use Rattle.std.specs.Ordering.{int_eq};
 ghost use Rattle.signed_clause.specs.Ranges.{has, in_range, IsValid};
@@ -24,7 +24,8 @@ use std::alloc::{AllocError, Global};
 pub fn literal(boxes: &[IntSet], x: u32, set: IntSet) -> Truth
     requires exists { x < length boxes.now }
     ensures variable { HasVariable (length boxes.now) result }
-    ensures value { (a : List ℤ) → IsInBoxes boxes.now a → truth_at result a ≡ has set (value_of a x) }
+    ensures value { (a : List ℤ) → IsInBoxes boxes.now a → truth_at result a
+        ≡ has set (value_of a x) }
 {
     let at = &boxes[x as usize];
     if set.disjoint(at) {

@@ -97,8 +97,10 @@ impl Disjunction {
 /// Where a literal of the variable stands, or would stand.
 fn place_of(literals: &[(u32, IntSet)], x: u32) -> usize
     ensures within { result ≤ length literals.now }
-    ensures above { (l : Literal) → result < length literals.now → x ≤ (slice_index_or literals.now result l).0 }
-    ensures below { (k : ℕ) (l : Literal) → result ≡ suc k → (slice_index_or literals.now k l).0 < x }
+    ensures above { (l : Literal) → result < length literals.now
+        → x ≤ (slice_index_or literals.now result l).0 }
+    ensures below { (k : ℕ) (l : Literal) → result ≡ suc k → (slice_index_or literals.now k l).0
+        < x }
 {
     let mut i = literals.len();
     while i > 0 && is_upto(x, &literals[i - 1]) {

@@ -70,7 +70,8 @@ fn push_joined(
     literals: &[(u32, IntSet)],
     k: usize,
 ) -> Result<usize, AllocError>
-    ensures { IfOk result (λ next. out.new.items ++ drop next literals.now ≡ out.old.items ++ joined_with x set.now (drop k literals.now)) }
+    ensures { IfOk result (λ next. out.new.items ++ drop next literals.now ≡ out.old.items
+        ++ joined_with x set.now (drop k literals.now)) }
 {
     if k < literals.len() && literals[k].0 == x {
         out.push((x, literals[k].1.join(set)?))?;

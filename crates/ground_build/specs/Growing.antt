@@ -26,7 +26,8 @@ with_constraint g con = record g { cons = g.cons ++ con ∷ [] }
 
 -- with one variable more, of this domain, and its definition
 abbrev pub with_definition : Ground → Ranges → Con → Ground
-with_definition g domain con = record g { domains = g.domains ++ domain ∷ []; cons = g.cons ++ con ∷ [] }
+with_definition g domain con =
+    record g { domains = g.domains ++ domain ∷ []; cons = g.cons ++ con ∷ [] }
 
 -- with these goals
 abbrev pub with_goals : Ground → List GroundGoal → Ground
@@ -53,14 +54,16 @@ Means g x e = (a : List ℤ) → AreDefined g a → value_of a x ≡ e a
 -- index has
 abbrev pub IsPicked : Ground → ℕ → ℕ → List (ℤ × ℕ) → Type 0
 IsPicked g x index items =
-    (a : List ℤ) → AreDefined g a → All (λ t. value_of a index ≡ t.0 → value_of a x ≡ value_of a t.1) items
+    (a : List ℤ) → AreDefined g a → All (λ t. value_of a index ≡ t.0 → value_of a x
+    ≡ value_of a t.1) items
 
 -- wherever all constraints are true, x has the item's value where the flag is 1, and is 0 where
 -- that is 0
 abbrev pub IsItemOrNought : Ground → ℕ → ℕ → ℕ → Type 0
 IsItemOrNought g x flag item =
     (a : List ℤ) → AreDefined g a →
-    (value_of a flag ≡ pos 1 → value_of a x ≡ value_of a item) × (value_of a flag ≡ pos 0 → value_of a x ≡ pos 0)
+    (value_of a flag ≡ pos 1 → value_of a x ≡ value_of a item)
+    × (value_of a flag ≡ pos 0 → value_of a x ≡ pos 0)
 
 -- the domain of x lies within 0..1
 abbrev pub IsFlag : Ground → ℕ → Type 0
@@ -68,11 +71,13 @@ IsFlag g x = LiesWithin (pos 0) (pos 1) (box_of g.domains x)
 
 -- each value of the index's domain is that of an item
 abbrev pub HoldsDomain : Ground → ℕ → List (ℤ × ℕ) → Type 0
-HoldsDomain g index items = (v : ℤ) → has (box_of g.domains index) v ≡ true → lacks_value v items ≡ false
+HoldsDomain g index items =
+    (v : ℤ) → has (box_of g.domains index) v ≡ true → lacks_value v items ≡ false
 
 -- the variables of place, size and room exist
 abbrev pub AreItemVariables : Ground → ℕ × ℕ × ℕ → Type 0
-AreItemVariables g i = (i.0 < length g.domains) × (i.1 < length g.domains) × (i.2 < length g.domains)
+AreItemVariables g i =
+    (i.0 < length g.domains) × (i.1 < length g.domains) × (i.2 < length g.domains)
 
 -- a is the one extension of the configuration t
 pub record IsOnlyExtension (g : Ground) (t a : List ℤ) : Type 0 where
@@ -82,7 +87,8 @@ pub record IsOnlyExtension (g : Ground) (t a : List ℤ) : Type 0 where
 -- each configuration that had one extension has one still: the same, with a value of the new
 -- variable
 abbrev pub KeepsExtensions : Ground → Ground → Type 0
-KeepsExtensions old new = (t a : List ℤ) → IsOnlyExtension old t a → (v : ℤ) × IsOnlyExtension new t (a ++ v ∷ [])
+KeepsExtensions old new =
+    (t a : List ℤ) → IsOnlyExtension old t a → (v : ℤ) × IsOnlyExtension new t (a ++ v ∷ [])
 
 -- each configuration that had one extension has the same still
 abbrev pub KeepsSameExtensions : Ground → Ground → Type 0

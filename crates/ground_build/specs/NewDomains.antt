@@ -17,7 +17,8 @@ some_empty (t ∷ ts) boxes = is_nil (box_of boxes t.1) || some_empty ts boxes
 -- from the least to the greatest sum, with the offset; empty where a term's box is
 abbrev pub linear_domain : List (ℤ × ℕ) → ℤ → Boxes → Ranges
 linear_domain terms offset boxes =
-    cond (some_empty terms boxes) [] ((least_sum terms boxes +ℤ offset, greatest_sum terms boxes +ℤ offset) ∷ [])
+    cond (some_empty terms boxes) []
+    ((least_sum terms boxes +ℤ offset, greatest_sum terms boxes +ℤ offset) ∷ [])
 
 -- the boxes of the items' variables, joined to what is made so far
 abbrev pub picked_domain : Ranges → List (ℤ × ℕ) → Boxes → Ranges

@@ -139,7 +139,8 @@ impl Builder {
         requires bounded { weight_of terms.now self.old.domains ≤ 2 ^ 60 }
         ensures ok { IfOk result (λ x. IsDefined self.old self.new x truth_values
             (ReifLe x terms.now bound)) }
-        ensures means { IfOk result (λ x. Means self.new x (λ a. bit (int_le (sum_at terms.now a) bound))) }
+        ensures means { IfOk result (λ x. Means self.new x
+            (λ a. bit (int_le (sum_at terms.now a) bound))) }
         ensures err { OnErr result (self.new ≡ self.old) }
     {
         let alloc = *self.domains.allocator();
@@ -185,7 +186,8 @@ impl Builder {
         requires left { l < length self.old.domains }
         requires right { r < length self.old.domains }
         ensures ok { IfOk result (λ x. IsDefined self.old self.new x truth_values (EqDef x l r)) }
-        ensures means { IfOk result (λ x. Means self.new x (λ a. bit (int_eq (value_of a l) (value_of a r)))) }
+        ensures means { IfOk result (λ x. Means self.new x
+            (λ a. bit (int_eq (value_of a l) (value_of a r)))) }
         ensures err { OnErr result (self.new ≡ self.old) }
     {
         let domain = truths(*self.domains.allocator());

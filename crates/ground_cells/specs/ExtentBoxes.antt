@@ -1,4 +1,5 @@
--- Boxes of extents that are kept. What a reader believes after this file: each is that of its class.
+-- Boxes of extents that are kept. What a reader believes after this file: each is that of its
+-- class.
 use Rattle.std.specs.Prelude.{◌≡◌, List}
 use Rattle.std.specs.List.{All}
 use Rattle.class_table.specs.Outline.{Outline}

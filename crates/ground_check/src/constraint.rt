@@ -70,7 +70,8 @@ fn are_numbered(items: &[(i64, u32)]) -> bool
 
 /// Whether the parts' variables are flags.
 fn are_flags(parts: &[(u32, bool)], domains: &[IntSet]) -> bool
-    ensures { result ≡ true → All (λ x. LiesWithin (pos 0) (pos 1) (box_of domains.now x)) (part_vars parts.now) }
+    ensures { result ≡ true → All (λ x. LiesWithin (pos 0) (pos 1) (box_of domains.now x))
+        (part_vars parts.now) }
 {
     for p in parts {
         if !is_upto(domains, p.0, 1) {

@@ -18,7 +18,8 @@ fn are_constraints_well_made(
     domains: &[IntSet],
     alloc: Global,
 ) -> Result<bool, AllocError>
-    ensures { IfOk result (λ made. made ≡ true → All (λ con. IsWellMadeCon domains.now con) cons.now) }
+    ensures { IfOk result (λ made. made ≡ true → All (λ con. IsWellMadeCon domains.now con)
+        cons.now) }
 {
     for con in cons {
         if !is_constraint_well_made(con, domains, alloc)? {

@@ -34,7 +34,8 @@ unfoldable pub least_term : ℤ × ℕ → Boxes → ℤ
 least_term t boxes = int_min (t.0 *ℤ low_of (box_of boxes t.1)) (t.0 *ℤ high_of (box_of boxes t.1))
 
 unfoldable pub greatest_term : ℤ × ℕ → Boxes → ℤ
-greatest_term t boxes = int_max (t.0 *ℤ low_of (box_of boxes t.1)) (t.0 *ℤ high_of (box_of boxes t.1))
+greatest_term t boxes =
+    int_max (t.0 *ℤ low_of (box_of boxes t.1)) (t.0 *ℤ high_of (box_of boxes t.1))
 
 -- the least and the greatest sum
 abbrev pub least_sum : List (ℤ × ℕ) → Boxes → ℤ

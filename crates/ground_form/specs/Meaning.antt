@@ -29,7 +29,8 @@ parts_true (p ∷ ps) a = int_eq (value_of a p.0) (bit p.1) && parts_true ps a
 -- some item's value is that of the index, and its variable has the value of out
 abbrev pub picks : ℤ → ℤ → List (ℤ × ℕ) → List ℤ → Bool
 picks out index [] a = false
-picks out index (t ∷ ts) a = (int_eq t.0 index && int_eq (value_of a t.1) out) || picks out index ts a
+picks out index (t ∷ ts) a =
+    (int_eq t.0 index && int_eq (value_of a t.1) out) || picks out index ts a
 
 -- none of the variables has the value
 abbrev pub lacks : ℤ → List ℕ → List ℤ → Bool
@@ -45,21 +46,25 @@ all_differ (x ∷ xs) a = lacks (value_of a x) xs a && all_differ xs a
 abbrev pub load_at : ℤ → List (ℕ × ℕ × ℕ) → List ℤ → ℤ
 load_at place [] a = pos 0
 load_at place (i ∷ rest) a =
-    cond (int_eq (value_of a i.0) place) (value_of a i.1 +ℤ load_at place rest a) (load_at place rest a)
+    cond (int_eq (value_of a i.0) place) (value_of a i.1 +ℤ load_at place rest a)
+    (load_at place rest a)
 
 -- of each item of the second list, the load of its place is at most its room
 abbrev pub rooms_hold : List (ℕ × ℕ × ℕ) → List (ℕ × ℕ × ℕ) → List ℤ → Bool
 rooms_hold items [] a = true
-rooms_hold items (i ∷ rest) a = int_le (load_at (value_of a i.0) items a) (value_of a i.2) && rooms_hold items rest a
+rooms_hold items (i ∷ rest) a =
+    int_le (load_at (value_of a i.0) items a) (value_of a i.2) && rooms_hold items rest a
 
 -- the constraint is true at the values
 abbrev pub con_true : Con → List ℤ → Bool
 con_true (LinLe terms bound) a = int_le (sum_at terms a) bound
 con_true (LinDef out terms offset) a = int_eq (value_of a out) (sum_at terms a +ℤ offset)
-con_true (ReifLe flag terms bound) a = int_eq (value_of a flag) (bit (int_le (sum_at terms a) bound))
+con_true (ReifLe flag terms bound) a =
+    int_eq (value_of a flag) (bit (int_le (sum_at terms a) bound))
 con_true (AndDef flag parts) a = int_eq (value_of a flag) (bit (parts_true parts a))
 con_true (MemberDef flag var set) a = int_eq (value_of a flag) (bit (has set (value_of a var)))
-con_true (EqDef flag left right) a = int_eq (value_of a flag) (bit (int_eq (value_of a left) (value_of a right)))
+con_true (EqDef flag left right) a =
+    int_eq (value_of a flag) (bit (int_eq (value_of a left) (value_of a right)))
 con_true (ElementDef out index items) a = picks (value_of a out) (value_of a index) items a
 con_true (CondDef out flag item) a =
     (int_eq (value_of a flag) (pos 1) && int_eq (value_of a out) (value_of a item))

@@ -25,7 +25,8 @@ abbrev pub better : List GroundGoal → List ℤ → List ℤ → Bool
 better [] a b = false
 better (goal ∷ goals) a b =
     cond (int_eq (value_of a goal.var) (value_of b goal.var)) (better goals a b)
-    (cond goal.max (int_lt (value_of b goal.var) (value_of a goal.var)) (int_lt (value_of a goal.var) (value_of b goal.var)))
+    (cond goal.max (int_lt (value_of b goal.var) (value_of a goal.var))
+    (int_lt (value_of a goal.var) (value_of b goal.var)))
 
 -- how many points the boxes of the first n variables have
 abbrev pub volume : ℕ → Boxes → ℕ

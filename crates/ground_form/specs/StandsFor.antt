@@ -35,7 +35,8 @@ AreGoalValues (goal ∷ goals) (f ∷ fs) t a =
 pub record IsFaithfulAt (g : Ground) (passes : List ℤ → Bool) (functions : List (Bool × (List ℤ → ℤ))) (t : List ℤ) : Type 0 where
   pub extension : (a : List ℤ) × IsExtension g t a
   pub alone : (a b : List ℤ) → IsExtension g t a → IsExtension g t b → a ≡ b
-  pub truths : (a : List ℤ) → IsExtension g t a → All (λ con. con_true con a ≡ true) g.cons ↔ (passes t ≡ true)
+  pub truths : (a : List ℤ) → IsExtension g t a → All (λ con. con_true con a ≡ true) g.cons
+      ↔ (passes t ≡ true)
   pub goals : (a : List ℤ) → IsExtension g t a → AreGoalValues g.goals functions t a
 
 -- g stands for the test and the functions over configurations, one value for each cell

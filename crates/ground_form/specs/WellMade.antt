@@ -107,7 +107,8 @@ pub record IsWellMadeCon (domains : Boxes) (con : Con) : Type 0 where
 -- constraint k defines variable x, no other does, and what stands in its other fields has smaller
 -- numbers
 pub record IsDefinedAt (cons : List Con) (x k : ℕ) : Type 0 where
-  pub there : (con : Con) × (slice_get cons k ≡ Some con) × (defined_by con ≡ Some x) × All (λ y. y < x) (inputs_of con)
+  pub there : (con : Con) × (slice_get cons k ≡ Some con) × (defined_by con ≡ Some x)
+      × All (λ y. y < x) (inputs_of con)
   pub alone : (j : ℕ) → (con : Con) → slice_get cons j ≡ Some con → defined_by con ≡ Some x → j ≡ k
 
 pub record IsWellMade (g : Ground) : Type 0 where

@@ -21,7 +21,8 @@ fn value_of(values: &[i64], x: u32) -> Option<i64> {
     values.get(x as usize).copied()
 }
 
-/// What terms and an offset add up to; None where a variable has no value, or a number is too large.
+/// What terms and an offset add up to; None where a variable has no value, or a number is too
+/// large.
 fn sum_of(values: &[i64], terms: &[(i64, u32)], offset: i64) -> Option<i64> {
     let mut sum = offset;
     for t in terms {

@@ -3,8 +3,8 @@
 //! say.
 //!
 //! - `models`: models that are given, and what is made of them.
-//! - `series`: many models that are written by rules. `rules`: the rules of `data/models.rules`, and
-//!   where each may be used. `writing`: a text by rules.
+//! - `series`: many models that are written by rules. `rules`: the rules of `data/models.rules`,
+//!   and where each may be used. `writing`: a text by rules.
 //! - `comparing`: a model and its ground problem. `configurations`: every configuration of a model.
 //!   `extension`: the values of all variables. `stating`: whether constraints are true there.
 #![tactic(auto)]

@@ -18,7 +18,8 @@ use std::alloc::{AllocError, Global};
 #[derive(Drop)]
 pub(crate) struct Models;
 
-/// How many terms, parts, items, literals or variables a constraint's list has; 0 where it has none.
+/// How many terms, parts, items, literals or variables a constraint's list has; 0 where it has
+/// none.
 fn length_of(con: &Con) -> usize {
     match con {
         Con::LinLe { terms, .. } => terms.items().len(),

@@ -1,9 +1,9 @@
 //! Rules by which texts of models are written.
 //!
-//! A rule is a line: what it writes, where it may be used, and the words that it writes. What stands
-//! around a place is a row of letters; the second word of a rule is `-`, or the letters that must be
-//! there and, behind `!`, those that must not. A word that begins with `$` is written by a rule for
-//! what it names; letters behind `+` are added for it.
+//! A rule is a line: what it writes, where it may be used, and the words that it writes. What
+//! stands around a place is a row of letters; the second word of a rule is `-`, or the letters that
+//! must be there and, behind `!`, those that must not. A word that begins with `$` is written by a
+//! rule for what it names; letters behind `+` are added for it.
 use std::alloc::{AllocError, Global};
 
 /// A rule.

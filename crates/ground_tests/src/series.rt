@@ -1,6 +1,7 @@
-//! Models that rules write. `series SEED COUNT DEPTH` writes so many models, with rules within rules
-//! at most so deep, and compares each with its ground problem at every configuration. It asks for
-//! how many models there are, how many configurations, and how many of these satisfy their model.
+//! Models that rules write. `series SEED COUNT DEPTH` writes so many models, with rules within
+//! rules at most so deep, and compares each with its ground problem at every configuration. It asks
+//! for how many models there are, how many configurations, and how many of these satisfy their
+//! model.
 use crate::comparing::{Compared, compare, compared_text};
 use crate::rules::{Rule, rules_of};
 use crate::writing::write;

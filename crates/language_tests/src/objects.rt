@@ -1,9 +1,9 @@
-//! Objects, cells and extents of models, and the limits on them. `fault MODEL` asks what a model
-//! is refused for; `nested N` and `doubled N` the same of classes that contain one another; the
-//! others ask about the model that is given: `objects` and `cells` how many there are, `object N`
-//! for the class, the number of attributes and the path, `inside A B` whether an object is inside
-//! another one, `shape OWNER K` and `element OWNER K N` for an attribute and an element of it, where
-//! the owner is an object or `top`, `extent CLASS` for its objects, and `cell N`.
+//! Objects, cells and extents of models, and the limits on them. `fault MODEL` asks what a model is
+//! refused for; `nested N` and `doubled N` the same of classes that contain one another; the others
+//! ask about the model that is given: `objects` and `cells` how many there are, `object N` for the
+//! class, the number of attributes and the path, `inside A B` whether an object is inside another
+//! one, `shape OWNER K` and `element OWNER K N` for an attribute and an element of it, where the
+//! owner is an object or `top`, `extent CLASS` for its objects, and `cell N`.
 ghost use Rattle.std.specs.Prelude.{◌≡◌};
 
 use crate::paths::path_of;

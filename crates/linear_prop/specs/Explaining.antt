@@ -23,7 +23,8 @@ term_at ts place = slice_index_or ts place (pos 0, 0)
 -- variable is `to`
 abbrev pub rise : List (ℤ × ℕ) → Boxes → ℕ → ℤ → ℕ → ℤ
 rise ts boxes place to i =
-    cond (nat_le i place && nat_lt place (length ts)) (((term_at ts place).0 *ℤ to) -ℤ least_term (term_at ts place) boxes) (pos 0)
+    cond (nat_le i place && nat_lt place (length ts)) (((term_at ts place).0 *ℤ to) -ℤ least_term
+    (term_at ts place) boxes) (pos 0)
 
 -- why a row has something to say: its sum is above the bound by more than the slack, and where
 -- there is a term at the place, its variable is `to` there, at which it isn't the least that it is
@@ -31,8 +32,10 @@ rise ts boxes place to i =
 pub record IsCause (ts : List (ℤ × ℕ)) (boxes : Boxes) (bound : ℤ) (place : ℕ) (to : ℤ) (slack : ℕ) : Type 0 where
   pub small : slack ≤ 2 ^ 70
   pub owed : ((bound +ℤ pos 1) +ℤ pos slack) ≤ℤ (least_sum ts boxes +ℤ rise ts boxes place to 0)
-  pub above : place < length ts → least_term (term_at ts place) boxes <ℤ ((term_at ts place).0 *ℤ to)
-  pub below : place < length ts → ((term_at ts place).0 *ℤ to) ≤ℤ greatest_term (term_at ts place) boxes
+  pub above : place < length ts → least_term (term_at ts place) boxes
+      <ℤ ((term_at ts place).0 *ℤ to)
+  pub below : place < length ts → ((term_at ts place).0 *ℤ to) ≤ℤ greatest_term (term_at ts place)
+      boxes
   pub low : place < length ts → low_of (box_of boxes (term_at ts place).1) ≤ℤ to
   pub high : place < length ts → to ≤ℤ high_of (box_of boxes (term_at ts place).1)
   pub fits : unsigned_abs to ≤ 2 ^ 64
@@ -52,7 +55,8 @@ pub record IsSoFar (ts : List (ℤ × ℕ)) (domains boxes : Boxes) (bound : ℤ
   pub missed : i ≤ place → false_in boxes out ≡ true
   pub only : (x : ℕ) → has_number x (term_vars ts) ≡ false → has_number x (clause_vars out) ≡ false
   pub small : slack ≤ 2 ^ 70
-  pub owed : ((bound +ℤ pos 1) +ℤ pos slack) ≤ℤ (least_sum (take i ts) (cut domains out) +ℤ (least_sum (drop i ts) boxes +ℤ rise ts boxes place to i))
+  pub owed : ((bound +ℤ pos 1) +ℤ pos slack) ≤ℤ (least_sum (take i ts) (cut domains out)
+      +ℤ (least_sum (drop i ts) boxes +ℤ rise ts boxes place to i))
 
 -- what a turn at term i stands on: no variable has two terms, and the term's variable has a box
 -- that isn't empty, within its domain

@@ -21,5 +21,7 @@ pub record IsBelow (c floor : ℤ) (domain set : Ranges) : Type 0 where
 
 -- a term that stands at `from` falls by what the slack pays, and no further
 abbrev pub IsFall : ℤ → ℤ → ℕ → Ranges → Option Ranges → ℕ → Type 0
-IsFall c from slack domain None left = (left ≤ slack) × (((from -ℤ pos slack) +ℤ pos left) ≤ℤ least_at c domain)
-IsFall c from slack domain (Some set) left = (left ≤ slack) × IsBelow c ((from -ℤ pos slack) +ℤ pos left) domain set
+IsFall c from slack domain None left =
+    (left ≤ slack) × (((from -ℤ pos slack) +ℤ pos left) ≤ℤ least_at c domain)
+IsFall c from slack domain (Some set) left =
+    (left ≤ slack) × IsBelow c ((from -ℤ pos slack) +ℤ pos left) domain set

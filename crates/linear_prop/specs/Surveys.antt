@@ -5,4 +5,6 @@ use Rattle.linear_prop.specs.Rows.{spread_of}
 
 -- where some term rises, the one at the place rises so far
 abbrev pub IsWidest : List (ℤ × ℕ) → Boxes → ℕ → ℤ → Type 0
-IsWidest ts boxes place spread = pos 0 <ℤ spread → (place < length ts) × (spread_of (slice_index_or ts place (pos 0, 0)) boxes ≡ spread)
+IsWidest ts boxes place spread =
+    pos 0 <ℤ spread → (place < length ts) × (spread_of (slice_index_or ts place (pos 0, 0)) boxes
+    ≡ spread)

@@ -27,7 +27,8 @@ fn refuted(row: &Row, boxes: &[IntSet], least: Wide) -> Cause
     requires fits { unsigned_abs least.value ≤ 2 ^ 64 }
     requires least { least.value ≡ least_sum (terms_of row.now) boxes.now }
     requires above { row.now.bound.value <ℤ least.value }
-    ensures cause { IsCause (terms_of row.now) boxes.now row.now.bound.value result.place result.to.value result.slack }
+    ensures cause { IsCause (terms_of row.now) boxes.now row.now.bound.value result.place
+        result.to.value result.slack }
     ensures place { result.place ≡ length (terms_of row.now) }
 {
     Cause {
@@ -47,9 +48,11 @@ fn pruned(row: &Row, boxes: &[IntSet], domains: &[IntSet], found: Survey) -> Cau
     requires within { found.least.value ≤ℤ row.now.bound.value }
     requires above { row.now.bound.value <ℤ (found.least.value +ℤ found.spread.value) }
     requires place { found.place < length (terms_of row.now) }
-    requires spread { spread_of (term_at (terms_of row.now) found.place) boxes.now ≡ found.spread.value }
+    requires spread { spread_of (term_at (terms_of row.now) found.place) boxes.now
+        ≡ found.spread.value }
     requires spread_fits { unsigned_abs found.spread.value ≤ 2 ^ 65 }
-    ensures { IsCause (terms_of row.now) boxes.now row.now.bound.value result.place result.to.value result.slack }
+    ensures { IsCause (terms_of row.now) boxes.now row.now.bound.value result.place result.to.value
+        result.slack }
 {
     let t = row.term(found.place);
     let c = factor_of(t);
@@ -71,7 +74,8 @@ pub fn cause_of(row: &Row, domains: &[IntSet], boxes: &[IntSet]) -> Option<Cause
     requires bound { unsigned_abs row.now.bound.value ≤ 2 ^ 64 }
     requires over { IsRowOver (terms_of row.now) domains.now boxes.now }
     ensures none { IfNone result (IsTight (terms_of row.now) boxes.now row.now.bound.value) }
-    ensures some { IfSome result (λ cause. IsCause (terms_of row.now) boxes.now row.now.bound.value cause.place cause.to.value cause.slack) }
+    ensures some { IfSome result (λ cause. IsCause (terms_of row.now) boxes.now row.now.bound.value
+        cause.place cause.to.value cause.slack) }
 {
     let found = walk(row, boxes);
     if row.bound.is_below(found.least) {
@@ -89,7 +93,8 @@ pub fn refuted_cause(row: &Row, domains: &[IntSet], boxes: &[IntSet]) -> Option<
     requires bound { unsigned_abs row.now.bound.value ≤ 2 ^ 64 }
     requires over { IsRowOver (terms_of row.now) domains.now boxes.now }
     ensures none { IfNone result (least_sum (terms_of row.now) boxes.now ≤ℤ row.now.bound.value) }
-    ensures some { IfSome result (λ cause. IsCause (terms_of row.now) boxes.now row.now.bound.value cause.place cause.to.value cause.slack) }
+    ensures some { IfSome result (λ cause. IsCause (terms_of row.now) boxes.now row.now.bound.value
+        cause.place cause.to.value cause.slack) }
     ensures place { IfSome result (λ cause. cause.place ≡ length (terms_of row.now)) }
 {
     let found = walk(row, boxes);

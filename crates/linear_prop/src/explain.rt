@@ -64,9 +64,11 @@ fn turn_elsewhere(
     requires turn { IsTurn (terms_of row.now) domains.now boxes.now i t }
     requires domain { t.1 < length domains.now }
     requires fits { term_weight t domains.now ≤ 2 ^ 64 }
-    requires so_far { IsSoFar (terms_of row.now) domains.now boxes.now row.now.bound.value cause.place cause.to.value i out.old.items slack }
+    requires so_far { IsSoFar (terms_of row.now) domains.now boxes.now row.now.bound.value
+        cause.place cause.to.value i out.old.items slack }
     requires other { i ≢ cause.place }
-    ensures { IfOk result (λ left. IsSoFar (terms_of row.now) domains.now boxes.now row.now.bound.value cause.place cause.to.value (i + 1) out.new.items left) }
+    ensures { IfOk result (λ left. IsSoFar (terms_of row.now) domains.now boxes.now
+        row.now.bound.value cause.place cause.to.value (i + 1) out.new.items left) }
 {
     let c = factor_of(t);
     let domain = set_at(domains, t.1);
@@ -93,10 +95,13 @@ fn turn_at_place(
     requires turn { IsTurn (terms_of row.now) domains.now boxes.now i t }
     requires domain { t.1 < length domains.now }
     requires fits { term_weight t domains.now ≤ 2 ^ 64 }
-    requires cause { IsCause (terms_of row.now) boxes.now row.now.bound.value cause.place cause.to.value cause.slack }
-    requires so_far { IsSoFar (terms_of row.now) domains.now boxes.now row.now.bound.value cause.place cause.to.value i out.old.items slack }
+    requires cause { IsCause (terms_of row.now) boxes.now row.now.bound.value cause.place
+        cause.to.value cause.slack }
+    requires so_far { IsSoFar (terms_of row.now) domains.now boxes.now row.now.bound.value
+        cause.place cause.to.value i out.old.items slack }
     requires place { i ≡ cause.place }
-    ensures { IfOk result (λ left. IsSoFar (terms_of row.now) domains.now boxes.now row.now.bound.value cause.place cause.to.value (i + 1) out.new.items left) }
+    ensures { IfOk result (λ left. IsSoFar (terms_of row.now) domains.now boxes.now
+        row.now.bound.value cause.place cause.to.value (i + 1) out.new.items left) }
 {
     let c = factor_of(t);
     let domain = set_at(domains, t.1);
@@ -120,9 +125,12 @@ fn turn(
     requires turn { IsTurn (terms_of row.now) domains.now boxes.now i t }
     requires domain { t.1 < length domains.now }
     requires fits { term_weight t domains.now ≤ 2 ^ 64 }
-    requires cause { IsCause (terms_of row.now) boxes.now row.now.bound.value cause.place cause.to.value cause.slack }
-    requires so_far { IsSoFar (terms_of row.now) domains.now boxes.now row.now.bound.value cause.place cause.to.value i out.old.items slack }
-    ensures { IfOk result (λ left. IsSoFar (terms_of row.now) domains.now boxes.now row.now.bound.value cause.place cause.to.value (i + 1) out.new.items left) }
+    requires cause { IsCause (terms_of row.now) boxes.now row.now.bound.value cause.place
+        cause.to.value cause.slack }
+    requires so_far { IsSoFar (terms_of row.now) domains.now boxes.now row.now.bound.value
+        cause.place cause.to.value i out.old.items slack }
+    ensures { IfOk result (λ left. IsSoFar (terms_of row.now) domains.now boxes.now
+        row.now.bound.value cause.place cause.to.value (i + 1) out.new.items left) }
 {
     if i == cause.place {
         let left = turn_at_place(alloc, row, cause, i, t, slack, domains, boxes, out)?;
@@ -143,9 +151,13 @@ pub fn explain(
     out: &mut Vec<(u32, IntSet)>,
 ) -> Result<u128, AllocError>
     requires over { IsRowOver (terms_of row.now) domains.now boxes.now }
-    requires cause { IsCause (terms_of row.now) boxes.now row.now.bound.value cause.place cause.to.value cause.slack }
-    requires so_far { IsSoFar (terms_of row.now) domains.now boxes.now row.now.bound.value cause.place cause.to.value 0 out.old.items cause.slack }
-    ensures { IfOk result (λ left. IsSoFar (terms_of row.now) domains.now boxes.now row.now.bound.value cause.place cause.to.value (length (terms_of row.now)) out.new.items left) }
+    requires cause { IsCause (terms_of row.now) boxes.now row.now.bound.value cause.place
+        cause.to.value cause.slack }
+    requires so_far { IsSoFar (terms_of row.now) domains.now boxes.now row.now.bound.value
+        cause.place cause.to.value 0 out.old.items cause.slack }
+    ensures { IfOk result (λ left. IsSoFar (terms_of row.now) domains.now boxes.now
+        row.now.bound.value cause.place cause.to.value (length (terms_of row.now)) out.new.items
+        left) }
 {
     let mut slack = cause.slack;
     for i in 0..row.len() {

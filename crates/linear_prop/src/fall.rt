@@ -62,7 +62,8 @@ pub fn highest(c: Wide, set: &IntSet) -> Wide
 fn step_back(c: Wide, at: Wide, steps: u128) -> Wide
     requires at { unsigned_abs at.value ≤ 2 ^ 64 }
     requires steps { steps ≤ 2 ^ 70 }
-    ensures paid { c.value *ℤ result.value ≡ (c.value *ℤ at.value) -ℤ pos (unsigned_abs c.value * steps) }
+    ensures paid { c.value *ℤ result.value ≡ (c.value *ℤ at.value) -ℤ pos
+        (unsigned_abs c.value * steps) }
     ensures up { pos 0 ≤ℤ c.value → result.value ≤ℤ at.value }
     ensures down { c.value <ℤ pos 0 → at.value ≤ℤ result.value }
     ensures fits { unsigned_abs result.value ≤ 2 ^ 71 }
@@ -84,7 +85,8 @@ pub fn back_off(c: Wide, at: Wide, slack: u128) -> (Wide, u128)
     requires factor { 0 < unsigned_abs c.value }
     requires at { unsigned_abs at.value ≤ 2 ^ 64 }
     requires slack { slack ≤ 2 ^ 70 }
-    ensures paid { c.value *ℤ result.0.value ≡ ((c.value *ℤ at.value) -ℤ pos slack) +ℤ pos result.1 }
+    ensures paid { c.value *ℤ result.0.value ≡ ((c.value *ℤ at.value) -ℤ pos slack) +ℤ pos
+        result.1 }
     ensures left { result.1 ≤ slack }
     ensures up { pos 0 ≤ℤ c.value → result.0.value ≤ℤ at.value }
     ensures down { c.value <ℤ pos 0 → at.value ≤ℤ result.0.value }
@@ -185,7 +187,8 @@ pub fn fall_of(
     requires fits { unsigned_abs c.value * reach_of domain.now ≤ 2 ^ 64 }
     requires at_fits { unsigned_abs at.value ≤ 2 ^ 64 }
     requires slack { slack ≤ 2 ^ 70 }
-    ensures { IfOk result (λ f. IsFall c.value (c.value *ℤ at.value) slack domain.now f.literal f.left) }
+    ensures { IfOk result (λ f. IsFall c.value (c.value *ℤ at.value) slack domain.now f.literal
+        f.left) }
 {
     domain.ranges();
     let gap = c.times(at).above(products(c, domain).0);

@@ -81,7 +81,8 @@ fn up_answer(
     requires sets { All (λ d. IsValid d) domains.now }
     requires boxes { AreBoxesWithin domains.now boxes.now }
     requires differ { no_repeat (out ∷ term_vars terms.now) ≡ true }
-    ensures { IfOk result (λ answer. IsRowAnswer con.now ((negsuc 0, out) ∷ terms.now) (pos 0 -ℤ offset) domains.now boxes.now answer) }
+    ensures { IfOk result (λ answer. IsRowAnswer con.now ((negsuc 0, out) ∷ terms.now)
+        (pos 0 -ℤ offset) domains.now boxes.now answer) }
 {
     let row = Row {
         head: Some((-1, out)),
@@ -108,7 +109,8 @@ fn down_answer(
     requires sets { All (λ d. IsValid d) domains.now }
     requires boxes { AreBoxesWithin domains.now boxes.now }
     requires differ { no_repeat (out ∷ term_vars terms.now) ≡ true }
-    ensures { IfOk result (λ answer. IsRowAnswer con.now ((pos 1, out) ∷ negated terms.now) offset domains.now boxes.now answer) }
+    ensures { IfOk result (λ answer. IsRowAnswer con.now ((pos 1, out) ∷ negated terms.now) offset
+        domains.now boxes.now answer) }
 {
     let row = Row {
         head: Some((1, out)),
@@ -220,7 +222,8 @@ fn open_one_answer(
     requires boxes { AreBoxesWithin domains.now boxes.now }
     requires differ { no_repeat (flag ∷ term_vars terms.now) ≡ true }
     requires open { has (box_of boxes.now flag) (pos 1) ≡ true }
-    ensures { IfOk result (λ answer. IsSumAnswer con.now terms.now bound domains.now boxes.now answer) }
+    ensures { IfOk result (λ answer. IsSumAnswer con.now terms.now bound domains.now boxes.now
+        answer) }
 {
     let row = Row {
         head: None,
@@ -248,7 +251,8 @@ fn open_zero_answer(
     requires boxes { AreBoxesWithin domains.now boxes.now }
     requires differ { no_repeat (flag ∷ term_vars terms.now) ≡ true }
     requires open { has (box_of boxes.now flag) (pos 0) ≡ true }
-    ensures { IfOk result (λ answer. IsSumAnswer con.now (negated terms.now) (negsuc 0 -ℤ bound) domains.now boxes.now answer) }
+    ensures { IfOk result (λ answer. IsSumAnswer con.now (negated terms.now) (negsuc 0 -ℤ bound)
+        domains.now boxes.now answer) }
 {
     let row = Row {
         head: None,

@@ -32,8 +32,10 @@ fn clause_of(
     boxes: &[IntSet],
 ) -> Result<Clause, AllocError>
     requires over { IsRowOver (terms_of row.now) domains.now boxes.now }
-    requires cause { IsCause (terms_of row.now) boxes.now row.now.bound.value cause.place cause.to.value cause.slack }
-    requires follows { (out : Literals) → row.now.bound.value <ℤ least_sum (terms_of row.now) (cut domains.now out) → justified con.now domains.now out ≡ true }
+    requires cause { IsCause (terms_of row.now) boxes.now row.now.bound.value cause.place
+        cause.to.value cause.slack }
+    requires follows { (out : Literals) → row.now.bound.value <ℤ least_sum (terms_of row.now)
+        (cut domains.now out) → justified con.now domains.now out ≡ true }
     ensures { IfOk result (λ c. IsPruning con.now domains.now boxes.now c) }
 {
     let mut out = Vec::new(alloc);
@@ -51,8 +53,10 @@ pub fn row_answer(
 ) -> Result<Option<Clause>, AllocError>
     requires bound { unsigned_abs row.now.bound.value ≤ 2 ^ 64 }
     requires over { IsRowOver (terms_of row.now) domains.now boxes.now }
-    requires follows { (out : Literals) → row.now.bound.value <ℤ least_sum (terms_of row.now) (cut domains.now out) → justified con.now domains.now out ≡ true }
-    ensures { IfOk result (λ answer. IsRowAnswer con.now (terms_of row.now) row.now.bound.value domains.now boxes.now answer) }
+    requires follows { (out : Literals) → row.now.bound.value <ℤ least_sum (terms_of row.now)
+        (cut domains.now out) → justified con.now domains.now out ≡ true }
+    ensures { IfOk result (λ answer. IsRowAnswer con.now (terms_of row.now) row.now.bound.value
+        domains.now boxes.now answer) }
 {
     match cause_of(row, domains, boxes) {
         Some(cause) => {
@@ -71,7 +75,8 @@ fn put_flag(
     v: Number,
     domain: &IntSet,
 ) -> Result<(), AllocError>
-    ensures { OnOk result (out.new.items ≡ with_flag out.old.items flag v.value (has domain.now v.value)) }
+    ensures { OnOk result (out.new.items ≡ with_flag out.old.items flag v.value
+        (has domain.now v.value)) }
 {
     if domain.contains(v.value) {
         out.push((flag, IntSet::range(alloc, v.value, v.value)))?;
@@ -91,11 +96,14 @@ fn flag_clause(
     boxes: &[IntSet],
 ) -> Result<Clause, AllocError>
     requires over { IsRowOver (terms_of row.now) domains.now boxes.now }
-    requires cause { IsCause (terms_of row.now) boxes.now row.now.bound.value cause.place cause.to.value cause.slack }
+    requires cause { IsCause (terms_of row.now) boxes.now row.now.bound.value cause.place
+        cause.to.value cause.slack }
     requires flag { flag < length boxes.now }
     requires apart { has_number flag (term_vars (terms_of row.now)) ≡ false }
     requires opposed { IsOpposed boxes.now flag v.value cause.place (terms_of row.now) }
-    requires follows { (out : Literals) → row.now.bound.value <ℤ least_sum (terms_of row.now) (cut domains.now out) → has (box_of (cut domains.now out) flag) v.value ≡ false → justified con.now domains.now out ≡ true }
+    requires follows { (out : Literals) → row.now.bound.value <ℤ least_sum (terms_of row.now)
+        (cut domains.now out) → has (box_of (cut domains.now out) flag) v.value ≡ false
+        → justified con.now domains.now out ≡ true }
     ensures { IfOk result (λ c. IsPruning con.now domains.now boxes.now c) }
 {
     let mut out = Vec::new(alloc);
@@ -119,8 +127,11 @@ pub fn fixed_answer(
     requires flag { flag < length boxes.now }
     requires apart { has_number flag (term_vars (terms_of row.now)) ≡ false }
     requires fixed { has (box_of boxes.now flag) v.value ≡ false }
-    requires follows { (out : Literals) → row.now.bound.value <ℤ least_sum (terms_of row.now) (cut domains.now out) → has (box_of (cut domains.now out) flag) v.value ≡ false → justified con.now domains.now out ≡ true }
-    ensures { IfOk result (λ answer. IsRowAnswer con.now (terms_of row.now) row.now.bound.value domains.now boxes.now answer) }
+    requires follows { (out : Literals) → row.now.bound.value <ℤ least_sum (terms_of row.now)
+        (cut domains.now out) → has (box_of (cut domains.now out) flag) v.value ≡ false
+        → justified con.now domains.now out ≡ true }
+    ensures { IfOk result (λ answer. IsRowAnswer con.now (terms_of row.now) row.now.bound.value
+        domains.now boxes.now answer) }
 {
     match cause_of(row, domains, boxes) {
         Some(cause) => {
@@ -147,8 +158,11 @@ pub fn open_answer(
     requires flag { flag < length boxes.now }
     requires apart { has_number flag (term_vars (terms_of row.now)) ≡ false }
     requires open { is_within (box_of boxes.now flag) ((v.value, v.value) ∷ []) ≡ false }
-    requires follows { (out : Literals) → row.now.bound.value <ℤ least_sum (terms_of row.now) (cut domains.now out) → has (box_of (cut domains.now out) flag) v.value ≡ false → justified con.now domains.now out ≡ true }
-    ensures { IfOk result (λ answer. IsSumAnswer con.now (terms_of row.now) row.now.bound.value domains.now boxes.now answer) }
+    requires follows { (out : Literals) → row.now.bound.value <ℤ least_sum (terms_of row.now)
+        (cut domains.now out) → has (box_of (cut domains.now out) flag) v.value ≡ false
+        → justified con.now domains.now out ≡ true }
+    ensures { IfOk result (λ answer. IsSumAnswer con.now (terms_of row.now) row.now.bound.value
+        domains.now boxes.now answer) }
 {
     match refuted_cause(row, domains, boxes) {
         Some(cause) => {

@@ -55,8 +55,10 @@ impl Survey {
         requires low { unsigned_abs ends.0.value ≤ 2 ^ 64 }
         requires high { unsigned_abs ends.1.value ≤ 2 ^ 64 }
         ensures least { result.least.value ≡ self.least.value +ℤ ends.0.value }
-        ensures spread { result.spread.value ≡ int_max self.spread.value (ends.1.value -ℤ ends.0.value) }
-        ensures place { result.place ≡ cond (int_lt self.spread.value (ends.1.value -ℤ ends.0.value)) i self.place }
+        ensures spread { result.spread.value ≡ int_max self.spread.value
+            (ends.1.value -ℤ ends.0.value) }
+        ensures place { result.place ≡ cond
+            (int_lt self.spread.value (ends.1.value -ℤ ends.0.value)) i self.place }
     {
         let least = self.least.plus(ends.0);
         let spread = ends.1.minus(ends.0);

@@ -21,7 +21,8 @@ goal_of (goal ∷ goals) = Some goal
 abbrev pub better_at : Option GroundGoal → List ℤ → List ℤ → Bool
 better_at None a b = false
 better_at (Some goal) a b =
-    cond goal.max (int_lt (value_of b goal.var) (value_of a goal.var)) (int_lt (value_of a goal.var) (value_of b goal.var))
+    cond goal.max (int_lt (value_of b goal.var) (value_of a goal.var))
+    (int_lt (value_of a goal.var) (value_of b goal.var))
 
 abbrev pub improves : Option GroundGoal → Option (List ℤ) → List ℤ → Bool
 improves goal None a = true
@@ -46,7 +47,9 @@ one_literal x s = cond (is_nil s) [] ((x, s) ∷ [])
 
 abbrev pub bound_at : Option GroundGoal → Boxes → List ℤ → Literals
 bound_at None domains a = []
-bound_at (Some goal) domains a = one_literal goal.var (meet (box_of domains goal.var) (better_than goal.max (value_of a goal.var)))
+bound_at (Some goal) domains a =
+    one_literal goal.var (meet (box_of domains goal.var)
+    (better_than goal.max (value_of a goal.var)))
 
 abbrev pub bound_last : Ground → Option (List ℤ) → List Literals
 bound_last g None = []
@@ -58,14 +61,16 @@ one_accepts g m (Axiom k c) = accepts g m (Axiom k c)
 one_accepts g m (Chain chain c) = accepts g m (Chain chain c)
 one_accepts g m (Bound values) = states_last (goal_of g.goals) m.found values
 one_accepts g m (Use i) = accepts g m (Use i)
-one_accepts g m (Found a) = point_of g.domains a && (all_true g.cons a && improves (goal_of g.goals) m.found a)
+one_accepts g m (Found a) =
+    point_of g.domains a && (all_true g.cons a && improves (goal_of g.goals) m.found a)
 one_accepts g m (Decide x set) = accepts g m (Decide x set)
 one_accepts g m (Empty x) = accepts g m (Empty x)
 
 abbrev pub one_after : Ground → Made → Line → Made
 one_after g m (Axiom k c) = after g m (Axiom k c)
 one_after g m (Chain chain c) = after g m (Chain chain c)
-one_after g m (Bound values) = record { clauses = m.clauses ++ bound_last g m.found; found = m.found }
+one_after g m (Bound values) =
+    record { clauses = m.clauses ++ bound_last g m.found; found = m.found }
 one_after g m (Use i) = after g m (Use i)
 one_after g m (Found a) = after g m (Found a)
 one_after g m (Decide x set) = after g m (Decide x set)
@@ -73,7 +78,8 @@ one_after g m (Empty x) = after g m (Empty x)
 
 abbrev pub one_accepted_from : Ground → Made → List Line → Bool
 one_accepted_from g m [] = true
-one_accepted_from g m (l ∷ ls) = (not (has_empty m.clauses) && one_accepts g m l) && one_accepted_from g (one_after g m l) ls
+one_accepted_from g m (l ∷ ls) =
+    (not (has_empty m.clauses) && one_accepts g m l) && one_accepted_from g (one_after g m l) ls
 
 abbrev pub one_made_from : Ground → Made → List Line → Made
 one_made_from g m [] = m

@@ -17,7 +17,8 @@ FoundSolves g (Some a) = IsSolution g a
 -- at every solution while none was found
 pub record IsSound (g : Ground) (m : Made) : Type 0 where
   pub forms : (j : ℕ) → IsClause (clause_at m.clauses j)
-  pub truths : (a : List ℤ) → IsSolution g a → beats g.goals m.found a ≡ true → (j : ℕ) → j < length m.clauses → clause_true (clause_at m.clauses j) a ≡ true
+  pub truths : (a : List ℤ) → IsSolution g a → beats g.goals m.found a ≡ true → (j : ℕ)
+      → j < length m.clauses → clause_true (clause_at m.clauses j) a ≡ true
   pub solved : FoundSolves g m.found
 
 -- Best(a): a is a solution, and none is better. NoSolution: there is none. Open says nothing.

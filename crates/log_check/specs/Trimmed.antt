@@ -58,7 +58,8 @@ is_needed (Empty x) last is_named = last || is_named
 abbrev pub named : Ground → ℕ → List Line → ℕ → Bool
 named g n [] j = false
 named g n (l ∷ ls) j =
-    (is_needed l (is_nil ls) (named g (n + clauses_of g l) ls n) && names l j) || named g (n + clauses_of g l) ls j
+    (is_needed l (is_nil ls) (named g (n + clauses_of g l) ls n) && names l j)
+    || named g (n + clauses_of g l) ls j
 
 -- the line l, before which n clauses were made and behind which ls stand, is needed
 abbrev pub stays : Ground → ℕ → Line → List Line → Bool
@@ -76,7 +77,12 @@ steps_renumbered numbers ss = map (λ s. (s.0, number_of numbers s.1)) ss
 -- the line, with these numbers in place of those that it names
 abbrev pub renumbered : List ℕ → Line → Line
 renumbered numbers (Axiom k c) = Axiom k c
-renumbered numbers (Chain chain c) = Chain (record { first = number_of numbers chain.first; steps = steps_renumbered numbers chain.steps }) c
+renumbered numbers (Chain chain c) =
+    Chain (record {
+      first = number_of numbers chain.first;
+      steps = steps_renumbered numbers
+          chain.steps;
+    }) c
 renumbered numbers (Bound values) = Bound values
 renumbered numbers (Use i) = Use i
 renumbered numbers (Found a) = Found a
@@ -100,7 +106,8 @@ abbrev pub trimmed_from : Ground → List ℕ → ℕ → List Line → List Lin
 trimmed_from g numbers next [] = []
 trimmed_from g numbers next (l ∷ ls) =
     cond (stays g (length numbers) l ls) (renumbered numbers l ∷ []) []
-    ++ trimmed_from g (numbers ++ numbers_from (stays g (length numbers) l ls) (clauses_of g l) next) (next_number (stays g (length numbers) l ls) (clauses_of g l) next) ls
+    ++ trimmed_from g (numbers ++ numbers_from (stays g (length numbers) l ls) (clauses_of g l)
+    next) (next_number (stays g (length numbers) l ls) (clauses_of g l) next) ls
 
 -- all lines where the empty clause wasn't made, else the needed ones
 abbrev pub trimmed : Ground → List Line → List Line

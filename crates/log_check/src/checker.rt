@@ -100,7 +100,9 @@ impl<'g> Checker<'g> {
         ensures verdict { IfOk result (λ v. (bytes : List ℕ) → HasTaken self.entry.ground bytes self.entry.left
             → IsLogOf self.entry.ground bytes v) }
         ensures rest { IfOk result (λ v. self.entry.left.rest ≡ []) }
-        ensures refused { self.entry.refusal ≡ None → IfErr result (λ e. (e ≡ Rejected (self.entry.left.ended + 1)) × (0 < length self.entry.left.rest)) }
+        ensures refused { self.entry.refusal ≡ None
+            → IfErr result (λ e. (e ≡ Rejected (self.entry.left.ended + 1))
+            × (0 < length self.entry.left.rest)) }
     {
         if let Some(e) = self.refusal {
             return Err(e);

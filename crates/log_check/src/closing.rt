@@ -83,7 +83,8 @@ fn last_found(lines: &[Line]) -> Option<&Values>
 
 /// The values of a Found line.
 fn values_of(line: &Line) -> Option<&Values>
-    ensures some { IfSome result (λ a. (found : Option (List ℤ)) → found_after found line.now ≡ Some a.now) }
+    ensures some { IfSome result (λ a. (found : Option (List ℤ)) → found_after found line.now
+        ≡ Some a.now) }
     ensures none { IfNone result ((found : Option (List ℤ)) → found_after found line.now ≡ found) }
 {
     match line {

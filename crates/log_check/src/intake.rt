@@ -53,9 +53,13 @@ impl Intake {
         requires few { self.old.count + length piece.now < 2 ^ 64 }
         ensures right { OnOk result (IsRight g.now self.new.progress) }
         ensures count { self.new.count ≤ self.old.count + length piece.now }
-        ensures kept { OnOk result (self.new.count + length self.new.rest.items ≤ self.old.count + length self.old.rest.items + length piece.now) }
-        ensures taken { OnOk result ((bytes : List ℕ) → HasTaken g.now bytes (left_of self.old) → HasTaken g.now (bytes ++ piece.now) (left_of self.new)) }
-        ensures refused { IfErr result (λ e. (bytes : List ℕ) → HasTaken g.now bytes (left_of self.old) → IsRefusedText g.now (bytes ++ piece.now) e) }
+        ensures kept { OnOk result (self.new.count + length self.new.rest.items ≤ self.old.count
+            + length self.old.rest.items + length piece.now) }
+        ensures taken { OnOk result ((bytes : List ℕ) → HasTaken g.now bytes (left_of self.old)
+            → HasTaken g.now (bytes ++ piece.now) (left_of self.new)) }
+        ensures refused { IfErr result (λ e. (bytes : List ℕ)
+            → HasTaken g.now bytes (left_of self.old) → IsRefusedText g.now (bytes ++ piece.now)
+            e) }
     {
         let mut left = piece;
         while let Some((part, behind)) = ended_line(left) {

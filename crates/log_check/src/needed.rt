@@ -74,8 +74,11 @@ fn push_unmarked(marks: &mut Vec<bool>, count: usize) -> Result<(), AllocError>
 /// Goes back over a line, and answers whether it is needed.
 fn go_back(g: &Ground, line: &Line, last: bool, marks: &mut Vec<bool>) -> bool
     requires { clauses_of g.now line.now ≤ length marks.old.items }
-    ensures needed { result ≡ is_needed line.now last (slice_index_or marks.old.items (length marks.old.items - clauses_of g.now line.now) false) }
-    ensures marks { marks.new.items ≡ marked result line.now (take (length marks.old.items - clauses_of g.now line.now) marks.old.items) }
+    ensures needed { result ≡ is_needed line.now last (slice_index_or marks.old.items
+        (length marks.old.items - clauses_of g.now line.now) false) }
+    ensures marks { marks.new.items
+        ≡ marked result line.now (take (length marks.old.items - clauses_of g.now line.now)
+        marks.old.items) }
 {
     let before = marks.len() - count_clauses(g, line);
     let needed = is_wanted(line, last, before < marks.len() && marks[before]);

@@ -187,7 +187,8 @@ impl Progress {
     fn push_bound(&mut self, alloc: Global, g: &Ground) -> Result<(), AllocError>
         requires well_made { IsWellMade g.now }
         requires right { IsRight g.now self.old }
-        ensures clauses { OnOk result (self.new.derived.clauses ≡ self.old.derived.clauses ++ bounds g.now self.old.found) }
+        ensures clauses { OnOk result (self.new.derived.clauses ≡ self.old.derived.clauses
+            ++ bounds g.now self.old.found) }
         ensures found { OnOk result (self.new.found ≡ self.old.found) }
         ensures closed { OnOk result (self.new.derived.closed
             ≡ has_empty self.new.derived.clauses) }
@@ -228,7 +229,9 @@ fn know_clause(line: &Line)
 /// Whether the constraint exists and justifies the clause, whose variables exist.
 fn is_axiom(g: &Ground, k: u32, clause: &Clause) -> bool
     requires { IsWellMade g.now }
-    ensures { result ≡ (nat_lt k (length g.now.cons) && (vars_below (length g.now.domains) (clause_vars clause.now) && rules.justified (con_at g.now.cons k) g.now.domains clause.now)) }
+    ensures { result ≡ (nat_lt k (length g.now.cons)
+        && (vars_below (length g.now.domains) (clause_vars clause.now)
+        && rules.justified (con_at g.now.cons k) g.now.domains clause.now)) }
 {
     let cons = g.cons.items();
     let domains = g.domains.items();
@@ -266,7 +269,8 @@ fn states_bound(g: &Ground, found: &Option<Values>, stated: &[i64]) -> bool
 fn is_improvement(g: &Ground, found: &Option<Values>, values: &[i64]) -> bool
     requires made { IsWellMade g.now }
     requires solved { FoundSolves g.now found.now }
-    ensures { result ≡ (point_of g.now.domains values.now && (all_true g.now.cons values.now && beats g.now.goals found.now values.now)) }
+    ensures { result ≡ (point_of g.now.domains values.now && (all_true g.now.cons values.now
+        && beats g.now.goals found.now values.now)) }
 {
     let domains = g.domains.items();
     is_point(domains, values)

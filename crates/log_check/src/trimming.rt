@@ -88,7 +88,8 @@ fn push_kept(
     numbers: &[u64],
     line: &Line,
 ) -> Result<(), AllocError>
-    ensures { OnOk result (kept.new.items ≡ kept.old.items ++ cond stays (renumbered numbers.now line.now ∷ []) []) }
+    ensures { OnOk result (kept.new.items ≡ kept.old.items
+        ++ cond stays (renumbered numbers.now line.now ∷ []) []) }
 {
     if stays {
         kept.push(with_numbers(alloc, numbers, line)?)?;
@@ -105,7 +106,8 @@ fn push_numbers(
     next: u64,
 ) -> Result<u64, AllocError>
     requires { next ≤ length numbers.old.items }
-    ensures numbers { OnOk result (numbers.new.items ≡ numbers.old.items ++ numbers_from stays count next) }
+    ensures numbers { OnOk result (numbers.new.items ≡ numbers.old.items ++ numbers_from stays count
+        next) }
     ensures next { IfOk result (λ after. after ≡ next_number stays count next) }
     ensures bound { IfOk result (λ after. after ≤ length numbers.new.items) }
 {

@@ -38,7 +38,8 @@ has_empty (c ∷ cs) = is_nil c || has_empty cs
 abbrev pub chain_holds : List Literals → Literals → List (ℕ × ℕ) → Bool
 chain_holds cs c [] = true
 chain_holds cs c (s ∷ ss) =
-    nat_lt s.1 (length cs) && (has_var c s.0 && (has_var (clause_at cs s.1) s.0 && chain_holds cs (resolvent s.0 c (clause_at cs s.1)) ss))
+    nat_lt s.1 (length cs) && (has_var c s.0 && (has_var (clause_at cs s.1) s.0
+    && chain_holds cs (resolvent s.0 c (clause_at cs s.1)) ss))
 
 -- what it ends with
 abbrev pub chain_end : List Literals → Literals → List (ℕ × ℕ) → Literals
@@ -93,24 +94,29 @@ abbrev pub with_literal : ℕ → Ranges → Literals → Literals
 with_literal x s [] = cond (is_nil s) [] ((x, s) ∷ [])
 with_literal x s (l ∷ c) =
     cond (is_nil s) (l ∷ c)
-    (cond (nat_lt x l.0) ((x, s) ∷ l ∷ c) (cond (l.0 == x) ((x, join l.1 s) ∷ c) (l ∷ with_literal x s c)))
+    (cond (nat_lt x l.0) ((x, s) ∷ l ∷ c) (cond (l.0 == x) ((x, join l.1 s) ∷ c)
+    (l ∷ with_literal x s c)))
 
 -- the values of a goal's domain that are better than, or as good as, its value at a
 abbrev pub better_values : Boxes → List ℤ → GroundGoal → Ranges
-better_values domains a goal = meet (box_of domains goal.var) (better_than goal.max (value_of a goal.var))
+better_values domains a goal =
+    meet (box_of domains goal.var) (better_than goal.max (value_of a goal.var))
 
 abbrev pub as_good_values : Boxes → List ℤ → GroundGoal → Ranges
-as_good_values domains a goal = meet (box_of domains goal.var) (as_good_as goal.max (value_of a goal.var))
+as_good_values domains a goal =
+    meet (box_of domains goal.var) (as_good_as goal.max (value_of a goal.var))
 
 -- the clauses for the goals, where `earlier` says that some goal before them is better than at a:
 -- for each goal but the last that some earlier goal is better or this one as good; for the last
 -- that some earlier goal is better or this one is
 abbrev pub bounds_from : Boxes → List ℤ → Literals → List GroundGoal → List Literals
 bounds_from domains a earlier [] = []
-bounds_from domains a earlier (goal ∷ []) = with_literal goal.var (better_values domains a goal) earlier ∷ []
+bounds_from domains a earlier (goal ∷ []) =
+    with_literal goal.var (better_values domains a goal) earlier ∷ []
 bounds_from domains a earlier (goal ∷ next ∷ goals) =
     with_literal goal.var (as_good_values domains a goal) earlier
-    ∷ bounds_from domains a (with_literal goal.var (better_values domains a goal) earlier) (next ∷ goals)
+    ∷ bounds_from domains a (with_literal goal.var (better_values domains a goal) earlier)
+    (next ∷ goals)
 
 -- the clauses of a Bound line behind the values a: one for each goal, and the empty one where there
 -- is no goal
@@ -149,12 +155,15 @@ con_at cons k = slice_index_or cons k (LinLe [] (pos 0))
 -- what the line has to meet
 unfoldable pub accepts : Ground → Made → Line → Bool
 -- the constraint and the variables exist, and the constraint justifies the clause
-accepts g m (Axiom k c) = nat_lt k (length g.cons) && (vars_below (length g.domains) (clause_vars c) && justified (con_at g.cons k) g.domains c)
+accepts g m (Axiom k c) =
+    nat_lt k (length g.cons) && (vars_below (length g.domains) (clause_vars c)
+    && justified (con_at g.cons k) g.domains c)
 -- the clauses were made before, each step has its variable in both, and the result is the stated
 -- clause
 accepts g m (Chain chain c) =
     nat_lt chain.first (length m.clauses)
-    && (chain_holds m.clauses (clause_at m.clauses chain.first) chain.steps && same_clause (chain_end m.clauses (clause_at m.clauses chain.first) chain.steps) c)
+    && (chain_holds m.clauses (clause_at m.clauses chain.first) chain.steps
+    && same_clause (chain_end m.clauses (clause_at m.clauses chain.first) chain.steps) c)
 -- something was found, and these are its goals' values
 accepts g m (Bound values) = states_found g.goals m.found values
 -- the clause was made before

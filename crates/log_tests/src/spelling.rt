@@ -1,6 +1,6 @@
-//! What cases ask of the format of logs: `line TEXT` whether a text is read as a line that is written
-//! as it is, `record` the text and the count of a record of two lines, with that of one line alone;
-//! and of clauses by number what `numbering` says.
+//! What cases ask of the format of logs: `line TEXT` whether a text is read as a line that is
+//! written as it is, `record` the text and the count of a record of two lines, with that of one
+//! line alone; and of clauses by number what `numbering` says.
 use crate::numbering::{found, owned_twice};
 use case_files::{Case, Subject};
 use log_form::{Line, Lines};

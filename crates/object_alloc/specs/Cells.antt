@@ -1,4 +1,5 @@
--- Extents and cells. A leaf gives one cell, and a reference set one for each object that may be its member.
+-- Extents and cells. A leaf gives one cell, and a reference set one for each object that may be its
+-- member.
 use Rattle.std.specs.Prelude.{ℕ, ◌+◌, ◌<◌, ◌-ℤ◌, cond, List, [], ◌∷◌, Option, None, Some, pos, length, map, slice_get}
 use Rattle.std.specs.List.{flat_map}
 use Rattle.std.specs.Option.{option_map_or}
@@ -17,7 +18,8 @@ use Rattle.object_alloc.specs.Walk.{objects, walk, leaves_in}
 -- the numbers of the objects whose class is c or derives from c, where the first has number n
 abbrev pub extent_from : List Class → ℕ → ℕ → List Object → List ℕ
 extent_from cs c n [] = []
-extent_from cs c n (x ∷ xs) = cond (is_a cs x.class c) (n ∷ extent_from cs c (n + 1) xs) (extent_from cs c (n + 1) xs)
+extent_from cs c n (x ∷ xs) =
+    cond (is_a cs x.class c) (n ∷ extent_from cs c (n + 1) xs) (extent_from cs c (n + 1) xs)
 
 -- the extent of a class: its objects' numbers, in order
 abbrev pub extent : Outline → ℕ → List ℕ
@@ -25,10 +27,12 @@ extent o c = extent_from o.classes c 0 (objects o)
 
 -- how many values an enumeration has
 abbrev pub value_count : Outline → ℕ → ℕ
-value_count o e = option_map_or (λ (k : Enumeration). length k.values) (slice_get o.enumerations e) 0
+value_count o e =
+    option_map_or (λ (k : Enumeration). length k.values) (slice_get o.enumerations e) 0
 
 abbrev pub cell : Leaf → Option ℕ → Domain → Cell
-cell l element values = record { owner = l.owner; attribute = l.attribute; element = element; domain = values }
+cell l element values =
+    record { owner = l.owner; attribute = l.attribute; element = element; domain = values }
 
 -- one cell of a reference set for each of these objects: 0 is out, 1 is in
 abbrev pub member_cells : Leaf → List ℕ → List Cell

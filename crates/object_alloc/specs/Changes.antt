@@ -1,9 +1,9 @@
 -- What a reader believes after this file: how many leaves a configuration changes, and which
 -- configurations are allowed where some objects have failed.
 --
--- A change is a leaf that had a value before and has another now; a reference set is one leaf. Where
--- some objects have failed, no reference and no member of a reference set may be one of them, or be
--- contained, at any depth, in one.
+-- A change is a leaf that had a value before and has another now; a reference set is one leaf.
+-- Where some objects have failed, no reference and no member of a reference set may be one of them,
+-- or be contained, at any depth, in one.
 use Rattle.std.specs.Prelude.{ℕ, suc, Bool, false, not, ◌&&◌, ◌||◌, cond, List, [], ◌∷◌, ◌++◌, Option, None, Some, ℤ, int_le, nat_abs, length, take, drop}
 use Rattle.std.specs.List.{list_all, list_any}
 use Rattle.class_table.specs.Outline.{Outline}

@@ -1,4 +1,5 @@
--- What an attribute of an object, or a variable of the top level, holds: objects, or cells. Both are told by their numbers.
+-- What an attribute of an object, or a variable of the top level, holds: objects, or cells. Both
+-- are told by their numbers.
 use Rattle.std.specs.Prelude.{ℕ, suc, Bool, true, false, ◌&&◌, cond, List, [], ◌∷◌, Option, None, Some, nat_eq}
 use Rattle.class_table.specs.Outline.{Outline}
 use Rattle.object_alloc.specs.declared.object.Cell.{Cell}
@@ -9,7 +10,8 @@ use Rattle.object_alloc.specs.Walk.{objects}
 -- the numbers of the items that pass the test, where the first item has number n
 abbrev pub numbers_from : {X : Type 0} → (X → Bool) → ℕ → List X → List ℕ
 numbers_from test n [] = []
-numbers_from test n (x ∷ xs) = cond (test x) (n ∷ numbers_from test (suc n) xs) (numbers_from test (suc n) xs)
+numbers_from test n (x ∷ xs) =
+    cond (test x) (n ∷ numbers_from test (suc n) xs) (numbers_from test (suc n) xs)
 
 abbrev pub same_owner : Option ℕ → Option ℕ → Bool
 same_owner None None = true

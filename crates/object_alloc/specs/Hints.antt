@@ -42,7 +42,9 @@ IsLeafHinted o l hs = (hs ≡ replicate (length (leaf_cells o l)) None) ⊎ IsLe
 -- the hints for the cells of these leaves, leaf by leaf
 abbrev pub AreLeavesHinted : Outline → List Leaf → List (Option ℤ) → Type 0
 AreLeavesHinted o [] hs = hs ≡ []
-AreLeavesHinted o (l ∷ ls) hs = (here : List (Option ℤ)) × (behind : List (Option ℤ)) × (hs ≡ here ++ behind) × IsLeafHinted o l here × AreLeavesHinted o ls behind
+AreLeavesHinted o (l ∷ ls) hs =
+    (here : List (Option ℤ)) × (behind : List (Option ℤ)) × (hs ≡ here ++ behind)
+    × IsLeafHinted o l here × AreLeavesHinted o ls behind
 
 -- the hints for the cells of a model
 abbrev pub AreHints : Outline → List (Option ℤ) → Type 0

@@ -24,7 +24,8 @@ class_in xs (Some n) = option_map (λ (x : Object). x.class) (slice_get xs n)
 abbrev pub variables_of : Outline → Option ℕ → List Variable
 variables_of o owner = variables o (class_in (objects o) owner)
 
--- the objects, the leaves, the cells and the sizes of the extents of a model, and the numbers of its objects and cells by place
+-- the objects, the leaves, the cells and the sizes of the extents of a model, and the numbers of
+-- its objects and cells by place
 pub record IsLaidOut (o : Outline) (xs : List Object) (ls : List Leaf) (cs : List Cell) (sizes : List ℕ) (parts own : Option ℕ → ℕ → List ℕ) : Type 0 where
   pub sound : IsSound o
   pub few_values : All IsFew o.enumerations

@@ -26,7 +26,8 @@ met_cells o ms = cells_of o (leaves_in ms)
 
 -- the classes and enumerations that the leaves name are there
 abbrev pub AreThere : Outline → List Leaf → Type 0
-AreThere o leaves = (l : Leaf) → Contains leaves l → IsShapeOf (length o.classes) (length o.enumerations) l.shape
+AreThere o leaves =
+    (l : Leaf) → Contains leaves l → IsShapeOf (length o.classes) (length o.enumerations) l.shape
 
 -- the classes of the objects are there
 abbrev pub AreClassed : Outline → List Object → Type 0
@@ -48,16 +49,20 @@ pub record IsReady (o : Outline) (sizes : List ℕ) (before : Layout) (part : Pa
 
 -- a part was laid out behind what stood there
 pub record HasLaid (o : Outline) (before after : Layout) (part : Part) : Type 0 where
-  pub objects_are : after.objects.items ≡ before.objects.items ++ objects_in (part (length before.objects.items))
-  pub leaves_are : after.leaves.items ≡ before.leaves.items ++ leaves_in (part (length before.objects.items))
+  pub objects_are : after.objects.items ≡ before.objects.items
+      ++ objects_in (part (length before.objects.items))
+  pub leaves_are : after.leaves.items ≡ before.leaves.items
+      ++ leaves_in (part (length before.objects.items))
   pub count : after.cells ≡ length (cells_of o after.leaves.items)
   pub few_cells : after.cells ≤ most_cells
   pub shapes : AreThere o after.leaves.items
 
 -- with a part that is left it is the whole part
 pub record IsLaying (o : Outline) (before now : Layout) (whole left : Part) : Type 0 where
-  pub objects_are : now.objects.items ++ objects_in (left (length now.objects.items)) ≡ before.objects.items ++ objects_in (whole (length before.objects.items))
-  pub leaves_are : now.leaves.items ++ leaves_in (left (length now.objects.items)) ≡ before.leaves.items ++ leaves_in (whole (length before.objects.items))
+  pub objects_are : now.objects.items ++ objects_in (left (length now.objects.items))
+      ≡ before.objects.items ++ objects_in (whole (length before.objects.items))
+  pub leaves_are : now.leaves.items ++ leaves_in (left (length now.objects.items))
+      ≡ before.leaves.items ++ leaves_in (whole (length before.objects.items))
   pub count : now.cells ≡ length (cells_of o now.leaves.items)
   pub few_cells : now.cells ≤ most_cells
   pub shapes : AreThere o now.leaves.items
@@ -71,4 +76,6 @@ IsCellExcess n Memory = Unit {0}
 
 -- a part gives too many cells
 abbrev pub IsRefusedPart : Outline → Layout → Part → AllocFault → Type 0
-IsRefusedPart o before part = IsCellExcess (length (cells_of o before.leaves.items) + length (met_cells o (part (length before.objects.items))))
+IsRefusedPart o before part =
+    IsCellExcess (length (cells_of o before.leaves.items) + length
+    (met_cells o (part (length before.objects.items))))

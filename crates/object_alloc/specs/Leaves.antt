@@ -6,7 +6,8 @@ use Rattle.object_alloc.specs.declared.object.Leaf.{Leaf}
 use Rattle.object_alloc.specs.Laid.{variables_of}
 use Rattle.object_alloc.specs.Walk.{objects}
 
--- a leaf of a model: its owner is an object or the top level, and has an attribute of the leaf's shape
+-- a leaf of a model: its owner is an object or the top level, and has an attribute of the leaf's
+-- shape
 pub record IsHeldLeaf (o : Outline) (l : Leaf) : Type 0 where
   pub owner : IfSome l.owner (λ n. n < length (objects o))
   pub variable : Variable

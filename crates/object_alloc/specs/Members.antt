@@ -16,8 +16,12 @@ value_at values i = slice_index_or values i (pos 0)
 
 -- the object that cell i of a reference set stands for, where it is in
 abbrev pub member_at : List Cell → List ℤ → ℕ → Option ℕ
-member_at cs values i = cond (is_one (value_at values i)) (option_and_then (λ (c : Cell). c.element) (slice_get cs i)) None
+member_at cs values i =
+    cond (is_one (value_at values i)) (option_and_then (λ (c : Cell). c.element) (slice_get cs i))
+    None
 
 -- if the leaf is a reference set, it has as many members as its shape says
 abbrev pub HasItsSize : Outline → List ℤ → Leaf → Type 0
-HasItsSize o values l = (c n : ℕ) → l.shape ≡ RefSet c n → length (filter_map (member_at (cells o) values) (own_cells o l.owner l.attribute)) ≡ n
+HasItsSize o values l =
+    (c n : ℕ) → l.shape ≡ RefSet c n
+    → length (filter_map (member_at (cells o) values) (own_cells o l.owner l.attribute)) ≡ n

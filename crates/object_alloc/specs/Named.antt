@@ -16,7 +16,8 @@ first_place b (x ∷ xs) = cond (nat_eq x b) 0 (suc (first_place b xs))
 
 -- the first object with this path
 abbrev pub object_named : Outline → List ℕ → Option ℕ
-object_named o text = position (λ n. same_name text (path o n)) (range_with_len 0 (length (objects o)))
+object_named o text =
+    position (λ n. same_name text (path o n)) (range_with_len 0 (length (objects o)))
 
 -- object n is held by the owner, and the last name of its path is this text
 pub record IsStep (o : Outline) (owner : Option ℕ) (text : List ℕ) (n : ℕ) : Type 0 where

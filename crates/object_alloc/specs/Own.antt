@@ -1,4 +1,5 @@
--- What the parts and the cells of an attribute are: those that its shape asks for, in order, and no others.
+-- What the parts and the cells of an attribute are: those that its shape asks for, in order, and no
+-- others.
 use Rattle.std.specs.Prelude.{◌≡◌, ℕ, zero, suc, ◌+◌, ◌<◌, List, [], ◌∷◌, Option, None, Some, IfSome, length, map, slice_get, pos}
 use Rattle.std.specs.Option.{option_map_or}
 use Rattle.class_table.specs.declared.table.Resolved.{Resolved}
@@ -18,7 +19,8 @@ abbrev pub depth_in : List Object → Option ℕ → ℕ
 depth_in xs None = 0
 depth_in xs (Some n) = option_map_or (λ (x : Object). x.depth) (slice_get xs n) 0
 
--- where the walk stands while it lists the attributes of this object, or the variables of the top level
+-- where the walk stands while it lists the attributes of this object, or the variables of the top
+-- level
 abbrev pub inside_of : Outline → Option ℕ → Inside
 inside_of o owner = record { owner = owner; depth = depth_in (objects o) owner }
 
@@ -53,8 +55,10 @@ held_count (RefSet c m) = 0
 
 -- the objects and the cells of attribute k of the owner are those of this shape, in order
 pub record IsOwned (o : Outline) (owner : Option ℕ) (k : ℕ) (s : Resolved) : Type 0 where
-  pub parts : map (λ n. slice_get (objects o) n) (parts_of o owner k) ≡ map Some (held (inside_of o owner) k s)
-  pub cells : map (λ i. slice_get (cells o) i) (own_cells o owner k) ≡ map Some (leaf_cells o (leaf (inside_of o owner) k s))
+  pub parts : map (λ n. slice_get (objects o) n) (parts_of o owner k)
+      ≡ map Some (held (inside_of o owner) k s)
+  pub cells : map (λ i. slice_get (cells o) i) (own_cells o owner k)
+      ≡ map Some (leaf_cells o (leaf (inside_of o owner) k s))
 
 -- n is the number of an object of class c
 pub record IsObjectOf (o : Outline) (c n : ℕ) : Type 0 where
@@ -81,12 +85,16 @@ pub record HasOnePart (o : Outline) (owner : Option ℕ) (k c : ℕ) : Type 0 wh
 pub record HasOneCell (o : Outline) (owner : Option ℕ) (k : ℕ) (values : Domain) : Type 0 where
   pub number : ℕ
   pub own : own_cells o owner k ≡ number ∷ []
-  pub is : slice_get (cells o) number ≡ Some (record { owner = owner; attribute = k; element = None; domain = values })
+  pub is : slice_get (cells o) number
+      ≡ Some (record { owner = owner; attribute = k; element = None; domain = values })
 
 -- the cell of attribute k of the owner that says whether object n is a member
 abbrev pub member_cell : Option ℕ → ℕ → ℕ → Cell
-member_cell owner k n = record { owner = owner; attribute = k; element = Some n; domain = domain.Span (pos 0) (pos 1) }
+member_cell owner k n =
+    record { owner = owner; attribute = k; element = Some n; domain = domain.Span (pos 0) (pos 1) }
 
 -- attribute k of the owner has a cell for each object of the extent of class c, in order
 abbrev pub HasMemberCells : Outline → Option ℕ → ℕ → ℕ → Type 0
-HasMemberCells o owner k c = map (λ i. slice_get (cells o) i) (own_cells o owner k) ≡ map Some (map (member_cell owner k) (extent o c))
+HasMemberCells o owner k c =
+    map (λ i. slice_get (cells o) i) (own_cells o owner k)
+    ≡ map Some (map (member_cell owner k) (extent o c))

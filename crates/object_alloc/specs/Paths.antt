@@ -15,7 +15,8 @@ use Rattle.object_alloc.specs.Walk.{objects}
 abbrev pub owner_in : List Object → ℕ → Option ℕ
 owner_in xs n = option_map_or (λ (x : Object). x.owner) (slice_get xs n) None
 
--- object n is `whole`, or is contained, at any depth, in it: `whole` is n, or holds it, or holds what holds it, and so on
+-- object n is `whole`, or is contained, at any depth, in it: `whole` is n, or holds it, or holds
+-- what holds it, and so on
 abbrev pub is_inside : Outline → ℕ → ℕ → Bool
 is_inside o n whole = derives (owner_in (objects o)) (length (objects o)) n whole
 
@@ -34,7 +35,8 @@ abbrev pub step_text : Variable → ℕ → List ℕ
 step_text v i = v.name ++ index_text v.shape i
 
 abbrev pub last_step : List Variable → Object → List ℕ
-last_step vs x = option_map_or (λ (v : Variable). step_text v x.element) (slice_get vs x.attribute) []
+last_step vs x =
+    option_map_or (λ (v : Variable). step_text v x.element) (slice_get vs x.attribute) []
 
 -- what stands before the last name: the path of the object that holds it, and a dot
 abbrev pub owner_path : (ℕ → List ℕ) → Option ℕ → List ℕ
@@ -44,7 +46,9 @@ owner_path path_of (Some p) = path_of p ++ codes "."
 -- the path of object n, where at most so many objects hold one another
 abbrev pub path_within : Outline → List Object → ℕ → ℕ → List ℕ
 path_within o xs zero n = []
-path_within o xs (suc steps) n = option_map_or (λ (x : Object). owner_path (path_within o xs steps) x.owner ++ last_step (variables o (class_in xs x.owner)) x) (slice_get xs n) []
+path_within o xs (suc steps) n =
+    option_map_or (λ (x : Object). owner_path (path_within o xs steps) x.owner
+    ++ last_step (variables o (class_in xs x.owner)) x) (slice_get xs n) []
 
 -- the path of object n: each object is held by one with a lesser number
 abbrev pub path : Outline → ℕ → List ℕ
@@ -64,7 +68,8 @@ abbrev pub IsBefore : Option ℕ → ℕ → Type 0
 IsBefore None n = Unit {0}
 IsBefore (Some p) n = p < n
 
--- object x, which has number n, is held by one with a lesser number, as an element of an attribute of it
+-- object x, which has number n, is held by one with a lesser number, as an element of an attribute
+-- of it
 pub record IsHeld (o : Outline) (xs : List Object) (n : ℕ) (x : Object) : Type 0 where
   pub owner : IsBefore x.owner n
   pub variable : Variable

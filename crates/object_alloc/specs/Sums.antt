@@ -58,10 +58,12 @@ IsLawful classes n (k ∷ ks) = (k.class < classes) × (k.depth ≤ n) × IsLawf
 abbrev pub kinds_weight : (ℕ → ℕ → ℕ) → List Kind → ℕ
 kinds_weight v ks = sum_by (λ (k : Kind). v k.depth k.class) ks
 
--- the sum over an object of class c at depth d and all that is in it, at most so many further levels
+-- the sum over an object of class c at depth d and all that is in it, at most so many further
+-- levels
 abbrev pub weight_to : Outline → Weigh → ℕ → ℕ → ℕ → ℕ
 weight_to o g zero d c = g c d
-weight_to o g (suc l) d c = g c d + kinds_weight (weight_to o g l) (kinds_of (d + 1) (attributes o.classes c))
+weight_to o g (suc l) d c =
+    g c d + kinds_weight (weight_to o g l) (kinds_of (d + 1) (attributes o.classes c))
 
 -- the sum over an object of class c at depth d and all that is in it
 abbrev pub weight : Outline → Weigh → ℕ → ℕ → ℕ

@@ -1,5 +1,6 @@
--- The walk of a model's containment: the objects and the leaves of a model in their order, depth first. At the top level the
--- variables stand in order of declaration, and behind each object that is made stand its attributes in their order.
+-- The walk of a model's containment: the objects and the leaves of a model in their order, depth
+-- first. At the top level the variables stand in order of declaration, and behind each object that
+-- is made stand its attributes in their order.
 use Rattle.std.specs.Prelude.{ℕ, zero, suc, ◌+◌, List, [], ◌∷◌, ◌++◌, None, Some, length}
 use Rattle.std.specs.List.{flat_map}
 use Rattle.class_table.specs.declared.table.Resolved.{Resolved}
@@ -38,12 +39,14 @@ abbrev pub Visit : Type 0
 Visit = ℕ → Object → List Met
 
 abbrev pub object : Inside → ℕ → ℕ → ℕ → Object
-object w k c i = record { class = c; depth = w.depth + 1; owner = w.owner; attribute = k; element = i }
+object w k c i =
+    record { class = c; depth = w.depth + 1; owner = w.owner; attribute = k; element = i }
 
 abbrev pub leaf : Inside → ℕ → Resolved → Leaf
 leaf w k s = record { owner = w.owner; attribute = k; shape = s }
 
--- so many objects of class c, the elements of attribute k from number i on; n is the next object's number
+-- so many objects of class c, the elements of attribute k from number i on; n is the next object's
+-- number
 abbrev pub elements : Visit → Inside → ℕ → ℕ → ℕ → ℕ → ℕ → List Met
 elements visit w k c zero i n = []
 elements visit w k c (suc m) i n =
@@ -77,9 +80,11 @@ top = record { owner = None; depth = 0 }
 -- an object and all that is in it, at most so many further levels
 abbrev pub visit_to : Outline → ℕ → Visit
 visit_to o zero n x = Made x ∷ []
-visit_to o (suc levels) n x = Made x ∷ members (visit_to o levels) (within n x) 0 (attributes o.classes x.class) (n + 1)
+visit_to o (suc levels) n x =
+    Made x ∷ members (visit_to o levels) (within n x) 0 (attributes o.classes x.class) (n + 1)
 
--- an object and all that is in it: no object contains one of its own class, so there are no more levels than classes
+-- an object and all that is in it: no object contains one of its own class, so there are no more
+-- levels than classes
 abbrev pub visit : Outline → Visit
 visit o = visit_to o (length o.classes)
 

@@ -22,7 +22,8 @@ fn push_members(
 ) -> Result<(), AllocError>
     requires classes { AreClassed table.now objects.now }
     requires few { length objects.now ≤ most_objects }
-    ensures cells { OnOk result (cells.new.items ≡ cells.old.items ++ member_cells leaf (extent_from table.now.classes class 0 objects.now)) }
+    ensures cells { OnOk result (cells.new.items ≡ cells.old.items
+        ++ member_cells leaf (extent_from table.now.classes class 0 objects.now)) }
 {
     for n in 0..objects.len() {
         if table.is_a(objects[n].class, class) {
@@ -61,7 +62,8 @@ fn push_leaf(
     requires objects { objects.now ≡ all_objects table.now }
     requires classes { AreClassed table.now objects.now }
     requires few { length objects.now ≤ most_objects }
-    requires shape { IsShapeOf (length table.now.classes) (length table.now.enumerations) leaf.shape }
+    requires shape { IsShapeOf (length table.now.classes) (length table.now.enumerations)
+        leaf.shape }
     ensures cells { OnOk result (cells.new.items ≡ cells.old.items ++ leaf_cells table.now leaf) }
 {
     if let Resolved::RefSet(class, _) = leaf.shape {
@@ -108,7 +110,8 @@ pub(crate) fn extent_of(
 ) -> Result<ObjectList, AllocError>
     requires classes { AreClassed table.now objects.now }
     requires few { length objects.now ≤ most_objects }
-    ensures extent { IfOk result (λ numbers. numbers ≡ extent_from table.now.classes class 0 objects.now) }
+    ensures extent { IfOk result (λ numbers. numbers ≡ extent_from table.now.classes class 0
+        objects.now) }
 {
     let mut numbers = Vec::new(alloc);
     for n in 0..objects.len() {

@@ -27,7 +27,8 @@ fn count_kin(table: &ClassTable, sizes: &mut [u32], class: u32)
     requires class { class < length table.now.classes }
     requires count { length sizes.old ≡ length table.now.classes }
     requires few { (c : ℕ) → slice_index sizes.old c ≤ most_objects }
-    ensures each { (c : ℕ) → c < length table.now.classes → slice_index sizes.new c ≡ slice_index sizes.old c + kin table.now c class 0 }
+    ensures each { (c : ℕ) → c < length table.now.classes → slice_index sizes.new c
+        ≡ slice_index sizes.old c + kin table.now c class 0 }
 {
     let mut at = class;
     sizes[at as usize] += 1;
@@ -52,7 +53,8 @@ pub(crate) fn extent_sizes(
     requires lawful { IsLawful (length table.now.classes) 1 queue.now }
     requires few { length queue.now ≤ most_objects }
     ensures count { IfOk result (λ sizes. length sizes.items ≡ length table.now.classes) }
-    ensures each { IfOk result (λ sizes. (c : ℕ) → c < length table.now.classes → slice_index sizes.items c ≡ sum_by (of_kind (kin table.now c)) queue.now) }
+    ensures each { IfOk result (λ sizes. (c : ℕ) → c < length table.now.classes
+        → slice_index sizes.items c ≡ sum_by (of_kind (kin table.now c)) queue.now) }
 {
     let mut sizes = zeros(alloc, table.class_count())?;
     for kind in queue {

@@ -1,7 +1,8 @@
 //! Why a model's objects are refused.
 use std::alloc::{AllocError, AllocFailed};
 
-/// Why a model's objects are refused. Where several limits are broken, the first in this order is named.
+/// Why a model's objects are refused. Where several limits are broken, the first in this order is
+/// named.
 #[derive(Clone, Copy, Debug, PartialEq, Eq)]
 pub enum AllocFault {
     /// There would be more than `MOST_OBJECTS` objects.

@@ -1,6 +1,7 @@
 //! Objects by their paths.
 //!
-//! `Objects::object_at` is the entry. It reads a path from its front, a name and an index at a time, and takes no memory.
+//! `Objects::object_at` is the entry. It reads a path from its front, a name and an index at a
+//! time, and takes no memory.
 ghost use Rattle.std.specs.Prelude.{◌≡◌, ◌<◌, ◌≤◌, ◌^◌, ◌++◌, ℕ, Some, IfSome, IfNone, length, slice_get, codes, decimal};
 ghost use Rattle.class_table.specs.declared.table.Variable.{Variable as AVariable};
 ghost use Rattle.class_table.specs.Sound.{IsSound};
@@ -15,11 +16,12 @@ use crate::objects::Objects;
 use class_table::Resolved;
 
 impl<'t> Objects<'t> {
-    /// The object that has this path. The cost is proportional to the path's length, but for an inherited attribute, which costs
-    /// one look-up for each class up to the one that declares it.
+    /// The object that has this path. The cost is proportional to the path's length, but for an
+    /// inherited attribute, which costs one look-up for each class up to the one that declares it.
     pub fn object_at(&self, text: &[u8]) -> Option<u32>
         ensures object { result ≡ object_named self.now text.now }
-        ensures own { (n : ℕ) → n < length (all_objects self.now) → path self.now n ≡ text.now → result ≡ Some n }
+        ensures own { (n : ℕ) → n < length (all_objects self.now) → path self.now n ≡ text.now
+            → result ≡ Some n }
         ensures there { IfSome result (λ n. n < length (all_objects self.now)) }
         ensures path { IfSome result (λ n. path self.now n ≡ text.now) }
     {
@@ -65,7 +67,8 @@ impl<'t> Objects<'t> {
     fn variable_named(&self, owner: Option<u32>, name: &[u8]) -> Option<u32>
         requires owner { IfSome owner (λ n. n < length (all_objects self.now)) }
         ensures name { IfSome result (HasName (variables_of self.now owner) name.now) }
-        ensures named { (k : ℕ) → HasName (variables_of self.now owner) name.now k → result ≡ Some k }
+        ensures named { (k : ℕ) → HasName (variables_of self.now owner) name.now k → result
+            ≡ Some k }
     {
         let _count = self.sound_count();
         match owner {
@@ -82,12 +85,13 @@ impl<'t> Objects<'t> {
     }
 }
 
-/// The element of this shape that stands with this index in a path: an array's is a number in brackets, and that of one object
-/// is left out.
+/// The element of this shape that stands with this index in a path: an array's is a number in
+/// brackets, and that of one object is left out.
 fn element_named(shape: Resolved, index: &[u8]) -> Option<u32>
     ensures element { IfSome result (IsElement shape) }
     ensures text { IfSome result (λ i. index_text shape i ≡ index.now) }
-    ensures named { (i : ℕ) → i < 2 ^ 32 → IsElement shape i → index_text shape i ≡ index.now → result ≡ Some i }
+    ensures named { (i : ℕ) → i < 2 ^ 32 → IsElement shape i → index_text shape i ≡ index.now
+        → result ≡ Some i }
 {
     match shape {
         Resolved::One(_) => { if index.is_empty() { Some(0) } else { None } }
@@ -102,7 +106,8 @@ fn element_named(shape: Resolved, index: &[u8]) -> Option<u32>
 /// The number in brackets.
 fn index_of(index: &[u8]) -> Option<u32>
     ensures some { IfSome result (λ i. codes "[" ++ decimal i ++ codes "]" ≡ index.now) }
-    ensures none { IfNone result ((i : ℕ) → i < 2 ^ 32 → codes "[" ++ decimal i ++ codes "]" ≡ index.now → ⊥) }
+    ensures none { IfNone result ((i : ℕ) → i < 2 ^ 32 → codes "[" ++ decimal i ++ codes "]"
+        ≡ index.now → ⊥) }
 {
     if index.len() < 2 || index[0] != b'[' || index[index.len() - 1] != b']' {
         return None;

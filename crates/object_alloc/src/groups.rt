@@ -31,7 +31,9 @@ pub(crate) fn group_of(groups: &Groups, place: Place) -> &[u32]
 /// Takes the numbers of a place out.
 fn take_out(alloc: Global, groups: &mut Groups, place: Place) -> Vec<u32>
     ensures taken { result.items ≡ group groups.old.entries place.owner place.attribute }
-    ensures left { (owner : Option ℕ) → (k : ℕ) → group groups.new.entries owner k ≡ cond (is_at_place place.owner place.attribute owner k) [] (group groups.old.entries owner k) }
+    ensures left { (owner : Option ℕ) → (k : ℕ) → group groups.new.entries owner k
+        ≡ cond (is_at_place place.owner place.attribute owner k) [] (group groups.old.entries owner
+        k) }
 {
     match groups.swap_remove(&place) {
         Some(numbers) => numbers,
@@ -41,7 +43,9 @@ fn take_out(alloc: Global, groups: &mut Groups, place: Place) -> Vec<u32>
 
 /// Adds a number to a place.
 fn add(alloc: Global, groups: &mut Groups, place: Place, n: u32) -> Result<(), AllocError>
-    ensures group { OnOk result ((owner : Option ℕ) → (k : ℕ) → group groups.new.entries owner k ≡ group groups.old.entries owner k ++ cond (is_at_place owner k place.owner place.attribute) (n ∷ []) []) }
+    ensures group { OnOk result ((owner : Option ℕ) → (k : ℕ) → group groups.new.entries owner k
+        ≡ group groups.old.entries owner k ++ cond (is_at_place owner k place.owner place.attribute)
+        (n ∷ []) []) }
 {
     let mut numbers = take_out(alloc, groups, place);
     numbers.push(n)?;
@@ -52,7 +56,8 @@ fn add(alloc: Global, groups: &mut Groups, place: Place, n: u32) -> Result<(), A
 /// The objects that each attribute of an object, and each variable of the top level, holds.
 pub(crate) fn parts_of_objects(alloc: Global, objects: &[Object]) -> Result<Groups, AllocError>
     requires few { length objects.now ≤ most_objects }
-    ensures groups { IfOk result (λ groups. (owner : Option ℕ) → (k : ℕ) → group groups.entries owner k ≡ numbers_from (is_part_of owner k) 0 objects.now) }
+    ensures groups { IfOk result (λ groups. (owner : Option ℕ) → (k : ℕ)
+        → group groups.entries owner k ≡ numbers_from (is_part_of owner k) 0 objects.now) }
 {
     let mut groups = IndexMap::new(alloc);
     for n in 0..objects.len() {
@@ -69,7 +74,8 @@ pub(crate) fn parts_of_objects(alloc: Global, objects: &[Object]) -> Result<Grou
 /// The cells of each attribute of an object, and of each variable of the top level.
 pub(crate) fn cells_by_place(alloc: Global, cells: &[Cell]) -> Result<Groups, AllocError>
     requires few { length cells.now < 2 ^ 32 }
-    ensures groups { IfOk result (λ groups. (owner : Option ℕ) → (k : ℕ) → group groups.entries owner k ≡ numbers_from (is_cell_of owner k) 0 cells.now) }
+    ensures groups { IfOk result (λ groups. (owner : Option ℕ) → (k : ℕ)
+        → group groups.entries owner k ≡ numbers_from (is_cell_of owner k) 0 cells.now) }
 {
     let mut groups = IndexMap::new(alloc);
     for n in 0..cells.len() {

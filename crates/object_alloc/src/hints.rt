@@ -35,8 +35,8 @@ pub fn configuration_is_hints(objects: &Objects<'_>, config: &Config)
     let _count = objects.count();
 }
 
-/// It does nothing; its contract is the law. There are as many hints as cells, and each hint lies in
-/// its cell's domain.
+/// It does nothing; its contract is the law. There are as many hints as cells, and each hint lies
+/// in its cell's domain.
 pub fn hints_lie_in_domains(objects: &Objects<'_>, hints: &Hints)
     requires hints { AreHints objects.now hints.now }
     ensures cells { AreCellHints objects.now (cells objects.now) hints.now }

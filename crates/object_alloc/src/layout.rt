@@ -1,8 +1,8 @@
 //! Lays out the objects and the leaves of a model in the order of its walk.
 //!
-//! `lay_members` is the entry. It is called for a model whose objects are counted: they are not too many, and none stands so
-//! deep that the calls would go deep too. A leaf is kept
-//! also where it gives no cell.
+//! `lay_members` is the entry. It is called for a model whose objects are counted: they are not too
+//! many, and none stands so deep that the calls would go deep too. A leaf is kept also where it
+//! gives no cell.
 ghost use Rattle.std.specs.Prelude.{◌≡◌, ◌+◌, ◌<◌, ◌≤◌, ℕ, [], ◌∷◌, length, replicate, IfErr, OnOk, IfSome};
 ghost use Rattle.model_limits.specs.Limits.{most_names};
 ghost use Rattle.class_table.specs.Tables.{IsShapeOf};
@@ -48,7 +48,8 @@ fn lay_leaf(
     leaf: Leaf,
 ) -> Result<(), AllocFault>
     requires ready { IsReady table.now sizes.now layout.old (λ n. Passed leaf ∷ []) }
-    requires shape { IsShapeOf (length table.now.classes) (length table.now.enumerations) leaf.shape }
+    requires shape { IsShapeOf (length table.now.classes) (length table.now.enumerations)
+        leaf.shape }
     ensures laid { OnOk result (HasLaid table.now layout.old layout.new (λ n. Passed leaf ∷ [])) }
     ensures fault { IfErr result (IsRefusedPart table.now layout.old (λ n. Passed leaf ∷ [])) }
 {
@@ -72,8 +73,10 @@ fn lay_object(
     requires ready { IsReady table.now sizes.now layout.old (λ n. visit table.now n object) }
     requires class { object.class < length table.now.classes }
     requires shallow { weight table.now deep object.depth object.class ≡ 0 }
-    ensures laid { OnOk result (HasLaid table.now layout.old layout.new (λ n. visit table.now n object)) }
-    ensures fault { IfErr result (IsRefusedPart table.now layout.old (λ n. visit table.now n object)) }
+    ensures laid { OnOk result (HasLaid table.now layout.old layout.new
+        (λ n. visit table.now n object)) }
+    ensures fault { IfErr result (IsRefusedPart table.now layout.old
+        (λ n. visit table.now n object)) }
 {
     let number = layout.objects.len() as u32;
     layout.objects.push(object)?;
@@ -93,12 +96,16 @@ pub(crate) fn lay_members(
     inside: Inside,
     class: Option<u32>,
 ) -> Result<(), AllocFault>
-    requires ready { IsReady table.now sizes.now layout.old (λ n. members (visit table.now) inside 0 (variables table.now class) n) }
+    requires ready { IsReady table.now sizes.now layout.old (λ n. members (visit table.now) inside 0
+        (variables table.now class) n) }
     requires class { IfSome class (λ c. c < length table.now.classes) }
     requires depth { inside.depth ≤ most_names }
-    requires shallow { kinds_weight (weight table.now deep) (kinds_of (inside.depth + 1) (variables table.now class)) ≡ 0 }
-    ensures laid { OnOk result (HasLaid table.now layout.old layout.new (λ n. members (visit table.now) inside 0 (variables table.now class) n)) }
-    ensures fault { IfErr result (IsRefusedPart table.now layout.old (λ n. members (visit table.now) inside 0 (variables table.now class) n)) }
+    requires shallow { kinds_weight (weight table.now deep)
+        (kinds_of (inside.depth + 1) (variables table.now class)) ≡ 0 }
+    ensures laid { OnOk result (HasLaid table.now layout.old layout.new
+        (λ n. members (visit table.now) inside 0 (variables table.now class) n)) }
+    ensures fault { IfErr result (IsRefusedPart table.now layout.old (λ n. members (visit table.now)
+        inside 0 (variables table.now class) n)) }
 {
     for k in 0..variable_count(table, class) {
         let shape = shape_at(table, class, k);
@@ -119,12 +126,16 @@ fn lay_attribute(
     k: u32,
     shape: Resolved,
 ) -> Result<(), AllocFault>
-    requires ready { IsReady table.now sizes.now layout.old (λ n. attribute (visit table.now) inside k shape n) }
+    requires ready { IsReady table.now sizes.now layout.old (λ n. attribute (visit table.now) inside
+        k shape n) }
     requires shape { IsShapeOf (length table.now.classes) (length table.now.enumerations) shape }
     requires depth { inside.depth ≤ most_names }
-    requires shallow { kinds_weight (weight table.now deep) (held_kinds (inside.depth + 1) shape) ≡ 0 }
-    ensures laid { OnOk result (HasLaid table.now layout.old layout.new (λ n. attribute (visit table.now) inside k shape n)) }
-    ensures fault { IfErr result (IsRefusedPart table.now layout.old (λ n. attribute (visit table.now) inside k shape n)) }
+    requires shallow { kinds_weight (weight table.now deep) (held_kinds (inside.depth + 1) shape)
+        ≡ 0 }
+    ensures laid { OnOk result (HasLaid table.now layout.old layout.new
+        (λ n. attribute (visit table.now) inside k shape n)) }
+    ensures fault { IfErr result (IsRefusedPart table.now layout.old
+        (λ n. attribute (visit table.now) inside k shape n)) }
 {
     match shape {
         Resolved::One(class) => {
@@ -162,12 +173,16 @@ fn lay_elements(
     class: u32,
     count: u32,
 ) -> Result<(), AllocFault>
-    requires ready { IsReady table.now sizes.now layout.old (λ n. elements (visit table.now) inside k class count 0 n) }
+    requires ready { IsReady table.now sizes.now layout.old (λ n. elements (visit table.now) inside
+        k class count 0 n) }
     requires class { class < length table.now.classes }
     requires depth { inside.depth ≤ most_names }
-    requires shallow { kinds_weight (weight table.now deep) (replicate count (kind class (inside.depth + 1))) ≡ 0 }
-    ensures laid { OnOk result (HasLaid table.now layout.old layout.new (λ n. elements (visit table.now) inside k class count 0 n)) }
-    ensures fault { IfErr result (IsRefusedPart table.now layout.old (λ n. elements (visit table.now) inside k class count 0 n)) }
+    requires shallow { kinds_weight (weight table.now deep)
+        (replicate count (kind class (inside.depth + 1))) ≡ 0 }
+    ensures laid { OnOk result (HasLaid table.now layout.old layout.new
+        (λ n. elements (visit table.now) inside k class count 0 n)) }
+    ensures fault { IfErr result (IsRefusedPart table.now layout.old
+        (λ n. elements (visit table.now) inside k class count 0 n)) }
 {
     for i in 0..count {
         let object = Object {

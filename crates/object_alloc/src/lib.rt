@@ -1,8 +1,9 @@
 //! The objects and the cells of a model, by containment.
 //!
-//! `allocate` is the entry: it lists them from the table of a model's classes, or says which limit the model breaks. `specs`
-//! says which objects and cells a model has: `Walk` for objects, `Cells` for extents and cells, `Limits` for the limits, `Configurations`
-//! and `Hints` for the values of cells, `Counts` for how many configurations there are.
+//! `allocate` is the entry: it lists them from the table of a model's classes, or says which limit
+//! the model breaks. `specs` says which objects and cells a model has: `Walk` for objects, `Cells`
+//! for extents and cells, `Limits` for the limits, `Configurations` and `Hints` for the values of
+//! cells, `Counts` for how many configurations there are.
 #![tactic(auto)]
 
 mod cells;

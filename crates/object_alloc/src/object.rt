@@ -4,7 +4,8 @@ ghost use Rattle.std.specs.Prelude.{◌≡◌};
 use class_table::Resolved;
 use std::marker::Model;
 
-/// An object: its class, how many names its path has, and where it is held. Objects are numbered from 0.
+/// An object: its class, how many names its path has, and where it is held. Objects are numbered
+/// from 0.
 #[derive(Clone, Copy, Debug, PartialEq, Eq)]
 pub struct Object {
     pub class: u32,
@@ -25,7 +26,8 @@ pub struct Leaf {
     pub shape: Resolved,
 }
 
-/// Where the walk stands: in an object, by its number and the depth of its path, or at the top level, whose depth is 0.
+/// Where the walk stands: in an object, by its number and the depth of its path, or at the top
+/// level, whose depth is 0.
 #[derive(Clone, Copy, Debug)]
 pub(crate) struct Inside {
     pub owner: Option<u32>,

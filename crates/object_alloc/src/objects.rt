@@ -30,8 +30,8 @@ use conf_syntax::PathText;
 use std::alloc::{AllocError, Global};
 use std::marker::Model;
 
-/// The objects and the cells of a model, with the table of its classes. They are seen as that table is: the outline of a model
-/// decides its objects.
+/// The objects and the cells of a model, with the table of its classes. They are seen as that table
+/// is: the outline of a model decides its objects.
 #[derive(Drop)]
 pub struct Objects<'t> {
     table: &'t ClassTable,
@@ -64,8 +64,8 @@ impl<'t> Model for Objects<'t> {
 ///
 /// # Errors
 ///
-/// The first limit, in the order of `AllocFault`, that the model breaks; `Memory` where there is none left. No limit is passed
-/// over: a model that breaks one has no `Objects`.
+/// The first limit, in the order of `AllocFault`, that the model breaks; `Memory` where there is
+/// none left. No limit is passed over: a model that breaks one has no `Objects`.
 pub fn allocate<'t>(alloc: Global, table: &'t ClassTable) -> Result<Objects<'t>, AllocFault>
     ensures objects { IfOk result (λ objects. objects ≡ table.now) }
     ensures limits { IfOk result (λ objects. IsWithinLimits table.now) }
@@ -122,7 +122,8 @@ impl<'t> Objects<'t> {
     /// The class of an object.
     pub fn class(&self, object: u32) -> u32
         requires object { object < length (all_objects self.now) }
-        ensures class { (d : AnObject) → result ≡ (slice_index_or (all_objects self.now) object d).class }
+        ensures class { (d : AnObject) → result
+            ≡ (slice_index_or (all_objects self.now) object d).class }
         ensures there { result < length self.now.classes }
     {
         self.objects[object as usize].class
@@ -131,7 +132,8 @@ impl<'t> Objects<'t> {
     /// Whether an object is of the extent of a class.
     pub fn is_of(&self, object: u32, class: u32) -> bool
         requires object { object < length (all_objects self.now) }
-        ensures is { (d : AnObject) → result ≡ is_a self.now.classes (slice_index_or (all_objects self.now) object d).class class }
+        ensures is { (d : AnObject) → result
+            ≡ is_a self.now.classes (slice_index_or (all_objects self.now) object d).class class }
     {
         self.table.is_a(self.class(object), class)
     }
@@ -146,7 +148,8 @@ impl<'t> Objects<'t> {
     /// The cells, in order.
     pub fn cells(&self) -> &[Cell]
         ensures cells { result.now ≡ all_cells self.now }
-        ensures domains { All (λ (c : ACell). IsDomainOf (length self.now.classes) c.domain) result.now }
+        ensures domains { All (λ (c : ACell). IsDomainOf (length self.now.classes) c.domain)
+            result.now }
     {
         &self.cells
     }
@@ -174,7 +177,8 @@ impl<'t> Objects<'t> {
         extent_of(alloc, self.table, &self.objects, class)
     }
 
-    /// Whether an object is `whole`, or is contained, at any depth, in it. The cost is the number of objects between them.
+    /// Whether an object is `whole`, or is contained, at any depth, in it. The cost is the number
+    /// of objects between them.
     pub fn inside(&self, object: u32, whole: u32) -> bool
         requires object { object < length (all_objects self.now) }
         ensures inside { result ≡ is_inside self.now object whole }
@@ -192,14 +196,16 @@ impl<'t> Objects<'t> {
         PathText::of(alloc, &text)
     }
 
-    /// The object that is an element of an attribute of an object, or of a variable of the top level. The one object of an
-    /// attribute that is no array is element 0.
+    /// The object that is an element of an attribute of an object, or of a variable of the top
+    /// level. The one object of an attribute that is no array is element 0.
     pub fn part(&self, owner: Option<u32>, k: u32, element: u32) -> u32
         requires owner { IfSome owner (λ n. n < length (all_objects self.now)) }
         requires attribute { k < length (variables_of self.now owner) }
-        requires element { (d : AVariable) → IsElement (slice_index_or (variables_of self.now owner) k d).shape element }
+        requires element { (d : AVariable) → IsElement (slice_index_or (variables_of self.now owner)
+            k d).shape element }
         ensures there { result < length (all_objects self.now) }
-        ensures part { (d : AnObject) → IsPart owner k element (slice_index_or (all_objects self.now) result d) }
+        ensures part { (d : AnObject) → IsPart owner k element
+            (slice_index_or (all_objects self.now) result d) }
     {
         let spot = Spot {
             owner,
@@ -209,8 +215,8 @@ impl<'t> Objects<'t> {
         part_at(&self.objects, &self.spots, spot)
     }
 
-    /// The objects that an attribute of an object, or a variable of the top level, holds, by their numbers, in order. Where there
-    /// is no such attribute there are none.
+    /// The objects that an attribute of an object, or a variable of the top level, holds, by their
+    /// numbers, in order. Where there is no such attribute there are none.
     pub fn parts(&self, owner: Option<u32>, k: u32) -> &[u32]
         ensures parts { result.now ≡ parts_of self.now owner k }
     {
@@ -221,8 +227,8 @@ impl<'t> Objects<'t> {
         group_of(&self.parts, place)
     }
 
-    /// The numbers of the cells of an attribute of an object, or of a variable of the top level, in order. Where there is no such
-    /// attribute there are none.
+    /// The numbers of the cells of an attribute of an object, or of a variable of the top level, in
+    /// order. Where there is no such attribute there are none.
     pub fn own_cells(&self, owner: Option<u32>, k: u32) -> &[u32]
         ensures cells { result.now ≡ own_cells self.now owner k }
     {
@@ -233,7 +239,8 @@ impl<'t> Objects<'t> {
         group_of(&self.own_cells, place)
     }
 
-    /// How many attributes an object has, inherited ones too; for None how many variables the top level has.
+    /// How many attributes an object has, inherited ones too; for None how many variables the top
+    /// level has.
     pub fn shape_count(&self, owner: Option<u32>) -> u32
         requires owner { IfSome owner (λ n. n < length (all_objects self.now)) }
         ensures count { result ≡ length (variables_of self.now owner) }
@@ -245,7 +252,8 @@ impl<'t> Objects<'t> {
     pub fn shape(&self, owner: Option<u32>, k: u32) -> Resolved
         requires owner { IfSome owner (λ n. n < length (all_objects self.now)) }
         requires attribute { k < length (variables_of self.now owner) }
-        ensures shape { (d : AVariable) → result ≡ (slice_index_or (variables_of self.now owner) k d).shape }
+        ensures shape { (d : AVariable) → result
+            ≡ (slice_index_or (variables_of self.now owner) k d).shape }
     {
         shape_at(self.table, class_of(&self.objects, owner), k)
     }

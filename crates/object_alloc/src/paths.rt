@@ -39,7 +39,8 @@ fn push_step(
 ) -> Result<(), AllocError>
     requires class { IfSome class (λ c. c < length table.now.classes) }
     requires attribute { object.attribute < length (variables table.now class) }
-    ensures text { OnOk result (text.new.items ≡ text.old.items ++ last_step (variables table.now class) object) }
+    ensures text { OnOk result (text.new.items ≡ text.old.items
+        ++ last_step (variables table.now class) object) }
 {
     let variable = variable_at(table, class, object.attribute);
     text.extend_from_slice(variable.name.as_bytes())?;
@@ -60,7 +61,8 @@ fn push_owner(
     requires classes { AreClassed table.now objects.now }
     requires owner { IfSome owner (λ p. p < length objects.now) }
     requires before { IfSome owner (λ p. p < steps) }
-    ensures text { OnOk result (text.new.items ≡ text.old.items ++ owner_path (path_within table.now objects.now steps) owner) }
+    ensures text { OnOk result (text.new.items ≡ text.old.items
+        ++ owner_path (path_within table.now objects.now steps) owner) }
 {
     match owner {
         Some(owner) => {
@@ -84,7 +86,8 @@ pub(crate) fn push_path(
     requires objects { objects.now ≡ all_objects table.now }
     requires classes { AreClassed table.now objects.now }
     requires object { n < length objects.now }
-    ensures text { OnOk result (text.new.items ≡ text.old.items ++ path_within table.now objects.now (suc n) n) }
+    ensures text { OnOk result (text.new.items ≡ text.old.items ++ path_within table.now objects.now
+        (suc n) n) }
 {
     let object = objects[n as usize];
     push_owner(alloc, text, table, objects, object.owner, n)?;

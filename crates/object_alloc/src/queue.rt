@@ -1,7 +1,8 @@
 //! Counts the objects of a model without placing them.
 //!
-//! `queue_all` is the entry. It takes the objects level by level: first those of the top level, then those that each one
-//! holds. It stops as soon as there are too many, so its work is bounded however many objects a model would have.
+//! `queue_all` is the entry. It takes the objects level by level: first those of the top level,
+//! then those that each one holds. It stops as soon as there are too many, so its work is bounded
+//! however many objects a model would have.
 ghost use Rattle.std.specs.Prelude.{◌≡◌, ◌+◌, ◌<◌, ◌≤◌, ◌^◌, ◌++◌, nat_lt, length, replicate, IfOk, IfErr, OnOk, IfSome};
 ghost use Rattle.std.specs.List.{sum_by};
 ghost use Rattle.model_limits.specs.Limits.{most_objects};
@@ -43,7 +44,8 @@ fn push_held(queue: &mut Vec<Kind>, shape: Resolved, depth: u32) -> Result<(), A
     requires few { length queue.old.items ≤ most_objects }
     ensures queue { OnOk result (queue.new.items ≡ queue.old.items ++ held_kinds depth shape) }
     ensures few { OnOk result (length queue.new.items ≤ most_objects) }
-    ensures fault { IfErr result (IsExcess (length queue.old.items + length (held_kinds depth shape))) }
+    ensures fault { IfErr result (IsExcess (length queue.old.items + length
+        (held_kinds depth shape))) }
 {
     match shape {
         Resolved::One(class) => push_many(queue, Kind { class, depth }, 1),
@@ -61,9 +63,11 @@ fn push_members(
 ) -> Result<(), AllocFault>
     requires class { IfSome class (λ c. c < length table.now.classes) }
     requires few { length queue.old.items ≤ most_objects }
-    ensures queue { OnOk result (queue.new.items ≡ queue.old.items ++ kinds_of depth (variables table.now class)) }
+    ensures queue { OnOk result (queue.new.items ≡ queue.old.items
+        ++ kinds_of depth (variables table.now class)) }
     ensures few { OnOk result (length queue.new.items ≤ most_objects) }
-    ensures fault { IfErr result (IsExcess (length queue.old.items + length (kinds_of depth (variables table.now class)))) }
+    ensures fault { IfErr result (IsExcess (length queue.old.items + length
+        (kinds_of depth (variables table.now class)))) }
 {
     for k in 0..variable_count(table, class) {
         let shape = shape_at(table, class, k);
@@ -77,7 +81,8 @@ fn push_members(
 /// The class and the depth of each object of a model, in some order.
 pub(crate) fn queue_all(alloc: Global, table: &ClassTable) -> Result<Vec<Kind>, AllocFault>
     requires sound { IsSound table.now }
-    ensures kinds { IfOk result (λ queue. (g : Weigh) → sum_by (of_kind g) queue.items ≡ sum_by (of_object g) (objects table.now)) }
+    ensures kinds { IfOk result (λ queue. (g : Weigh) → sum_by (of_kind g) queue.items
+        ≡ sum_by (of_object g) (objects table.now)) }
     ensures lawful { IfOk result (λ queue. IsLawful (length table.now.classes) 1 queue.items) }
     ensures few { IfOk result (λ queue. length queue.items ≤ most_objects) }
     ensures fault { IfErr result (IsExcess (length (objects table.now))) }

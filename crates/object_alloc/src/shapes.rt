@@ -22,7 +22,8 @@ pub(crate) fn variable_count(table: &ClassTable, class: Option<u32>) -> u32
 pub(crate) fn shape_at(table: &ClassTable, class: Option<u32>, k: u32) -> Resolved
     requires class { IfSome class (λ c. c < length table.now.classes) }
     requires variable { k < length (variables table.now class) }
-    ensures shape { (d : AVariable) → result ≡ (slice_index_or (variables table.now class) k d).shape }
+    ensures shape { (d : AVariable) → result
+        ≡ (slice_index_or (variables table.now class) k d).shape }
 {
     match class {
         Some(class) => table.attribute(class, k).shape,
@@ -34,8 +35,10 @@ pub(crate) fn shape_at(table: &ClassTable, class: Option<u32>, k: u32) -> Resolv
 pub(crate) fn variable_at(table: &ClassTable, class: Option<u32>, k: u32) -> Attribute<'_>
     requires class { IfSome class (λ c. c < length table.now.classes) }
     requires variable { k < length (variables table.now class) }
-    ensures name { (d : AVariable) → result.name.now ≡ (slice_index_or (variables table.now class) k d).name }
-    ensures shape { (d : AVariable) → result.shape ≡ (slice_index_or (variables table.now class) k d).shape }
+    ensures name { (d : AVariable) → result.name.now
+        ≡ (slice_index_or (variables table.now class) k d).name }
+    ensures shape { (d : AVariable) → result.shape
+        ≡ (slice_index_or (variables table.now class) k d).shape }
 {
     match class {
         Some(class) => table.attribute(class, k),

@@ -8,7 +8,8 @@ use crate::object::Object;
 use indexmap::IndexMap;
 use std::alloc::{AllocError, Global};
 
-/// Where an object is held: an element of an attribute of its owner, or of a variable of the top level.
+/// Where an object is held: an element of an attribute of its owner, or of a variable of the top
+/// level.
 #[derive(Clone, Copy, Debug, PartialEq, Eq, Hash)]
 pub(crate) struct Spot {
     pub owner: Option<u32>,
@@ -39,8 +40,10 @@ pub(crate) fn spots_of(alloc: Global, objects: &[Object]) -> Result<Spots, Alloc
 /// Whether the object of this number has this spot.
 fn is_at(objects: &[Object], n: u32, spot: Spot) -> bool
     ensures there { IsTrue result → n < length objects.now }
-    ensures part { IsTrue result → (d : AnObject) → IsPart spot.owner spot.attribute spot.element (slice_index_or objects.now n d) }
-    ensures other { result ≡ false → n < length objects.now → (d : AnObject) → IsPart spot.owner spot.attribute spot.element (slice_index_or objects.now n d) → ⊥ }
+    ensures part { IsTrue result → (d : AnObject) → IsPart spot.owner spot.attribute spot.element
+        (slice_index_or objects.now n d) }
+    ensures other { result ≡ false → n < length objects.now → (d : AnObject)
+        → IsPart spot.owner spot.attribute spot.element (slice_index_or objects.now n d) → ⊥ }
 {
     if n as usize >= objects.len() {
         return false;
@@ -51,12 +54,14 @@ fn is_at(objects: &[Object], n: u32, spot: Spot) -> bool
         && object.element == spot.element
 }
 
-/// The number of the object that has this spot. The look-up gives it at once; it is only tested here.
+/// The number of the object that has this spot. The look-up gives it at once; it is only tested
+/// here.
 pub(crate) fn part_at(objects: &[Object], spots: &Spots, spot: Spot) -> u32
     requires part { HasPart objects.now spot.owner spot.attribute spot.element }
     requires few { length objects.now ≤ most_objects }
     ensures there { result < length objects.now }
-    ensures part { (d : AnObject) → IsPart spot.owner spot.attribute spot.element (slice_index_or objects.now result d) }
+    ensures part { (d : AnObject) → IsPart spot.owner spot.attribute spot.element
+        (slice_index_or objects.now result d) }
 {
     if let Some(n) = spots.get(&spot).copied() {
         if is_at(objects, n, spot) {
@@ -71,7 +76,8 @@ fn search(objects: &[Object], spot: Spot) -> u32
     requires part { HasPart objects.now spot.owner spot.attribute spot.element }
     requires few { length objects.now ≤ most_objects }
     ensures there { result < length objects.now }
-    ensures part { (d : AnObject) → IsPart spot.owner spot.attribute spot.element (slice_index_or objects.now result d) }
+    ensures part { (d : AnObject) → IsPart spot.owner spot.attribute spot.element
+        (slice_index_or objects.now result d) }
 {
     for n in 0..objects.len() {
         if is_at(objects, n as u32, spot) {

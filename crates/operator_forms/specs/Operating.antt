@@ -160,7 +160,8 @@ truth_between op p q = truth_of (operate op (Truth p) (Truth q))
 -- the intervals
 abbrev pub LiesBetween : Boxes → Boxes → Op → Linear → Linear → Linear → Type 0
 LiesBetween old new op f g r =
-    (i j : Interval) → IsSum old i.low i.high f → IsSum old j.low j.high g → IsSum new (operator_interval op i j).low (operator_interval op i j).high r
+    (i j : Interval) → IsSum old i.low i.high f → IsSum old j.low j.high g
+    → IsSum new (operator_interval op i j).low (operator_interval op i j).high r
 
 -- ---- what an operator asks of its sides
 
@@ -208,8 +209,10 @@ pub record AreOperands (boxes : Boxes) (op : Op) (l r : Form) : Type 0 where
 
 -- the form is what the operator makes of the forms of two sides, whose numbers lie in i and j
 pub record IsOperated (o : Outline) (g : Ground) (op : Op) (i j : Interval) (l r f : Form) : Type 0 where
-  pub value : (a : List ℤ) → IsWorld g a → form_value f a ≡ operate op (form_value l a) (form_value r a)
-  pub number : IsSum g.domains (operator_interval op i j).low (operator_interval op i j).high (number_part f)
+  pub value : (a : List ℤ) → IsWorld g a → form_value f a ≡ operate op (form_value l a)
+      (form_value r a)
+  pub number : IsSum g.domains (operator_interval op i j).low (operator_interval op i j).high
+      (number_part f)
   pub truth : HasVariable (length g.domains) (truth_part f)
   pub typed : IsFormOf o g.domains (result_of op) f
 
@@ -249,8 +252,12 @@ needs_either op.In want = false
 
 -- these truths of both sides together make the wanted truth, and no others
 abbrev pub AreBoth : Op → Bool → Bool × Bool → Type 0
-AreBoth op want p = (v w : Value) → wanted want (truth_of (operate op v w)) ≡ (wanted p.0 (truth_of v) && wanted p.1 (truth_of w))
+AreBoth op want p =
+    (v w : Value) → wanted want (truth_of (operate op v w))
+    ≡ (wanted p.0 (truth_of v) && wanted p.1 (truth_of w))
 
 -- each of these truths of its side alone makes the wanted truth, and nothing else does
 abbrev pub AreEither : Op → Bool → Bool × Bool → Type 0
-AreEither op want p = (v w : Value) → wanted want (truth_of (operate op v w)) ≡ (wanted p.0 (truth_of v) || wanted p.1 (truth_of w))
+AreEither op want p =
+    (v w : Value) → wanted want (truth_of (operate op v w))
+    ≡ (wanted p.0 (truth_of v) || wanted p.1 (truth_of w))

@@ -18,23 +18,29 @@ use Rattle.pack_fit.specs.Packing.{tight_room}
 abbrev pub least_room : ℤ → List (ℕ × ℕ × ℕ) → Boxes → ℤ
 least_room v [] boxes = pos 9223372036854775807
 least_room v (i ∷ is) boxes =
-    cond (fixed_at (box_of boxes i.0) v) (int_min (low_of (box_of boxes i.2)) (least_room v is boxes)) (least_room v is boxes)
+    cond (fixed_at (box_of boxes i.0) v) (int_min (low_of (box_of boxes i.2))
+    (least_room v is boxes)) (least_room v is boxes)
 
 -- the greatest that one of their sizes can grow
 abbrev pub growth_at : ℤ → List (ℕ × ℕ × ℕ) → Boxes → ℤ
 growth_at v [] boxes = pos 0
 growth_at v (i ∷ is) boxes =
-    cond (fixed_at (box_of boxes i.0) v) (int_max (high_of (box_of boxes i.1) -ℤ low_of (box_of boxes i.1)) (growth_at v is boxes)) (growth_at v is boxes)
+    cond (fixed_at (box_of boxes i.0) v)
+    (int_max (high_of (box_of boxes i.1) -ℤ low_of (box_of boxes i.1)) (growth_at v is boxes))
+    (growth_at v is boxes)
 
 -- how many they are
 abbrev pub fixed_count : ℤ → List (ℕ × ℕ × ℕ) → Boxes → ℕ
 fixed_count v [] boxes = 0
-fixed_count v (i ∷ is) boxes = cond (fixed_at (box_of boxes i.0) v) (suc (fixed_count v is boxes)) (fixed_count v is boxes)
+fixed_count v (i ∷ is) boxes =
+    cond (fixed_at (box_of boxes i.0) v) (suc (fixed_count v is boxes)) (fixed_count v is boxes)
 
 -- one of them has a single room
 abbrev pub some_frozen : ℤ → List (ℕ × ℕ × ℕ) → Boxes → Bool
 some_frozen v [] boxes = false
-some_frozen v (i ∷ is) boxes = cond (fixed_at (box_of boxes i.0) v) (some_frozen v is boxes || is_one (box_of boxes i.2)) (some_frozen v is boxes)
+some_frozen v (i ∷ is) boxes =
+    cond (fixed_at (box_of boxes i.0) v) (some_frozen v is boxes || is_one (box_of boxes i.2))
+    (some_frozen v is boxes)
 
 -- all that is counted of them
 pub record IsSpot (s : Spot) (v : ℤ) (items : List (ℕ × ℕ × ℕ)) (boxes : Boxes) : Type 0 where
@@ -81,13 +87,17 @@ all_gone_on v (i ∷ is) boxes = gone_on v (box_of boxes i.0) + all_gone_on v is
 -- ---- n bins from v on
 
 abbrev pub AreSpots : List Spot → ℤ → List (ℕ × ℕ × ℕ) → Boxes → Type 0
-AreSpots spots v items boxes = (d : Spot) (e : ℕ) → e < length spots → IsSpot (slice_index_or spots e d) (v +ℤ pos e) items boxes
+AreSpots spots v items boxes =
+    (d : Spot) (e : ℕ) → e < length spots → IsSpot (slice_index_or spots e d) (v +ℤ pos e) items
+    boxes
 
 abbrev pub AreBegun : List ℕ → ℤ → List (ℕ × ℕ × ℕ) → Boxes → Type 0
-AreBegun counts v items boxes = (e : ℕ) → e < length counts → slice_index_or counts e 0 ≡ all_begun (v +ℤ pos e) items boxes
+AreBegun counts v items boxes =
+    (e : ℕ) → e < length counts → slice_index_or counts e 0 ≡ all_begun (v +ℤ pos e) items boxes
 
 abbrev pub AreEnded : List ℕ → ℤ → List (ℕ × ℕ × ℕ) → Boxes → Type 0
-AreEnded counts v items boxes = (e : ℕ) → e < length counts → slice_index_or counts e 0 ≡ all_ended (v +ℤ pos e) items boxes
+AreEnded counts v items boxes =
+    (e : ℕ) → e < length counts → slice_index_or counts e 0 ≡ all_ended (v +ℤ pos e) items boxes
 
 -- the slot of a bin, where it has one, is e
 abbrev pub is_slot : Option ℕ → ℕ → Bool
@@ -99,12 +109,16 @@ is_slot (Some d) e = d == e
 -- the greatest of their least sizes, at least 0
 abbrev pub open_size : List (ℕ × ℕ × ℕ) → Boxes → ℤ
 open_size [] boxes = pos 0
-open_size (i ∷ is) boxes = cond (is_one (box_of boxes i.0)) (open_size is boxes) (int_max (low_of (box_of boxes i.1)) (open_size is boxes))
+open_size (i ∷ is) boxes =
+    cond (is_one (box_of boxes i.0)) (open_size is boxes) (int_max (low_of (box_of boxes i.1))
+    (open_size is boxes))
 
 -- the least of their greatest rooms
 abbrev pub open_floor : List (ℕ × ℕ × ℕ) → Boxes → ℤ
 open_floor [] boxes = pos 9223372036854775807
-open_floor (i ∷ is) boxes = cond (is_one (box_of boxes i.0)) (open_floor is boxes) (int_min (high_of (box_of boxes i.2)) (open_floor is boxes))
+open_floor (i ∷ is) boxes =
+    cond (is_one (box_of boxes i.0)) (open_floor is boxes) (int_min (high_of (box_of boxes i.2))
+    (open_floor is boxes))
 
 -- ---- what the numbers of a bin show
 
@@ -126,4 +140,5 @@ room_where counts room = cond counts (int_max (pos 0) room) (pos 0)
 abbrev pub least_second : Spot → ℕ → ℤ → ℤ
 least_second s others floor =
     int_max (room_where (nat_le 2 others) floor)
-    (int_max (room_where (s.frozen || nat_le 2 s.count) s.tight.value) (room_where (nat_le 1 others && nat_le 1 s.count) (int_min floor s.tight.value)))
+    (int_max (room_where (s.frozen || nat_le 2 s.count) s.tight.value)
+    (room_where (nat_le 1 others && nat_le 1 s.count) (int_min floor s.tight.value)))

@@ -176,7 +176,8 @@ fn with_load(load: Total, i: (u32, u32, u32), boxes: &[IntSet], at: Number) -> T
     requires item { IsItemNamed i boxes.now }
     requires low { pos 0 ≤ℤ (load.value +ℤ pos (2 ^ 127 - 2 ^ 63)) }
     requires high { load.value ≤ℤ pos (2 ^ 127 - 2 ^ 63) }
-    ensures load { result.value ≡ cond (fixed_at (box_of boxes.now i.0) at.value) (load.value +ℤ low_of (box_of boxes.now i.1)) load.value }
+    ensures load { result.value ≡ cond (fixed_at (box_of boxes.now i.0) at.value)
+        (load.value +ℤ low_of (box_of boxes.now i.1)) load.value }
     ensures low { load.value ≤ℤ (result.value +ℤ pos (2 ^ 63)) }
     ensures high { result.value ≤ℤ (load.value +ℤ pos (2 ^ 63 - 1)) }
 {
@@ -202,7 +203,8 @@ pub fn load_at(items: &[(u32, u32, u32)], boxes: &[IntSet], at: Number) -> Total
 /// The least room so far, with the item's greatest where its bin is fixed at the value.
 fn with_tight(tight: Number, i: (u32, u32, u32), boxes: &[IntSet], at: Number) -> Number
     requires { IsItemNamed i boxes.now }
-    ensures { result.value ≡ cond (fixed_at (box_of boxes.now i.0) at.value) (int_min tight.value (high_of (box_of boxes.now i.2))) tight.value }
+    ensures { result.value ≡ cond (fixed_at (box_of boxes.now i.0) at.value)
+        (int_min tight.value (high_of (box_of boxes.now i.2))) tight.value }
 {
     if is_fixed(boxes, i.0, at) {
         smaller(tight, greatest(boxes, i.2))

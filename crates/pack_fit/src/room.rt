@@ -84,8 +84,10 @@ struct Limits {
 /// The bounds with one more item, if its bin is open.
 fn with_limits(limits: Limits, i: (u32, u32, u32), boxes: &[IntSet]) -> Limits
     requires { IsItemNamed i boxes.now }
-    ensures size { result.size.value ≡ cond (is_one (box_of boxes.now i.0)) limits.size.value (int_max (low_of (box_of boxes.now i.1)) limits.size.value) }
-    ensures floor { result.floor.value ≡ cond (is_one (box_of boxes.now i.0)) limits.floor.value (int_min (high_of (box_of boxes.now i.2)) limits.floor.value) }
+    ensures size { result.size.value ≡ cond (is_one (box_of boxes.now i.0)) limits.size.value
+        (int_max (low_of (box_of boxes.now i.1)) limits.size.value) }
+    ensures floor { result.floor.value ≡ cond (is_one (box_of boxes.now i.0)) limits.floor.value
+        (int_min (high_of (box_of boxes.now i.2)) limits.floor.value) }
 {
     if is_single(boxes, i.0) {
         return limits;
@@ -205,7 +207,8 @@ fn look_over(
     requires few { length items.now < 18446744073709551616 }
     requires begun_size { length survey.now.begun.items ≡ length survey.now.spots.items }
     requires ended_size { length survey.now.ended.items ≡ length survey.now.spots.items }
-    requires within { (first.value +ℤ pos (length survey.now.spots.items)) ≤ℤ pos 9223372036854775808 }
+    requires within { (first.value +ℤ pos (length survey.now.spots.items)) ≤ℤ pos
+        9223372036854775808 }
     requires spots { AreSpots survey.now.spots.items first.value items.now boxes.now }
     requires begun { AreBegun survey.now.begun.items first.value items.now boxes.now }
     requires ended { AreEnded survey.now.ended.items first.value items.now boxes.now }
@@ -287,8 +290,10 @@ pub fn bins_of(
 ) -> (Number, Number)
     requires items { AreItemsNamed items.now boxes.now }
     requires head { IsItemNamed head boxes.now }
-    ensures first { result.0.value ≡ first_place (low_of (box_of boxes.now head.0)) items.now boxes.now }
-    ensures last { result.1.value ≡ last_place (high_of (box_of boxes.now head.0)) items.now boxes.now }
+    ensures first { result.0.value ≡ first_place (low_of (box_of boxes.now head.0)) items.now
+        boxes.now }
+    ensures last { result.1.value ≡ last_place (high_of (box_of boxes.now head.0)) items.now
+        boxes.now }
     ensures order { result.0.value ≤ℤ result.1.value }
 {
     let ends = ends_at(boxes, head.0);
@@ -300,7 +305,8 @@ pub fn bins_of(
 /// The least sizes and the greatest growth, added up, where that is a number of 128 bits.
 fn need_of(items: &[(u32, u32, u32)], boxes: &[IntSet]) -> Option<Total>
     requires { AreItemsNamed items.now boxes.now }
-    ensures { IfSome result (λ t. t.value ≡ least_sizes items.now boxes.now +ℤ growth items.now boxes.now) }
+    ensures { IfSome result (λ t. t.value ≡ least_sizes items.now boxes.now +ℤ growth items.now
+        boxes.now) }
 {
     sizes_of(items, boxes).with(growth_of(items, boxes))
 }
@@ -308,7 +314,8 @@ fn need_of(items: &[(u32, u32, u32)], boxes: &[IntSet]) -> Option<Total>
 /// Whether the rooms, which add up to this at least, are enough for all.
 fn is_enough(items: &[(u32, u32, u32)], boxes: &[IntSet], sum: Total) -> bool
     requires { AreItemsNamed items.now boxes.now }
-    ensures { result ≡ true → (least_sizes items.now boxes.now +ℤ growth items.now boxes.now) ≤ℤ sum.value }
+    ensures { result ≡ true → (least_sizes items.now boxes.now +ℤ growth items.now boxes.now)
+        ≤ℤ sum.value }
 {
     match need_of(items, boxes) {
         Some(need) => need.is_at_most(sum),

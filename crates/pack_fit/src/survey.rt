@@ -61,7 +61,8 @@ impl Spot {
 /// The greatest growth so far, with that of the item's size.
 pub fn with_growth(most: Total, i: (u32, u32, u32), boxes: &[IntSet]) -> Total
     requires { IsItemNamed i boxes.now }
-    ensures { result.value ≡ int_max most.value (high_of (box_of boxes.now i.1) -ℤ low_of (box_of boxes.now i.1)) }
+    ensures { result.value ≡ int_max most.value (high_of (box_of boxes.now i.1) -ℤ low_of
+        (box_of boxes.now i.1)) }
 {
     let grows = Total::of(greatest(boxes, i.1)).less(least(boxes, i.1));
     if grows.is_at_most(most) { most } else { grows }
@@ -76,7 +77,8 @@ fn with_item(spot: Spot, i: (u32, u32, u32), boxes: &[IntSet]) -> Spot
     ensures load { result.load.value ≡ spot.load.value +ℤ low_of (box_of boxes.now i.1) }
     ensures tight { result.tight.value ≡ int_min spot.tight.value (high_of (box_of boxes.now i.2)) }
     ensures room { result.room.value ≡ int_min spot.room.value (low_of (box_of boxes.now i.2)) }
-    ensures growth { result.growth.value ≡ int_max spot.growth.value (high_of (box_of boxes.now i.1) -ℤ low_of (box_of boxes.now i.1)) }
+    ensures growth { result.growth.value ≡ int_max spot.growth.value (high_of (box_of boxes.now i.1)
+        -ℤ low_of (box_of boxes.now i.1)) }
     ensures count { result.count ≡ suc spot.count }
     ensures frozen { result.frozen ≡ (spot.frozen || is_one (box_of boxes.now i.2)) }
 {
@@ -106,7 +108,8 @@ fn slot_of(at: Number, first: Number, n: usize) -> Option<usize>
 fn fixed_slot(boxes: &[IntSet], x: u32, first: Number, n: usize) -> Option<usize>
     requires { x < length boxes.now }
     ensures below { IfSome result (λ d. d < n) }
-    ensures slot { (e : ℕ) → e < n → fixed_at (box_of boxes.now x) (first.value +ℤ pos e) ≡ is_slot result e }
+    ensures slot { (e : ℕ) → e < n → fixed_at (box_of boxes.now x) (first.value +ℤ pos e)
+        ≡ is_slot result e }
 {
     if is_single(boxes, x) {
         slot_of(least(boxes, x), first, n)
@@ -120,7 +123,9 @@ fn bump(counts: &mut [usize], at: Option<usize>)
     requires within { IfSome at (λ d. d < length counts.old) }
     requires room { IfSome at (λ d. slice_index_or counts.old d 0 < 18446744073709551615) }
     ensures size { length counts.new ≡ length counts.old }
-    ensures counts { (e : ℕ) → slice_index_or counts.new e 0 ≡ cond (is_slot at e) (suc (slice_index_or counts.old e 0)) (slice_index_or counts.old e 0) }
+    ensures counts { (e : ℕ) → slice_index_or counts.new e 0
+        ≡ cond (is_slot at e) (suc (slice_index_or counts.old e 0))
+        (slice_index_or counts.old e 0) }
 {
     if let Some(d) = at {
         counts[d] += 1;
@@ -140,7 +145,8 @@ fn reset_counts(counts: &mut Vec<usize>, n: usize) -> Result<(), AllocError>
 /// As many spots, in which nothing is counted.
 fn reset_spots(spots: &mut Vec<Spot>, n: usize) -> Result<(), AllocError>
     ensures size { IfOk result (λ u. length spots.new.items ≡ n) }
-    ensures none { IfOk result (λ u. (first : ℤ) (boxes : Boxes) → AreSpots spots.new.items first [] boxes) }
+    ensures none { IfOk result (λ u. (first : ℤ) (boxes : Boxes) → AreSpots spots.new.items first []
+        boxes) }
 {
     spots.clear();
     spots.resize(n, Spot::bare())?;
@@ -187,12 +193,18 @@ fn add_items(spots: &mut [Spot], items: &[(u32, u32, u32)], boxes: &[IntSet], fi
 /// Counts where a range begins and ends.
 fn count_range(begun: &mut [usize], ended: &mut [usize], r: (i64, i64), first: Number)
     requires same { length begun.old ≡ length ended.old }
-    requires begun_room { (e : ℕ) → e < length begun.old → int_eq r.0 (first.value +ℤ pos e) ≡ true → slice_index_or begun.old e 0 < 18446744073709551615 }
-    requires ended_room { (e : ℕ) → e < length begun.old → int_eq r.1 (first.value +ℤ pos e) ≡ true → slice_index_or ended.old e 0 < 18446744073709551615 }
+    requires begun_room { (e : ℕ) → e < length begun.old → int_eq r.0 (first.value +ℤ pos e) ≡ true
+        → slice_index_or begun.old e 0 < 18446744073709551615 }
+    requires ended_room { (e : ℕ) → e < length begun.old → int_eq r.1 (first.value +ℤ pos e) ≡ true
+        → slice_index_or ended.old e 0 < 18446744073709551615 }
     ensures begun_size { length begun.new ≡ length begun.old }
     ensures ended_size { length ended.new ≡ length ended.old }
-    ensures begun { (e : ℕ) → e < length begun.old → slice_index_or begun.new e 0 ≡ cond (int_eq r.0 (first.value +ℤ pos e)) (suc (slice_index_or begun.old e 0)) (slice_index_or begun.old e 0) }
-    ensures ended { (e : ℕ) → e < length begun.old → slice_index_or ended.new e 0 ≡ cond (int_eq r.1 (first.value +ℤ pos e)) (suc (slice_index_or ended.old e 0)) (slice_index_or ended.old e 0) }
+    ensures begun { (e : ℕ) → e < length begun.old → slice_index_or begun.new e 0
+        ≡ cond (int_eq r.0 (first.value +ℤ pos e)) (suc (slice_index_or begun.old e 0))
+        (slice_index_or begun.old e 0) }
+    ensures ended { (e : ℕ) → e < length begun.old → slice_index_or ended.new e 0
+        ≡ cond (int_eq r.1 (first.value +ℤ pos e)) (suc (slice_index_or ended.old e 0))
+        (slice_index_or ended.old e 0) }
 {
     let begins = slot_of(Number { value: r.0 }, first, begun.len());
     let ends = slot_of(Number { value: r.1 }, first, ended.len());
@@ -204,12 +216,16 @@ fn count_range(begun: &mut [usize], ended: &mut [usize], r: (i64, i64), first: N
 fn count_ranges(begun: &mut [usize], ended: &mut [usize], ranges: &[(i64, i64)], first: Number)
     requires same { length begun.old ≡ length ended.old }
     requires valid { IsValid ranges.now }
-    requires begun_room { (e : ℕ) → e < length begun.old → slice_index_or begun.old e 0 < 18446744073709551615 }
-    requires ended_room { (e : ℕ) → e < length begun.old → slice_index_or ended.old e 0 < 18446744073709551615 }
+    requires begun_room { (e : ℕ) → e < length begun.old → slice_index_or begun.old e 0
+        < 18446744073709551615 }
+    requires ended_room { (e : ℕ) → e < length begun.old → slice_index_or ended.old e 0
+        < 18446744073709551615 }
     ensures begun_size { length begun.new ≡ length begun.old }
     ensures ended_size { length ended.new ≡ length ended.old }
-    ensures begun { (e : ℕ) → e < length begun.old → slice_index_or begun.new e 0 ≡ begun_at (first.value +ℤ pos e) ranges.now + slice_index_or begun.old e 0 }
-    ensures ended { (e : ℕ) → e < length begun.old → slice_index_or ended.new e 0 ≡ ended_at (first.value +ℤ pos e) ranges.now + slice_index_or ended.old e 0 }
+    ensures begun { (e : ℕ) → e < length begun.old → slice_index_or begun.new e 0
+        ≡ begun_at (first.value +ℤ pos e) ranges.now + slice_index_or begun.old e 0 }
+    ensures ended { (e : ℕ) → e < length begun.old → slice_index_or ended.new e 0
+        ≡ ended_at (first.value +ℤ pos e) ranges.now + slice_index_or ended.old e 0 }
 {
     let mut j = ranges.len();
     while 0 < j {
@@ -334,12 +350,18 @@ impl Survey {
         requires named { AreItemsNamed items.now boxes.now }
         requires sets { All (λ s. IsValid s) boxes.now }
         requires order { first.value ≤ℤ last.value }
-        ensures size { IfOk result (λ u. length self.new.spots.items ≡ width first.value last.value) }
-        ensures begun_size { IfOk result (λ u. length self.new.begun.items ≡ width first.value last.value) }
-        ensures ended_size { IfOk result (λ u. length self.new.ended.items ≡ width first.value last.value) }
-        ensures spots { IfOk result (λ u. AreSpots self.new.spots.items first.value items.now boxes.now) }
-        ensures begun { IfOk result (λ u. AreBegun self.new.begun.items first.value items.now boxes.now) }
-        ensures ended { IfOk result (λ u. AreEnded self.new.ended.items first.value items.now boxes.now) }
+        ensures size { IfOk result (λ u. length self.new.spots.items
+            ≡ width first.value last.value) }
+        ensures begun_size { IfOk result (λ u. length self.new.begun.items
+            ≡ width first.value last.value) }
+        ensures ended_size { IfOk result (λ u. length self.new.ended.items
+            ≡ width first.value last.value) }
+        ensures spots { IfOk result (λ u. AreSpots self.new.spots.items first.value items.now
+            boxes.now) }
+        ensures begun { IfOk result (λ u. AreBegun self.new.begun.items first.value items.now
+            boxes.now) }
+        ensures ended { IfOk result (λ u. AreEnded self.new.ended.items first.value items.now
+            boxes.now) }
     {
         let n = bins_between(first, last)?;
         reset_spots(&mut self.spots, n)?;

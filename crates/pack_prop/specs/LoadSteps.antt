@@ -12,9 +12,11 @@ use Rattle.pack_prop.specs.Collected.{AreCollected}
 abbrev pub loads_at : ℤ → ℕ → List (ℕ × ℕ × ℕ) → Boxes → Boxes → ℤ
 loads_at v k [] one two = pos 0
 loads_at v zero (i ∷ is) one two =
-    cond (fixed_at (box_of two i.0) v) (low_of (box_of two i.1) +ℤ loads_at v zero is one two) (loads_at v zero is one two)
+    cond (fixed_at (box_of two i.0) v) (low_of (box_of two i.1) +ℤ loads_at v zero is one two)
+    (loads_at v zero is one two)
 loads_at v (suc k) (i ∷ is) one two =
-    cond (fixed_at (box_of one i.0) v) (low_of (box_of one i.1) +ℤ loads_at v k is one two) (loads_at v k is one two)
+    cond (fixed_at (box_of one i.0) v) (low_of (box_of one i.1) +ℤ loads_at v k is one two)
+    (loads_at v k is one two)
 
 -- what the literals leave of the domains fixes item i at v, whose room there is at most `room`, and
 -- has a load of the first m items that with the others' in the boxes is more than that, by one and
@@ -31,4 +33,5 @@ pub record AreOverfull (v : ℤ) (items : List (ℕ × ℕ × ℕ)) (domains box
   pub place : ℕ
   pub there : place < length items
   pub room : ℤ
-  pub loaded : AreLoaded v (slice_index_or items place (0, 0, 0)) items domains boxes m room spare ls
+  pub loaded : AreLoaded v (slice_index_or items place (0, 0, 0)) items domains boxes m room spare
+      ls

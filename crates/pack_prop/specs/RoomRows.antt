@@ -10,11 +10,14 @@ use Rattle.box_rules.specs.Refuted.{best_room}
 -- values and rooms: n values from v on, each with the best room there
 abbrev pub best_rooms : ℕ → ℤ → List (ℕ × ℕ × ℕ) → Boxes → List (ℤ × ℤ)
 best_rooms zero v items boxes = []
-best_rooms (suc n) v items boxes = (v, best_room v items boxes) ∷ best_rooms n (v +ℤ pos 1) items boxes
+best_rooms (suc n) v items boxes =
+    (v, best_room v items boxes) ∷ best_rooms n (v +ℤ pos 1) items boxes
 
 -- those of the values from v on, entry by entry
 abbrev pub HasRooms : List (ℤ × ℤ) → ℤ → List (ℕ × ℕ × ℕ) → Boxes → Type 0
-HasRooms row v items boxes = (e : ℕ) → e < length row → slice_index_or row e (pos 0, pos 0) ≡ (v +ℤ pos e, best_room (v +ℤ pos e) items boxes)
+HasRooms row v items boxes =
+    (e : ℕ) → e < length row → slice_index_or row e (pos 0, pos 0)
+    ≡ (v +ℤ pos e, best_room (v +ℤ pos e) items boxes)
 
 -- the entry with a room of at least h, if an item with that room may be there
 abbrev pub lifted : Bool → ℤ → ℤ × ℤ → ℤ × ℤ

@@ -17,12 +17,15 @@ with_part boxes x part = slice_set boxes x part
 pub record IsOverfilled (v : ℤ) (items : List (ℕ × ℕ × ℕ)) (boxes : Boxes) (k : ℕ) : Type 0 where
   pub there : k < length items
   pub fixed : fixed_at (box_of boxes (slice_index_or items k (0, 0, 0)).0) v ≡ true
-  pub over : int_lt (high_of (box_of boxes (slice_index_or items k (0, 0, 0)).2)) (fixed_load v items boxes) ≡ true
+  pub over : int_lt (high_of (box_of boxes (slice_index_or items k (0, 0, 0)).2))
+      (fixed_load v items boxes) ≡ true
 
 -- some item of the list is fixed at v, and the load is more than its greatest room
 abbrev pub some_over : ℤ → ℤ → List (ℕ × ℕ × ℕ) → Boxes → Bool
 some_over v load [] boxes = false
-some_over v load (i ∷ is) boxes = (fixed_at (box_of boxes i.0) v && int_lt (high_of (box_of boxes i.2)) load) || some_over v load is boxes
+some_over v load (i ∷ is) boxes =
+    (fixed_at (box_of boxes i.0) v && int_lt (high_of (box_of boxes i.2)) load)
+    || some_over v load is boxes
 
 -- the part has values of the box of x, and the boxes are those of a well made constraint
 pub record IsPart (domains boxes : Boxes) (items : List (ℕ × ℕ × ℕ)) (x : ℕ) (s : Ranges) : Type 0 where

@@ -22,16 +22,19 @@ pub record IsBest (v : ℤ) (b : Best) (items : List (ℕ × ℕ × ℕ)) (boxes
 -- those of the values from v on
 abbrev pub AreBestRooms : ℤ → List Best → List (ℕ × ℕ × ℕ) → Boxes → Type 0
 AreBestRooms v [] items boxes = Unit {0}
-AreBestRooms v (b ∷ bs) items boxes = IsBest v b items boxes × AreBestRooms (v +ℤ pos 1) bs items boxes
+AreBestRooms v (b ∷ bs) items boxes =
+    IsBest v b items boxes × AreBestRooms (v +ℤ pos 1) bs items boxes
 
 -- the same, entry by entry
 abbrev pub HaveBestRooms : List Best → ℤ → List (ℕ × ℕ × ℕ) → Boxes → Type 0
-HaveBestRooms rows v items boxes = (d : Best) (e : ℕ) → e < length rows → IsBest (v +ℤ pos e) (slice_index_or rows e d) items boxes
+HaveBestRooms rows v items boxes =
+    (d : Best) (e : ℕ) → e < length rows → IsBest (v +ℤ pos e) (slice_index_or rows e d) items boxes
 
 -- the second is the first with one more room, if there is one
 pub record IsRaised (there : Bool) (room : ℤ) (stays : Bool) (b c : Best) : Type 0 where
   pub at : c.at.value ≡ b.at.value
-  pub rooms : (c.first.value, c.second.value) ≡ cond there (put room stays (b.first.value, b.second.value)) (b.first.value, b.second.value)
+  pub rooms : (c.first.value, c.second.value)
+      ≡ cond there (put room stays (b.first.value, b.second.value)) (b.first.value, b.second.value)
 
 -- the greatest rooms, added up
 abbrev pub firsts : List Best → ℤ
@@ -48,7 +51,8 @@ seconds (b ∷ bs) = b.second.value +ℤ seconds bs
 -- of the greatest room, where that of item i counts as `room` only, or not at all where that is 0
 abbrev pub left_at : Best → ℤ → ℕ × ℕ × ℕ → Boxes → ℤ
 left_at b room i boxes =
-    cond (has (box_of boxes i.0) b.at.value && int_le b.first.value (high_of (box_of boxes i.2))) (int_max b.second.value room) b.first.value
+    cond (has (box_of boxes i.0) b.at.value && int_le b.first.value (high_of (box_of boxes i.2)))
+    (int_max b.second.value room) b.first.value
 
 -- that, added up
 abbrev pub lefts : List Best → ℤ → ℕ × ℕ × ℕ → Boxes → ℤ
@@ -59,7 +63,8 @@ lefts (b ∷ bs) room i boxes = left_at b room i boxes +ℤ lefts bs room i boxe
 
 -- of which there is `all`, where the size of the item is any
 abbrev pub may_grow : ℤ → ℤ → ℕ × ℕ × ℕ → Boxes → Bool
-may_grow need all i boxes = int_le (need +ℤ (high_of (box_of boxes i.1) -ℤ low_of (box_of boxes i.1))) all
+may_grow need all i boxes =
+    int_le (need +ℤ (high_of (box_of boxes i.1) -ℤ low_of (box_of boxes i.1))) all
 
 -- where any one size of the list is any
 abbrev pub all_grow : ℤ → ℤ → List (ℕ × ℕ × ℕ) → Boxes → Bool
@@ -68,7 +73,9 @@ all_grow need all (i ∷ is) boxes = may_grow need all i boxes && all_grow need 
 
 -- where the bin of the item is that of b, if it may be, and `sum` is left without the item
 abbrev pub may_be_at : ℤ → ℤ → Best → ℕ × ℕ × ℕ → Boxes → Bool
-may_be_at need sum b i boxes = not (has (box_of boxes i.0) b.at.value) || int_le need (sum +ℤ (b.first.value -ℤ left_at b (pos 0) i boxes))
+may_be_at need sum b i boxes =
+    not (has (box_of boxes i.0) b.at.value)
+    || int_le need (sum +ℤ (b.first.value -ℤ left_at b (pos 0) i boxes))
 
 -- where it is that of any of the list
 abbrev pub may_be_in : ℤ → ℤ → List Best → ℕ × ℕ × ℕ → Boxes → Bool
@@ -78,16 +85,20 @@ may_be_in need sum (b ∷ bs) i boxes = may_be_at need sum b i boxes && may_be_i
 -- where its bin, if it is open, is any
 abbrev pub may_move : ℤ → List Best → ℕ × ℕ × ℕ → Boxes → Bool
 may_move need best_rooms i boxes =
-    is_one (box_of boxes i.0) || (int_le need (lefts best_rooms (pos 0) i boxes) || may_be_in need (lefts best_rooms (pos 0) i boxes) best_rooms i boxes)
+    is_one (box_of boxes i.0) || (int_le need (lefts best_rooms (pos 0) i boxes)
+    || may_be_in need (lefts best_rooms (pos 0) i boxes) best_rooms i boxes)
 
 -- where its room, if it is open, is any
 abbrev pub may_shrink : ℤ → List Best → ℕ × ℕ × ℕ → Boxes → Bool
-may_shrink need best_rooms i boxes = is_one (box_of boxes i.2) || int_le need (lefts best_rooms (low_of (box_of boxes i.2)) i boxes)
+may_shrink need best_rooms i boxes =
+    is_one (box_of boxes i.2) || int_le need (lefts best_rooms (low_of (box_of boxes i.2)) i boxes)
 
 -- where any one bin or room of the list is any
 abbrev pub all_loose : ℤ → List Best → List (ℕ × ℕ × ℕ) → Boxes → Bool
 all_loose need best_rooms [] boxes = true
-all_loose need best_rooms (i ∷ is) boxes = may_move need best_rooms i boxes && (may_shrink need best_rooms i boxes && all_loose need best_rooms is boxes)
+all_loose need best_rooms (i ∷ is) boxes =
+    may_move need best_rooms i boxes && (may_shrink need best_rooms i boxes
+    && all_loose need best_rooms is boxes)
 
 -- the bin's box lies from v to below `end`
 pub record IsBetween (v end : ℤ) (i : ℕ × ℕ × ℕ) (boxes : Boxes) : Type 0 where

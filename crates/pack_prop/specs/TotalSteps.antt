@@ -13,7 +13,8 @@ use Rattle.pack_prop.specs.RoomRows.{IsRow, row_sum}
 
 -- wherever the item may be put, the row has at least its greatest room
 abbrev pub IsSeated : List (ℤ × ℤ) → Boxes → ℕ × ℕ × ℕ → Type 0
-IsSeated row boxes i = All (λ p. has (box_of boxes i.0) p.0 ≡ true → high_of (box_of boxes i.2) ≤ℤ p.1) row
+IsSeated row boxes i =
+    All (λ p. has (box_of boxes i.0) p.0 ≡ true → high_of (box_of boxes i.2) ≤ℤ p.1) row
 
 -- all least sizes, those of the first k items in the first boxes, of the others in the second
 abbrev pub sizes_at : ℕ → List (ℕ × ℕ × ℕ) → Boxes → Boxes → ℤ
@@ -28,7 +29,8 @@ pub record AreTotalled (items : List (ℕ × ℕ × ℕ)) (domains boxes : Boxes
   pub first : ℤ
   pub last : ℤ
   pub in_order : IsRow first last row
-  pub covers : All (λ i. (first ≤ℤ low_of (box_of domains i.0)) × (high_of (box_of domains i.0) ≤ℤ last)) items
+  pub covers : All (λ i. (first ≤ℤ low_of (box_of domains i.0))
+      × (high_of (box_of domains i.0) ≤ℤ last)) items
   pub best : All (λ p. best_room p.0 items boxes ≤ℤ p.1) row
   pub seated : (j : ℕ) → j < k → IsSeated row (cut domains ls) (slice_index_or items j (0, 0, 0))
   pub some : pos 0 ≤ℤ spare
@@ -44,4 +46,5 @@ pub record IsWindow (first : ℤ) (n : ℕ) (items : List (ℕ × ℕ × ℕ)) (
   pub low : pos 0 ≤ℤ first
   pub high : first ≤ℤ pos 9999
   pub few : n ≤ 10000
-  pub covers : All (λ i. (first ≤ℤ low_of (box_of domains i.0)) × (high_of (box_of domains i.0) <ℤ (first +ℤ pos n))) items
+  pub covers : All (λ i. (first ≤ℤ low_of (box_of domains i.0))
+      × (high_of (box_of domains i.0) <ℤ (first +ℤ pos n))) items

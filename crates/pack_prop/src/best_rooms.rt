@@ -48,7 +48,8 @@ struct Brought {
 fn brought_by(i: (u32, u32, u32), boxes: &[IntSet]) -> Brought
     requires { IsItemNamed i boxes.now }
     ensures room { result.room.value ≡ high_of (box_of boxes.now i.2) }
-    ensures stays { result.stays ≡ (is_one (box_of boxes.now i.0) && is_one (box_of boxes.now i.2)) }
+    ensures stays { result.stays ≡ (is_one (box_of boxes.now i.0)
+        && is_one (box_of boxes.now i.2)) }
 {
     Brought {
         room: greatest(boxes, i.2),
@@ -88,7 +89,8 @@ fn raised(best: Best, more: Brought) -> Best
 fn raise_span(rows: &mut [Best], span: Span, more: Brought)
     requires within { span.end ≤ length rows.old }
     ensures size { length rows.new ≡ length rows.old }
-    ensures rows { (d : Best) (e : ℕ) → e < length rows.old → IsRaised (is_in span e) more.room.value more.stays (slice_index_or rows.old e d) (slice_index_or rows.new e d) }
+    ensures rows { (d : Best) (e : ℕ) → e < length rows.old → IsRaised (is_in span e)
+        more.room.value more.stays (slice_index_or rows.old e d) (slice_index_or rows.new e d) }
 {
     for e in span.begin..span.end {
         rows[e] = raised(rows[e], more);
@@ -98,7 +100,9 @@ fn raise_span(rows: &mut [Best], span: Span, more: Brought)
 /// Adds the room at each value of the range.
 fn raise_range(rows: &mut [Best], r: (i64, i64), more: Brought, first: Number)
     ensures size { length rows.new ≡ length rows.old }
-    ensures rows { (d : Best) (e : ℕ) → e < length rows.old → IsRaised (in_range r (first.value +ℤ pos e)) more.room.value more.stays (slice_index_or rows.old e d) (slice_index_or rows.new e d) }
+    ensures rows { (d : Best) (e : ℕ) → e < length rows.old
+        → IsRaised (in_range r (first.value +ℤ pos e)) more.room.value more.stays
+        (slice_index_or rows.old e d) (slice_index_or rows.new e d) }
 {
     let span = span_of(r, first, rows.len());
     raise_span(rows, span, more);
@@ -108,7 +112,9 @@ fn raise_range(rows: &mut [Best], r: (i64, i64), more: Brought, first: Number)
 fn raise_ranges(rows: &mut [Best], ranges: &[(i64, i64)], more: Brought, first: Number)
     requires valid { IsValid ranges.now }
     ensures size { length rows.new ≡ length rows.old }
-    ensures rows { (d : Best) (e : ℕ) → e < length rows.old → IsRaised (has ranges.now (first.value +ℤ pos e)) more.room.value more.stays (slice_index_or rows.old e d) (slice_index_or rows.new e d) }
+    ensures rows { (d : Best) (e : ℕ) → e < length rows.old
+        → IsRaised (has ranges.now (first.value +ℤ pos e)) more.room.value more.stays
+        (slice_index_or rows.old e d) (slice_index_or rows.new e d) }
 {
     let mut j = ranges.len();
     while 0 < j {
@@ -166,8 +172,10 @@ fn next(n: Number, last: Number) -> Number
 fn push_bare(rows: &mut Vec<Best>, first: Number, last: Number) -> Result<(), AllocError>
     requires none { rows.old.items ≡ [] }
     requires order { first.value ≤ℤ last.value }
-    ensures rooms { IfOk result (λ u. (boxes : Boxes) → AreBestRooms first.value rows.new.items [] boxes) }
-    ensures all { IfOk result (λ u. first.value +ℤ pos (length rows.new.items) ≡ last.value +ℤ pos 1) }
+    ensures rooms { IfOk result (λ u. (boxes : Boxes) → AreBestRooms first.value rows.new.items []
+        boxes) }
+    ensures all { IfOk result (λ u. first.value +ℤ pos (length rows.new.items)
+        ≡ last.value +ℤ pos 1) }
 {
     let mut at = first;
     loop {
@@ -208,8 +216,10 @@ impl BestRooms {
     ) -> Result<&[Best], AllocError>
         requires items { AreItemsNamed items.now boxes.now }
         requires order { first.value ≤ℤ last.value }
-        ensures rooms { IfOk result (λ rows. AreBestRooms first.value rows.now items.now boxes.now) }
-        ensures all { IfOk result (λ rows. first.value +ℤ pos (length rows.now) ≡ last.value +ℤ pos 1) }
+        ensures rooms { IfOk result (λ rows. AreBestRooms first.value rows.now items.now
+            boxes.now) }
+        ensures all { IfOk result (λ rows. first.value +ℤ pos (length rows.now)
+            ≡ last.value +ℤ pos 1) }
     {
         self.rows.clear();
         push_bare(&mut self.rows, first, last)?;

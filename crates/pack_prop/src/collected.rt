@@ -76,7 +76,8 @@ pub fn above(alloc: Global, set: &IntSet, most: Number) -> Result<IntSet, AllocE
 /// Want of memory.
 pub fn below(alloc: Global, set: &IntSet, least: Number) -> Result<IntSet, AllocError>
     ensures valid { IfOk result (λ s. IsValid s) }
-    ensures values { IfOk result (λ s. (v : ℤ) → has s v ≡ (has set.now v && int_lt v least.value)) }
+    ensures values { IfOk result (λ s. (v : ℤ) → has s v
+        ≡ (has set.now v && int_lt v least.value)) }
 {
     set.ranges();
     let rest = set.less(&from(alloc, least))?;

@@ -35,10 +35,14 @@ pub fn say_room(
     requires ground { IsPart domains.now boxes.now items.now x part.now }
     requires there { k < length items.now }
     requires literals { AreCollected (with_part boxes.now x part.now) literals.old.items }
-    ensures literals { IfOk result (λ h. AreCollected (with_part boxes.now x part.now) literals.new.items) }
+    ensures literals { IfOk result (λ h. AreCollected (with_part boxes.now x part.now)
+        literals.new.items) }
     ensures more { IfOk result (λ h. SaysMore literals.old.items literals.new.items) }
-    ensures high { IfOk result (λ h. h.value ≡ high_of (box_of (with_part boxes.now x part.now) (slice_index_or items.now k (0, 0, 0)).2)) }
-    ensures upto { IfOk result (λ h. high_of (box_of (cut domains.now literals.new.items) (slice_index_or items.now k (0, 0, 0)).2) ≤ℤ h.value) }
+    ensures high { IfOk result (λ h. h.value
+        ≡ high_of (box_of (with_part boxes.now x part.now)
+        (slice_index_or items.now k (0, 0, 0)).2)) }
+    ensures upto { IfOk result (λ h. high_of (box_of (cut domains.now literals.new.items)
+        (slice_index_or items.now k (0, 0, 0)).2) ≤ℤ h.value) }
 {
     let y = items[k].2;
     let high = greatest(boxes, x, part, y);

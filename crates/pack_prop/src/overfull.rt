@@ -39,7 +39,8 @@ fn with_load(
     requires item { IsItemNamed i boxes.now }
     requires low { pos 0 ≤ℤ (load.value +ℤ pos (2 ^ 127 - 2 ^ 63)) }
     requires high { load.value ≤ℤ pos (2 ^ 127 - 2 ^ 63) }
-    ensures load { result.value ≡ cond (fixed_at (box_of (with_part boxes.now x part.now) i.0) at.value) (load.value +ℤ low_of (box_of (with_part boxes.now x part.now) i.1)) load.value }
+    ensures load { result.value ≡ cond (fixed_at (box_of (with_part boxes.now x part.now) i.0)
+        at.value) (load.value +ℤ low_of (box_of (with_part boxes.now x part.now) i.1)) load.value }
     ensures low { load.value ≤ℤ (result.value +ℤ pos (2 ^ 63)) }
     ensures high { result.value ≤ℤ (load.value +ℤ pos (2 ^ 63 - 1)) }
 {
@@ -74,7 +75,8 @@ fn is_over(
 ) -> bool
     requires var { x < length boxes.now }
     requires item { IsItemNamed i boxes.now }
-    ensures { result ≡ (fixed_at (box_of (with_part boxes.now x part.now) i.0) at.value && int_lt (high_of (box_of (with_part boxes.now x part.now) i.2)) load.value) }
+    ensures { result ≡ (fixed_at (box_of (with_part boxes.now x part.now) i.0) at.value
+        && int_lt (high_of (box_of (with_part boxes.now x part.now) i.2)) load.value) }
 {
     is_fixed(boxes, x, part, i.0, at) && !load.is_upto(greatest(boxes, x, part, i.2))
 }
@@ -89,8 +91,10 @@ pub fn overfilled(
 ) -> Option<usize>
     requires var { x < length boxes.now }
     requires items { AreItemsNamed items.now boxes.now }
-    ensures some { IfSome result (λ k. IsOverfilled at.value items.now (with_part boxes.now x part.now) k) }
-    ensures none { IfNone result (some_over at.value (fixed_load at.value items.now (with_part boxes.now x part.now)) items.now (with_part boxes.now x part.now) ≡ false) }
+    ensures some { IfSome result (λ k. IsOverfilled at.value items.now
+        (with_part boxes.now x part.now) k) }
+    ensures none { IfNone result (some_over at.value (fixed_load at.value items.now
+        (with_part boxes.now x part.now)) items.now (with_part boxes.now x part.now) ≡ false) }
 {
     let load = load_at(items, boxes, x, part, at);
     let mut k = 0;
@@ -128,8 +132,10 @@ fn say_item(
 ) -> Result<Number, AllocError>
     requires ground { IsPart domains.now boxes.now items.now x part.now }
     requires there { m < length items.now }
-    requires so_far { AreOverfull at.value items.now domains.now (with_part boxes.now x part.now) m spare.value literals.old.items }
-    ensures { IfOk result (λ left. AreOverfull at.value items.now domains.now (with_part boxes.now x part.now) (m + 1) left.value literals.new.items) }
+    requires so_far { AreOverfull at.value items.now domains.now (with_part boxes.now x part.now) m
+        spare.value literals.old.items }
+    ensures { IfOk result (λ left. AreOverfull at.value items.now domains.now
+        (with_part boxes.now x part.now) (m + 1) left.value literals.new.items) }
 {
     let i = items[m];
     if !is_fixed(boxes, x, part, i.0, at) {
@@ -160,8 +166,10 @@ fn say_load(
     spare: Number,
 ) -> Result<Number, AllocError>
     requires ground { IsPart domains.now boxes.now items.now x part.now }
-    requires so_far { AreOverfull at.value items.now domains.now (with_part boxes.now x part.now) 0 spare.value literals.old.items }
-    ensures { IfOk result (λ left. AreOverfull at.value items.now domains.now (with_part boxes.now x part.now) (length items.now) left.value literals.new.items) }
+    requires so_far { AreOverfull at.value items.now domains.now (with_part boxes.now x part.now) 0
+        spare.value literals.old.items }
+    ensures { IfOk result (λ left. AreOverfull at.value items.now domains.now
+        (with_part boxes.now x part.now) (length items.now) left.value literals.new.items) }
 {
     let mut left = spare;
     for m in 0..items.len() {

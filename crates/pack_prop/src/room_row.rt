@@ -36,7 +36,8 @@ fn lift(p: (i64, i64), high: Number) -> (i64, i64)
 fn lift_span(row: &mut [(i64, i64)], span: Span, high: Number)
     requires within { span.end ≤ length row.old }
     ensures size { length row.new ≡ length row.old }
-    ensures row { (e : ℕ) → e < length row.old → slice_index_or row.new e (pos 0, pos 0) ≡ lifted (is_in span e) high.value (slice_index_or row.old e (pos 0, pos 0)) }
+    ensures row { (e : ℕ) → e < length row.old → slice_index_or row.new e (pos 0, pos 0)
+        ≡ lifted (is_in span e) high.value (slice_index_or row.old e (pos 0, pos 0)) }
 {
     for e in span.begin..span.end {
         row[e] = lift(row[e], high);
@@ -46,7 +47,9 @@ fn lift_span(row: &mut [(i64, i64)], span: Span, high: Number)
 /// Lifts the entries of the range's values, of a row of values from `first` on.
 fn lift_range(row: &mut [(i64, i64)], r: (i64, i64), high: Number, first: Number)
     ensures size { length row.new ≡ length row.old }
-    ensures row { (e : ℕ) → e < length row.old → slice_index_or row.new e (pos 0, pos 0) ≡ lifted (in_range r (first.value +ℤ pos e)) high.value (slice_index_or row.old e (pos 0, pos 0)) }
+    ensures row { (e : ℕ) → e < length row.old → slice_index_or row.new e (pos 0, pos 0)
+        ≡ lifted (in_range r (first.value +ℤ pos e)) high.value
+        (slice_index_or row.old e (pos 0, pos 0)) }
 {
     let span = span_of(r, first, row.len());
     lift_span(row, span, high);
@@ -55,7 +58,9 @@ fn lift_range(row: &mut [(i64, i64)], r: (i64, i64), high: Number, first: Number
 /// Lifts the entries of the set's values.
 fn lift_ranges(row: &mut [(i64, i64)], ranges: &[(i64, i64)], high: Number, first: Number)
     ensures size { length row.new ≡ length row.old }
-    ensures row { (e : ℕ) → e < length row.old → slice_index_or row.new e (pos 0, pos 0) ≡ lifted (has ranges.now (first.value +ℤ pos e)) high.value (slice_index_or row.old e (pos 0, pos 0)) }
+    ensures row { (e : ℕ) → e < length row.old → slice_index_or row.new e (pos 0, pos 0)
+        ≡ lifted (has ranges.now (first.value +ℤ pos e)) high.value
+        (slice_index_or row.old e (pos 0, pos 0)) }
 {
     let mut j = ranges.len();
     while 0 < j {
@@ -86,7 +91,8 @@ fn add_item(
     requires var { x < length boxes.now }
     requires items { AreItemsNamed items.now boxes.now }
     requires within { k < length items.now }
-    requires behind { HasRooms row.old first.value (drop (suc k) items.now) (with_part boxes.now x part.now) }
+    requires behind { HasRooms row.old first.value (drop (suc k) items.now)
+        (with_part boxes.now x part.now) }
     ensures size { length row.new ≡ length row.old }
     ensures row { HasRooms row.new first.value (drop k items.now) (with_part boxes.now x part.now) }
 {
@@ -171,7 +177,8 @@ pub fn best_row(
     requires low { pos 0 ≤ℤ first.value }
     requires high { first.value ≤ℤ pos 9999 }
     requires few { n ≤ 10000 }
-    ensures { IfOk result (λ row. row.items ≡ best_rooms n first.value items.now (with_part boxes.now x part.now)) }
+    ensures { IfOk result (λ row. row.items ≡ best_rooms n first.value items.now
+        (with_part boxes.now x part.now)) }
 {
     let mut row = bare_row(alloc, first, n)?;
     add_items(row.as_mut_slice(), items, boxes, x, part, first);
@@ -218,7 +225,8 @@ pub fn raise(
 /// The set, with the value where its room is less than `high`.
 fn with_short(alloc: Global, set: IntSet, p: (i64, i64), high: Number) -> Result<IntSet, AllocError>
     ensures valid { IfOk result (λ s. IsValid s) }
-    ensures values { IfOk result (λ s. (v : ℤ) → has s v ≡ (has set v || (int_eq p.0 v && int_lt p.1 high.value))) }
+    ensures values { IfOk result (λ s. (v : ℤ) → has s v
+        ≡ (has set v || (int_eq p.0 v && int_lt p.1 high.value))) }
 {
     if p.1 < high.value {
         set.join(&IntSet::range(alloc, p.0, p.0))
@@ -238,7 +246,8 @@ pub fn short_values(
     high: Number,
 ) -> Result<IntSet, AllocError>
     ensures valid { IfOk result (λ s. IsValid s) }
-    ensures values { IfOk result (λ s. (v : ℤ) → has s v ≡ (has set.now v && is_short v high.value row.now)) }
+    ensures values { IfOk result (λ s. (v : ℤ) → has s v
+        ≡ (has set.now v && is_short v high.value row.now)) }
 {
     let mut short = IntSet::empty(alloc);
     for p in row {

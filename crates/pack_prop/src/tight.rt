@@ -295,8 +295,10 @@ fn excess(
     requires rooms { AreBestRooms first.value best_rooms.now items.now boxes.now }
     ensures some { IfSome result (λ t. t.var < length boxes.now) }
     ensures enough { IfNone result (least_sizes items.now boxes.now ≤ℤ firsts best_rooms.now) }
-    ensures grow { IfNone result (all_grow (least_sizes items.now boxes.now) (firsts best_rooms.now) items.now boxes.now ≡ true) }
-    ensures loose { IfNone result (all_loose (least_sizes items.now boxes.now) best_rooms.now items.now boxes.now ≡ true) }
+    ensures grow { IfNone result (all_grow (least_sizes items.now boxes.now) (firsts best_rooms.now)
+        items.now boxes.now ≡ true) }
+    ensures loose { IfNone result (all_loose (least_sizes items.now boxes.now) best_rooms.now
+        items.now boxes.now ≡ true) }
 {
     let need = sizes_of(items, boxes);
     let all = firsts_of(best_rooms);

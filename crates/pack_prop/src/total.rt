@@ -83,8 +83,10 @@ fn seat(
     requires ground { IsPart domains.now boxes.now items.now x part.now }
     requires there { k < length items.now }
     requires sizes { sizes.value ≡ least_sizes items.now (with_part boxes.now x part.now) }
-    requires so_far { AreTotalled items.now domains.now (with_part boxes.now x part.now) k 0 row.items (pos 0) literals.old.items }
-    ensures { IfOk result (λ r. AreTotalled items.now domains.now (with_part boxes.now x part.now) (k + 1) 0 r.items (pos 0) literals.new.items) }
+    requires so_far { AreTotalled items.now domains.now (with_part boxes.now x part.now) k 0
+        row.items (pos 0) literals.old.items }
+    ensures { IfOk result (λ r. AreTotalled items.now domains.now (with_part boxes.now x part.now)
+        (k + 1) 0 r.items (pos 0) literals.new.items) }
 {
     let y = items[k].0;
     let high = say_room(alloc, literals, items, k, domains, boxes, x, part)?;
@@ -111,8 +113,10 @@ fn seat_all(
 ) -> Result<Vec<(i64, i64)>, AllocError>
     requires ground { IsPart domains.now boxes.now items.now x part.now }
     requires sizes { sizes.value ≡ least_sizes items.now (with_part boxes.now x part.now) }
-    requires so_far { AreTotalled items.now domains.now (with_part boxes.now x part.now) 0 0 row.items (pos 0) literals.old.items }
-    ensures { IfOk result (λ r. AreTotalled items.now domains.now (with_part boxes.now x part.now) (length items.now) 0 r.items (pos 0) literals.new.items) }
+    requires so_far { AreTotalled items.now domains.now (with_part boxes.now x part.now) 0 0
+        row.items (pos 0) literals.old.items }
+    ensures { IfOk result (λ r. AreTotalled items.now domains.now (with_part boxes.now x part.now)
+        (length items.now) 0 r.items (pos 0) literals.new.items) }
 {
     let mut seated = row;
     for k in 0..items.len() {
@@ -162,8 +166,10 @@ fn weigh(
 ) -> Result<Number, AllocError>
     requires ground { IsPart domains.now boxes.now items.now x part.now }
     requires there { m < length items.now }
-    requires so_far { AreWeighed items.now domains.now (with_part boxes.now x part.now) m spare.value literals.old.items }
-    ensures { IfOk result (λ left. AreWeighed items.now domains.now (with_part boxes.now x part.now) (m + 1) left.value literals.new.items) }
+    requires so_far { AreWeighed items.now domains.now (with_part boxes.now x part.now) m
+        spare.value literals.old.items }
+    ensures { IfOk result (λ left. AreWeighed items.now domains.now (with_part boxes.now x part.now)
+        (m + 1) left.value literals.new.items) }
 {
     let y = items[m].1;
     let low = with_part::least(boxes, x, part, y);
@@ -188,8 +194,10 @@ fn weigh_all(
     spare: Number,
 ) -> Result<Number, AllocError>
     requires ground { IsPart domains.now boxes.now items.now x part.now }
-    requires so_far { AreWeighed items.now domains.now (with_part boxes.now x part.now) 0 spare.value literals.old.items }
-    ensures { IfOk result (λ left. AreWeighed items.now domains.now (with_part boxes.now x part.now) (length items.now) left.value literals.new.items) }
+    requires so_far { AreWeighed items.now domains.now (with_part boxes.now x part.now) 0
+        spare.value literals.old.items }
+    ensures { IfOk result (λ left. AreWeighed items.now domains.now (with_part boxes.now x part.now)
+        (length items.now) left.value literals.new.items) }
 {
     let mut left = spare;
     for m in 0..items.len() {

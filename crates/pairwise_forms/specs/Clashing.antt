@@ -17,7 +17,8 @@ use Rattle.pairwise_forms.specs.KeyValues.{key, HasKey}
 
 -- both are kept, and have one value
 abbrev pub clash_at : Keyed → Keyed → List ℤ → Bool
-clash_at e f a = (truth_at e.kept a && truth_at f.kept a) && int_eq (value_of a e.key) (value_of a f.key)
+clash_at e f a =
+    (truth_at e.kept a && truth_at f.kept a) && int_eq (value_of a e.key) (value_of a f.key)
 
 -- some two of them do
 abbrev pub some_clash : List Keyed → List ℤ → Bool
@@ -44,4 +45,5 @@ pub record HasKeyPart (boxes : Boxes) (p : Part) : Type 0 where
 -- the members of the parts in every world, in order
 pub record AreKeyed (g : Ground) (ps : List Part) (es : List Keyed) : Type 0 where
   pub exist : All (IsKeyed (length g.domains)) es
-  pub seen : (a : List ℤ) → IsWorld g a → map (λ (e : Keyed). kept_key e a) es ≡ map (λ (p : Part). part_key p a) ps
+  pub seen : (a : List ℤ) → IsWorld g a → map (λ (e : Keyed). kept_key e a) es
+      ≡ map (λ (p : Part). part_key p a) ps

@@ -45,4 +45,5 @@ pub record IsKeyOf (g : Ground) (f : Form) (x : ℕ) : Type 0 where
 pub record AreConstants (g : Ground) (pairs items : List (ℤ × ℕ)) : Type 0 where
   pub exist : All (λ t. t.1 < length g.domains) items
   pub values : map (λ (t : ℤ × ℕ). t.0) items ≡ map (λ (p : ℤ × ℕ). p.0) pairs
-  pub numbers : (a : List ℤ) → IsWorld g a → map (λ (t : ℤ × ℕ). value_of a t.1) items ≡ map (λ (p : ℤ × ℕ). pos p.1) pairs
+  pub numbers : (a : List ℤ) → IsWorld g a → map (λ (t : ℤ × ℕ). value_of a t.1) items
+      ≡ map (λ (p : ℤ × ℕ). pos p.1) pairs

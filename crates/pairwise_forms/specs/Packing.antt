@@ -1,5 +1,5 @@
--- Items that are packed. What a reader believes after this file: how much counts at an item's place,
--- and when that is more than its room.
+-- Items that are packed. What a reader believes after this file: how much counts at an item's
+-- place, and when that is more than its room.
 use Rattle.std.specs.Prelude.{◌≡◌, ◌<◌, ◌^◌, Bool, true, not, ◌&&◌, cond, List, ℤ, pos, length, map, int_le, slice_index_or}
 use Rattle.std.specs.List.{All, list_any}
 use Rattle.std.specs.Ordering.{int_eq}
@@ -54,7 +54,14 @@ pub record Seen : Type 0 where
   pub room : ℤ
 
 abbrev pub seen_item : Packed → List ℤ → Seen
-seen_item e a = record { kept = truth_at e.kept a; place = value_of a e.place; size = linear_at e.size a; room = linear_at e.room a }
+seen_item e a =
+    record {
+      kept = truth_at e.kept a;
+      place = value_of a e.place;
+      size = linear_at e.size a;
+      room
+          = linear_at e.room a;
+    }
 
 abbrev pub seen_part : Part → List ℤ → Seen
 seen_part p a = record {
@@ -75,7 +82,8 @@ pub record HasItemPart (boxes : Boxes) (p : Part) : Type 0 where
 pub record AreItems (g : Ground) (ps : List Part) (es : List Packed) : Type 0 where
   pub exist : All (IsPacked g.domains) es
   pub sizes : map (λ (e : Packed). e.size) es ≡ map (λ (p : Part). second_number p.bodies.items) ps
-  pub seen : (a : List ℤ) → IsWorld g a → map (λ (e : Packed). seen_item e a) es ≡ map (λ (p : Part). seen_part p a) ps
+  pub seen : (a : List ℤ) → IsWorld g a → map (λ (e : Packed). seen_item e a) es
+      ≡ map (λ (p : Part). seen_part p a) ps
 
 -- the items' sizes lie in one interval, and so many times the interval is narrow
 pub record AreNarrow (boxes : Boxes) (es : List Packed) : Type 0 where

@@ -21,7 +21,8 @@ item_values e a = (value_of a e.place, linear_at e.size a, linear_at e.room a)
 -- the variables of the items in every world, in order
 pub record AreRows (g : Ground) (es : List Packed) (rows : List (ℕ × ℕ × ℕ)) : Type 0 where
   pub exist : All (AreItemVariables g) rows
-  pub seen : (a : List ℤ) → IsWorld g a → map (λ (r : ℕ × ℕ × ℕ). row_values r a) rows ≡ map (λ (e : Packed). item_values e a) es
+  pub seen : (a : List ℤ) → IsWorld g a → map (λ (r : ℕ × ℕ × ℕ). row_values r a) rows
+      ≡ map (λ (e : Packed). item_values e a) es
 
 -- a row's place and size are small, and so much is left without its greatest size
 pub record IsSmallRow (boxes : Boxes) (r : ℕ × ℕ × ℕ) (left rest : ℕ) : Type 0 where

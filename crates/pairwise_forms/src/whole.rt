@@ -183,7 +183,8 @@ fn are_bounded(boxes: &[IntSet], rows: &[(u32, u32, u32)]) -> bool
 fn state_none_overfull(maker: &mut Maker, items: &[Packed]) -> Result<(), AllocError>
     requires items { All (IsPacked maker.old.domains) items.now }
     requires narrow { AreNarrow maker.old.domains items.now }
-    ensures says { OnOk result (Adds [] maker.old maker.new (λ a. not (some_overfull items.now a))) }
+    ensures says { OnOk result (Adds [] maker.old maker.new
+        (λ a. not (some_overfull items.now a))) }
 {
     let t = none_overfull(maker, items)?;
     maker.ask(1)?;
@@ -196,7 +197,8 @@ fn require_fitting(maker: &mut Maker, items: &[Packed]) -> Result<(), AllocError
     requires items { All (IsPacked maker.old.domains) items.now }
     requires narrow { AreNarrow maker.old.domains items.now }
     requires kept { All (λ e. e.kept ≡ truth.Fixed true) items.now }
-    ensures says { OnOk result (Adds [] maker.old maker.new (λ a. not (some_overfull items.now a))) }
+    ensures says { OnOk result (Adds [] maker.old maker.new
+        (λ a. not (some_overfull items.now a))) }
 {
     let rows = rows_of(maker, items)?;
     maker.ask(1)?;

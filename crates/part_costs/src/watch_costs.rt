@@ -57,7 +57,8 @@ fn full_boxes(alloc: Global) -> Result<Vec<IntSet>, AllocError> {
     Ok(boxes)
 }
 
-/// So many clauses over the changed variables, and so many over the others; all have been looked at.
+/// So many clauses over the changed variables, and so many over the others; all have been looked
+/// at.
 fn filled(
     alloc: Global,
     numbers: &mut Numbers,

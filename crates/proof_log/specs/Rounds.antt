@@ -19,4 +19,9 @@ empty = record { ground = None; lines = []; rounds = [] }
 abbrev pub closed : Option Ground → Journal → List ℕ → Journal
 closed None journal part = journal
 closed (Some g) journal part =
-    record { ground = None; lines = []; rounds = journal.rounds ++ record { ground = g; lines = journal.lines; part = part } ∷ [] }
+    record {
+      ground = None;
+      lines = [];
+      rounds = journal.rounds
+          ++ record { ground = g; lines = journal.lines; part = part } ∷ [];
+    }

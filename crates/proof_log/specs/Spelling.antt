@@ -14,7 +14,9 @@ use Rattle.log_form.specs.declared.line.Line.TheVariants.{Axiom, Chain, Bound, U
 
 -- a range: both ends with two points between, or the one value alone
 abbrev pub range_text : ℤ × ℤ → List ℕ
-range_text r = cond (int_eq r.0 r.1) (signed_decimal r.0) (signed_decimal r.0 ++ codes ".." ++ signed_decimal r.1)
+range_text r =
+    cond (int_eq r.0 r.1) (signed_decimal r.0) (signed_decimal r.0 ++ codes ".."
+    ++ signed_decimal r.1)
 
 -- texts, each with the separator before it
 abbrev pub behind : ℕ → List (List ℕ) → List ℕ
@@ -53,7 +55,8 @@ word_of (Empty x) = codes "empty"
 -- what stands behind it
 abbrev pub pieces_of : Line → List (List ℕ)
 pieces_of (Axiom k c) = decimal k ∷ map literal_text c
-pieces_of (Chain chain c) = decimal chain.first ∷ map step_text chain.steps ++ codes "=" ∷ map literal_text c
+pieces_of (Chain chain c) =
+    decimal chain.first ∷ map step_text chain.steps ++ codes "=" ∷ map literal_text c
 pieces_of (Bound values) = map signed_decimal values
 pieces_of (Use i) = decimal i ∷ []
 pieces_of (Found values) = map signed_decimal values

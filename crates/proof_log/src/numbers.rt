@@ -27,7 +27,8 @@ pub fn number_of(text: &[u8]) -> Option<u64>
 
 /// Whether the text is not empty, and begins with a zero only where it is that alone.
 fn begins_well(text: &[u8]) -> bool
-    ensures { IsTrue result ↔ (0 < length text.now) × (slice_index_or text.now 0 0 ≡ 48 → length text.now ≡ 1) }
+    ensures { IsTrue result ↔ (0 < length text.now) × (slice_index_or text.now 0 0 ≡ 48
+        → length text.now ≡ 1) }
 {
     !text.is_empty() && (text[0] != b'0' || text.len() == 1)
 }

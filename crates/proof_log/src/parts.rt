@@ -47,7 +47,8 @@ pub fn next_part(text: &[u8], separator: u8) -> Option<(&[u8], &[u8])>
 
 /// The bytes up to the first LF, and those behind it.
 pub fn ended_line(text: &[u8]) -> Option<(&[u8], &[u8])>
-    ensures some { IfSome result (λ parts. (text.now ≡ parts.0.now ++ 10 ∷ parts.1.now) × (lacks 10 parts.0.now ≡ true)) }
+    ensures some { IfSome result (λ parts. (text.now ≡ parts.0.now ++ 10 ∷ parts.1.now)
+        × (lacks 10 parts.0.now ≡ true)) }
     ensures none { IfNone result (lacks 10 text.now ≡ true) }
 {
     let (line, rest) = split_before(text, b'\n');

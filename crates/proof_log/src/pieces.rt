@@ -31,8 +31,10 @@ fn range_of(text: &[u8]) -> Option<(i64, i64)>
 
 /// The range from `low` to the value of a text behind two points, where that is above.
 fn range_to(low: i64, text: &[u8]) -> Option<(i64, i64)>
-    ensures some { IfSome result (λ r. (r.0 ≡ low) × (low <ℤ r.1) × IsTextOf (λ v. 46 ∷ 46 ∷ signed_decimal v) IsSigned text.now r.1) }
-    ensures none { IfNone result ((v : ℤ) → low <ℤ v → IsSigned v → text.now ≡ 46 ∷ 46 ∷ signed_decimal v → ⊥) }
+    ensures some { IfSome result (λ r. (r.0 ≡ low) × (low <ℤ r.1)
+        × IsTextOf (λ v. 46 ∷ 46 ∷ signed_decimal v) IsSigned text.now r.1) }
+    ensures none { IfNone result ((v : ℤ) → low <ℤ v → IsSigned v → text.now
+        ≡ 46 ∷ 46 ∷ signed_decimal v → ⊥) }
 {
     let rest = behind_separator(text, b'.')?;
     let rest = behind_separator(rest, b'.')?;
@@ -45,7 +47,8 @@ fn push_ranges(out: &mut Vec<(i64, i64)>, texts: &[u8]) -> Result<(), LineError>
     requires right { AllByRecursion IsRange out.old.items }
     requires heads { heads 44 texts.now ≡ true }
     ensures right { OnOk result (AllByRecursion IsRange out.new.items) }
-    ensures ok { OnOk result (behind 44 (map range_text out.old.items) ++ texts.now ≡ behind 44 (map range_text out.new.items)) }
+    ensures ok { OnOk result (behind 44 (map range_text out.old.items) ++ texts.now
+        ≡ behind 44 (map range_text out.new.items)) }
     ensures bad { IsErrOf result BadLine → (rs : List (ℤ × ℤ)) → AllByRecursion IsRange rs
         → behind 44 (map range_text out.old.items) ++ texts.now ≡ behind 44 (map range_text rs) → ⊥ }
 {
@@ -64,7 +67,8 @@ fn push_ranges(out: &mut Vec<(i64, i64)>, texts: &[u8]) -> Result<(), LineError>
 fn ranges_of(alloc: Global, text: &[u8]) -> Result<Vec<(i64, i64)>, LineError>
     ensures right { IfOk result (λ rs. AllByRecursion IsRange rs.items) }
     ensures ok { IfOk result (λ rs. text.now ≡ set_text rs.items) }
-    ensures bad { IsErrOf result BadLine → IsTextOfNone set_text (λ rs. AllByRecursion IsRange rs) text.now }
+    ensures bad { IsErrOf result BadLine → IsTextOfNone set_text (λ rs. AllByRecursion IsRange rs)
+        text.now }
 {
     let mut out = Vec::new(alloc);
     if text.is_empty() {

@@ -130,7 +130,8 @@ fn decide_of(alloc: Global, texts: &[u8]) -> Result<Line, LineError>
 /// The number that the first text is, and the texts behind it.
 fn number_first(texts: &[u8]) -> Option<(u64, &[u8])>
     ensures some { IfSome result (λ f. IsNumberFirst (2 ^ 64) texts.now f.0 f.1.now) }
-    ensures none { IfNone result ((n : ℕ) (ps : List (List ℕ)) → n < 2 ^ 64 → texts.now ≡ behind 32 (decimal n ∷ ps) → ⊥) }
+    ensures none { IfNone result ((n : ℕ) (ps : List (List ℕ)) → n < 2 ^ 64 → texts.now
+        ≡ behind 32 (decimal n ∷ ps) → ⊥) }
 {
     let (text, rest) = next_part(texts, b' ')?;
     Some((number_of(text)?, rest))
@@ -139,7 +140,8 @@ fn number_first(texts: &[u8]) -> Option<(u64, &[u8])>
 /// The same of a number of 32 bits.
 fn small_first(texts: &[u8]) -> Option<(u32, &[u8])>
     ensures some { IfSome result (λ f. IsNumberFirst (2 ^ 32) texts.now f.0 f.1.now) }
-    ensures none { IfNone result ((n : ℕ) (ps : List (List ℕ)) → n < 2 ^ 32 → texts.now ≡ behind 32 (decimal n ∷ ps) → ⊥) }
+    ensures none { IfNone result ((n : ℕ) (ps : List (List ℕ)) → n < 2 ^ 32 → texts.now
+        ≡ behind 32 (decimal n ∷ ps) → ⊥) }
 {
     let (text, rest) = next_part(texts, b' ')?;
     Some((small_number_of(text)?, rest))
@@ -150,7 +152,8 @@ fn clause_of(alloc: Global, texts: &[u8]) -> Result<ClauseHandle, LineError>
     requires heads { heads 32 texts.now ≡ true }
     ensures right { IfOk result (λ c. AreLiterals c) }
     ensures ok { IfOk result (λ c. texts.now ≡ behind 32 (map literal_text c)) }
-    ensures bad { IsErrOf result BadLine → (c : Literals) → AreLiterals c → texts.now ≡ behind 32 (map literal_text c) → ⊥ }
+    ensures bad { IsErrOf result BadLine → (c : Literals) → AreLiterals c → texts.now
+        ≡ behind 32 (map literal_text c) → ⊥ }
 {
     let literals = literals_of(alloc, texts)?;
     match Clause::of(literals) {
@@ -174,7 +177,8 @@ fn handle_of(alloc: Global, clause: Clause) -> Result<ClauseHandle, LineError>
 fn steps_of(alloc: Global, texts: &[u8]) -> Result<(Vec<(u32, u64)>, &[u8]), LineError>
     requires heads { heads 32 texts.now ≡ true }
     ensures right { IfOk result (λ f. AllByRecursion IsStep f.0.items × (heads 32 f.1.now ≡ true)) }
-    ensures ok { IfOk result (λ f. texts.now ≡ behind 32 (map step_text f.0.items) ++ (32 ∷ 61 ∷ f.1.now)) }
+    ensures ok { IfOk result (λ f. texts.now ≡ behind 32 (map step_text f.0.items)
+        ++ (32 ∷ 61 ∷ f.1.now)) }
     ensures bad { IsErrOf result BadLine → (ss : List (ℕ × ℕ)) (ps : List (List ℕ)) → AllByRecursion IsStep ss → AllByRecursion (λ p. lacks 32 p ≡ true) ps
         → texts.now ≡ behind 32 (map step_text ss ++ codes "=" ∷ ps) → ⊥ }
 {

@@ -129,7 +129,8 @@ fn push_more_ranges(out: &mut Vec<u8>, ranges: &[(i64, i64)]) -> Result<(), Allo
 
 /// Adds the literals of a clause.
 fn push_clause(out: &mut Vec<u8>, clause: &Clause) -> Result<(), AllocError>
-    ensures { OnOk result (out.new.items ≡ out.old.items ++ behind 32 (map literal_text clause.now)) }
+    ensures { OnOk result (out.new.items ≡ out.old.items
+        ++ behind 32 (map literal_text clause.now)) }
 {
     let literals = clause.literals();
     for l in literals {
@@ -149,7 +150,8 @@ fn push_literal(out: &mut Vec<u8>, l: &(u32, IntSet)) -> Result<(), AllocError>
 
 /// Adds where a chain begins, and its steps.
 fn push_chain(out: &mut Vec<u8>, chain: &Chain) -> Result<(), AllocError>
-    ensures { OnOk result (out.new.items ≡ out.old.items ++ behind 32 (decimal chain.now.first ∷ map step_text chain.now.steps)) }
+    ensures { OnOk result (out.new.items ≡ out.old.items
+        ++ behind 32 (decimal chain.now.first ∷ map step_text chain.now.steps)) }
 {
     push_piece(out, chain.first)?;
     push_steps(out, chain.steps.items())
@@ -176,7 +178,8 @@ fn push_step(out: &mut Vec<u8>, s: (u32, u64)) -> Result<(), AllocError>
 
 /// Adds values.
 fn push_values(out: &mut Vec<u8>, values: &[i64]) -> Result<(), AllocError>
-    ensures { OnOk result (out.new.items ≡ out.old.items ++ behind 32 (map signed_decimal values.now)) }
+    ensures { OnOk result (out.new.items ≡ out.old.items
+        ++ behind 32 (map signed_decimal values.now)) }
 {
     for v in values {
         out.push(b' ')?;

@@ -30,7 +30,8 @@ body_values p a = form_values p.bodies.items a
 -- those at the members that meet the filter, in order
 abbrev pub kept_values : List Part → List ℤ → List (List Value)
 kept_values [] a = []
-kept_values (p ∷ ps) a = cond (truth_at p.kept a) (body_values p a ∷ kept_values ps a) (kept_values ps a)
+kept_values (p ∷ ps) a =
+    cond (truth_at p.kept a) (body_values p a ∷ kept_values ps a) (kept_values ps a)
 
 -- a quantifier over such values
 abbrev pub over_values : QuantKind → List (List Value) → Value

@@ -82,6 +82,8 @@ share_interval kind.Pack first = none
 -- keeps to the interval of the language
 pub record IsQuantified (old new : Ground) (kind : QuantKind) (ps : List Part) (f : Form) : Type 0 where
   pub value : (a : List ℤ) → IsWorld new a → form_value f a ≡ over_values kind (kept_values ps a)
-  pub number : (first second : Interval) (n : ℕ) → All (IsPart old.domains first) ps → length ps ≤ n → IsSum new.domains (quantifier_interval kind n first second).low (quantifier_interval kind n first second).high (number_part f)
+  pub number : (first second : Interval) (n : ℕ) → All (IsPart old.domains first) ps → length ps ≤ n
+      → IsSum new.domains (quantifier_interval kind n first second).low
+      (quantifier_interval kind n first second).high (number_part f)
   pub truth : HasVariable (length new.domains) (truth_part f)
   pub typed : (o : Outline) → IsFormOf o new.domains (quant_result kind) f

@@ -33,7 +33,8 @@ IsMappedChoice x map (choice.Mapped y ps) = (y ≡ x) × (ps.items ≡ map)
 
 -- the form of attribute k, of this shape, of the object that the pairs give for the value of x
 pub record IsMappedForm (o : Outline) (g : Ground) (x : ℕ) (pairs : List (ℤ × ℕ)) (k : ℕ) (s : Resolved) (f : Form) : Type 0 where
-  pub stands : (a : List ℤ) → IsWorld g a → attribute_value o (take g.search a) (Some (number_for (value_of a x) pairs)) k s ≡ form_value f a
+  pub stands : (a : List ℤ) → IsWorld g a → attribute_value o (take g.search a)
+      (Some (number_for (value_of a x) pairs)) k s ≡ form_value f a
   pub number : IsSum g.domains (shape_interval s).low (shape_interval s).high (number_part f)
   pub truth : HasVariable (length g.domains) (truth_part f)
   pub typed : IsFormOf o g.domains (shape_type s) f
@@ -41,7 +42,8 @@ pub record IsMappedForm (o : Outline) (g : Ground) (x : ℕ) (pairs : List (ℤ 
 
 -- the form of attribute k, of this shape, of the chosen object, where a cell's object is of class d
 pub record IsDotForm (o : Outline) (g : Ground) (d : ℕ) (c : Choice) (k : ℕ) (s : Resolved) (f : Form) : Type 0 where
-  pub stands : (a : List ℤ) → IsWorld g a → attribute_value o (take g.search a) (Some (choice_at c a)) k s ≡ form_value f a
+  pub stands : (a : List ℤ) → IsWorld g a → attribute_value o (take g.search a)
+      (Some (choice_at c a)) k s ≡ form_value f a
   pub number : IsSum g.domains (shape_interval s).low (shape_interval s).high (number_part f)
   pub truth : HasVariable (length g.domains) (truth_part f)
   pub typed : IsFormOf o g.domains (shape_type s) f

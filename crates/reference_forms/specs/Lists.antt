@@ -18,7 +18,8 @@ chosen_parts o x k (p ∷ ps) = those_parts x p.0 (parts_of o (Some p.1) k) ++ c
 
 -- each object with the cell that says whether member number i is in its set
 abbrev pub slot_cells : Outline → ℕ → ℕ → List (ℤ × ℕ) → List (ℕ × ℕ)
-slot_cells o k i pairs = map (λ (p : ℤ × ℕ). (p.1, slice_index_or (own_cells o (Some p.1) k) i 0)) pairs
+slot_cells o k i pairs =
+    map (λ (p : ℤ × ℕ). (p.1, slice_index_or (own_cells o (Some p.1) k) i 0)) pairs
 
 -- the objects that may be members, from number i on, each with the objects' cells for it
 abbrev pub slots_from : Outline → ℕ → List (ℤ × ℕ) → ℕ → List ℕ → List (ℕ × List (ℕ × ℕ))

@@ -23,7 +23,8 @@ cell_items o k pairs = map (λ p. (p.0, first_object (own_cells o (Some p.1) k))
 
 -- the boxes of all items' variables have these ends
 abbrev pub AreAlike : Boxes → ℤ × ℤ → List (ℤ × ℕ) → Type 0
-AreAlike boxes ends items = All (λ t. (low_of (box_of boxes t.1), high_of (box_of boxes t.1)) ≡ ends) items
+AreAlike boxes ends items =
+    All (λ t. (low_of (box_of boxes t.1), high_of (box_of boxes t.1)) ≡ ends) items
 
 -- y is the variable of the first item
 abbrev pub IsFirst : ℕ → List (ℤ × ℕ) → Type 0
@@ -45,12 +46,15 @@ pub record HasDomain (o : Outline) (s : Resolved) : Type 0 where
 -- all items are the same, that of y has no other values
 pub record IsPicked (old new : Ground) (index : ℕ) (items : List (ℤ × ℕ)) (y : ℕ) : Type 0 where
   pub exists : y < length new.domains
-  pub value : (a : List ℤ) → IsWorld new a → All (λ t. value_of a index ≡ t.0 → value_of a y ≡ value_of a t.1) items
-  pub within : (s : Ranges) → All (λ t. box_of old.domains t.1 ≡ s) items → (v : ℤ) → has (box_of new.domains y) v ≡ true → has s v ≡ true
+  pub value : (a : List ℤ) → IsWorld new a → All (λ t. value_of a index ≡ t.0 → value_of a y
+      ≡ value_of a t.1) items
+  pub within : (s : Ranges) → All (λ t. box_of old.domains t.1 ≡ s) items → (v : ℤ)
+      → has (box_of new.domains y) v ≡ true → has s v ≡ true
 
 -- in every world y is the cell of attribute k of the object that the map gives for the value of x,
 -- and it has the cell's values
 pub record IsChosenCell (o : Outline) (g : Ground) (x : ℕ) (pairs : List (ℤ × ℕ)) (k : ℕ) (values : Domain) (y : ℕ) : Type 0 where
   pub exists : y < length g.domains
-  pub value : (a : List ℤ) → IsWorld g a → first_value (take g.search a) (own_cells o (Some (number_for (value_of a x) pairs)) k) ≡ value_of a y
+  pub value : (a : List ℤ) → IsWorld g a → first_value (take g.search a)
+      (own_cells o (Some (number_for (value_of a x) pairs)) k) ≡ value_of a y
   pub within : (v : ℤ) → has (box_of g.domains y) v ≡ true → has (domain_box o values) v ≡ true

@@ -42,4 +42,5 @@ kept_one x s rest = cond (is_nil s) rest ((x, s) ∷ rest)
 -- of each variable of the list, what its domain has beside what is left of it
 abbrev pub kept : Boxes → (ℕ → Ranges) → List ℕ → Literals
 kept domains leaves [] = []
-kept domains leaves (x ∷ xs) = kept_one x (less (box_of domains x) (leaves x)) (kept domains leaves xs)
+kept domains leaves (x ∷ xs) =
+    kept_one x (less (box_of domains x) (leaves x)) (kept domains leaves xs)

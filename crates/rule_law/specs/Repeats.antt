@@ -49,7 +49,8 @@ is_again (Some y) x = y == x
 -- the numbers of the list that are the same as the one before
 abbrev pub doubles_after : Option ℕ → List ℕ → List ℕ
 doubles_after last [] = []
-doubles_after last (x ∷ xs) = cond (is_again last x) (x ∷ doubles_after (Some x) xs) (doubles_after (Some x) xs)
+doubles_after last (x ∷ xs) =
+    cond (is_again last x) (x ∷ doubles_after (Some x) xs) (doubles_after (Some x) xs)
 
 -- the list at the place is xs
 abbrev pub IsKept : List (List ℕ × List ℕ) → ℕ → List ℕ → Type 0

@@ -59,7 +59,8 @@ pub fn keep_out(
     domain: &IntSet,
     left: &IntSet,
 ) -> Result<(), AllocError>
-    ensures { OnOk result (literals.new.items ≡ literals.old.items ++ kept_one x (less domain.now left.now) []) }
+    ensures { OnOk result (literals.new.items ≡ literals.old.items
+        ++ kept_one x (less domain.now left.now) []) }
 {
     let out = domain.less(left)?;
     if !out.is_empty() {

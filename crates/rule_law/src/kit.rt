@@ -57,7 +57,8 @@ fn begin_all(list: &mut [Box<dyn Propagator>])
 /// Which member is the first that handles the kind, where one does.
 fn first_for(list: &[Box<dyn Propagator>], kind: Kind) -> Option<usize>
     ensures within { IfSome result (λ i. i < length list.now) }
-    ensures handles { IfSome result (λ i. (d : _) → handled (slice_index_or list.now i d) kind ≡ true) }
+    ensures handles { IfSome result (λ i. (d : _) → handled (slice_index_or list.now i d) kind
+        ≡ true) }
     ensures none { IfNone result (covers (map (λ p. handled p) list.now) kind ≡ false) }
 {
     let mut i = 0;
@@ -79,9 +80,11 @@ fn prune_one(
 ) -> Result<Option<Clause>, AllocError>
     requires well_made { IsWellMade g.now }
     requires con { k < length g.now.cons }
-    requires handled { IfSome (slice_get g.now.cons k) (λ con. handled p.old (kinds.kind_of con) ≡ true) }
+    requires handled { IfSome (slice_get g.now.cons k) (λ con. handled p.old (kinds.kind_of con)
+        ≡ true) }
     requires boxes { AreBoxesWithin g.now.domains boxes.now }
-    ensures answer { IfOk result (λ answer. IfSome (slice_get g.now.cons k) (λ con. IsAnswer con g.now.domains boxes.now answer)) }
+    ensures answer { IfOk result (λ answer. IfSome (slice_get g.now.cons k)
+        (λ con. IsAnswer con g.now.domains boxes.now answer)) }
     ensures handled { handled p.new ≡ handled p.old }
 {
     p.prune(g, k, boxes)
@@ -98,9 +101,11 @@ fn prune_at(
     requires place { place < length list.old }
     requires well_made { IsWellMade g.now }
     requires con { k < length g.now.cons }
-    requires handled { IfSome (slice_get g.now.cons k) (λ con. (d : _) → handled (slice_index_or list.old place d) (kinds.kind_of con) ≡ true) }
+    requires handled { IfSome (slice_get g.now.cons k) (λ con. (d : _)
+        → handled (slice_index_or list.old place d) (kinds.kind_of con) ≡ true) }
     requires boxes { AreBoxesWithin g.now.domains boxes.now }
-    ensures answer { IfOk result (λ answer. IfSome (slice_get g.now.cons k) (λ con. IsAnswer con g.now.domains boxes.now answer)) }
+    ensures answer { IfOk result (λ answer. IfSome (slice_get g.now.cons k)
+        (λ con. IsAnswer con g.now.domains boxes.now answer)) }
     ensures handled { map (λ p. handled p) list.new ≡ map (λ p. handled p) list.old }
 {
     prune_one(&mut list[place], g, k, boxes)
@@ -164,7 +169,8 @@ fn first_members(list: &[Box<dyn Propagator>]) -> [usize; 11]
 /// Which member handles the kind, where one does: the one that the table names, if it does.
 fn member_for(list: &[Box<dyn Propagator>], members: &[usize; 11], kind: Kind) -> Option<usize>
     ensures within { IfSome result (λ i. i < length list.now) }
-    ensures handles { IfSome result (λ i. (d : _) → handled (slice_index_or list.now i d) kind ≡ true) }
+    ensures handles { IfSome result (λ i. (d : _) → handled (slice_index_or list.now i d) kind
+        ≡ true) }
     ensures none { IfNone result (covers (map (λ p. handled p) list.now) kind ≡ false) }
 {
     let i = members[number_of(kind)];
@@ -213,7 +219,8 @@ impl Kit {
     pub fn new(list: Vec<Box<dyn Propagator>>) -> Result<Kit, MissingKind>
         ensures ok { IfOk result (λ kit. kit.list ≡ list) }
         ensures complete { IfOk result (λ kit. CoversAll (map (λ p. handled p) list.items)) }
-        ensures missing { IfErr result (λ e. IsLeastMissing (map (λ p. handled p) list.items) e.kind) }
+        ensures missing { IfErr result (λ e. IsLeastMissing (map (λ p. handled p) list.items)
+            e.kind) }
         ensures list { IfErr result (λ e. e.list ≡ list) }
     {
         match first_missing(list.as_slice()) {
@@ -227,7 +234,8 @@ impl Kit {
 
     /// Lets every member forget what it cached.
     pub fn begin(&mut self)
-        ensures { map (λ p. handled p) self.new.list.items ≡ map (λ p. handled p) self.old.list.items }
+        ensures { map (λ p. handled p) self.new.list.items
+            ≡ map (λ p. handled p) self.old.list.items }
     {
         begin_all(self.list.as_mut_slice());
     }
@@ -247,8 +255,10 @@ impl Kit {
         requires well_made { IsWellMade g.now }
         requires con { k < length g.now.cons }
         requires boxes { AreBoxesWithin g.now.domains boxes.now }
-        ensures answer { IfOk result (λ answer. IfSome (slice_get g.now.cons k) (λ con. IsAnswer con g.now.domains boxes.now answer)) }
-        ensures same { map (λ p. handled p) self.new.list.items ≡ map (λ p. handled p) self.old.list.items }
+        ensures answer { IfOk result (λ answer. IfSome (slice_get g.now.cons k)
+            (λ con. IsAnswer con g.now.domains boxes.now answer)) }
+        ensures same { map (λ p. handled p) self.new.list.items
+            ≡ map (λ p. handled p) self.old.list.items }
     {
         let con = &g.cons.items()[k as usize];
         match member_for(self.list.as_slice(), &self.members, kind_of(con)) {

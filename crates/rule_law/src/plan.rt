@@ -34,7 +34,8 @@ fn keep_entry(
     e: &(u32, IntSet),
 ) -> Result<(), AllocError>
     requires { e.now.0 < length domains.now }
-    ensures { OnOk result (literals.new.items ≡ literals.old.items ++ kept_one e.now.0 (less (box_of domains.now e.now.0) e.now.1) []) }
+    ensures { OnOk result (literals.new.items ≡ literals.old.items
+        ++ kept_one e.now.0 (less (box_of domains.now e.now.0) e.now.1) []) }
 {
     keep_out(literals, e.0, &domains[e.0 as usize], &e.1)?;
     Ok(())

@@ -34,7 +34,8 @@ fn keep_out_of_box(
 ) -> Result<(), AllocError>
     requires domain { x < length domains.now }
     requires var { x < length boxes.now }
-    ensures { OnOk result (literals.new.items ≡ literals.old.items ++ kept_one x (less (box_of domains.now x) (box_of boxes.now x)) []) }
+    ensures { OnOk result (literals.new.items ≡ literals.old.items
+        ++ kept_one x (less (box_of domains.now x) (box_of boxes.now x)) []) }
 {
     keep_out(literals, x, &domains[x as usize], &boxes[x as usize])
 }
@@ -51,7 +52,9 @@ fn keep_out_of_fixed(
 ) -> Result<(), AllocError>
     requires domain { x < length domains.now }
     requires var { x < length boxes.now }
-    ensures { OnOk result (literals.new.items ≡ literals.old.items ++ kept_one x (less (box_of domains.now x) (box_of (fixing boxes.now var value.value) x)) []) }
+    ensures { OnOk result (literals.new.items ≡ literals.old.items
+        ++ kept_one x (less (box_of domains.now x) (box_of (fixing boxes.now var value.value) x))
+        []) }
 {
     if x == var {
         let alone = IntSet::range(*literals.allocator(), value.value, value.value);
@@ -90,7 +93,8 @@ fn value_literals(
 ) -> Result<Vec<(u32, IntSet)>, AllocError>
     requires domains { All (λ x. x < length domains.now) vars.now }
     requires vars { All (λ x. x < length boxes.now) vars.now }
-    ensures { IfOk result (λ ls. ls.items ≡ kept domains.now (λ x. box_of (fixing boxes.now var value.value) x) vars.now) }
+    ensures { IfOk result (λ ls. ls.items
+        ≡ kept domains.now (λ x. box_of (fixing boxes.now var value.value) x) vars.now) }
 {
     let mut literals = Vec::new(alloc);
     for x in vars {

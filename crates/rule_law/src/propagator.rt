@@ -34,8 +34,10 @@ pub trait Propagator: Drop {
     fn prune(&mut self, g: &Ground, k: u32, boxes: &[IntSet]) -> Result<Option<Clause>, AllocError>
         requires well_made { IsWellMade g.now }
         requires con { k < length g.now.cons }
-        requires handled { IfSome (slice_get g.now.cons k) (λ con. handled self.old (kinds.kind_of con) ≡ true) }
+        requires handled { IfSome (slice_get g.now.cons k)
+            (λ con. handled self.old (kinds.kind_of con) ≡ true) }
         requires boxes { AreBoxesWithin g.now.domains boxes.now }
-        ensures answer { IfOk result (λ answer. IfSome (slice_get g.now.cons k) (λ con. IsAnswer con g.now.domains boxes.now answer)) }
+        ensures answer { IfOk result (λ answer. IfSome (slice_get g.now.cons k)
+            (λ con. IsAnswer con g.now.domains boxes.now answer)) }
         ensures handled { handled self.new ≡ handled self.old };
 }

@@ -296,9 +296,12 @@ impl Repeats {
     /// # Errors
     /// Want of memory.
     pub fn occur_once(&mut self, k: u32, con: &Con, x: u32, y: u32) -> Result<bool, AllocError>
-        ensures first { IfOk result (λ once. once ≡ true → is_repeated x (vars_of con.now) ≡ false) }
-        ensures second { IfOk result (λ once. once ≡ true → is_repeated y (vars_of con.now) ≡ false) }
-        ensures exact { IfOk result (λ once. once ≡ (not (is_repeated x (vars_of con.now)) && not (is_repeated y (vars_of con.now)))) }
+        ensures first { IfOk result (λ once. once ≡ true → is_repeated x (vars_of con.now)
+            ≡ false) }
+        ensures second { IfOk result (λ once. once ≡ true → is_repeated y (vars_of con.now)
+            ≡ false) }
+        ensures exact { IfOk result (λ once. once ≡ (not (is_repeated x (vars_of con.now))
+            && not (is_repeated y (vars_of con.now)))) }
     {
         if do_ascend(con) {
             return Ok(true);
@@ -319,7 +322,8 @@ impl Repeats {
         con: &Con,
         boxes: &[IntSet],
     ) -> Result<bool, AllocError>
-        ensures { IfOk result (λ differ. differ ≡ no_repeat (open_vars (vars_of con.now) boxes.now)) }
+        ensures { IfOk result (λ differ. differ
+            ≡ no_repeat (open_vars (vars_of con.now) boxes.now)) }
     {
         if do_ascend(con) {
             return Ok(true);

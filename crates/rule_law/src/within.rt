@@ -11,7 +11,8 @@ use signed_clause::IntSet;
 fn is_part(domains: &[IntSet], boxes: &[IntSet], x: usize) -> bool
     requires boxes { x < length boxes.now }
     requires domains { x < length domains.now }
-    ensures part { result ≡ (is_within (box_of boxes.now x) (box_of domains.now x) && not (is_nil (box_of boxes.now x))) }
+    ensures part { result ≡ (is_within (box_of boxes.now x) (box_of domains.now x)
+        && not (is_nil (box_of boxes.now x))) }
     ensures valid { IsValid (box_of boxes.now x) }
 {
     boxes[x].ranges();

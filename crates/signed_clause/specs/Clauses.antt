@@ -73,13 +73,15 @@ false_in boxes (l ∷ ls) = is_disjoint l.1 (box_of boxes l.0) && false_in boxes
 -- taken away
 abbrev pub alone_of : Boxes → ℕ × List (ℤ × ℤ) → Literals → Option (ℕ × List (ℤ × ℤ))
 alone_of boxes l ls =
-    cond (false_in boxes ls && not (is_within (box_of boxes l.0) l.1)) (Some (l.0, meet l.1 (box_of boxes l.0))) None
+    cond (false_in boxes ls && not (is_within (box_of boxes l.0) l.1))
+    (Some (l.0, meet l.1 (box_of boxes l.0))) None
 
 -- the one literal that meets its box, where the box isn't within its set: its variable, and what is
 -- left of the box
 abbrev pub unit_of : Boxes → Literals → Option (ℕ × List (ℤ × ℤ))
 unit_of boxes [] = None
-unit_of boxes (l ∷ ls) = cond (is_disjoint l.1 (box_of boxes l.0)) (unit_of boxes ls) (alone_of boxes l ls)
+unit_of boxes (l ∷ ls) =
+    cond (is_disjoint l.1 (box_of boxes l.0)) (unit_of boxes ls) (alone_of boxes l ls)
 
 -- ---- resolution
 
@@ -87,7 +89,8 @@ unit_of boxes (l ∷ ls) = cond (is_disjoint l.1 (box_of boxes l.0)) (unit_of bo
 -- another variable the join
 abbrev pub both_literals : ℕ → ℕ × List (ℤ × ℤ) → Ranges → Literals → Literals
 both_literals x l s rest =
-    cond (l.0 == x) (cond (is_nil (meet l.1 s)) rest ((l.0, meet l.1 s) ∷ rest)) ((l.0, join l.1 s) ∷ rest)
+    cond (l.0 == x) (cond (is_nil (meet l.1 s)) rest ((l.0, meet l.1 s) ∷ rest))
+    ((l.0, join l.1 s) ∷ rest)
 
 -- the resolvent of `l ∷ a` and the clause, where `rest` resolves a with what is left of it
 abbrev pub resolve_from : ℕ → (Literals → Literals) → ℕ × List (ℤ × ℤ) → Literals → Literals
@@ -107,4 +110,5 @@ resolvent x (l ∷ a) b = resolve_from x (resolvent x a) l b
 pub record IsResolvent (x : ℕ) (a b c : Literals) : Type 0 where
   pub pivot : set_of c x ≡ meet (set_of a x) (set_of b x)
   pub others : (y : ℕ) → y ≢ x → set_of c y ≡ join (set_of a y) (set_of b y)
-  pub follows : (values : List ℤ) → clause_true a values ≡ true → clause_true b values ≡ true → clause_true c values ≡ true
+  pub follows : (values : List ℤ) → clause_true a values ≡ true → clause_true b values ≡ true
+      → clause_true c values ≡ true

@@ -13,7 +13,8 @@ piece low high rest = cond (int_le low high) ((low, high) ∷ rest) rest
 abbrev pub meet_from : (Ranges → Ranges) → ℤ × ℤ → Ranges → Ranges
 meet_from rest r [] = []
 meet_from rest r (s ∷ b) =
-    piece (int_max r.0 s.0) (int_min r.1 s.1) (cond (int_lt s.1 r.1) (meet_from rest r b) (rest (s ∷ b)))
+    piece (int_max r.0 s.0) (int_min r.1 s.1) (cond (int_lt s.1 r.1) (meet_from rest r b)
+    (rest (s ∷ b)))
 
 -- the values of both
 abbrev pub meet : Ranges → Ranges → Ranges
@@ -45,7 +46,8 @@ abbrev pub with_range : ℤ → ℤ → Ranges → Ranges
 with_range low high [] = (low, high) ∷ []
 with_range low high (s ∷ b) =
     cond (int_lt (s.1 +ℤ pos 1) low) (s ∷ with_range low high b)
-    (cond (int_lt (high +ℤ pos 1) s.0) ((low, high) ∷ s ∷ b) (with_range (int_min low s.0) (int_max high s.1) b))
+    (cond (int_lt (high +ℤ pos 1) s.0) ((low, high) ∷ s ∷ b)
+    (with_range (int_min low s.0) (int_max high s.1) b))
 
 -- the values of either
 abbrev pub join : Ranges → Ranges → Ranges

@@ -7,7 +7,8 @@ use Rattle.signed_clause.specs.Ranges.{Ranges}
 -- low..high and the ranges behind it, fused; none of them begins below low
 abbrev pub fuse : ℤ → ℤ → Ranges → Ranges
 fuse low high [] = (low, high) ∷ []
-fuse low high (s ∷ b) = cond (int_lt (high +ℤ pos 1) s.0) ((low, high) ∷ fuse s.0 s.1 b) (fuse low (int_max high s.1) b)
+fuse low high (s ∷ b) =
+    cond (int_lt (high +ℤ pos 1) s.0) ((low, high) ∷ fuse s.0 s.1 b) (fuse low (int_max high s.1) b)
 
 -- ranges in the order of their starts, fused
 abbrev pub fused : Ranges → Ranges

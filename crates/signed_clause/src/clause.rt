@@ -186,7 +186,8 @@ fn alone(
 fn cuts(l: &(u32, IntSet), rest: &[(u32, IntSet)], boxes: &[IntSet]) -> bool
     requires var { l.now.0 < length boxes.now }
     requires vars { IsWithinBoxes rest.now boxes.now }
-    ensures { result ≡ (false_in boxes.now rest.now && not (is_within (box_of boxes.now l.now.0) l.now.1)) }
+    ensures { result ≡ (false_in boxes.now rest.now
+        && not (is_within (box_of boxes.now l.now.0) l.now.1)) }
 {
     let at = &boxes[l.0 as usize];
     all_disjoint(rest, boxes) && !at.within(&l.1)

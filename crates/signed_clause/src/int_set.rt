@@ -235,7 +235,8 @@ impl IntSet {
     /// The values of this set that `o` lacks.
     pub fn less(&self, o: &IntSet) -> Result<IntSet, AllocError>
         ensures list { IfOk result (λ s. s ≡ less self.now o.now) }
-        ensures values { IfOk result (λ s. (v : ℤ) → has s v ≡ (has self.now v && not (has o.now v))) }
+        ensures values { IfOk result (λ s. (v : ℤ) → has s v
+            ≡ (has self.now v && not (has o.now v))) }
         ensures valid { IfOk result (λ s. IsValid s) }
     {
         let a = self.ranges();
@@ -450,7 +451,8 @@ fn push_before(
     r: (i64, i64),
     s: (i64, i64),
 ) -> Result<(), AllocError>
-    ensures { OnOk result (out.new.items ≡ out.old.items ++ piece r.0 (int_min r.1 (s.0 -ℤ pos 1)) []) }
+    ensures { OnOk result (out.new.items ≡ out.old.items ++ piece r.0 (int_min r.1 (s.0 -ℤ pos 1))
+        []) }
 {
     if r.0 < s.0 {
         push_piece(out, before(r, s))?;
