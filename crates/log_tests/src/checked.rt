@@ -7,9 +7,11 @@
 //! - `pieces TEXT|TEXT`: what is said of each piece, and then at the end.
 //! - `cuts TEXT`: at how many of its bytes a text is cut as it should be, and `bytes TEXT` the
 //!   verdict where it comes byte by byte.
+//! - `file LIMIT|TEXT`: what is said of a file with that text, of which so many bytes are read.
 ghost use Rattle.ground_form.specs.WellMade.{IsWellMade};
 
 use crate::cut::{answer_by_bytes, answer_in_two, answers_in_two, count_cut_right};
+use crate::file::answer_to_file;
 use crate::problems::problem;
 use case_files::{Case, Subject};
 use ground_form::Ground;
@@ -144,6 +146,19 @@ fn told_of_text(alloc: Global, g: &Ground, ask: &str, text: &[u8]) -> Result<Str
     }
 }
 
+/// What is asked of a file up to a limit.
+fn told_of_file(alloc: Global, g: &Ground, limit: &str, text: &[u8]) -> Result<String, AllocError>
+    requires { IsWellMade g.now }
+{
+    match limit.parse::<u64>() {
+        Ok(bytes) => {
+            let answer = answer_to_file(alloc, g, text, bytes);
+            format!(in alloc; "{answer:?}")
+        }
+        Err(_) => String::from_str(alloc, "no limit"),
+    }
+}
+
 /// What is asked.
 fn told(alloc: Global, g: &Ground, first: &str, ask: &str, text: &str) -> Result<String, AllocError>
     requires { IsWellMade g.now }
@@ -153,6 +168,10 @@ fn told(alloc: Global, g: &Ground, first: &str, ask: &str, text: &str) -> Result
         "two" | "pieces" => match text.split_once('|') {
             Some((one, other)) => told_of_two(alloc, g, ask, one.as_bytes(), other.as_bytes()),
             None => String::from_str(alloc, "one piece"),
+        },
+        "file" => match text.split_once('|') {
+            Some((limit, log)) => told_of_file(alloc, g, limit, log.as_bytes()),
+            None => String::from_str(alloc, "no limit"),
         },
         _ => told_of_text(alloc, g, ask, text.as_bytes()),
     }

@@ -3,12 +3,14 @@
 //! many came out as they say.
 //!
 //! - `problems`: the problems that logs are about.
-//! - `checked`: what the checker says. `cut`: that where a text is cut changes no answer.
+//! - `checked`: what the checker says. `cut`: that where a text is cut changes no answer. `file`: a
+//!   log in a file, up to a limit.
 //! - `spelling`: lines and their texts. `numbering`: clauses by number.
 #![tactic(auto)]
 
 mod checked;
 mod cut;
+mod file;
 mod numbering;
 mod problems;
 mod spelling;
