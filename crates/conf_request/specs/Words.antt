@@ -250,8 +250,8 @@ parsed (word ∷ words) =
 -- whether a request is one that this program answers; the others are no request yet
 abbrev pub is_built : Request → Bool
 is_built (Solve model budget log order) = true
-is_built (Reconfigure model former failed budget log order) = false
-is_built (Check model log former failed) = is_none former
+is_built (Reconfigure model former failed budget log order) = true
+is_built (Check model log former failed) = true
 is_built (Verify model config) = true
 is_built (Gen n) = true
 is_built (Session model former events budget order) = false

@@ -198,9 +198,9 @@ impl Draft<'_> {
     {
         match self {
             Draft::Solve(..) => true,
-            Draft::Reconfigure(..) => false,
+            Draft::Reconfigure(..) => true,
             Draft::Check(..) => true,
-            Draft::CheckFormer(..) => false,
+            Draft::CheckFormer(..) => true,
             Draft::Verify(..) => true,
             Draft::Gen(..) => true,
             Draft::Session(..) => false,

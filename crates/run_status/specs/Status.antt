@@ -84,7 +84,8 @@ line_text (status.Meaning fault place) =
     codes "meaning " ++ (fault_text fault ++ (codes " at " ++ decimal place))
 line_text (status.Limit kind place) = limit_text kind place
 line_text status.Usage =
-    codes "usage: confsolve solve MODEL, check MODEL LOG, verify MODEL CONFIG, gen N"
+    codes "usage: confsolve solve MODEL, reconfigure MODEL FORMER [FAILED ..], "
+    ++ codes "check MODEL LOG [FORMER [FAILED ..]], verify MODEL CONFIG, gen N"
 line_text status.ReadFault = codes "read fault"
 line_text status.WriteFault = codes "write fault"
 line_text (status.Former kind) = former_text kind

@@ -7,7 +7,8 @@ use crate::status::{Fault, FormerKind, LimitKind, Status};
 use std::alloc::{AllocError, Global};
 
 /// What may be asked of the program.
-const USAGE: &str = "usage: confsolve solve MODEL, check MODEL LOG, verify MODEL CONFIG, gen N";
+const USAGE: &str = "usage: confsolve solve MODEL, reconfigure MODEL FORMER [FAILED ..], \
+    check MODEL LOG [FORMER [FAILED ..]], verify MODEL CONFIG, gen N";
 
 /// The name of a limit.
 fn kind_name(kind: LimitKind) -> &'static str
