@@ -80,6 +80,36 @@ counted : (c c' : ℤ) (b : Bool) (behind : ℕ) → c' ≡ (c +ℤ bit b) → (
 counted c c' true behind e = omega (arith, ints, e)
 counted c c' false behind e = omega (arith, ints, e)
 
+-- the changes from a leaf on are its own and those behind it
+pub leaf_step : (o : Outline) (ls : List Leaf) (i n : ℕ) (l : Leaf) (hs : List (Option ℤ)) (vs : List ℤ) → i < length ls → l ≡ get_or ls i l → n ≡ length (leaf_cells o l) →
+    changes_of o (drop i ls) hs vs ≡ cond (is_changed (take n hs) (take n vs)) (suc (changes_of o (drop (suc i) ls) (drop n hs) (drop n vs))) (changes_of o (drop (suc i) ls) (drop n hs) (drop n vs))
+leaf_step o ls i n l hs vs lt e size =
+    ap (λ (ks : List Leaf). changes_of o ks hs vs) (drop_next ls i l lt)
+    ∙ ap (λ (k : Leaf). changes_of o (k ∷ drop (suc i) ls) hs vs) (sym e)
+    ∙ ap (λ (m : ℕ). cond (is_changed (take m hs) (take m vs)) (suc (changes_of o (drop (suc i) ls) (drop m hs) (drop m vs))) (changes_of o (drop (suc i) ls) (drop m hs) (drop m vs))) (sym size)
+
+one_more : (c c' behind all : ℕ) (b : Bool) → c' ≡ (c + cond b 1 0) → (c + cond b (suc behind) behind) ≡ all → (c' + behind) ≡ all
+one_more c c' behind all true e h = omega (arith, e, h)
+one_more c c' behind all false e h = omega (arith, e, h)
+
+pub at_most : (c c' : ℕ) (b : Bool) → c' ≡ (c + cond b 1 0) → c' ≤ c + 1
+at_most c c' true e = omega (arith, e)
+at_most c c' false e = omega (arith, e)
+
+-- the changes of one leaf more
+pub leaf_changes : (o : Outline) (ls : List Leaf) (i first n : ℕ) (l : Leaf) (hs : List (Option ℤ)) (vs : List ℤ) (c c' all : ℕ) → i < length ls → l ≡ get_or ls i l → n ≡ length (leaf_cells o l) →
+    c' ≡ (c + cond (is_changed (take n (drop first hs)) (take n (drop first vs))) 1 0) →
+    (c + changes_of o (drop i ls) (drop first hs) (drop first vs)) ≡ all →
+    (c' + changes_of o (drop (i + 1) ls) (drop (first + n) hs) (drop (first + n) vs)) ≡ all
+leaf_changes o ls i first n l hs vs c c' all lt e size is rest =
+    let next : i + 1 ≡ suc i = omega arith in
+    let behind = changes_of o (drop (suc i) ls) (drop n (drop first hs)) (drop n (drop first vs)) in
+    ap (λ (k : ℕ). c' + changes_of o (drop k ls) (drop (first + n) hs) (drop (first + n) vs)) next
+    ∙ ap (λ (ks : List (Option ℤ)). c' + changes_of o (drop (suc i) ls) ks (drop (first + n) vs)) (sym (drop-drop n first hs))
+    ∙ ap (λ (ks : List ℤ). c' + changes_of o (drop (suc i) ls) (drop n (drop first hs)) ks) (sym (drop-drop n first vs))
+    ∙ one_more c c' behind all (is_changed (take n (drop first hs)) (take n (drop first vs))) is
+    (ap (λ (k : ℕ). c + k) (sym (leaf_step o ls i n l (drop first hs) (drop first vs) lt e size)) ∙ rest)
+
 -- one leaf more
 pub leaf_counted : (o : Outline) (ls : List Leaf) (i first n : ℕ) (l : Leaf) (hs : List (Option ℤ)) (vs : List ℤ) (c c' all : ℤ) → i < length ls → l ≡ get_or ls i l → n ≡ length (leaf_cells o l) →
     c' ≡ (c +ℤ bit (is_changed (take n (drop first hs)) (drop first vs))) →
@@ -89,9 +119,7 @@ leaf_counted o ls i first n l hs vs c c' all lt e size is rest =
     let next : i + 1 ≡ suc i = omega arith in
     let behind = changes_of o (drop (suc i) ls) (drop n (drop first hs)) (drop n (drop first vs)) in
     let step : changes_of o (drop i ls) (drop first hs) (drop first vs) ≡ cond (is_changed (take n (drop first hs)) (drop first vs)) (suc behind) behind =
-    ap (λ (ks : List Leaf). changes_of o ks (drop first hs) (drop first vs)) (drop_next ls i l lt)
-    ∙ ap (λ (k : Leaf). changes_of o (k ∷ drop (suc i) ls) (drop first hs) (drop first vs)) (sym e)
-    ∙ ap (λ (m : ℕ). cond (is_changed (take m (drop first hs)) (take m (drop first vs))) (suc (changes_of o (drop (suc i) ls) (drop m (drop first hs)) (drop m (drop first vs)))) (changes_of o (drop (suc i) ls) (drop m (drop first hs)) (drop m (drop first vs)))) (sym size)
+    leaf_step o ls i n l (drop first hs) (drop first vs) lt e size
     ∙ ap (λ (b : Bool). cond b (suc behind) behind) (changed_front n (drop first hs) (drop first vs)) in
     ap (λ (k : ℕ). c' +ℤ pos (changes_of o (drop k ls) (drop (first + n) hs) (drop (first + n) vs))) next
     ∙ ap (λ (ks : List (Option ℤ)). c' +ℤ pos (changes_of o (drop (suc i) ls) ks (drop (first + n) vs))) (sym (drop-drop n first hs))

@@ -129,7 +129,7 @@ fn count_leaf(
 }
 
 /// The leaf of this number.
-fn leaf_at(leaves: &[Leaf], i: usize) -> Leaf
+pub(crate) fn leaf_at(leaves: &[Leaf], i: usize) -> Leaf
     requires { i < length leaves.now }
     ensures { (d : ALeaf) → result ≡ slice_index_or leaves.now i d }
 {
@@ -137,7 +137,7 @@ fn leaf_at(leaves: &[Leaf], i: usize) -> Leaf
 }
 
 /// How many cells a leaf has.
-fn cell_count(objects: &Objects<'_>, leaf: Leaf) -> usize
+pub(crate) fn cell_count(objects: &Objects<'_>, leaf: Leaf) -> usize
     requires leaf { Contains (leaves_in (walk objects.now)) leaf }
     ensures { result ≡ length (leaf_cells objects.now leaf) }
 {

@@ -44,7 +44,7 @@ pub(crate) struct Failed {
 }
 
 /// The number, counted from 1, of the first word that is no object's path.
-pub(crate) fn unknown_word(objects: &Objects<'_>, words: &[PathText]) -> Option<u64>
+pub fn unknown_word(objects: &Objects<'_>, words: &[PathText]) -> Option<u64>
     ensures { result ≡ unknown_word objects.now words.now }
 {
     for i in 0..words.len() {

@@ -5,6 +5,8 @@
 //! promises that the result stands for the same with these two things more. It knows nothing of a
 //! search.
 //!
+//! - `repair`: what a repair goes by.
+//! - `former_values`: how many former values a configuration changes.
 //! - `allowed`: clauses that keep failed objects out.
 //! - `changed`: the leaves that have other values than before, each as one truth.
 //! - `count`: how many of these hold, as a sum.
@@ -17,8 +19,12 @@ mod allowed;
 mod changed;
 mod count;
 mod failed;
+mod former_values;
 mod marks;
 mod problem;
+mod repair;
 
-pub use failed::FailedError;
+pub use failed::{FailedError, unknown_word};
+pub use former_values::change_count;
 pub use problem::with_changes;
+pub use repair::Repair;
