@@ -1,3 +1,4 @@
 pub mod FoundRuns
+pub mod RepairProblems
 pub mod Sizes
 pub mod Solutions

@@ -1,5 +1,5 @@
 -- A model has as many configurations as its ground problem has points of searched variables.
-use Rattle.std.proofs.Common.{◌≡◌, ◌∙◌, ◌↔◌, ◌≤◌, ℕ, zero, suc, ◌<◌, ◌+◌, ◌*◌, Bool, true, false, cond, List, [], ◌∷◌, ℤ, pos, ◌≤ℤ◌, ◌<ℤ◌, ◌-ℤ◌, ◌+ℤ◌, unsigned_abs, map, take, length, int_lt, int_le, refl, ap, sym, subst, arith}
+use Rattle.std.proofs.Common.{◌≡◌, ◌∙◌, ℕ, zero, suc, ◌+◌, ◌*◌, Bool, true, false, cond, List, [], ◌∷◌, ℤ, pos, ◌≤ℤ◌, ◌<ℤ◌, ◌-ℤ◌, ◌+ℤ◌, unsigned_abs, map, take, length, Option, int_lt, refl, ap, arith}
 use Rattle.std.proofs.lemmas.Int.{ints}
 use Rattle.std.specs.Int.{int_max}
 use Rattle.class_table.specs.Outline.{Outline}
@@ -15,9 +15,10 @@ use Rattle.object_alloc.specs.declared.object.Domain.{Domain}
 use Rattle.object_alloc.specs.declared.object.Domain.TheVariants.{Span, Extent}
 use Rattle.object_alloc.specs.Walk.{objects}
 use Rattle.signed_clause.specs.Clauses.{Boxes}
-use Rattle.signed_clause.specs.Ranges.{Ranges, count_of}
+use Rattle.signed_clause.specs.Ranges.{count_of}
 use Rattle.signed_clause.specs.SetAlgebra.{piece}
 use Rattle.signed_clause.specs.Union.{fuse}
+use Rattle.reconfigure.specs.declared.repair.Repair.{Repair}
 use Rattle.model_search.specs.Problems.{IsProblemOf}
 
 abbrev width : ℤ → ℤ → ℕ
@@ -72,12 +73,12 @@ volume_front zero boxes = refl
 volume_front (suc n) [] = refl
 volume_front (suc n) (b ∷ bs) = ap (λ v. count_of b * v) (volume_front n bs)
 
-length_map : {X Y : Type 0} (f : X → Y) (xs : List X) → length (map f xs) ≡ length xs
+pub length_map : {X Y : Type 0} (f : X → Y) (xs : List X) → length (map f xs) ≡ length xs
 length_map f [] = refl
 length_map f (x ∷ xs) = ap suc (length_map f xs)
 
-pub problem_size : (o : Outline) (ks : List ResolvedConstraint) (gs : List ResolvedGoal) (g : Ground) → IsProblemOf o ks gs g → size_of g ≡ configuration_count o
-problem_size o ks gs g p =
+pub problem_size : (o : Outline) (ks : List ResolvedConstraint) (gs : List ResolvedGoal) (r : Option Repair) (g : Ground) → IsProblemOf o ks gs r g → size_of g ≡ configuration_count o
+problem_size o ks gs r g p =
     volume_front g.search g.domains
     ∙ ap (λ b. volume g.search b) p.stands.cells_first
     ∙ ap (λ n. volume n (cell_boxes o)) (p.stands.searched ∙ length_map (λ (c : Cell). domain_box o c.domain) (cells o))

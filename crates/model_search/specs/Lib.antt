@@ -1,3 +1,5 @@
 pub mod Findings
 pub mod Problems
 pub mod Runs
+pub mod Searching
+pub mod Wanted

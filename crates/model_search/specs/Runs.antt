@@ -1,7 +1,7 @@
 -- What a record holds of a search over a model. What a reader believes after this file: its problem
--- is the model's, its lines are a run of a search by the order, which the checker accepts, and what
--- they show is what is told of the model.
-use Rattle.std.specs.Prelude.{◌≡◌, ◌+◌, ◌≤◌, ℕ, Bool, true, false, List, None, Some, replicate}
+-- is the model's, or that of a repair of it; its lines are a run of a search by the order, which the
+-- checker accepts, and what they show is what is told.
+use Rattle.std.specs.Prelude.{◌≡◌, ◌+◌, ◌≤◌, ℕ, Bool, true, false, List, ℤ, Option, None, Some, replicate}
 use Rattle.branch_choice.specs.declared.split.Order.{Order}
 use Rattle.class_table.specs.Outline.{Outline}
 use Rattle.conf_types.specs.Programs.{ResolvedConstraint, ResolvedGoal}
@@ -14,6 +14,7 @@ use Rattle.model_search.specs.declared.finding.Finding.{Finding}
 use Rattle.model_search.specs.declared.finding.Finding.TheVariants as findings
 use Rattle.object_alloc.specs.Counts.{configuration_count}
 use Rattle.proof_log.specs.Rounds.{Journal}
+use Rattle.reconfigure.specs.declared.repair.Repair.{Repair}
 use Rattle.search_run.specs.Decisions.{decisions, MayDecide}
 use Rattle.search_run.specs.Ordered.{IsOrdered}
 use Rattle.search_run.specs.Replay.{is_run}
@@ -31,15 +32,20 @@ pub record IsSpent (o : Outline) (g : Ground) (budget : ℕ) (journal : Journal)
   pub due : MayDecide g journal.lines
   pub more : budget + 2 ≤ configuration_count o
 
--- the search had no values to go by
+-- the values that a search over so many variables goes by: the former ones, of a repair
+abbrev pub values_for : ℕ → Option Repair → List (Option ℤ)
+values_for n None = replicate n None
+values_for n (Some r) = r.former
+
 pub record HasRun (o : Outline) (ks : List ResolvedConstraint) (gs : List ResolvedGoal)
-    (order : Order) (budget : ℕ) (journal : Journal) (told : Finding) : Type 0 where
+    (r : Option Repair) (order : Order) (budget : ℕ) (journal : Journal)
+    (told : Finding) : Type 0 where
   pub ground : Ground
   pub kept : journal.ground ≡ Some ground
-  pub problem : IsProblemOf o ks gs ground
+  pub problem : IsProblemOf o ks gs r ground
   pub run : is_run ground journal.lines ≡ true
-  pub ordered : IsOrdered ground order (replicate ground.search None) journal.lines
+  pub ordered : IsOrdered ground order (values_for ground.search r) journal.lines
   pub taken : accepted ground journal.lines ≡ true
   pub shown : told ≡ finding ground (ending ground journal.lines)
-  pub tells : Tells o ks gs told
+  pub tells : Tells o ks gs r told
   pub spent : is_open told ≡ true → IsSpent o ground budget journal

@@ -1,25 +1,26 @@
 //! What a verdict tells of a model's configurations.
-ghost use Rattle.std.specs.Prelude.{◌≡◌, ◌≤◌, take, length, IfOk, IfSome};
+ghost use Rattle.std.specs.Prelude.{◌≡◌, ◌≤◌, take, length, option_copied, IfOk, IfSome};
 ghost use Rattle.log_check.specs.Soundness.{Means, FoundSolves};
 ghost use Rattle.log_check.specs.Verdicts.{shown_of};
 ghost use Rattle.model_search.specs.Findings.{finding, Tells};
 ghost use Rattle.model_search.specs.Problems.{IsProblemOf};
 
-use conf_types::TypedModel;
+use crate::question::Question;
 use ground_cells::configurations_are_points;
 use ground_form::Ground;
 use log_check::{Verdict, VerdictKind};
-use object_alloc::{Config, Objects};
+use object_alloc::Config;
 use std::alloc::{AllocError, Global};
 
-/// What is known of a model's configurations.
+/// What is known of a model's configurations. One is wanted that satisfies the model, and of a
+/// repair refers to nothing that failed.
 #[derive(Drop)]
 pub enum Finding {
-    /// This one satisfies the model, and none that does is better.
+    /// This one is wanted, and no wanted one is better.
     Best(Config),
-    /// None satisfies the model.
+    /// None is wanted.
     NoneExists,
-    /// Neither is shown; this one, where there is one, satisfies the model.
+    /// Neither is shown; this one, where there is one, is wanted.
     Open(Option<Config>),
 }
 
@@ -49,22 +50,23 @@ fn told_of(alloc: Global, g: &Ground, verdict: &Verdict) -> Result<Finding, Allo
     Ok(told)
 }
 
-/// What a verdict over the ground problem of a model tells.
+/// What a verdict over the ground problem of a question tells.
 #[tactic(auto, using(crate::proofs::Solutions::tells_as, crate::proofs::Solutions::long_enough))]
 pub fn finding_of(
     alloc: Global,
-    model: &TypedModel,
-    objects: &Objects<'_>,
+    question: Question<'_>,
     g: &Ground,
     verdict: &Verdict,
 ) -> Result<Finding, AllocError>
-    requires problem { IsProblemOf objects.now model.now.constraints model.now.goals g.now }
+    requires problem { IsProblemOf question.objects.now question.model.now.constraints
+        question.model.now.goals (option_copied question.repair) g.now }
     requires sound { Means g.now (shown_of verdict.now) }
     requires found { FoundSolves g.now verdict.now.found }
     ensures finding { IfOk result (λ f. f ≡ finding g.now verdict.now) }
-    ensures tells { IfOk result (λ f. Tells objects.now model.now.constraints model.now.goals f) }
+    ensures tells { IfOk result (λ f. Tells question.entry.objects.now question.entry.model.now.constraints
+        question.entry.model.now.goals (option_copied question.entry.repair) f) }
 {
-    configurations_are_points(objects);
+    configurations_are_points(question.objects);
     let told = told_of(alloc, g, verdict)?;
     Ok(told)
 }

@@ -1,9 +1,11 @@
-//! The search for a best configuration of a model, and what its log says of the model.
+//! The search for a best configuration of a model, or of a repair of it, and what its log says.
 //!
-//! The model's ground problem is kept in a record beside the lines of a search over it; the checker
-//! reads the lines, and only its verdict says what is told of the model.
+//! The ground problem is kept in a record beside the lines of a search over it; the checker reads
+//! the lines, and only its verdict says what is told of the model.
 //!
-//! - `searching`: `find_best`, from a model to a record and what is told of the model.
+//! - `question`: what is asked of a model.
+//! - `problem`: the ground problem of a question.
+//! - `searching`: `find_best`, from a question to a record and what is told of the model.
 //! - `finding`: what a verdict tells of the model's configurations.
 //! - `log`: the text of the lines that are needed.
 //! - `laws`: how often a search over a model may decide.
@@ -12,9 +14,13 @@
 mod finding;
 mod laws;
 mod log;
+mod problem;
+mod question;
 mod searching;
 
 pub use finding::{Finding, finding_of};
 pub use laws::undecided_has_more;
 pub use log::trimmed_text;
-pub use searching::{find_best, problem_of};
+pub use problem::problem_of;
+pub use question::Question;
+pub use searching::find_best;

@@ -1,5 +1,5 @@
-//! From a model to a record of a search for its best configuration, and what it tells.
-ghost use Rattle.std.specs.Prelude.{◌≡◌, [], true, false, None, replicate, IfOk};
+//! From a question to a record of a search for its best configuration, and what it tells.
+ghost use Rattle.std.specs.Prelude.{◌≡◌, ◌≤◌, [], true, false, length, None, replicate, option_copied, IfOk, IfSome};
 ghost use Rattle.branch_choice.specs.declared.split.Order.{Order};
 ghost use Rattle.conf_limits.specs.Measures.{model_narrow};
 ghost use Rattle.conf_types.specs.Typing.{IsTypedModel};
@@ -8,20 +8,22 @@ ghost use Rattle.log_check.specs.Soundness.{Means, FoundSolves};
 ghost use Rattle.log_check.specs.Verdicts.{ending, shown_of};
 ghost use Rattle.model_search.specs.Findings.{finding, Tells};
 ghost use Rattle.model_search.specs.Problems.{IsProblemOf};
-ghost use Rattle.model_search.specs.Runs.{HasRun};
+ghost use Rattle.model_search.specs.Runs.{HasRun, values_for};
+ghost use Rattle.model_search.specs.Searching.{HasSearched};
+ghost use Rattle.model_search.specs.Wanted.{IsUnderstood};
 ghost use Rattle.search_run.specs.Replay.{is_run};
 
 use crate::finding::{Finding, finding_of};
 use crate::laws::undecided_has_more;
-use bound_search::{Limits, search};
+use crate::problem::problem_of;
+use crate::question::Question;
+use bound_search::{Ended, Limits, search};
 use branch_choice::Chooser;
-use conf_types::TypedModel;
 use ground_form::Ground;
-use ground_model::ground;
 use log_check::{CheckError, Verdict, check};
 use log_form::Line;
-use object_alloc::Objects;
 use proof_log::Record;
+use reconfigure::Repair;
 use rule_law::Kit;
 use std::alloc::{AllocError, Global};
 
@@ -32,26 +34,6 @@ fn no_hints(alloc: Global, count: u32) -> Result<Vec<Option<i64>>, AllocError>
     let mut hints = Vec::new(alloc);
     hints.resize(count as usize, None)?;
     Ok(hints)
-}
-
-/// The ground problem of a model.
-///
-/// # Errors
-///
-/// Want of memory.
-pub fn problem_of(
-    alloc: Global,
-    model: &TypedModel,
-    objects: &Objects<'_>,
-) -> Result<Ground, AllocError>
-    requires typed { IsTypedModel objects.now model.now.constraints model.now.goals }
-    requires narrow { model_narrow objects.now model.now.constraints model.now.goals ≡ true }
-    ensures problem { IfOk result
-        (λ g. IsProblemOf objects.now model.now.constraints model.now.goals g) }
-    ensures well_made { IfOk result (λ g. IsWellMade g) }
-{
-    let g = ground(alloc, model, objects)?;
-    Ok(g)
 }
 
 /// The verdict of the lines of a run, which are never rejected.
@@ -70,51 +52,81 @@ fn verdict_of(alloc: Global, g: &Ground, lines: &[Line]) -> Result<Verdict, Allo
     }
 }
 
-/// What the lines of a run over the ground problem of a model tell.
+/// What the lines of a run over the ground problem of a question tell.
 fn told_by(
     alloc: Global,
-    model: &TypedModel,
-    objects: &Objects<'_>,
+    question: Question<'_>,
     g: &Ground,
     lines: &[Line],
 ) -> Result<Finding, AllocError>
-    requires problem { IsProblemOf objects.now model.now.constraints model.now.goals g.now }
+    requires problem { IsProblemOf question.objects.now question.model.now.constraints
+        question.model.now.goals (option_copied question.repair) g.now }
     requires run { is_run g.now lines.now ≡ true }
     ensures shown { IfOk result (λ f. f ≡ finding g.now (ending g.now lines.now)) }
-    ensures tells { IfOk result (λ f. Tells objects.now model.now.constraints model.now.goals f) }
+    ensures tells { IfOk result (λ f. Tells question.entry.objects.now question.entry.model.now.constraints
+        question.entry.model.now.goals (option_copied question.entry.repair) f) }
 {
     let verdict = verdict_of(alloc, g, lines)?;
-    finding_of(alloc, model, objects, g, &verdict)
+    finding_of(alloc, question, g, &verdict)
 }
 
-/// Searches for a best configuration of a model, with no values to go by. The present round of the
-/// record, which has no line yet, then holds the model's ground problem and the lines of the
-/// search; the checker has read them, and what is told is by its verdict.
+/// Searches by values to go by.
+fn searched(
+    limits: Limits,
+    g: &Ground,
+    repair: Option<&Repair>,
+    kit: &mut Kit,
+    chooser: &Chooser,
+    journal: &mut Record,
+) -> Result<Ended, AllocError>
+    requires well_made { IsWellMade g.now }
+    requires hints { IfSome (option_copied repair) (λ r. g.now.search ≤ length r.former) }
+    requires lines { journal.old.lines ≡ [] }
+    ensures run { IfOk result (λ end. HasSearched g.now
+        (values_for g.now.search (option_copied repair.entry)) chooser.now.order limits.budget
+        journal.new.lines end) }
+    ensures rounds { journal.new.rounds ≡ journal.old.rounds }
+{
+    kit.begin();
+    match repair {
+        Some(repair) => search(limits, g, kit, chooser, repair.former.items(), journal),
+        None => {
+            let hints = no_hints(limits.alloc, g.search)?;
+            search(limits, g, kit, chooser, &hints, journal)
+        }
+    }
+}
+
+/// Searches for a best configuration of a model, or of a repair of it, which then gives the values
+/// to go by. The present round of the record, which has no line yet, then holds the ground problem
+/// and the lines of the search; the checker has read them, and what is told is by its verdict.
 ///
 /// # Errors
 ///
 /// Want of memory; of the record's present round nothing is said then.
 pub fn find_best(
     limits: Limits,
-    model: &TypedModel,
-    objects: &Objects<'_>,
+    question: Question<'_>,
     kit: &mut Kit,
     chooser: &Chooser,
     journal: &mut Record,
 ) -> Result<Finding, AllocError>
-    requires typed { IsTypedModel objects.now model.now.constraints model.now.goals }
-    requires narrow { model_narrow objects.now model.now.constraints model.now.goals ≡ true }
+    requires typed { IsTypedModel question.objects.now question.model.now.constraints
+        question.model.now.goals }
+    requires narrow { model_narrow question.objects.now question.model.now.constraints
+        question.model.now.goals ≡ true }
+    requires understood { IfSome (option_copied question.repair)
+        (IsUnderstood question.objects.now) }
     requires lines { journal.old.lines ≡ [] }
-    ensures run { IfOk result (λ f. HasRun objects.now model.now.constraints model.now.goals
+    ensures run { IfOk result (λ f. HasRun question.entry.objects.now question.entry.model.now.constraints
+        question.entry.model.now.goals (option_copied question.entry.repair)
         chooser.now.order limits.budget journal.new f) }
     ensures rounds { journal.new.rounds ≡ journal.old.rounds }
 {
-    let g = problem_of(limits.alloc, model, objects)?;
-    let hints = no_hints(limits.alloc, g.search)?;
-    kit.begin();
-    let end = search(limits, &g, kit, chooser, &hints, journal)?;
-    let told = told_by(limits.alloc, model, objects, &g, journal.lines())?;
-    undecided_has_more(model, objects, &g, journal.lines());
+    let g = problem_of(limits.alloc, question)?;
+    let end = searched(limits, &g, question.repair, kit, chooser, journal)?;
+    let told = told_by(limits.alloc, question, &g, journal.lines())?;
+    undecided_has_more(question, &g, journal.lines());
     journal.keep(g);
     Ok(told)
 }

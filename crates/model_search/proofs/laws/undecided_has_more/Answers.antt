@@ -5,5 +5,5 @@ use Rattle.model_search.proofs.laws.undecided_has_more.Goals as goal
 
 pub returns : goal.returns
 returns c =
-    let size = problem_size c.args.objects.now c.args.model.now.constraints c.args.model.now.goals c.args.g.now c.requires.problem in
+    let size = problem_size c.args.question.objects.now c.args.question.model.now.constraints c.args.question.model.now.goals _ c.args.g.now c.requires.problem in
     record { more = λ due. subst (λ n. decisions c.args.lines.now + 2 ≤ n) size (c.run_decides_less.ensures.more due) }
