@@ -1,0 +1,5 @@
+pub mod ModelParts
+pub mod OneModel
+pub mod OneStatus
+pub mod TextLaws
+pub mod TextRefusals
