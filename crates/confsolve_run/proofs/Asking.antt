@@ -1,23 +1,30 @@
 -- What holds where files are told, of texts and of what is asked.
-use Rattle.std.proofs.Common.{◌≡◌, ℕ, List, Option, None, Some, IfSome, sym, subst, ap, ◌∙◌}
+use Rattle.std.proofs.Common.{◌≡◌, List, Option, None, Some, sym, subst, ◌∙◌, ℕ}
 use Rattle.std.specs.Option.{option_and_then}
 use Rattle.conf_request.specs.declared.request.Request.{Request}
 use Rattle.conf_request.specs.declared.request.Request.TheVariants.{Solve, Reconfigure, Check, Verify, Gen, Session, Core}
 use Rattle.conf_syntax.specs.declared.tree.Program.{Program}
 use Rattle.desk_io.specs.Desk.{Files, OfFile}
 use Rattle.model_generator.specs.Generated.{generated}
-use Rattle.confsolve_run.specs.Asking.{Asked, Best, Generated, Checked, Satisfied, OfText, OfAsked, HasModel, text_of}
+use Rattle.confsolve_run.specs.Asking.{Asked, Best, Generated, Checked, Satisfied, OfChecked, OfText, OfAsked, former_text, text_of}
+use Rattle.model_reader.specs.TextModel.{HasModel}
 
 pub file_map : (told : Option Files) (name : List ℕ) (P Q : List ℕ → Type 0) → ((bytes : List ℕ) → P bytes → Q bytes) → OfFile told name P → OfFile told name Q
 file_map None name P Q f h = tt
 file_map (Some files) name P Q f h = (h.0, h.1, f h.0 h.2)
 
+checked_map : (told : Option Files) (log : List ℕ) (former : Option (List ℕ)) (failed : List (List ℕ)) (P Q : Asked → Type 0) → ((a : Asked) → P a → Q a) → OfChecked told log former failed P → OfChecked told log former failed Q
+checked_map told log None failed P Q f h = file_map told log (λ bytes. P (Checked None bytes)) (λ bytes. Q (Checked None bytes)) (λ bytes. f (Checked None bytes)) h
+checked_map told log (Some former) failed P Q f h =
+    file_map told former _ _ (λ before. file_map told log (λ bytes. P (Checked (Some (former_text before failed)) bytes)) (λ bytes. Q (Checked (Some (former_text before failed)) bytes)) (λ bytes. f (Checked (Some (former_text before failed)) bytes))) h
+
 pub asked_map : (told : Option Files) (r : Request) (P Q : Asked → Type 0) → ((a : Asked) → P a → Q a) → OfAsked told r P → OfAsked told r Q
-asked_map told (Solve model budget log order) P Q f h = f (Best budget order) h
-asked_map told (Check model log former failed) P Q f h = file_map told log (λ bytes. P (Checked bytes)) (λ bytes. Q (Checked bytes)) (λ bytes. f (Checked bytes)) h
+asked_map told (Solve model budget log order) P Q f h = f (Best None budget order) h
+asked_map told (Check model log former failed) P Q f h = checked_map told log former failed P Q f h
 asked_map told (Verify model config) P Q f h = file_map told config (λ bytes. P (Satisfied bytes)) (λ bytes. Q (Satisfied bytes)) (λ bytes. f (Satisfied bytes)) h
 asked_map told (Gen n) P Q f h = f (Generated n) h
-asked_map told (Reconfigure model former failed budget log order) P Q f h = absurd h
+asked_map told (Reconfigure model former failed budget log order) P Q f h =
+    file_map told former (λ bytes. P (Best (Some (former_text bytes failed)) budget order)) (λ bytes. Q (Best (Some (former_text bytes failed)) budget order)) (λ bytes. f (Best (Some (former_text bytes failed)) budget order)) h
 asked_map told (Session model former events budget order) P Q f h = absurd h
 asked_map told (Core model budget order) P Q f h = absurd h
 

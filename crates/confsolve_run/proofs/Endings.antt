@@ -1,32 +1,27 @@
 -- How a run over a model ends, and from there how one over its text and a request end.
-use Rattle.std.proofs.Common.{◌≡◌, ◌⊎◌, inl, inr, ℕ, ◌≤◌, ◌+◌, ◌-◌, ◌^◌, ◌<◌, min, Bool, true, false, List, [], ◌∷◌, Option, None, Some, is_some, length, take, sym, subst, ap, ◌∙◌, refl}
+use Rattle.std.proofs.Common.{◌≡◌, ◌⊎◌, inl, inr, ◌≤◌, List, [], ◌∷◌, Option, None, Some, is_some, length, take, sym, subst, ap, ◌∙◌, refl, ℕ}
 use native.Mathlib.Omega.{arith}
 use Rattle.std.specs.Option.{option_map}
 use Rattle.branch_choice.specs.declared.split.Order.{Order}
 use Rattle.conf_request.specs.declared.request.Request.{Request}
 use Rattle.conf_syntax.specs.declared.tree.Program.{Program}
 use Rattle.desk_io.specs.Desk.{Files, with_file, with_printed}
-use Rattle.desk_io.specs.Fault.{HasRisen}
-use Rattle.desk_io.specs.Whole.{PrintsFront, StoresFront}
-use Rattle.ground_form.specs.declared.ground.Ground.{Ground}
+use Rattle.desk_io.specs.Whole.{StoresFront}
 use Rattle.proof_log.specs.Rounds.{Journal}
-use Rattle.conf_syntax.specs.Spelling.{IsStuckAtNumber}
-use Rattle.run_status.specs.declared.status.LimitKind.TheVariants as kind
 use Rattle.run_status.specs.declared.status.Status.{Status}
-use Rattle.run_status.specs.declared.status.Status.TheVariants as status
 use Rattle.confsolve_run.specs.Answer.{IsAnswer}
-use Rattle.confsolve_run.specs.Asking.{Asked, OfAsked, OfText, IsModelOf, log_file}
-use Rattle.confsolve_run.specs.Delivery.{Outside, outside, log_text, IsLoggedIn, IsLogFrontIn, IsLogged, IsLogFront, IsCutOff}
-use Rattle.confsolve_run.specs.Ending.{Trace, trace, Prints, Breaks, Delivers, Begins, EndsModel, EndsModelAt, Ends, EndsAt, RunEnds, RunEndsAt, OfModel, OfTrace}
-use Rattle.confsolve_run.specs.Models.{IsWithin}
+use Rattle.confsolve_run.specs.Asking.{OfAsked, OfText, log_file}
+use Rattle.model_reader.specs.TextModel.{IsModelOf}
+use Rattle.confsolve_run.specs.Delivery.{Outside, outside, log_text, IsLoggedIn, IsLogFrontIn, IsLogFront, IsCutOff}
+use Rattle.confsolve_run.specs.Ending.{Trace, trace, Breaks, Begins, EndsModel, EndsModelAt, Ends, EndsAt, RunEnds, RunEndsAt}
+use Rattle.model_reader.specs.Models.{IsWithin}
 use Rattle.confsolve_run.specs.Recorded.{IsRecorded}
-use Rattle.confsolve_run.specs.Refusal.{IsReason, IsRefusedFor, IsRefusedOf, IsTooLongText, IsSyntaxAt, IsNestingAt, IsTextRefused}
-use Rattle.confsolve_run.specs.Refusing.{refusal_of}
-use Rattle.confsolve_run.specs.Stages.{Stage, Unasked, Unread, Refused, Answered, Unwritten, Lost, stage_of, Unreadable, IsUnless}
-use Rattle.confsolve_run.specs.TextErrors.{IsTextError, IsSameOrMemory}
+use Rattle.confsolve_run.specs.Refusal.{IsReason, IsDeniedOf, IsTooLongText}
+use Rattle.model_reader.specs.ModelRefusal.{IsRefusedFor, IsTextRefused}
+use Rattle.run_status.specs.Stages.{Stage, Unasked, Unread, Refused, Answered, Unwritten, Lost, stage_of, Denied}
+use Rattle.confsolve_run.specs.Unreadable.{Unreadable}
 use Rattle.confsolve_run.specs.Told.{IsLogOf, stored, StoresSome, IsBroken}
-use Rattle.confsolve_run.specs.declared.model.TextError.{TextError}
-use Rattle.confsolve_run.specs.declared.model.TextError.TheVariants as error
+use Rattle.confsolve_run.proofs.AskedParts.{risen_earlier}
 use Rattle.confsolve_run.proofs.Asking.{asked_map, text_map, text_read}
 
 -- ---- the log
@@ -62,7 +57,7 @@ begun_of r journal text before now (inr c) = whole_front (log_file r) journal be
 
 -- ---- a model
 
-pub model_denied : (t : Trace) (p : Program) (s : Status) → Unreadable t.reads t.reads_now s (IsRefusedFor s p ⊎ (IsWithin p × OfAsked t.before.files t.request (λ asked. IsRefusedOf t.journal asked p s))) → t.now ≡ t.before → EndsModel t p s
+pub model_denied : (t : Trace) (p : Program) (s : Status) → Unreadable t.reads t.reads_now s (IsRefusedFor s p ⊎ (IsWithin p × IsDeniedOf t.before.files t.request t.journal s p)) → t.now ≡ t.before → EndsModel t p s
 model_denied t p s (inl h) same = subst (λ x. EndsModelAt (stage_of x) t p x) (sym h.0) (h.1, same)
 model_denied t p s (inr (inl h)) same = subst (λ x. EndsModelAt (stage_of x) t p x) (sym h) (inl same)
 model_denied t p s (inr (inr h)) same = subst (λ g. EndsModelAt g t p s) (sym h.0) (h.1, same)
@@ -96,32 +91,12 @@ begun_from t p s name log text files printed f q recorded is h broken within ans
 
 -- ---- a text
 
--- a text that has a model is no other text
-pub no_refusal : (text : List ℕ) → ((place : ℕ) → IsSyntaxAt text place → ⊥) → ((place : ℕ) → IsStuckAtNumber text place → ⊥) → ((place : ℕ) → IsNestingAt text place → ⊥) → (s : Status) → IsTextRefused text s → ⊥
-no_refusal text syntax literal nesting (status.Syntax place) h = syntax place h
-no_refusal text syntax literal nesting (status.Limit kind.Literal (Some place)) h = literal place h
-no_refusal text syntax literal nesting (status.Limit kind.Nesting (Some place)) h = nesting place h
-no_refusal text syntax literal nesting s h = h
-
-unless : (wanted e : TextError) → IsSameOrMemory wanted e → IsUnless (refusal_of wanted) (refusal_of e)
-unless wanted error.Memory h = inr (inl refl)
-unless wanted (error.Syntax k) h = inl (ap refusal_of h)
-unless wanted (error.Literal k) h = inl (ap refusal_of h)
-unless wanted (error.Nesting k) h = inl (ap refusal_of h)
-
--- a refusal that stands in it is the one that comes
-pub refused_as : (text : List ℕ) (e : TextError) → ((place : ℕ) → IsSyntaxAt text place → IsSameOrMemory (error.Syntax place) e) → ((place : ℕ) → IsStuckAtNumber text place → IsSameOrMemory (error.Literal place) e) → ((place : ℕ) → IsNestingAt text place → IsSameOrMemory (error.Nesting place) e) → (s : Status) → IsTextRefused text s → IsUnless s (refusal_of e)
-refused_as text e syntax literal nesting (status.Syntax place) h = unless (error.Syntax place) e (syntax place h)
-refused_as text e syntax literal nesting (status.Limit kind.Literal (Some place)) h = unless (error.Literal place) e (literal place h)
-refused_as text e syntax literal nesting (status.Limit kind.Nesting (Some place)) h = unless (error.Nesting place) e (nesting place h)
-refused_as text e syntax literal nesting s h = absurd h
-
 pub text_at : (g : Stage) (t : Trace) (text : List ℕ) (p : Program) (s : Status) → IsModelOf text p → EndsModelAt g t p s → EndsAt g t text s
 text_at Unasked t text p s is h = h
 text_at Unread t text p s is h = h
 text_at Refused t text p s is h = (reason h.0, h.1)
   where
-    reason : IsRefusedFor s p ⊎ (IsWithin p × OfAsked t.before.files t.request (λ asked. IsRefusedOf t.journal asked p s)) → IsReason t.before.files t.request t.journal text s
+    reason : IsRefusedFor s p ⊎ (IsWithin p × IsDeniedOf t.before.files t.request t.journal s p) → IsReason t.before.files t.request t.journal text s
     reason (inl r) = inr (inl (inr (p, is, r)))
     reason (inr r) = inr (inr (p, is, r))
 text_at Answered t text p s is h = (h.0, (p, is, h.1))
@@ -129,17 +104,12 @@ text_at Unwritten t text p s is h = (h.0, h.1, (p, is, h.2))
 text_at Lost t text p s is (inl same) = inl same
 text_at Lost t text p s is (inr h) = inr (h.0, (p, is, h.1))
 
-pub text_refused : (t : Trace) (text : List ℕ) (e : TextError) → IsTextError text e → t.now ≡ t.before → Ends t text (refusal_of e)
-text_refused t text (error.Syntax place) h same = (inr (inl (inl h)), same)
-text_refused t text (error.Literal place) h same = (inr (inl (inl h)), same)
-text_refused t text (error.Nesting place) h same = (inr (inl (inl h)), same)
-text_refused t text error.Memory h same = inl same
+-- the text is no model's
+pub text_refused : (t : Trace) (text : List ℕ) (s : Status) → Denied s (IsTextRefused text s) → t.now ≡ t.before → Ends t text s
+text_refused t text s (inl h) same = subst (λ x. EndsAt (stage_of x) t text x) (sym h) (inl same)
+text_refused t text s (inr h) same = subst (λ g. EndsAt g t text s) (sym h.0) (inr (inl (inl h.1)), same)
 
 -- ---- a request
-
--- a count that rose later has risen since
-risen_earlier : (before mid now : ℕ) → before ≤ mid → HasRisen mid now → HasRisen before now
-risen_earlier before mid now h r = omega (arith, h, r)
 
 run_at : (g : Stage) (r : Request) (os : List Order) (journal : Journal) (before now : Outside) (reads mid reads_now writes writes_now : ℕ) (text : List ℕ) (s : Status) → reads ≤ mid → OfText before.files r (λ bytes. bytes ≡ text) → EndsAt g (trace r os journal before now mid reads_now writes writes_now) text s → RunEndsAt g (trace r os journal before now reads reads_now writes writes_now) s
 run_at Unasked r os journal before now reads mid reads_now writes writes_now text s le read h = h

@@ -1,10 +1,9 @@
+pub mod AskedParts
 pub mod Asking
-pub mod LogFiles
-pub mod ModelParts
 pub mod Endings
-pub mod OneModel
-pub mod OneStatus
+pub mod LogFiles
+pub mod OneAnswer
+pub mod RepairParts
 pub mod RunLaws
 pub mod SearchRecords
-pub mod TextLaws
 pub mod VerifyingLaws

@@ -1,5 +1,5 @@
 -- From what became of a log's file to why it is refused, or what it shows.
-use Rattle.std.proofs.Common.{◌≡◌, ◌⊎◌, inl, inr, ℕ, ◌<◌, ◌≤◌, ◌+◌, List, [], Option, None, Some, length, take, sym, subst, ap, ◌∙◌, refl}
+use Rattle.std.proofs.Common.{◌≡◌, inl, inr, ◌<◌, ◌≤◌, ◌+◌, List, [], Option, None, Some, length, take, sym, subst, ap, ◌∙◌, refl, ℕ}
 use Rattle.class_table.specs.Outline.{Outline}
 use Rattle.conf_types.specs.Programs.{ResolvedConstraint, ResolvedGoal}
 use Rattle.desk_io.specs.Desk.{Files, OfFile}
@@ -16,11 +16,12 @@ use Rattle.model_search.specs.Findings.{finding}
 use Rattle.model_search.specs.Problems.{IsProblemOf}
 use Rattle.model_search.specs.declared.finding.Finding.{Finding}
 use Rattle.proof_log.specs.Rounds.{Journal}
+use Rattle.reconfigure.specs.declared.repair.Repair.{Repair}
 use Rattle.run_status.specs.declared.status.Status.{Status}
 use Rattle.run_status.specs.declared.status.Status.TheVariants as status
 use Rattle.confsolve_run.specs.Checking.{file_status, IsShownBy}
-use Rattle.confsolve_run.specs.Refusal.{IsUnfit, IsUnchecked, HasRest}
-use Rattle.confsolve_run.specs.Stages.{Unreadable}
+use Rattle.confsolve_run.specs.Refusal.{IsUnfit, IsUnchecked}
+use Rattle.confsolve_run.specs.Unreadable.{Unreadable}
 use Rattle.confsolve_run.proofs.Asking.{file_map}
 
 some_same : {X : Type 0} (x y : X) → Some x ≡ Some y → x ≡ y
@@ -65,8 +66,13 @@ shown_by told name g v f log is =
     file_map told name _ _ (λ bytes h. record { lines = h.lines; read = h.text; taken = h.taken; shown = is ∙ ap (finding g) h.verdict }) log
 
 -- the record holds the problem
-pub unchecked : (told : Option Files) (name : List ℕ) (reads reads_now : ℕ) (s : Status) (o : Outline) (ks : List ResolvedConstraint) (gs : List ResolvedGoal) (g : Ground) (journal : Journal) → Unreadable reads reads_now s (OfFile told name (λ bytes. IsUnfit bytes s g)) → journal.ground ≡ Some g → journal.lines ≡ [] → IsProblemOf o ks gs g → Unreadable reads reads_now s (OfFile told name (λ bytes. IsUnchecked o ks gs journal bytes s))
-unchecked told name reads reads_now s o ks gs g journal (inl u) kept alone problem = inl u
-unchecked told name reads reads_now s o ks gs g journal (inr (inl u)) kept alone problem = inr (inl u)
-unchecked told name reads reads_now s o ks gs g journal (inr (inr u)) kept alone problem =
+pub unchecked : (told : Option Files) (name : List ℕ) (reads reads_now : ℕ) (s : Status) (o : Outline) (ks : List ResolvedConstraint) (gs : List ResolvedGoal) (r : Option Repair) (g : Ground) (journal : Journal) → Unreadable reads reads_now s (OfFile told name (λ bytes. IsUnfit bytes s g)) → journal.ground ≡ Some g → journal.lines ≡ [] → IsProblemOf o ks gs r g → Unreadable reads reads_now s (OfFile told name (λ bytes. IsUnchecked o ks gs r journal bytes s))
+unchecked told name reads reads_now s o ks gs r g journal (inl u) kept alone problem = inl u
+unchecked told name reads reads_now s o ks gs r g journal (inr (inl u)) kept alone problem = inr (inl u)
+unchecked told name reads reads_now s o ks gs r g journal (inr (inr u)) kept alone problem =
     inr (inr (u.0, file_map told name _ _ (λ bytes h. record { ground = g; kept = kept; alone = alone; problem = problem; holds = h }) u.1))
+
+-- the problem of one question is that of the same one
+pub same_problem : (o p : Outline) (ks ls : List ResolvedConstraint) (gs hs : List ResolvedGoal) (r q : Option Repair) (g : Ground) → p ≡ o → ls ≡ ks → hs ≡ gs → q ≡ r → IsProblemOf p ls hs q g → IsProblemOf o ks gs r g
+same_problem o p ks ls gs hs r q g outlines constraints goals repairs h =
+    subst (λ x. IsProblemOf x ks gs r g) outlines (subst (λ x. IsProblemOf p x gs r g) constraints (subst (λ x. IsProblemOf p ls x r g) goals (subst (λ x. IsProblemOf p ls hs x g) repairs h)))

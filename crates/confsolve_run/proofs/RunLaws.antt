@@ -1,20 +1,20 @@
 -- From how a request ends to what each clause of the top call says.
-use Rattle.std.proofs.Common.{◌≡◌, ◌⊎◌, ◌↔◌, inl, inr, ℕ, ◌≤◌, Bool, true, false, List, Option, None, Some, IfSome, length, sym, subst, ap, ◌∙◌, refl}
+use Rattle.std.proofs.Common.{◌≡◌, ◌⊎◌, inl, inr, ◌≤◌, true, List, Option, None, Some, IfSome, length, sym, subst, ap, ◌∙◌, ℕ}
 use native.Mathlib.Omega.{arith}
 use Rattle.conf_request.specs.declared.request.Request.{Request}
 use Rattle.desk_io.specs.Desk.{Files}
 use Rattle.desk_io.specs.Fault.{HasRisen}
 use Rattle.model_limits.specs.Limits.{model_bytes}
 use Rattle.proof_log.specs.Rounds.{Journal}
-use Rattle.run_status.specs.declared.status.LimitKind.TheVariants as kind
 use Rattle.run_status.specs.declared.status.Status.{Status}
 use Rattle.run_status.specs.declared.status.Status.TheVariants as status
 use Rattle.confsolve_run.specs.Asking.{OfText, log_file, text_of}
-use Rattle.confsolve_run.specs.Delivery.{IsLogged, IsLogFront, IsLogFrontIn}
+use Rattle.confsolve_run.specs.Delivery.{IsLogFront, IsLogFrontIn}
 use Rattle.confsolve_run.specs.Ending.{Trace, Prints, Breaks, Delivers, Begins, RunEnds, RunEndsAt, OfTrace}
-use Rattle.confsolve_run.specs.Recorded.{IsRecorded}
-use Rattle.confsolve_run.specs.Refusal.{IsReason, IsTooLongText, IsTextRefused, IsStanding}
-use Rattle.confsolve_run.specs.Stages.{Stage, Unasked, Unread, Refused, Answered, Unwritten, Lost, stage_of, is_silent, is_partial, IsSettled, IsUnless, Unreadable}
+use Rattle.confsolve_run.specs.Refusal.{IsReason, IsTooLongText, IsStanding}
+use Rattle.model_reader.specs.ModelRefusal.{IsTextRefused}
+use Rattle.run_status.specs.Stages.{Stage, Unasked, Unread, Refused, Answered, Unwritten, Lost, stage_of, is_silent, is_partial, IsSettled, IsUnless}
+use Rattle.confsolve_run.specs.Unreadable.{Unreadable}
 use Rattle.confsolve_run.proofs.Asking.{text_known}
 
 -- what holds of the request holds where there is one

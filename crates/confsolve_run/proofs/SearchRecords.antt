@@ -1,31 +1,42 @@
 -- What the record of a search holds, whatever is known of files.
-use Rattle.std.proofs.Common.{◌≡◌, ◌∙◌, ℕ, List, Option, Some, None, true, sym, subst, ap, refl}
+use Rattle.std.proofs.Common.{◌≡◌, ◌∙◌, Bool, true, false, List, Option, None, sym, subst, ap, refl, ℕ}
 use Rattle.branch_choice.specs.declared.split.Order.{Order}
 use Rattle.class_table.specs.Outline.{Outline}
 use Rattle.conf_types.specs.Programs.{ResolvedConstraint, ResolvedGoal}
-use Rattle.model_search.specs.Runs.{HasRun, is_open}
+use Rattle.model_search.specs.Runs.{HasRun, is_open, values_for}
 use Rattle.model_search.specs.declared.finding.Finding.{Finding}
 use Rattle.proof_log.specs.Rounds.{Journal}
+use Rattle.reconfigure.specs.declared.repair.Repair.{Repair}
 use Rattle.run_status.specs.declared.status.Status.{Status}
 use Rattle.confsolve_run.specs.Answer.{searched_status, IsSearched}
 use Rattle.confsolve_run.specs.Recorded.{HasSearched}
 use Rattle.confsolve_run.specs.Told.{HoldsLog}
 
-pub holds_log : (o : Outline) (ks : List ResolvedConstraint) (gs : List ResolvedGoal) (order : Order) (budget : ℕ) (journal : Journal) (told : Finding) → HasRun o ks gs order budget journal told → HoldsLog journal
-holds_log o ks gs order budget journal told h =
+pub holds_log : (o : Outline) (ks : List ResolvedConstraint) (gs : List ResolvedGoal) (r : Option Repair) (order : Order) (budget : ℕ) (journal : Journal) (told : Finding) → HasRun o ks gs r order budget journal told → HoldsLog journal
+holds_log o ks gs r order budget journal told h =
     record { ground = h.ground; kept = h.kept; well_made = h.problem.stands.well_made; taken = h.taken }
 
-pub has_searched : (o : Outline) (ks : List ResolvedConstraint) (gs : List ResolvedGoal) (order : Order) (budget : ℕ) (journal : Journal) (s : Status) (text : Finding → List ℕ) (printed : List ℕ) → IsSearched o ks gs order budget journal s text printed → HasSearched order budget s journal
-has_searched o ks gs order budget journal s text printed a =
-    let h = a.run in
-    record {
-      ground = h.ground;
-      kept = h.kept;
-      well_made = h.problem.stands.well_made;
-      run = h.run;
-      ordered = h.ordered;
-      taken = h.taken;
-      status_is = a.status_is ∙ ap (searched_status budget) h.shown;
-      all = λ is. (h.spent (subst (λ f. is_open f ≡ true) (sym h.shown) is)).all;
-      due = λ is. (h.spent (subst (λ f. is_open f ≡ true) (sym h.shown) is)).due;
-    }
+module _ (o : Outline) (ks : List ResolvedConstraint) (gs : List ResolvedGoal) (order : Order) (budget : ℕ) (journal : Journal) (s : Status) (text : Finding → List ℕ) (printed : List ℕ) where
+  has_searched : (repaired : Bool) (r : Option Repair) → (repaired ≡ false → r ≡ None) → IsSearched o ks gs r order budget journal s text printed → HasSearched repaired order budget s journal
+  has_searched repaired r none a =
+      let h = a.run in
+      record {
+        ground = h.ground;
+        kept = h.kept;
+        well_made = h.problem.stands.well_made;
+        run = h.run;
+        values = values_for h.ground.search r;
+        none = λ e. ap (values_for h.ground.search) (none e);
+        ordered = h.ordered;
+        taken = h.taken;
+        status_is = a.status_is ∙ ap (searched_status budget) h.shown;
+        all = λ is. (h.spent (subst (λ f. is_open f ≡ true) (sym h.shown) is)).all;
+        due = λ is. (h.spent (subst (λ f. is_open f ≡ true) (sym h.shown) is)).due;
+      }
+
+  -- a search without a repair had no values to go by
+  pub has_solved : IsSearched o ks gs None order budget journal s text printed → HasSearched false order budget s journal
+  has_solved a = has_searched false None (λ e. refl) a
+
+  pub has_repaired : (r : Option Repair) → IsSearched o ks gs r order budget journal s text printed → HasSearched true order budget s journal
+  has_repaired r a = has_searched true r (λ e. absurd cc) a

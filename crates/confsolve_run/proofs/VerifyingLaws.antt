@@ -1,5 +1,5 @@
 -- A JSON value that gives each leaf a value is a configuration with full sets.
-use Rattle.std.proofs.Common.{inr, ◌≡◌, ◌∙◌, ℕ, ◌<◌, List, [], ◌∷◌, ◌++◌, Option, None, Some, IfSome, ℤ, All, Contains, true, is_some, length, map, sym, ap, subst, refl, slice_index_or}
+use Rattle.std.proofs.Common.{inr, ◌≡◌, ◌∙◌, ◌<◌, List, [], ◌∷◌, ◌++◌, Option, None, Some, IfSome, All, Contains, true, is_some, length, map, sym, ap, subst, refl, slice_index_or, ℕ, ℤ}
 use native.Mathlib.Omega.{arith}
 use Rattle.std.proofs.lemmas.List.Elements as elements
 use Rattle.std.specs.List.{list_all}
@@ -18,8 +18,8 @@ use Rattle.object_alloc.specs.Walk.{walk, leaves_in, objects}
 use Rattle.confsolve_run.specs.Answer.{IsConfigOf}
 use Rattle.confsolve_run.specs.Asking.{IsShort}
 use Rattle.confsolve_run.specs.Refusal.{IsBroken, IsUnverified, stated_path}
-use Rattle.confsolve_run.specs.Stages.{Denied}
-use Rattle.confsolve_run.specs.Ready.{HasFullSets}
+use Rattle.run_status.specs.Stages.{Denied}
+use Rattle.confsolve_run.specs.Verifying.{HasFullSets}
 use Rattle.run_status.specs.declared.status.Status.{Status}
 use Rattle.run_status.specs.declared.status.Status.TheVariants as status
 

@@ -1,15 +1,11 @@
 -- What is asked of which model. What a reader believes after this file: which text is that of a
--- request's model, which tree is the text's, and what the request asks of it.
-use Rattle.std.specs.Prelude.{ℕ, ◌≡◌, ◌≤◌, ◌⊎◌, length, List, Option, Some, None, IfSome, IsSomeAnd, String}
+-- request's model, and what the request asks of it.
+use Rattle.std.specs.Prelude.{◌≡◌, ◌≤◌, ◌⊎◌, length, List, Option, Some, None, IfSome, IsSomeAnd, String, ℕ}
 use Rattle.std.specs.Option.{option_and_then}
 use Rattle.std.specs.declared.alloc.Global.{Global}
 use Rattle.conf_request.specs.Words.{request, model_file}
 use Rattle.conf_request.specs.declared.request.Request.{Request}
-use Rattle.conf_request.specs.declared.request.Request.TheVariants.{Solve, Reconfigure, Check, Verify, Gen, Session, Core}
-use Rattle.conf_syntax.specs.Models.{IsProgramOf}
-use Rattle.conf_syntax.specs.Spelling.{Spells}
-use Rattle.conf_syntax.specs.declared.token.Placed.{Placed}
-use Rattle.conf_syntax.specs.declared.tree.Program.{Program}
+use Rattle.conf_request.specs.declared.request.Request.TheVariants.{Solve, Reconfigure, Check, Verify, Gen}
 use Rattle.desk_io.specs.Desk.{Files, OfFile}
 use Rattle.model_generator.specs.Generated.{generated}
 use Rattle.model_limits.specs.Limits.{config_bytes}
@@ -32,46 +28,72 @@ text_of told (Gen n) = Some (generated n)
 text_of told r =
     option_and_then (λ name. option_and_then (λ (files : Files). files name) told) (model_file r)
 
--- the text is that of the model: it spells the tokens of its tree, which the grammar has, which
--- doesn't nest too deeply and whose places are those of the tokens
-abbrev pub IsModelOf : List ℕ → Program → Type 0
-IsModelOf text p = (tokens : List Placed) × Spells text tokens × IsProgramOf tokens p
-
--- P holds of the text's model
-abbrev pub HasModel : List ℕ → (Program → Type 0) → Type 0
-HasModel text P = (p : Program) × IsModelOf text p × P p
-
 -- ---- what is asked of a model
 
+-- the text of a former configuration, and the words that name what failed
+pub record FormerText : Type 0 where
+  pub bytes : List ℕ
+  pub failed : List (List ℕ)
+
+abbrev pub former_text : List ℕ → List (List ℕ) → FormerText
+former_text bytes failed = record { bytes = bytes; failed = failed }
+
+-- each, where there is a former text of its repair
 pub data Asked : Type 0 where
   -- a best configuration, within a budget of decisions and by the order of the chooser of a number
-  Best : ℕ → ℕ → Asked
+  Best : Option FormerText → ℕ → ℕ → Asked
   -- the numbers of the model that is generated for n, and its best objectives
   Generated : ℕ → Asked
   -- what the log with these bytes shows
-  Checked : List ℕ → Asked
+  Checked : Option FormerText → List ℕ → Asked
   -- whether it is satisfied by the configuration whose text has these bytes
   Satisfied : List ℕ → Asked
 
+-- where files are told, P holds of what a request asks of its model that has a log checked, and
+-- names a former configuration or none
+abbrev pub OfChecked : Option Files → List ℕ → Option (List ℕ) → List (List ℕ)
+    → (Asked → Type 0) → Type 0
+OfChecked told log None failed P = OfFile told log (λ bytes. P (Checked None bytes))
+OfChecked told log (Some former) failed P =
+    OfFile told former (λ before. OfFile told log
+    (λ bytes. P (Checked (Some (former_text before failed)) bytes)))
+
 -- where files are told, P holds of what the request asks of its model
 abbrev pub OfAsked : Option Files → Request → (Asked → Type 0) → Type 0
-OfAsked told (Solve model budget log order) P = P (Best budget order)
-OfAsked told (Check model log former failed) P = OfFile told log (λ bytes. P (Checked bytes))
+OfAsked told (Solve model budget log order) P = P (Best None budget order)
+OfAsked told (Reconfigure model former failed budget log order) P =
+    OfFile told former (λ bytes. P (Best (Some (former_text bytes failed)) budget order))
+OfAsked told (Check model log former failed) P = OfChecked told log former failed P
 OfAsked told (Verify model config) P = OfFile told config (λ bytes. P (Satisfied bytes))
 OfAsked told (Gen n) P = P (Generated n)
 OfAsked told r P = ⊥
+
+-- where files are told, P holds of the former text that is named, and one is
+abbrev pub OfNamed : Option Files → Option (List ℕ) → List (List ℕ) → (FormerText → Type 0)
+    → Type 0
+OfNamed told None failed P = ⊥
+OfNamed told (Some former) failed P = OfFile told former (λ bytes. P (former_text bytes failed))
+
+-- where files are told, P holds of the former text that the request names, and it names one
+abbrev pub OfFormer : Option Files → Request → (FormerText → Type 0) → Type 0
+OfFormer told (Reconfigure model former failed budget log order) P =
+    OfNamed told (Some former) failed P
+OfFormer told (Check model log former failed) P = OfNamed told former failed P
+OfFormer told r P = ⊥
 
 -- ---- files
 
 -- the request reads the file of this name beside that of the model
 abbrev pub IsFurther : Request → List ℕ → Type 0
-IsFurther (Check model log former failed) name = name ≡ log
+IsFurther (Reconfigure model former failed budget log order) name = name ≡ former
+IsFurther (Check model log former failed) name = (former ≡ Some name) ⊎ (name ≡ log)
 IsFurther (Verify model config) name = name ≡ config
 IsFurther r name = ⊥
 
 -- the file that a log is written to, where the request asks for one
 abbrev pub log_file : Request → Option (List ℕ)
 log_file (Solve model budget log order) = log
+log_file (Reconfigure model former failed budget log order) = log
 log_file r = None
 
 -- the words name this file to be read

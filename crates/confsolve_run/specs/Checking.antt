@@ -1,6 +1,6 @@
 -- What the steps of `check` hand on. What a reader believes after this file: nothing that `run`
 -- says.
-use Rattle.std.specs.Prelude.{◌≡◌, ℕ, true, None, List}
+use Rattle.std.specs.Prelude.{◌≡◌, true, None, List, ℕ}
 use Rattle.ground_form.specs.declared.ground.Ground.{Ground}
 use Rattle.log_check.specs.Verdicts.{ending}
 use Rattle.log_file.specs.declared.reading.FileCheck.{FileCheck}

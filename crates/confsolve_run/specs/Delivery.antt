@@ -1,6 +1,6 @@
 -- What an answer leaves outside. What a reader believes after this file: that a log lies whole in
 -- its file, and how far writing came where it broke off.
-use Rattle.std.specs.Prelude.{◌≡◌, ◌⊎◌, List, ℕ, Option, None, Some}
+use Rattle.std.specs.Prelude.{◌≡◌, ◌⊎◌, List, Option, None, Some, ℕ}
 use Rattle.std.specs.Option.{option_map}
 use Rattle.conf_request.specs.declared.request.Request.{Request}
 use Rattle.desk_io.specs.Desk.{Files, with_file}

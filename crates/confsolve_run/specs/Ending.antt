@@ -1,6 +1,6 @@
 -- How a run ends, stage by stage. What a reader believes after this file: what was printed and
 -- written, what the status says, and which faults came.
-use Rattle.std.specs.Prelude.{ℕ, ◌≡◌, ◌⊎◌, List, Option, IfSome, String}
+use Rattle.std.specs.Prelude.{◌≡◌, ◌⊎◌, List, Option, IfSome, String, ℕ}
 use Rattle.std.specs.declared.alloc.Global.{Global}
 use Rattle.branch_choice.specs.declared.split.Order.{Order}
 use Rattle.conf_request.specs.Words.{request}
@@ -11,12 +11,14 @@ use Rattle.desk_io.specs.Fault.{HasRisen}
 use Rattle.proof_log.specs.Rounds.{Journal}
 use Rattle.run_status.specs.declared.status.Status.{Status}
 use Rattle.confsolve_run.specs.Answer.{IsAnswer}
-use Rattle.confsolve_run.specs.Asking.{Asked, HasModel, OfAsked, OfText}
+use Rattle.confsolve_run.specs.Asking.{Asked, OfAsked, OfText}
+use Rattle.model_reader.specs.TextModel.{HasModel}
 use Rattle.confsolve_run.specs.Delivery.{Outside, IsLogged, IsLogFront, IsCutOff}
 use Rattle.confsolve_run.specs.Recorded.{IsRecorded}
-use Rattle.confsolve_run.specs.Models.{IsWithin}
-use Rattle.confsolve_run.specs.Refusal.{IsReason, IsRefusedFor, IsRefusedOf}
-use Rattle.confsolve_run.specs.Stages.{Stage, Unasked, Unread, Refused, Answered, Unwritten, Lost, stage_of}
+use Rattle.model_reader.specs.Models.{IsWithin}
+use Rattle.confsolve_run.specs.Refusal.{IsReason, IsDeniedOf}
+use Rattle.model_reader.specs.ModelRefusal.{IsRefusedFor}
+use Rattle.run_status.specs.Stages.{Stage, Unasked, Unread, Refused, Answered, Unwritten, Lost, stage_of}
 
 -- where files are told, the text's model is within the limits, and P holds of it and of what the
 -- request asks of it
@@ -89,7 +91,7 @@ EndsModelAt Unasked t p s = ⊥
 EndsModelAt Unread t p s = HasRisen t.reads t.reads_now × (t.now ≡ t.before)
 EndsModelAt Refused t p s =
     (IsRefusedFor s p
-    ⊎ (IsWithin p × OfAsked t.before.files t.request (λ asked. IsRefusedOf t.journal asked p s)))
+    ⊎ (IsWithin p × IsDeniedOf t.before.files t.request t.journal s p))
     × (t.now ≡ t.before)
 EndsModelAt Answered t p s =
     Delivers t s

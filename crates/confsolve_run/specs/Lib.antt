@@ -1,15 +1,10 @@
 pub mod Answer
 pub mod Asking
 pub mod Checking
-pub mod Building
 pub mod Delivery
 pub mod Ending
-pub mod Meaning
-pub mod Models
 pub mod Recorded
 pub mod Refusal
-pub mod Refusing
-pub mod Ready
-pub mod Stages
-pub mod TextErrors
 pub mod Told
+pub mod Unreadable
+pub mod Verifying

@@ -1,10 +1,10 @@
 -- What the record holds behind an answer, whatever is known of files. What a reader believes after
 -- this file: a ground problem and the lines of a search over it, which are a run, are accepted, and
 -- show what the status says.
-use Rattle.std.specs.Prelude.{◌≡◌, ℕ, [], true, List, None, Some, replicate}
+use Rattle.std.specs.Prelude.{◌≡◌, [], Bool, true, false, List, Option, None, Some, replicate, ℕ, ℤ}
 use Rattle.branch_choice.specs.declared.split.Order.{Order}
 use Rattle.conf_request.specs.declared.request.Request.{Request}
-use Rattle.conf_request.specs.declared.request.Request.TheVariants.{Solve, Reconfigure, Check, Verify, Gen, Session, Core}
+use Rattle.conf_request.specs.declared.request.Request.TheVariants.{Solve, Reconfigure, Check, Verify, Gen}
 use Rattle.ground_form.specs.WellMade.{IsWellMade}
 use Rattle.ground_form.specs.declared.ground.Ground.{Ground}
 use Rattle.log_check.specs.Verdicts.{ending}
@@ -16,15 +16,19 @@ use Rattle.run_status.specs.declared.status.Status.{Status}
 use Rattle.search_run.specs.Decisions.{decisions, MayDecide}
 use Rattle.search_run.specs.Ordered.{IsOrdered}
 use Rattle.search_run.specs.Replay.{is_run}
-use Rattle.confsolve_run.specs.Answer.{searched_status, order_at, generated_budget}
+use Rattle.confsolve_run.specs.Answer.{searched_status, order_at}
+use Rattle.answer_text.specs.Texts.{generated_budget}
 
--- of a search by this order, which had no values to go by, within this budget
-pub record HasSearched (order : Order) (budget : ℕ) (s : Status) (journal : Journal) : Type 0 where
+-- of a search by this order within this budget; but for a repair it had no values to go by
+pub record HasSearched (repaired : Bool) (order : Order) (budget : ℕ) (s : Status)
+    (journal : Journal) : Type 0 where
   pub ground : Ground
   pub kept : journal.ground ≡ Some ground
   pub well_made : IsWellMade ground
   pub run : is_run ground journal.lines ≡ true
-  pub ordered : IsOrdered ground order (replicate ground.search None) journal.lines
+  pub values : List (Option ℤ)
+  pub none : repaired ≡ false → values ≡ replicate ground.search None
+  pub ordered : IsOrdered ground order values journal.lines
   pub taken : accepted ground journal.lines ≡ true
   pub status_is : s ≡ searched_status budget (finding ground (ending ground journal.lines))
   pub all : is_open (finding ground (ending ground journal.lines)) ≡ true
@@ -41,8 +45,10 @@ pub record HasChecked (journal : Journal) : Type 0 where
 
 abbrev pub IsRecorded : List Order → Request → Status → Journal → Type 0
 IsRecorded os (Solve model budget log order) s journal =
-    HasSearched (order_at os order) budget s journal
-IsRecorded os (Gen n) s journal = HasSearched (order_at os 0) generated_budget s journal
+    HasSearched false (order_at os order) budget s journal
+IsRecorded os (Reconfigure model former failed budget log order) s journal =
+    HasSearched true (order_at os order) budget s journal
+IsRecorded os (Gen n) s journal = HasSearched false (order_at os 0) generated_budget s journal
 IsRecorded os (Check model log former failed) s journal = HasChecked journal
 IsRecorded os (Verify model config) s journal = journal ≡ empty
 IsRecorded os r s journal = ⊥

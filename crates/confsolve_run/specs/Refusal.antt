@@ -1,12 +1,8 @@
--- Why a model, or what is asked of it, is refused. What a reader believes after this file: what
--- each refusal says of the texts that it refuses.
-use Rattle.std.specs.Prelude.{ℕ, ◌≡◌, ◌⊎◌, ◌+◌, ◌<◌, ◌≤◌, List, [], Option, None, Some, ℤ, false, length, take}
+-- Why what is asked of a model is refused, and why a request is. What a reader believes after this
+-- file: what each refusal says of the texts that it refuses.
+use Rattle.std.specs.Prelude.{◌≡◌, ◌⊎◌, ◌+◌, ◌<◌, ◌≤◌, List, [], Option, None, Some, IsSome, length, take, ℕ, ℤ}
 use Rattle.class_table.specs.Outline.{Outline}
 use Rattle.conf_eval.specs.Breaking.{IsWrongConstraint}
-use Rattle.conf_limits.specs.Measures.{model_weight, model_narrow}
-use Rattle.conf_parse.specs.Means.{IsSyntax, IsDeep}
-use Rattle.conf_syntax.specs.Spelling.{Spells, IsStuckAtByte, IsStuckAtNumber}
-use Rattle.conf_syntax.specs.declared.token.Placed.{Placed}
 use Rattle.conf_syntax.specs.declared.tree.Program.{Program}
 use Rattle.conf_types.specs.Programs.{ResolvedConstraint, ResolvedGoal}
 use Rattle.config_json.specs.Former.{missing}
@@ -15,72 +11,24 @@ use Rattle.desk_io.specs.Desk.{Files}
 use Rattle.ground_form.specs.declared.ground.Ground.{Ground}
 use Rattle.log_check.specs.Fed.{FailsAt, HasTaken, Left}
 use Rattle.log_file.specs.Limits.{log_bytes}
-use Rattle.model_limits.specs.Limits.{config_bytes, model_bytes, most_weight}
+use Rattle.model_limits.specs.Limits.{config_bytes, model_bytes}
 use Rattle.model_search.specs.Problems.{IsProblemOf}
-use Rattle.object_alloc.specs.Limits as objects
-use Rattle.object_alloc.specs.Limits.{IsWithinLimits}
 use Rattle.object_alloc.specs.Paths.{path}
-use Rattle.object_alloc.specs.declared.fault.AllocFault.TheVariants as fault
 use Rattle.proof_log.specs.Rounds.{Journal}
 use Rattle.run_status.specs.declared.status.FormerKind.TheVariants as former
 use Rattle.run_status.specs.declared.status.LimitKind.TheVariants as kind
 use Rattle.run_status.specs.declared.status.Status.{Status}
 use Rattle.run_status.specs.declared.status.Status.TheVariants as status
 use Rattle.serde_json.specs.Data.{Data}
+use Rattle.serde_json.specs.Find.{as_object}
+use Rattle.reconfigure.specs.Failing.{unknown_word}
+use Rattle.reconfigure.specs.declared.repair.Repair.{Repair}
 use Rattle.conf_request.specs.declared.request.Request.{Request}
-use Rattle.confsolve_run.specs.Answer.{IsConfigOf}
-use Rattle.confsolve_run.specs.Asking.{Asked, Best, Generated, Checked, Satisfied, IsShort, HasModel, OfAsked}
-use Rattle.confsolve_run.specs.Meaning.{IsFaultOf, IsTyped}
-use Rattle.confsolve_run.specs.Models.{IsWithin, outline_of, constraints_of, goals_of}
-
--- at the place nothing begins, or the tokens before it begin a model and with the one there they
--- begin none
-abbrev pub IsSyntaxAt : List ℕ → ℕ → Type 0
-IsSyntaxAt text place =
-    IsStuckAtByte text place ⊎ ((tokens : List Placed) × Spells text tokens
-    × IsSyntax tokens (length text) place)
-
--- the tokens before the place begin a model, and with the one there only models that nest too
--- deeply
-abbrev pub IsNestingAt : List ℕ → ℕ → Type 0
-IsNestingAt text place =
-    (tokens : List Placed) × Spells text tokens × IsDeep tokens (length text) place
-
--- Models: a fault stands in it, or it is typed and breaks a limit, the first in this order
-
--- no fault stands in the model, and its objects are within their limits
-abbrev pub IsAllocated : Program → Type 0
-IsAllocated p = IsTyped p × IsWithinLimits (outline_of p)
-
-abbrev pub IsHeavy : Program → Type 0
-IsHeavy p = most_weight < model_weight (outline_of p) (constraints_of p) (goals_of p)
-
-abbrev pub IsRefusedFor : Status → Program → Type 0
-IsRefusedFor (status.Meaning fault place) p = IsFaultOf p fault place
-IsRefusedFor (status.Limit kind.Objects None) p =
-    IsTyped p × objects.IsRefused (outline_of p) fault.TooManyObjects
-IsRefusedFor (status.Limit kind.Depth None) p =
-    IsTyped p × objects.IsRefused (outline_of p) fault.TooDeep
-IsRefusedFor (status.Limit kind.Cells None) p =
-    IsTyped p × objects.IsRefused (outline_of p) fault.TooManyCells
-IsRefusedFor (status.Limit kind.Weight None) p = IsAllocated p × IsHeavy p
-IsRefusedFor (status.Limit kind.Width None) p =
-    IsAllocated p × (model_weight (outline_of p) (constraints_of p) (goals_of p) ≤ most_weight)
-    × (model_narrow (outline_of p) (constraints_of p) (goals_of p) ≡ false)
-IsRefusedFor status p = ⊥
-
--- a refusal of a text that is no model's
-abbrev pub IsTextRefused : List ℕ → Status → Type 0
-IsTextRefused text (status.Syntax place) = IsSyntaxAt text place
-IsTextRefused text (status.Limit kind.Literal (Some place)) = IsStuckAtNumber text place
-IsTextRefused text (status.Limit kind.Nesting (Some place)) = IsNestingAt text place
-IsTextRefused text s = ⊥
-
--- a refusal of a text, or of the model that it is
-abbrev pub IsRefusedAs : Status → List ℕ → Type 0
-IsRefusedAs s text = IsTextRefused text s ⊎ HasModel text (IsRefusedFor s)
-
--- ---- what is asked of a model within the limits
+use Rattle.confsolve_run.specs.Answer.{IsConfigOf, OfRepair}
+use Rattle.confsolve_run.specs.Asking.{Asked, Best, Generated, Checked, Satisfied, FormerText, IsShort, OfAsked, OfFormer}
+use Rattle.model_reader.specs.TextModel.{HasModel}
+use Rattle.model_reader.specs.ModelRefusal.{IsRefusedAs, IsTextRefused}
+use Rattle.model_reader.specs.Models.{IsWithin, outline_of, constraints_of, goals_of}
 
 -- the path of the object for which a constraint is stated; empty at the top level
 abbrev pub stated_path : Outline → Option ℕ → List ℕ
@@ -106,13 +54,13 @@ pub record IsBroken (o : Outline) (ks : List ResolvedConstraint) (bytes : List �
   pub is : IsConfigOf o bytes config
   pub broken : IsBrokenAt o ks config place path_text
 
--- the record holds the model's problem alone, and P holds of it
+-- the record holds the problem of the model or of the repair alone, and P holds of it
 pub record HasProblem (o : Outline) (ks : List ResolvedConstraint) (gs : List ResolvedGoal)
-    (journal : Journal) (P : Ground → Type 0) : Type 0 where
+    (r : Option Repair) (journal : Journal) (P : Ground → Type 0) : Type 0 where
   pub ground : Ground
   pub kept : journal.ground ≡ Some ground
   pub alone : journal.lines ≡ []
-  pub problem : IsProblemOf o ks gs ground
+  pub problem : IsProblemOf o ks gs r ground
   pub holds : P ground
 
 -- behind this many lines, which are accepted, bytes are left that end no line
@@ -133,16 +81,32 @@ abbrev pub IsTooLong : List ℕ → Ground → Type 0
 IsTooLong bytes g =
     (log_bytes < length bytes) × ((left : Left) × HasTaken g (take log_bytes bytes) left)
 
--- a configuration's text: it is too long, no JSON or no object, has no value for a leaf, or doesn't
--- satisfy the model
+-- a configuration's text: it is too long, no JSON or no object
+abbrev pub IsUnread : List ℕ → Status → Type 0
+IsUnread bytes (status.Limit kind.Former None) = config_bytes < length bytes
+IsUnread bytes (status.Former former.NotJson) = IsShort bytes × (value_read bytes ≡ None)
+IsUnread bytes (status.Former former.NotObject) = IsShort bytes × IsOther bytes
+IsUnread bytes s = ⊥
+
+-- that, or it has no value for a leaf, or doesn't satisfy the model
 abbrev pub IsUnverified : Outline → List ResolvedConstraint → List ℕ → Status → Type 0
-IsUnverified o ks bytes (status.Limit kind.Former None) = config_bytes < length bytes
-IsUnverified o ks bytes (status.Former former.NotJson) = IsShort bytes × (value_read bytes ≡ None)
-IsUnverified o ks bytes (status.Former former.NotObject) = IsShort bytes × IsOther bytes
 IsUnverified o ks bytes (status.Broken None path_text) = IsShort bytes × IsMissing o bytes path_text
 IsUnverified o ks bytes (status.Broken (Some place) path_text) =
     IsShort bytes × IsBroken o ks bytes place path_text
-IsUnverified o ks bytes s = ⊥
+IsUnverified o ks bytes s = IsUnread bytes s
+
+-- the bytes are read as an object, and the word of this number is the first that names no object
+pub record IsUnknown (o : Outline) (f : FormerText) (n : ℕ) : Type 0 where
+  pub short : IsShort f.bytes
+  pub json : Data
+  pub read : value_read f.bytes ≡ Some json
+  pub object : IsSome (as_object json)
+  pub first : unknown_word o f.failed ≡ Some n
+
+-- a former configuration's text is refused, or a word that names what failed
+abbrev pub IsFormerRefused : Outline → FormerText → Status → Type 0
+IsFormerRefused o f (status.Former (former.UnknownObject n)) = IsUnknown o f n
+IsFormerRefused o f s = IsUnread f.bytes s
 
 -- a log: it is too long, or a line of it is refused
 abbrev pub IsUnfit : List ℕ → Status → Ground → Type 0
@@ -150,20 +114,28 @@ IsUnfit bytes (status.Limit kind.Log None) g = IsTooLong bytes g
 IsUnfit bytes (status.Rejected line) g = IsRejectedAt bytes line g
 IsUnfit bytes s g = ⊥
 
-abbrev pub IsUnchecked : Outline → List ResolvedConstraint → List ResolvedGoal → Journal → List ℕ
-    → Status → Type 0
-IsUnchecked o ks gs journal bytes s = HasProblem o ks gs journal (IsUnfit bytes s)
+abbrev pub IsUnchecked : Outline → List ResolvedConstraint → List ResolvedGoal → Option Repair
+    → Journal → List ℕ → Status → Type 0
+IsUnchecked o ks gs r journal bytes s = HasProblem o ks gs r journal (IsUnfit bytes s)
 
 abbrev pub IsModelDenied : Outline → List ResolvedConstraint → List ResolvedGoal → Journal → Asked
     → Status → Type 0
-IsModelDenied o ks gs journal (Best budget order) s = ⊥
+IsModelDenied o ks gs journal (Best former budget order) s = ⊥
 IsModelDenied o ks gs journal (Generated n) s = ⊥
-IsModelDenied o ks gs journal (Checked bytes) s = IsUnchecked o ks gs journal bytes s
+IsModelDenied o ks gs journal (Checked former bytes) s =
+    OfRepair o former (λ r. IsUnchecked o ks gs r journal bytes s)
 IsModelDenied o ks gs journal (Satisfied bytes) s = IsUnverified o ks bytes s
 
-abbrev pub IsRefusedOf : Journal → Asked → Program → Status → Type 0
-IsRefusedOf journal asked p s =
-    IsModelDenied (outline_of p) (constraints_of p) (goals_of p) journal asked s
+-- the former text that the request names is refused, or else what it asks of a model
+abbrev pub IsDenied : Option Files → Request → Journal → Status → Outline
+    → List ResolvedConstraint → List ResolvedGoal → Type 0
+IsDenied told r journal s o ks gs =
+    OfFormer told r (λ f. IsFormerRefused o f s)
+    ⊎ OfAsked told r (λ asked. IsModelDenied o ks gs journal asked s)
+
+abbrev pub IsDeniedOf : Option Files → Request → Journal → Status → Program → Type 0
+IsDeniedOf told r journal s p =
+    IsDenied told r journal s (outline_of p) (constraints_of p) (goals_of p)
 
 -- ---- all refusals
 
@@ -182,4 +154,4 @@ abbrev pub IsReason : Option Files → Request → Journal → List ℕ → Stat
 IsReason told r journal text s =
     IsTooLongText text s
     ⊎ (IsRefusedAs s text
-    ⊎ HasModel text (λ p. IsWithin p × OfAsked told r (λ asked. IsRefusedOf journal asked p s)))
+    ⊎ HasModel text (λ p. IsWithin p × IsDeniedOf told r journal s p))

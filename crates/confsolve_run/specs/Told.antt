@@ -1,6 +1,6 @@
 -- What the steps of an answer hand on. What a reader believes after this file: nothing that `run`
 -- says.
-use Rattle.std.specs.Prelude.{◌≡◌, ◌⊎◌, ℕ, Bool, true, false, List, Option, None, Some}
+use Rattle.std.specs.Prelude.{◌≡◌, ◌⊎◌, Bool, true, false, List, Option, None, Some, ℕ}
 use Rattle.std.specs.Option.{option_map}
 use Rattle.desk_io.specs.Desk.{Files, with_file}
 use Rattle.desk_io.specs.Whole.{PrintsFront, StoresFront}

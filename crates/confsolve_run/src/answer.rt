@@ -1,8 +1,10 @@
-//! An answer, and what it is made of.
+//! An answer, and what it takes to find one.
+ghost use Rattle.std.specs.Prelude.{◌≡◌};
+
 use branch_choice::Chooser;
-use class_table::ClassTable;
-use conf_types::TypedModel;
-use object_alloc::Objects;
+use model_reader::Built;
+use model_search::Question;
+use reconfigure::Repair;
 use run_status::Status;
 use std::alloc::Global;
 
@@ -21,10 +23,15 @@ pub(crate) struct Resources<'a> {
     pub choosers: &'a [Chooser; 3],
 }
 
-/// A model with its table and its objects.
-#[derive(Clone, Copy)]
-pub(crate) struct Built<'a> {
-    pub table: &'a ClassTable,
-    pub model: &'a TypedModel,
-    pub objects: &'a Objects<'a>,
+/// What is asked of a model, or of a repair of it.
+pub(crate) fn question_of<'a>(built: Built<'a>, repair: Option<&'a Repair>) -> Question<'a>
+    ensures model { result.model ≡ built.entry.model }
+    ensures objects { result.objects ≡ built.entry.objects }
+    ensures repair { result.repair ≡ repair.entry }
+{
+    Question {
+        model: built.model,
+        objects: built.objects,
+        repair,
+    }
 }

@@ -1,8 +1,8 @@
 //! From a model's text and a request to what is printed.
 //!
-//! `answer_text` is the entry: it reads the text's model, builds it, answers what is asked of it,
+//! `run_text` is the entry: it reads the text's model, builds it, answers what is asked of it,
 //! and delivers the answer.
-ghost use Rattle.std.specs.Prelude.{map, ◌≡◌, ◌⊎◌, ◌≤◌, IsTrue, ℕ, List, Some, true, length, is_some, option_copied, IfOk, IfErr, OnOk};
+ghost use Rattle.std.specs.Prelude.{map, ◌≡◌, ◌⊎◌, ◌≤◌, IsTrue, List, Some, true, length, is_some, option_copied, IfOk, IfErr, OnOk, ℕ};
 ghost use Rattle.std.specs.Option.{option_map};
 ghost use Rattle.conf_request.specs.Words.{is_built, IsLawful};
 ghost use Rattle.conf_syntax.specs.Trees.{program_tokens, nesting};
@@ -14,54 +14,50 @@ ghost use Rattle.confsolve_run.specs.Answer.{IsModelAnswer, IsAnswer};
 ghost use Rattle.confsolve_run.specs.Asking.{IsFurther, OfAsked, log_file};
 ghost use Rattle.confsolve_run.specs.Delivery.{outside};
 ghost use Rattle.confsolve_run.specs.Ending.{Ends, EndsModel, trace};
-ghost use Rattle.confsolve_run.specs.Models.{IsWithin};
-ghost use Rattle.confsolve_run.specs.Ready.{IsReady};
+ghost use Rattle.model_reader.specs.Models.{IsWithin};
+ghost use Rattle.model_reader.specs.Ready.{IsReady};
 ghost use Rattle.confsolve_run.specs.Recorded.{IsRecorded};
-ghost use Rattle.confsolve_run.specs.Refusal.{IsModelDenied, IsRefusedFor, IsRefusedOf, IsTextRefused};
-ghost use Rattle.confsolve_run.specs.Refusing.{refusal_of};
-ghost use Rattle.confsolve_run.specs.Stages.{Answered, stage_of, Unreadable, IsUnless};
+ghost use Rattle.confsolve_run.specs.Refusal.{IsDenied, IsDeniedOf};
+ghost use Rattle.model_reader.specs.ModelRefusal.{IsRefusedFor, IsTextRefused};
+ghost use Rattle.run_status.specs.Stages.{Answered, stage_of, IsUnless};
+ghost use Rattle.confsolve_run.specs.Unreadable.{Unreadable};
 ghost use Rattle.confsolve_run.specs.Told.{IsLogOf};
 
-use crate::answer::{Answer, Built, Resources};
-use crate::building::{objects_of, table_of, typed_model, within};
+use crate::answer::{Answer, Resources};
 use crate::checking::check;
 use crate::delivering::deliver;
-use crate::model::{TextError, model_of};
+use crate::former::repair_of;
 use crate::searching::{Wanted, generated, solve};
 use crate::verifying::verify;
 use conf_request::{FileName, Request};
 use conf_syntax::Program;
 use desk_io::{Desk, WriteError};
+use model_reader::{Built, objects_of, read_model, table_of, typed_model};
 use proof_log::Record;
 use rule_law::Kit;
-use run_status::{LimitKind, Status};
+use run_status::Status;
 use std::alloc::Global;
-
-/// The status of a text that gave no model.
-fn refusal_of(error: TextError) -> Status
-    ensures { result ≡ refusal_of error }
-{
-    match error {
-        TextError::Syntax(place) => Status::Syntax { place },
-        TextError::Literal(place) => Status::Limit {
-            kind: LimitKind::Literal,
-            place: Some(place),
-        },
-        TextError::Nesting(place) => Status::Limit {
-            kind: LimitKind::Nesting,
-            place: Some(place),
-        },
-        TextError::Memory => Status::Memory,
-    }
-}
 
 /// The file that a request wants its log in.
 fn log_file(request: &Request) -> Option<&FileName>
     ensures { option_copied result ≡ log_file request.now }
 {
     match request {
-        Request::Solve { log, .. } => log.as_ref(),
+        Request::Solve { log, .. } | Request::Reconfigure { log, .. } => log.as_ref(),
         _ => None,
+    }
+}
+
+/// What is wanted of a search that a request asks for.
+fn wanted(budget: u32, order: u8, log: &Option<FileName>) -> Wanted
+    ensures budget { result.budget ≡ budget }
+    ensures order { result.order ≡ order }
+    ensures logged { result.logged ≡ is_some log.now }
+{
+    Wanted {
+        budget,
+        order,
+        logged: log.is_some(),
     }
 }
 
@@ -93,9 +89,9 @@ fn asked<D: Desk>(
     ensures log { IfOk result (λ a. IsLogOf (is_some (log_file request.now)) journal.new
         (option_map (λ text. text.items) a.log)) }
     ensures refused { IfErr result (λ s. Unreadable (D.read_faults desk.old)
-        (D.read_faults desk.new) s (OfAsked (D.files desk.old) request.now
-        (λ asked. IsModelDenied built.entry.objects.now built.entry.model.now.constraints
-        built.entry.model.now.goals journal.new asked s))) }
+        (D.read_faults desk.new) s (IsDenied (D.files desk.old) request.now journal.new s
+        built.entry.objects.now built.entry.model.now.constraints
+        built.entry.model.now.goals)) }
     ensures rounds { journal.new.rounds ≡ journal.old.rounds }
     ensures files { D.files desk.new ≡ D.files desk.old }
     ensures printed { D.printed desk.new ≡ D.printed desk.old }
@@ -110,19 +106,36 @@ fn asked<D: Desk>(
             log,
             ..
         } => {
-            let wanted = Wanted {
-                budget: *budget,
-                order: *order,
-                logged: log.is_some(),
-            };
-            Ok(solve(with, built, wanted, kit, journal)?)
+            let wanted = wanted(*budget, *order, log);
+            Ok(solve(with, built, None, wanted, kit, journal)?)
+        }
+        Request::Reconfigure {
+            former,
+            failed,
+            budget,
+            order,
+            log,
+            ..
+        } => {
+            let repair = repair_of(with.alloc, desk, former, failed.items(), built)?;
+            let wanted = wanted(*budget, *order, log);
+            Ok(solve(with, built, Some(&repair), wanted, kit, journal)?)
         }
         Request::Gen { n } => Ok(generated(with, built, *n, kit, journal)?),
-        Request::Check { log, .. } => check(with.alloc, desk, log, built, journal),
+        Request::Check {
+            log,
+            former,
+            failed,
+            ..
+        } => match former {
+            None => check(with.alloc, desk, log, built, None, journal),
+            Some(file) => {
+                let repair = repair_of(with.alloc, desk, file, failed.items(), built)?;
+                check(with.alloc, desk, log, built, Some(&repair), journal)
+            }
+        },
         Request::Verify { config, .. } => verify(with.alloc, desk, config, built),
-        Request::Reconfigure { .. } | Request::Session { .. } | Request::Core { .. } => {
-            unreachable!()
-        }
+        Request::Session { .. } | Request::Core { .. } => unreachable!(),
     }
 }
 
@@ -156,8 +169,8 @@ fn outcome<D: Desk>(
         (option_map (λ text. text.items) a.log)) }
     ensures refused { IfErr result (λ s. Unreadable (D.read_faults desk.old)
         (D.read_faults desk.new) s (IsRefusedFor s program.now
-        ⊎ (IsWithin program.now × OfAsked (D.files desk.old) request.now
-        (λ asked. IsRefusedOf journal.new asked program.now s)))) }
+        ⊎ (IsWithin program.now
+        × IsDeniedOf (D.files desk.old) request.now journal.new s program.now))) }
     ensures rounds { journal.new.rounds ≡ journal.old.rounds }
     ensures files { D.files desk.new ≡ D.files desk.old }
     ensures printed { D.printed desk.new ≡ D.printed desk.old }
@@ -167,10 +180,7 @@ fn outcome<D: Desk>(
 {
     let table = table_of(with.alloc, program)?;
     let model = typed_model(with.alloc, program, &table)?;
-    let objects = objects_of(with.alloc, &table)?;
-    if let Err(status) = within(&model, &objects) {
-        return Err(status);
-    }
+    let objects = objects_of(with.alloc, &table, &model)?;
     let built = Built {
         table: &table,
         model: &model,
@@ -219,7 +229,7 @@ fn answer_model<D: Desk>(
 
 /// Answers what is asked of the model that a text of at most `MODEL_BYTES` bytes is, or names what
 /// keeps it from being one.
-pub(crate) fn answer_text<D: Desk>(
+pub(crate) fn run_text<D: Desk>(
     with: Resources<'_>,
     desk: &mut D,
     text: &[u8],
@@ -243,8 +253,8 @@ pub(crate) fn answer_text<D: Desk>(
     ensures stands { (s : AStatus) → IsTextRefused text.now s → IsUnless s result }
     ensures rounds { journal.new.rounds ≡ journal.old.rounds }
 {
-    match model_of(with.alloc, text) {
+    match read_model(with.alloc, text) {
         Ok(program) => answer_model(with, desk, &program, request, kit, journal),
-        Err(error) => refusal_of(error),
+        Err(status) => status,
     }
 }

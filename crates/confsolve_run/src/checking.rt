@@ -1,5 +1,5 @@
-//! `check`: what a log shows of a model.
-ghost use Rattle.std.specs.Prelude.{◌≡◌, ◌≤◌, None, IfOk, IfErr, OnOk, IsTrue};
+//! `check`: what a log shows of a model, or of a repair of it.
+ghost use Rattle.std.specs.Prelude.{◌≡◌, ◌≤◌, None, IfOk, IfErr, IfSome, OnOk, IsTrue, option_copied};
 ghost use Rattle.desk_io.specs.Desk.{OfFile};
 ghost use Rattle.ground_form.specs.WellMade.{IsWellMade};
 ghost use Rattle.log_check.specs.Fed.{IsLogOf};
@@ -7,23 +7,28 @@ ghost use Rattle.log_check.specs.Soundness.{Means, FoundSolves};
 ghost use Rattle.log_check.specs.Verdicts.{shown_of};
 ghost use Rattle.model_search.specs.Findings.{Tells};
 ghost use Rattle.model_search.specs.Problems.{IsProblemOf};
+ghost use Rattle.model_search.specs.Wanted.{IsUnderstood};
 ghost use Rattle.proof_log.specs.Rounds.{empty};
-ghost use Rattle.confsolve_run.specs.Answer.{IsChecked, check_text, checked_status};
+ghost use Rattle.confsolve_run.specs.Answer.{IsChecked, checked_status};
+ghost use Rattle.answer_text.specs.Texts.{check_text};
 ghost use Rattle.confsolve_run.specs.Checking.{IsShownBy, file_status};
-ghost use Rattle.confsolve_run.specs.Ready.{IsReady};
+ghost use Rattle.model_reader.specs.Ready.{IsReady};
 ghost use Rattle.confsolve_run.specs.Recorded.{HasChecked};
 ghost use Rattle.confsolve_run.specs.Refusal.{IsUnfit, IsUnchecked};
-ghost use Rattle.confsolve_run.specs.Stages.{Answered, stage_of, Unreadable};
+ghost use Rattle.run_status.specs.Stages.{Answered, stage_of};
+ghost use Rattle.confsolve_run.specs.Unreadable.{Unreadable};
 
-use crate::answer::{Answer, Built};
-use crate::texts::check_text;
+use crate::answer::{Answer, question_of};
+use answer_text::check_text;
 use conf_request::FileName;
 use desk_io::Desk;
 use ground_form::Ground;
 use log_check::{CheckError, Checker, Verdict};
 use log_file::{FileCheck, LOG_BYTES, check_file};
-use model_search::{Finding, finding_of, problem_of};
+use model_reader::Built;
+use model_search::{Finding, Question, finding_of, problem_of};
 use proof_log::Record;
+use reconfigure::Repair;
 use run_status::{LimitKind, Status};
 use std::alloc::{AllocError, Global};
 
@@ -91,17 +96,17 @@ fn told_by<D: Desk>(
     alloc: Global,
     desk: &mut D,
     file: &FileName,
-    built: Built<'_>,
+    question: Question<'_>,
     g: &Ground,
 ) -> Result<Finding, Status>
     requires may_read { IsTrue (D.may_read desk.old file.now) }
-    requires problem { IsProblemOf built.objects.now built.model.now.constraints
-        built.model.now.goals g.now }
+    requires problem { IsProblemOf question.objects.now question.model.now.constraints
+        question.model.now.goals (option_copied question.repair) g.now }
     ensures told { IfOk result (λ told. OfFile (D.files desk.old) file.now
         (λ bytes. IsShownBy g.now bytes told)) }
-    ensures tells { IfOk result (λ told. Tells built.entry.objects.now
-        built.entry.model.now.constraints
-        built.entry.model.now.goals told) }
+    ensures tells { IfOk result (λ told. Tells question.entry.objects.now
+        question.entry.model.now.constraints question.entry.model.now.goals
+        (option_copied question.entry.repair) told) }
     ensures refused { IfErr result (λ s. Unreadable (D.read_faults desk.old)
         (D.read_faults desk.new) s (OfFile (D.files desk.old) file.now
         (λ bytes. IsUnfit bytes s g.now))) }
@@ -112,23 +117,30 @@ fn told_by<D: Desk>(
     ensures may_write { D.may_write desk.new ≡ D.may_write desk.old }
 {
     let verdict = verdict_of(alloc, desk, file, g)?;
-    let told = finding_of(alloc, built.model, built.objects, g, &verdict)?;
+    let told = finding_of(alloc, question, g, &verdict)?;
     Ok(told)
 }
 
 /// The answer that a log tells this.
-fn answer_of(alloc: Global, built: Built<'_>, told: &Finding) -> Result<Answer, AllocError>
+fn answer_of(
+    alloc: Global,
+    built: Built<'_>,
+    repair: Option<&Repair>,
+    told: &Finding,
+) -> Result<Answer, AllocError>
     requires ready { IsReady built.table.now built.objects.now built.model.now.constraints
         built.model.now.goals }
+    requires understood { IfSome (option_copied repair) (IsUnderstood built.objects.now) }
     requires tells { Tells built.objects.now built.model.now.constraints built.model.now.goals
-        told.now }
+        (option_copied repair) told.now }
     ensures status { IfOk result (λ a. a.status ≡ checked_status told.now) }
     ensures stage { IfOk result (λ a. stage_of a.status ≡ Answered) }
     ensures text { IfOk result (λ a. a.text.items
-        ≡ check_text built.entry.objects.now built.entry.model.now.goals told.now) }
+        ≡ check_text built.entry.objects.now built.entry.model.now.goals
+        (option_copied repair.entry) told.now) }
     ensures log { IfOk result (λ a. a.log ≡ None) }
 {
-    let text = check_text(alloc, built, told)?;
+    let text = check_text(alloc, built, repair, told)?;
     Ok(Answer {
         status: status_of(told),
         text,
@@ -136,30 +148,32 @@ fn answer_of(alloc: Global, built: Built<'_>, told: &Finding) -> Result<Answer, 
     })
 }
 
-/// The answer to `check` with the log in this file. The record then holds the model's ground
-/// problem, also where the log is refused.
+/// The answer to `check` with the log in this file, of the model or of a repair of it. The record
+/// then holds the ground problem, also where the log is refused.
 pub(crate) fn check<D: Desk>(
     alloc: Global,
     desk: &mut D,
     file: &FileName,
     built: Built<'_>,
+    repair: Option<&Repair>,
     journal: &mut Record,
 ) -> Result<Answer, Status>
     requires may_read { IsTrue (D.may_read desk.old file.now) }
     requires ready { IsReady built.table.now built.objects.now built.model.now.constraints
         built.model.now.goals }
+    requires understood { IfSome (option_copied repair) (IsUnderstood built.objects.now) }
     requires empty { journal.old ≡ empty }
     ensures answer { IfOk result (λ a. OfFile (D.files desk.old) file.now
         (λ bytes. IsChecked built.entry.objects.now built.entry.model.now.constraints
-        built.entry.model.now.goals
-        bytes journal.new a.status a.text.items)) }
+        built.entry.model.now.goals (option_copied repair.entry) bytes journal.new a.status
+        a.text.items)) }
     ensures recorded { OnOk result (HasChecked journal.new) }
     ensures stage { IfOk result (λ a. stage_of a.status ≡ Answered) }
     ensures log { IfOk result (λ a. a.log ≡ None) }
     ensures refused { IfErr result (λ s. Unreadable (D.read_faults desk.old)
         (D.read_faults desk.new) s (OfFile (D.files desk.old) file.now
         (λ bytes. IsUnchecked built.entry.objects.now built.entry.model.now.constraints
-        built.entry.model.now.goals journal.new bytes s))) }
+        built.entry.model.now.goals (option_copied repair.entry) journal.new bytes s))) }
     ensures rounds { journal.new.rounds ≡ journal.old.rounds }
     ensures files { D.files desk.new ≡ D.files desk.old }
     ensures printed { D.printed desk.new ≡ D.printed desk.old }
@@ -167,11 +181,12 @@ pub(crate) fn check<D: Desk>(
     ensures write_faults { D.write_faults desk.new ≡ D.write_faults desk.old }
     ensures may_write { D.may_write desk.new ≡ D.may_write desk.old }
 {
-    let g = problem_of(alloc, built.model, built.objects)?;
-    let told = told_by(alloc, desk, file, built, &g);
+    let question = question_of(built, repair);
+    let g = problem_of(alloc, question)?;
+    let told = told_by(alloc, desk, file, question, &g);
     journal.keep(g);
     match told {
-        Ok(told) => Ok(answer_of(alloc, built, &told)?),
+        Ok(told) => Ok(answer_of(alloc, built, repair, &told)?),
         Err(status) => Err(status),
     }
 }

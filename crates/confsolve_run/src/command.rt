@@ -1,25 +1,22 @@
 //! From words to what is printed: `run` reads the words, and then the text of the model that they
 //! name.
-ghost use Rattle.std.specs.Prelude.{map, ◌≡◌, ◌↔◌, ◌⊎◌, ◌≤◌, ℕ, List, None, Some, length, true, IsTrue, IfSome};
+ghost use Rattle.std.specs.Prelude.{map, ◌≡◌, ◌↔◌, ◌⊎◌, List, None, Some, true, IsTrue, IfSome, ℕ};
 ghost use Rattle.conf_request.specs.Words.{request, is_built, model_file, IsLawful};
 ghost use Rattle.conf_request.specs.declared.request.Request.{Request as ARequest};
-ghost use Rattle.conf_syntax.specs.declared.tree.Program.{Program as AProgram};
-ghost use Rattle.desk_io.specs.Desk.{Files, with_printed};
+ghost use Rattle.desk_io.specs.Desk.{with_printed};
 ghost use Rattle.desk_io.specs.Fault.{HasRisen};
-ghost use Rattle.model_limits.specs.Limits.{model_bytes};
 ghost use Rattle.proof_log.specs.Rounds.{empty};
 ghost use Rattle.run_status.specs.declared.status.Status.{Status as AStatus};
 ghost use Rattle.confsolve_run.specs.Answer.{IsAnswer};
-ghost use Rattle.confsolve_run.specs.Asking.{Reads, Writes, IsFurther, OfText, IsModelOf, log_file, text_of};
+ghost use Rattle.confsolve_run.specs.Asking.{Reads, Writes, IsFurther, OfText, log_file, text_of};
 ghost use Rattle.confsolve_run.specs.Delivery.{outside, IsLogged, IsLogFront, IsCutOff};
 ghost use Rattle.confsolve_run.specs.Ending.{OfRequest, RunEnds, trace};
-ghost use Rattle.confsolve_run.specs.Models.{IsWithin};
 ghost use Rattle.confsolve_run.specs.Recorded.{IsRecorded};
 ghost use Rattle.confsolve_run.specs.Refusal.{IsReason, IsStanding};
-ghost use Rattle.confsolve_run.specs.Stages.{Refused, Answered, stage_of, is_silent, is_partial, IsSettled, IsUnless};
+ghost use Rattle.run_status.specs.Stages.{Refused, Answered, stage_of, is_silent, is_partial, IsSettled, IsUnless};
 
 use crate::answer::Resources;
-use crate::answering::answer_text;
+use crate::answering::run_text;
 use crate::source::text_of;
 use branch_choice::Chooser;
 use conf_request::{Request, request_of};
@@ -58,7 +55,7 @@ fn run_request<D: Desk>(
     ensures rounds { journal.new.rounds ≡ journal.old.rounds }
 {
     match text_of(with.alloc, desk, request) {
-        Ok(text) => answer_text(with, desk, &text, request, kit, journal),
+        Ok(text) => run_text(with, desk, &text, request, kit, journal),
         Err(status) => status,
     }
 }

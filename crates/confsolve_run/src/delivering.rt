@@ -1,5 +1,5 @@
 //! An answer is delivered: its log is written whole, and then its text is printed.
-ghost use Rattle.std.specs.Prelude.{◌≡◌, ◌≤◌, List, ℕ, Some, OnOk, OnErr, IsErrOf, IsTrue, option_copied};
+ghost use Rattle.std.specs.Prelude.{◌≡◌, ◌≤◌, List, Some, OnOk, OnErr, IsErrOf, IsTrue, option_copied, ℕ};
 ghost use Rattle.std.specs.Option.{option_map};
 ghost use Rattle.desk_io.specs.Desk.{with_printed};
 ghost use Rattle.desk_io.specs.Fault.{HasRisen};

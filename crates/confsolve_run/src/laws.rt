@@ -1,16 +1,20 @@
 //! A law: a text has one model, whatever tree of it a clause speaks of.
-ghost use Rattle.std.specs.Prelude.{◌≡◌, ℕ, List};
+ghost use Rattle.std.specs.Prelude.{List, Option, ℕ};
 ghost use Rattle.branch_choice.specs.declared.split.Order.{Order as AnOrder};
 ghost use Rattle.class_table.specs.Worded.{HasWords};
+ghost use Rattle.conf_request.specs.declared.request.Request.{Request as ARequest};
 ghost use Rattle.conf_syntax.specs.declared.tree.Program.{Program as AProgram};
 ghost use Rattle.conf_syntax.specs.OneModel.{AreOneModel};
+ghost use Rattle.desk_io.specs.Desk.{Files};
 ghost use Rattle.proof_log.specs.Rounds.{Journal};
 ghost use Rattle.run_status.specs.declared.status.Status.{Status as AStatus};
 ghost use Rattle.confsolve_run.specs.Answer.{IsAnswer};
-ghost use Rattle.confsolve_run.specs.Asking.{Asked, IsModelOf, HasModel};
-ghost use Rattle.confsolve_run.specs.Meaning.{IsTyped};
-ghost use Rattle.confsolve_run.specs.Models.{IsWithin, outline_of};
-ghost use Rattle.confsolve_run.specs.Refusal.{IsRefusedAs, IsRefusedFor, IsRefusedOf};
+ghost use Rattle.confsolve_run.specs.Asking.{Asked};
+ghost use Rattle.model_reader.specs.TextModel.{IsModelOf, HasModel};
+ghost use Rattle.model_reader.specs.Meaning.{IsTyped};
+ghost use Rattle.model_reader.specs.Models.{IsWithin, outline_of};
+ghost use Rattle.model_reader.specs.ModelRefusal.{IsRefusedAs, IsRefusedFor};
+ghost use Rattle.confsolve_run.specs.Refusal.{IsDeniedOf};
 
 use conf_syntax::Program;
 
@@ -27,9 +31,9 @@ pub fn text_has_one_model(text: &[u8], model: &Program)
     ensures refused { (s : AStatus) → IsRefusedAs s text.now → IsRefusedFor s model.now }
     ensures within { IsWithin model.now → (s : AStatus) → IsRefusedAs s text.now → ⊥ }
     // what is asked of some tree of the text is asked of this one
-    ensures asked { (journal : Journal) (asked : Asked) (s : AStatus)
-        → HasModel text.now (λ p. IsWithin p × IsRefusedOf journal asked p s)
-        → IsWithin model.now × IsRefusedOf journal asked model.now s }
+    ensures asked { (told : Option Files) (r : ARequest) (journal : Journal) (s : AStatus)
+        → HasModel text.now (λ p. IsWithin p × IsDeniedOf told r journal s p)
+        → IsWithin model.now × IsDeniedOf told r journal s model.now }
     ensures answered { (os : List AnOrder) (journal : Journal) (asked : Asked) (s : AStatus)
         (printed : List ℕ)
         → HasModel text.now (λ p. IsWithin p × IsAnswer os journal asked p s printed)

@@ -3,25 +3,23 @@
 //! - `command`: `run`, which reads the words.
 //! - `source`: the text of the model, from its file or made for `gen`.
 //! - `answering`: from the text to what is asked of its model, and to the answer.
-//! - `model`, `building`: the text's tree; its table, resolved expressions and objects.
+//! - `former`: the text of a configuration, and the repair that one asks for.
 //! - `searching`, `checking`, `verifying`: what is asked of a model: a best configuration, what a
 //!   log shows, whether a configuration satisfies it.
-//! - `answer`, `texts`: what is printed.
+//! - `answer`: an answer, and what it takes to find one.
 //! - `delivering`: the log is written, and the answer printed.
 //! - `laws`: a text has one model.
 #![tactic(auto)]
 
 mod answer;
 mod answering;
-mod building;
 mod checking;
 mod command;
 mod delivering;
+mod former;
 mod laws;
-mod model;
 mod searching;
 mod source;
-mod texts;
 mod verifying;
 
 pub use command::run;

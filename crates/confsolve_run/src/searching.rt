@@ -1,18 +1,25 @@
-//! `solve` and `gen`: a best configuration of a model, by a search that leaves its log.
-ghost use Rattle.std.specs.Prelude.{map, ◌≡◌, ◌≤◌, None, IfOk};
+//! `solve`, `reconfigure` and `gen`: a best configuration of a model, by a search that leaves its
+//! log.
+ghost use Rattle.std.specs.Prelude.{map, ◌≡◌, ◌≤◌, true, None, IfOk, IfSome, option_copied};
 ghost use Rattle.std.specs.Option.{option_map};
+ghost use Rattle.conf_limits.specs.Measures.{model_narrow};
+ghost use Rattle.conf_types.specs.Typing.{IsTypedModel};
 ghost use Rattle.model_search.specs.Runs.{HasRun};
+ghost use Rattle.model_search.specs.Wanted.{IsUnderstood};
 ghost use Rattle.proof_log.specs.Rounds.{empty};
-ghost use Rattle.confsolve_run.specs.Answer.{IsSearched, searched_status, order_at, solve_text, gen_text, generated_budget};
-ghost use Rattle.confsolve_run.specs.Ready.{IsReady};
-ghost use Rattle.confsolve_run.specs.Stages.{Answered, stage_of};
+ghost use Rattle.confsolve_run.specs.Answer.{IsSearched, searched_status, order_at};
+ghost use Rattle.answer_text.specs.Texts.{solve_text, gen_text, generated_budget};
+ghost use Rattle.model_reader.specs.Ready.{IsReady};
+ghost use Rattle.run_status.specs.Stages.{Answered, stage_of};
 ghost use Rattle.confsolve_run.specs.Told.{HoldsLog, IsLogOf};
 
-use crate::answer::{Answer, Built, Resources};
-use crate::texts::{GENERATED_BUDGET, gen_text, solve_text};
+use crate::answer::{Answer, Resources, question_of};
+use answer_text::{GENERATED_BUDGET, gen_text, solve_text};
 use bound_search::Limits;
-use model_search::{Finding, find_best, trimmed_text};
+use model_reader::Built;
+use model_search::{Finding, Question, find_best, trimmed_text};
 use proof_log::Record;
+use reconfigure::Repair;
 use rule_law::Kit;
 use run_status::Status;
 use std::alloc::{AllocError, Global};
@@ -37,24 +44,27 @@ fn status_of(budget: u32, told: &Finding) -> Status
     }
 }
 
-/// Searches a model by the chooser of this number.
+/// Searches for what is asked of a model, by the chooser of this number.
 fn found(
     with: Resources<'_>,
-    built: Built<'_>,
+    question: Question<'_>,
     budget: u32,
     order: u8,
     kit: &mut Kit,
     journal: &mut Record,
 ) -> Result<Finding, AllocError>
-    requires ready { IsReady built.table.now built.objects.now built.model.now.constraints
-        built.model.now.goals }
+    requires typed { IsTypedModel question.objects.now question.model.now.constraints
+        question.model.now.goals }
+    requires narrow { model_narrow question.objects.now question.model.now.constraints
+        question.model.now.goals ≡ true }
+    requires understood { IfSome (option_copied question.repair)
+        (IsUnderstood question.objects.now) }
     requires order { order ≤ 2 }
     requires empty { journal.old ≡ empty }
-    ensures run { IfOk result (λ told. HasRun built.entry.objects.now
-        built.entry.model.now.constraints
-        built.entry.model.now.goals (order_at (map (λ c. c.order) with.entry.choosers.now) order)
-        budget journal.new
-        told) }
+    ensures run { IfOk result (λ told. HasRun question.entry.objects.now
+        question.entry.model.now.constraints question.entry.model.now.goals
+        (option_copied question.entry.repair)
+        (order_at (map (λ c. c.order) with.entry.choosers.now) order) budget journal.new told) }
     ensures rounds { journal.new.rounds ≡ journal.old.rounds }
 {
     let limits = Limits {
@@ -64,7 +74,7 @@ fn found(
     let choosers = with.choosers;
     let all = &choosers[..];
     let chooser = &all[order as usize];
-    find_best(limits, built.model, built.objects, kit, chooser, journal)
+    find_best(limits, question, kit, chooser, journal)
 }
 
 /// The text of the record's log, where it is wanted.
@@ -82,32 +92,33 @@ fn wanted_log(alloc: Global, logged: bool, journal: &Record) -> Result<Option<Ve
     }
 }
 
-/// The answer to `solve`.
+/// The answer to `solve`, and of a repair to `reconfigure`.
 pub(crate) fn solve(
     with: Resources<'_>,
     built: Built<'_>,
+    repair: Option<&Repair>,
     wanted: Wanted,
     kit: &mut Kit,
     journal: &mut Record,
 ) -> Result<Answer, AllocError>
     requires ready { IsReady built.table.now built.objects.now built.model.now.constraints
         built.model.now.goals }
+    requires understood { IfSome (option_copied repair) (IsUnderstood built.objects.now) }
     requires order { wanted.order ≤ 2 }
     requires empty { journal.old ≡ empty }
     ensures answer { IfOk result (λ a. IsSearched built.entry.objects.now
-        built.entry.model.now.constraints
-        built.entry.model.now.goals (order_at (map (λ c. c.order) with.entry.choosers.now)
-        wanted.order) wanted.budget
+        built.entry.model.now.constraints built.entry.model.now.goals (option_copied repair.entry)
+        (order_at (map (λ c. c.order) with.entry.choosers.now) wanted.order) wanted.budget
         journal.new a.status (solve_text built.entry.objects.now built.entry.model.now.goals
-        wanted.budget)
-        a.text.items) }
+        (option_copied repair.entry) wanted.budget) a.text.items) }
     ensures stage { IfOk result (λ a. stage_of a.status ≡ Answered) }
     ensures log { IfOk result (λ a. IsLogOf wanted.logged journal.new
         (option_map (λ text. text.items) a.log)) }
     ensures rounds { journal.new.rounds ≡ journal.old.rounds }
 {
-    let told = found(with, built, wanted.budget, wanted.order, kit, journal)?;
-    let text = solve_text(with.alloc, built, wanted.budget, &told)?;
+    let question = question_of(built, repair);
+    let told = found(with, question, wanted.budget, wanted.order, kit, journal)?;
+    let text = solve_text(with.alloc, built, repair, wanted.budget, &told)?;
     let log = wanted_log(with.alloc, wanted.logged, journal)?;
     let status = status_of(wanted.budget, &told);
     Ok(Answer { status, text, log })
@@ -128,7 +139,7 @@ pub(crate) fn generated(
     requires empty { journal.old ≡ empty }
     ensures answer { IfOk result (λ a. IsSearched built.entry.objects.now
         built.entry.model.now.constraints
-        built.entry.model.now.goals (order_at (map (λ c. c.order) with.entry.choosers.now) 0)
+        built.entry.model.now.goals None (order_at (map (λ c. c.order) with.entry.choosers.now) 0)
         generated_budget
         journal.new a.status (gen_text built.entry.objects.now built.entry.model.now.goals n)
         a.text.items) }
@@ -136,7 +147,14 @@ pub(crate) fn generated(
     ensures log { IfOk result (λ a. a.log ≡ None) }
     ensures rounds { journal.new.rounds ≡ journal.old.rounds }
 {
-    let told = found(with, built, GENERATED_BUDGET, 0, kit, journal)?;
+    let told = found(
+        with,
+        question_of(built, None),
+        GENERATED_BUDGET,
+        0,
+        kit,
+        journal,
+    )?;
     let text = gen_text(with.alloc, built, n, &told)?;
     let status = status_of(GENERATED_BUDGET, &told);
     Ok(Answer {

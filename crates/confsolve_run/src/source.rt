@@ -1,12 +1,12 @@
 //! The text of the model that a request is about.
-ghost use Rattle.std.specs.Prelude.{◌≡◌, ◌≤◌, List, ℕ, Some, length, IfOk, IfErr, IsTrue};
+ghost use Rattle.std.specs.Prelude.{◌≡◌, ◌≤◌, List, Some, length, IfOk, IfErr, IsTrue, ℕ};
 ghost use Rattle.conf_request.specs.Words.{model_file, IsLawful};
 ghost use Rattle.desk_io.specs.Desk.{OfFile};
 ghost use Rattle.model_generator.specs.Generated.{generated};
 ghost use Rattle.model_limits.specs.Limits.{model_bytes};
 ghost use Rattle.confsolve_run.specs.Asking.{OfText};
 ghost use Rattle.confsolve_run.specs.Refusal.{IsTooLongText};
-ghost use Rattle.confsolve_run.specs.Stages.{Unreadable};
+ghost use Rattle.confsolve_run.specs.Unreadable.{Unreadable};
 
 use conf_request::{FileName, Request};
 use desk_io::{Desk, ReadError, read_all};

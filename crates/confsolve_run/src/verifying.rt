@@ -1,5 +1,5 @@
 //! `verify`: whether the configuration that some bytes are satisfies a model.
-ghost use Rattle.std.specs.Prelude.{◌≡◌, ◌⊎◌, ◌<◌, ◌≤◌, map, true, length, is_some, None, Some, IfOk, IfErr, IfSome, IsTrue, slice_index_or};
+ghost use Rattle.std.specs.Prelude.{◌≡◌, ◌<◌, ◌≤◌, map, true, length, is_some, None, Some, IfOk, IfErr, IfSome, IsTrue, slice_index_or};
 ghost use Rattle.std.specs.List.{list_all};
 ghost use Rattle.conf_types.specs.Resolved.{ResolvedConstraint};
 ghost use Rattle.config_json.specs.Former.{hints, missing};
@@ -9,38 +9,26 @@ ghost use Rattle.object_alloc.specs.Configurations.{IsConfiguration};
 ghost use Rattle.object_alloc.specs.Walk.{objects as all_objects};
 ghost use Rattle.confsolve_run.specs.Answer.{IsConfigOf, IsVerified};
 ghost use Rattle.confsolve_run.specs.Asking.{IsShort};
-ghost use Rattle.confsolve_run.specs.Ready.{HasFullSets, IsReady, former_status};
+ghost use Rattle.confsolve_run.specs.Verifying.{HasFullSets, former_status};
+ghost use Rattle.model_reader.specs.Ready.{IsReady};
 ghost use Rattle.confsolve_run.specs.Refusal.{stated_path, IsUnverified};
-ghost use Rattle.confsolve_run.specs.Stages.{Answered, stage_of, Denied, Unreadable};
+ghost use Rattle.run_status.specs.Stages.{Answered, stage_of, Denied};
+ghost use Rattle.confsolve_run.specs.Unreadable.{Unreadable};
 
-use crate::answer::{Answer, Built};
-use crate::texts::satisfied_text;
+use crate::answer::Answer;
+use crate::former::{config_bytes, former_of};
+use answer_text::satisfied_text;
 use class_table::ClassTable;
 use conf_eval::{BrokenAt, satisfied};
 use conf_request::FileName;
 use conf_syntax::PathText;
 use conf_types::{Constraint, TypedModel};
-use config_json::{Former, FormerError, hints_of, missing, read_config};
-use desk_io::{Desk, ReadError, read_all};
-use model_limits::CONFIG_BYTES;
+use config_json::{Former, hints_of, missing};
+use desk_io::Desk;
+use model_reader::Built;
 use object_alloc::{Config, Objects};
-use run_status::{FormerKind, LimitKind, Status};
+use run_status::Status;
 use std::alloc::{AllocError, Global};
-
-/// The status of bytes that aren't read as an object.
-fn former_status(error: FormerError) -> Status
-    ensures { result ≡ former_status error }
-{
-    match error {
-        FormerError::NotJson => Status::Former {
-            kind: FormerKind::NotJson,
-        },
-        FormerError::NotObject => Status::Former {
-            kind: FormerKind::NotObject,
-        },
-        FormerError::Memory => Status::Memory,
-    }
-}
 
 /// The values of hints that are all there.
 fn given_values(alloc: Global, hints: &[Option<i64>]) -> Result<Vec<i64>, AllocError>
@@ -84,10 +72,7 @@ fn config_of(alloc: Global, bytes: &[u8], built: Built<'_>) -> Result<Config, St
     ensures refused { IfErr result (λ s. Denied s
         (IsUnverified built.entry.table.now built.entry.model.now.constraints bytes.now s)) }
 {
-    let former = match read_config(alloc, bytes) {
-        Ok(former) => former,
-        Err(error) => return Err(former_status(error)),
-    };
+    let former = former_of(alloc, bytes)?;
     match missing(alloc, &former, built.table, built.objects)? {
         None => {}
         Some(path) => return Err(Status::Broken { place: None, path }),
@@ -188,16 +173,6 @@ pub(crate) fn verify<D: Desk>(
     ensures write_faults { D.write_faults desk.new ≡ D.write_faults desk.old }
     ensures may_write { D.may_write desk.new ≡ D.may_write desk.old }
 {
-    let bytes = match read_all(alloc, desk, file.as_str(), CONFIG_BYTES) {
-        Ok(bytes) => bytes,
-        Err(ReadError::ReadFault) => return Err(Status::ReadFault),
-        Err(ReadError::TooLong) => {
-            return Err(Status::Limit {
-                kind: LimitKind::Former,
-                place: None,
-            });
-        }
-        Err(ReadError::Memory) => return Err(Status::Memory),
-    };
+    let bytes = config_bytes(alloc, desk, file)?;
     verify_bytes(alloc, &bytes, built)
 }

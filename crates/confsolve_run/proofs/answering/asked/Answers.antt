@@ -1,9 +1,28 @@
-use Rattle.confsolve_run.proofs.ModelParts.{check_refused}
+use Rattle.std.proofs.Common.{map}
+use Rattle.confsolve_run.proofs.RepairParts.{repaired, checked, check_refused}
 use Rattle.confsolve_run.proofs.answering.asked.Goals as goal
 
-pub returns-in-Check-clause-refused : goal.returns-in-Check-clause-refused
-returns-in-Check-clause-refused g c =
-    let o = c.args.built.objects.now in
-    let ks = c.args.built.model.now.constraints in
-    let gs = c.args.built.model.now.goals in
-    check_refused (g.D.Desk.files c.args.desk.now) c.args.request.now c.in-Check.model c.in-Check.log c.in-Check.former c.in-Check.failed c.check.new.journal o ks gs (g.D.Desk.read_faults c.args.desk.now) (g.D.Desk.read_faults c.check.new.desk) c.check.result c.in-Check.is c.check.ensures.refused
+pub returns-in_ok-solve-in-Reconfigure-clause-answer :
+    goal.returns-in_ok-solve-in-Reconfigure-clause-answer
+returns-in_ok-solve-in-Reconfigure-clause-answer g c =
+    let asked = c.in-Reconfigure in
+    let made = c.in_ok-repair-in-Reconfigure in
+    let wanted = c.wanted-wanted-in-Reconfigure.ensures in
+    let a = c.in_ok-solve-in-Reconfigure.field-0 in
+    repaired (g.D.Desk.files c.args.desk.now) c.args.request.now c.args.built.objects.now c.args.built.model.now.constraints c.args.built.model.now.goals c.solve-in-Reconfigure.new.journal asked.former asked.failed c.items.result.now c.items.ensures.items made.repair made.ensures.repair
+    (map (λ x. x.order) c.args.with.choosers.now) a.status a.text.items asked.model asked.budget c.wanted-wanted-in-Reconfigure.result.budget asked.log asked.order c.wanted-wanted-in-Reconfigure.result.order asked.is wanted.budget wanted.order c.in_ok-solve-in-Reconfigure.ensures.answer
+
+pub returns-in_ok-repair-in-Some-clause-answer : goal.returns-in_ok-repair-in-Some-clause-answer
+returns-in_ok-repair-in-Some-clause-answer g c =
+    let asked = c.in-Check in
+    let made = c.in_ok-repair-in-Some in
+    checked (g.D.Desk.files c.args.desk.now) c.args.request.now c.args.built.objects.now c.args.built.model.now.constraints c.args.built.model.now.goals c.check-in-Some.new.journal c.in-Some.file asked.failed c.items-in-Some.result.now c.items-in-Some.ensures.items made.repair made.ensures.repair
+    asked.model asked.log asked.former asked.is c.in-Some.is (g.D.Desk.files c.repair_of-in-Some.new.desk) made.ensures.files (map (λ x. x.order) c.args.with.choosers.now) c.check-in-Some.result c.check-in-Some.ensures.answer
+
+pub returns-in_ok-repair-in-Some-clause-refused : goal.returns-in_ok-repair-in-Some-clause-refused
+returns-in_ok-repair-in-Some-clause-refused g c =
+    let asked = c.in-Check in
+    let made = c.in_ok-repair-in-Some in
+    let reads = g.D.Desk.read_faults in
+    check_refused (g.D.Desk.files c.args.desk.now) c.args.request.now c.args.built.objects.now c.args.built.model.now.constraints c.args.built.model.now.goals c.check-in-Some.new.journal c.in-Some.file asked.failed c.items-in-Some.result.now c.items-in-Some.ensures.items made.repair made.ensures.repair
+    asked.model asked.log asked.former asked.is c.in-Some.is (g.D.Desk.files c.repair_of-in-Some.new.desk) made.ensures.files (reads c.args.desk.now) (reads c.repair_of-in-Some.new.desk) (reads c.check-in-Some.new.desk) made.ensures.read_faults c.check-in-Some.result c.check-in-Some.ensures.refused

@@ -1,5 +1,6 @@
-use Rattle.confsolve_run.proofs.OneModel.{are_one, names_of}
-use Rattle.confsolve_run.proofs.OneStatus.{asked_of, answer_of, refused_of, within_text}
+use Rattle.model_reader.proofs.OneModel.{are_one, names_of}
+use Rattle.confsolve_run.proofs.OneAnswer.{asked_of, answer_of}
+use Rattle.model_reader.proofs.OneStatus.{refused_of, within_text}
 use Rattle.confsolve_run.proofs.laws.text_has_one_model.Goals as goal
 
 pub returns-clause-one : goal.returns-clause-one
@@ -12,7 +13,7 @@ pub returns-clause-within : goal.returns-clause-within
 returns-clause-within c = λ within s is. within_text c.args.text.now c.args.model.now c.requires.model within s is
 
 pub returns-clause-asked : goal.returns-clause-asked
-returns-clause-asked c = λ journal asked s is. asked_of c.args.text.now c.args.model.now journal asked s c.requires.model is
+returns-clause-asked c = λ told r journal s is. asked_of c.args.text.now c.args.model.now told r journal s c.requires.model is
 
 pub returns-clause-answered : goal.returns-clause-answered
 returns-clause-answered c = λ os journal asked s printed is. answer_of c.args.text.now c.args.model.now os journal asked s printed c.requires.model is

@@ -1,7 +1,7 @@
 use Rattle.std.proofs.Common.{◌∙◌, ap, sym, subst, is_some}
 use Rattle.std.specs.List.{list_all}
 use Rattle.object_alloc.specs.Configurations.{IsConfiguration}
-use Rattle.confsolve_run.specs.Ready.{HasFullSets}
+use Rattle.confsolve_run.specs.Verifying.{HasFullSets}
 use Rattle.confsolve_run.proofs.VerifyingLaws.{all_given, is_configuration, sets_full}
 use Rattle.confsolve_run.proofs.verifying.whole_config.Goals as goal
 

@@ -1,6 +1,0 @@
-use Rattle.std.proofs.Common.{◌≡◌, ◌++◌, drop}
-use Rattle.confsolve_run.specs.Answer.{objective_lines}
-use Rattle.confsolve_run.proofs.texts.push_objectives.Given as goal
-
-abbrev pub invariant-loop-value : goal.invariant-loop-value
-invariant-loop-value l = l.text.items ++ objective_lines (drop l.value-index l.values) ≡ l.fn.text.items ++ objective_lines l.values
