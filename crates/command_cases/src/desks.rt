@@ -2,18 +2,20 @@
 //!
 //! - `file NAME TEXT`, `spaces NAME COUNT` and `nested NAME COUNT`: adds a file to those of the
 //!   next desk, of the text, of so many spaces, or a model of classes that contain one another.
+//! - `load NAME`: adds a file that lies where the program runs.
 //! - `steady`, `memory STEP CALL ..` and `real`: the next desk, with the files that were added; of
 //!   `memory` a call moves at most so many bytes, where they aren't 0, and the calls of these
 //!   numbers fail.
 //! - `read NAME LIMIT`, `store NAME TEXT`, `sevens NAME COUNT`, `append NAME TEXT` and `print
 //!   TEXT`: what a call gives; `sevens` stores so many bytes 7.
-//! - `holds NAME` and `printed`: what the file holds, and what was printed.
+//! - `holds NAME`, `printed` and `behind`: what the file holds, what was printed, and what of it
+//!   stands behind the first line.
 //! - `run WORD ..`: the status of a run, its number, and its line where it has one; a word `""` is
 //!   empty.
 //! - `asks WORD ..`: what the words ask for.
 ghost use Rattle.std.specs.Prelude.{IsTrue, List, ℕ};
 
-use crate::runs::{Parts, status_text};
+use crate::runs::{Parts, behind_first_line, status_text};
 use case_files::{Case, Subject, words_of};
 use confsolve_run::request_of;
 use desk_io::{Desk, MemoryDesk, RealDesk, SteadyDesk, StoredFile, print_all, read_all, store_all};
@@ -224,6 +226,15 @@ impl Desks {
         format!(in alloc; "{count} bytes")
     }
 
+    /// Adds a file that lies where the program runs.
+    fn load(&mut self, alloc: Global, name: &str) -> Result<String, AllocError> {
+        let mut desk = RealDesk::new(self.rt.clone()?);
+        match read_all(alloc, &mut desk, name, 1_000_000) {
+            Ok(bytes) => self.add(alloc, name, bytes),
+            Err(error) => format!(in alloc; "{error:?}"),
+        }
+    }
+
     /// Adds the file that is asked for.
     fn add_as(
         &mut self,
@@ -292,7 +303,9 @@ impl Subject for Desks {
                 Some(bytes) => bytes_text(alloc, bytes),
                 None => String::from_str(alloc, "no file"),
             },
+            "load" => self.load(alloc, text),
             "printed" => bytes_text(alloc, printed(&self.desk)),
+            "behind" => bytes_text(alloc, behind_first_line(printed(&self.desk))),
             "asks" => asked(alloc, text),
             _ => self.make_or_call(alloc, case.ask, text),
         }

@@ -1,8 +1,9 @@
 //! Runs the command on the cases of files, and prints of each file how many came out as they say.
 //!
 //! The files lie in `data`; `cases` says how they are written, and `desks` what those ask that are
-//! about desks, limits, words and logs. A case that came out otherwise is printed with its line and
-//! what the run printed and how it ended.
+//! about desks, limits, words and logs. `repairs.series` is what `tools/repair-cases` wrote, which
+//! tries every configuration. A case that came out otherwise is printed with its line and what the
+//! run printed and how it ended.
 #![tactic(auto)]
 
 mod cases;
@@ -13,7 +14,7 @@ ghost use Rattle.branch_choice.specs.Picks.{IsAsked, IsPick};
 ghost use Rattle.branch_choice.specs.declared.split.Order.TheVariants as orders;
 
 use crate::cases::{Case, cases_of};
-use crate::runs::{Parts, run_case};
+use crate::runs::{Parts, behind_first_line, run_case};
 use bool_prop::BoolProp;
 use branch_choice::{Chooser, Order, Pick, Split, first, former, small};
 use case_files::run_file as run_desks;
@@ -29,20 +30,32 @@ use std::fs;
 use std::process::ExitCode;
 
 /// The files of cases.
-const FILES: [&str; 4] = [
+const FILES: [&str; 6] = [
     "answered.cases",
     "refused-texts.cases",
     "refused-meanings.cases",
     "verified.cases",
+    "repairs.cases",
+    "repairs.series",
 ];
 
 /// The files of what is asked of desks, and of runs over them.
-const DESK_FILES: [&str; 4] = [
+const DESK_FILES: [&str; 5] = [
     "desks.cases",
     "limits.cases",
     "words.cases",
     "searches.cases",
+    "repair-desks.cases",
 ];
+
+/// Whether this is what the case says is printed.
+fn is_printed(case: &Case<'_>, printed: &[u8]) -> bool {
+    if case.shown.is_empty() {
+        printed == case.printed.as_slice()
+    } else {
+        behind_first_line(printed) == case.shown.as_slice()
+    }
+}
 
 /// Runs the case, and whether it came out as it says. Where it didn't, what came is printed.
 fn is_as_said(
@@ -53,7 +66,7 @@ fn is_as_said(
 ) -> Result<bool, AllocError> {
     let alloc = rt.alloc();
     let came = run_case(alloc, parts, case)?;
-    if came.printed.as_slice() == case.printed.as_slice() && came.status.as_bytes() == case.status {
+    if is_printed(case, came.printed.as_slice()) && came.status.as_bytes() == case.status {
         return Ok(true);
     }
     let line = case.line;

@@ -3,6 +3,7 @@ ghost use Rattle.std.specs.Prelude.{IsTrue, List, ℕ};
 
 use crate::cases::Case;
 use branch_choice::Chooser;
+use case_files::words_of;
 use confsolve_run::{Status, line_of, run};
 use desk_io::{Desk, SteadyDesk};
 use proof_log::Record;
@@ -42,6 +43,15 @@ fn words(alloc: Global, texts: &[&str]) -> Result<Vec<String>, AllocError> {
         .try_collect(alloc)
 }
 
+/// The words of a repair, of which these ones are what failed.
+fn repair_words(alloc: Global, failed: &[u8]) -> Result<Vec<String>, AllocError> {
+    let mut all = words(alloc, &["reconfigure", "m.conf", "f.json"])?;
+    for word in words_of(alloc, failed)? {
+        all.push(String::from_str(alloc, word)?)?;
+    }
+    Ok(all)
+}
+
 /// What a run printed, and its status: the number, and the line where it has one.
 #[derive(Drop)]
 pub(crate) struct Outcome {
@@ -68,12 +78,14 @@ pub(crate) fn run_case(
 ) -> Result<Outcome, AllocError> {
     let model = String::from_str(alloc, "m.conf")?;
     let mut files = vec![in alloc; (model, case.model.to_vec(alloc)?)]?;
-    let words = match case.config {
-        None => words(alloc, &["solve", "m.conf"])?,
-        Some(config) => {
-            files.push((String::from_str(alloc, "c.json")?, config.to_vec(alloc)?))?;
-            words(alloc, &["verify", "m.conf", "c.json"])?
-        }
+    let words = if let Some(former) = case.former {
+        files.push((String::from_str(alloc, "f.json")?, former.to_vec(alloc)?))?;
+        repair_words(alloc, case.failed)?
+    } else if let Some(config) = case.config {
+        files.push((String::from_str(alloc, "c.json")?, config.to_vec(alloc)?))?;
+        words(alloc, &["verify", "m.conf", "c.json"])?
+    } else {
+        words(alloc, &["solve", "m.conf"])?
     };
     let mut desk = SteadyDesk::new(alloc, files);
     let status = parts.run(alloc, &words, &mut desk);
@@ -81,4 +93,12 @@ pub(crate) fn run_case(
         printed: desk.printed().to_vec(alloc)?,
         status: status_text(alloc, &status)?,
     })
+}
+
+/// What stands behind the first line.
+pub(crate) fn behind_first_line(text: &[u8]) -> &[u8] {
+    match text.iter().position(|byte| *byte == b'\n') {
+        Some(at) => &text[at + 1..],
+        None => &text[text.len()..],
+    }
 }
