@@ -25,8 +25,14 @@ use pairwise_forms::{state_different, state_pack};
 use quantifier_forms::Part;
 use std::alloc::AllocError;
 
-/// The most members of one constraint: what it costs to look at it grows with their square.
-const MOST_MEMBERS: usize = 64;
+/// The most members of one constraint of this kind. What it costs to look at packed items grows
+/// with their number and that of bins; at values that differ, of more than 64, with its third power.
+fn most_members(kind: QuantKind) -> usize {
+    match kind {
+        QuantKind::Pack => 1024,
+        _ => 64,
+    }
+}
 
 /// Whether an attribute of this shape is made of parts, which no configuration changes.
 fn is_part(shape: Resolved) -> bool
@@ -94,7 +100,7 @@ fn state_members(maker: &mut Maker, kind: QuantKind, parts: &[Part]) -> Result<(
     ensures says { OnOk result (Adds [] maker.old maker.new
         (λ a. truth_in (over_values kind (kept_values parts.now a)))) }
 {
-    if parts.len() < 2 || parts.len() > MOST_MEMBERS {
+    if parts.len() < 2 || parts.len() > most_members(kind) {
         return state_quantifier(maker, kind, parts);
     }
     match kind {

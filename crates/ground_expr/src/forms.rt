@@ -175,7 +175,7 @@ fn quant_at(maker: &mut Maker, scene: &Scene<'_, '_>, quant: &RQuant) -> Result<
 
 /// What each object that may be a member gives to a quantifier; two kinds have no filter.
 #[cycle(forms)]
-pub(crate) fn own_parts_at(
+pub fn own_parts_at(
     maker: &mut Maker,
     scene: &Scene<'_, '_>,
     quant: &RQuant,

@@ -24,6 +24,6 @@ mod scene;
 mod statements;
 
 pub use constraints::require_constraint;
-pub use forms::form_at;
+pub use forms::{form_at, own_parts_at};
 pub use scene::Scene;
 pub use statements::require_at;

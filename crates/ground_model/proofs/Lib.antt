@@ -7,3 +7,4 @@ pub mod GoalSteps
 pub mod Endings
 pub mod KnownCells
 pub mod Fixings
+pub mod RowSteps

@@ -5,3 +5,4 @@ pub mod Allowance
 pub mod Aims
 pub mod Fixing
 pub mod Known
+pub mod RowsAsked

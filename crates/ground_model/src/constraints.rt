@@ -12,6 +12,7 @@ ghost use Rattle.ground_model.specs.Stated.{IsReady, IsReadyConstraint};
 use crate::fixing::is_of_pass;
 use crate::known::known_cells;
 use crate::required::require_tree;
+use crate::rows::require_packed;
 use conf_types::Constraint;
 use form_build::Maker;
 use object_alloc::Objects;
@@ -42,6 +43,48 @@ fn number_at(numbers: &[u32], i: usize) -> u32
     numbers[i]
 }
 
+/// States that a constraint holds for each of these objects.
+fn require_each(
+    maker: &mut Maker,
+    objects: &Objects<'_>,
+    known: &[(u32, i64)],
+    constraint: &Constraint,
+    members: &[u32],
+) -> Result<(), AllocError>
+    requires ready { All (λ n. IsReady objects.now constraint.now.tree (Some n)) members.now }
+    requires known { HasKnown objects.now known.now maker.old }
+    ensures says { OnOk result (Requires known.now maker.old maker.new (λ values.
+        list_all (λ n. holds_for objects.now values constraint.now (Some n)) members.now)) }
+{
+    for i in 0..members.len() {
+        let this = Some(number_at(members, i));
+        require_for(maker, objects, known, constraint, this)?;
+    }
+    Ok(())
+}
+
+/// States that a constraint holds for these objects: as one packing where it says that they are
+/// one, else for each of them.
+fn require_members(
+    maker: &mut Maker,
+    objects: &Objects<'_>,
+    known: &[(u32, i64)],
+    constraint: &Constraint,
+    members: &[u32],
+) -> Result<(), AllocError>
+    requires ready { All (λ n. IsReady objects.now constraint.now.tree (Some n)) members.now }
+    requires known { HasKnown objects.now known.now maker.old }
+    ensures says { OnOk result (Requires known.now maker.old maker.new (λ values.
+        list_all (λ n. holds_for objects.now values constraint.now (Some n)) members.now)) }
+{
+    let packs = require_packed(maker, objects, known, constraint, members)?;
+    if packs {
+        return Ok(());
+    }
+    require_each(maker, objects, known, constraint, members)?;
+    Ok(())
+}
+
 /// States that a constraint holds for all objects of a class.
 fn require_in(
     maker: &mut Maker,
@@ -59,11 +102,7 @@ fn require_in(
         (extent objects.now class))) }
 {
     let members = objects.extent(maker.alloc(), class)?;
-    let numbers = members.items();
-    for i in 0..numbers.len() {
-        let this = Some(number_at(numbers, i));
-        require_for(maker, objects, known, constraint, this)?;
-    }
+    require_members(maker, objects, known, constraint, members.items())?;
     Ok(())
 }
 

@@ -14,11 +14,12 @@ use crate::required::form_of;
 use conf_types::Goal;
 use expr_forms::number_of;
 use form_build::{Maker, settled};
+use goal_sums::add_goal_sums;
 use ground_form::{Goals, GroundGoal};
 use object_alloc::Objects;
 use std::alloc::{AllocError, Global};
 
-/// A variable that is an objective.
+/// A variable that is an objective, with what follows of it from the packings that stand.
 fn goal_variable(maker: &mut Maker, objects: &Objects<'_>, goal: &Goal) -> Result<u32, AllocError>
     requires ready { IsReady objects.now goal.now.tree None }
     requires cells { HasCells objects.now maker.old }
@@ -31,6 +32,7 @@ fn goal_variable(maker: &mut Maker, objects: &Objects<'_>, goal: &Goal) -> Resul
     let number = number_of(maker.alloc(), f);
     maker.ask(1)?;
     let x = settled(maker, &number)?;
+    add_goal_sums(maker, &number, x)?;
     Ok(x)
 }
 

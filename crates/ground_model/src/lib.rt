@@ -12,6 +12,7 @@
 //! - `known`: cells whose values constraints fix.
 //! - `problem`: the problem of a model.
 //! - `required`: one expression as a form, and required.
+//! - `rows`: a constraint of a class as one packing.
 //! - `sets`: the sizes of reference sets.
 #![tactic(auto)]
 
@@ -22,6 +23,7 @@ mod goals;
 mod known;
 mod problem;
 mod required;
+mod rows;
 mod sets;
 
 pub use problem::ground;

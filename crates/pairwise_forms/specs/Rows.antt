@@ -1,11 +1,9 @@
 -- Items by their variables. What a reader believes after this file: which variables stand for the
 -- places, sizes and rooms of items.
-use Rattle.std.specs.Prelude.{◌≡◌, ℕ, List, ℤ, pos, ◌+ℤ◌, ◌≤ℤ◌, map}
+use Rattle.std.specs.Prelude.{◌≡◌, ℕ, List, ℤ, map}
 use Rattle.std.specs.List.{All}
-use Rattle.signed_clause.specs.Clauses.{Boxes, box_of}
 use Rattle.ground_form.specs.declared.ground.Ground.{Ground}
 use Rattle.ground_form.specs.Meaning.{value_of}
-use Rattle.ground_form.specs.Bounds.{low_of, high_of, LiesWithin}
 use Rattle.ground_build.specs.Growing.{AreItemVariables}
 use Rattle.form_build.specs.Forms.{linear_at}
 use Rattle.form_build.specs.Worlds.{IsWorld}
@@ -23,9 +21,3 @@ pub record AreRows (g : Ground) (es : List Packed) (rows : List (ℕ × ℕ × �
   pub exist : All (AreItemVariables g) rows
   pub seen : (a : List ℤ) → IsWorld g a → map (λ (r : ℕ × ℕ × ℕ). row_values r a) rows
       ≡ map (λ (e : Packed). item_values e a) es
-
--- a row's place and size are small, and so much is left without its greatest size
-pub record IsSmallRow (boxes : Boxes) (r : ℕ × ℕ × ℕ) (left rest : ℕ) : Type 0 where
-  pub place : LiesWithin (pos 0) (pos 9999) (box_of boxes r.0)
-  pub size : pos 0 ≤ℤ low_of (box_of boxes r.1)
-  pub left_is : (high_of (box_of boxes r.1) +ℤ pos rest) ≡ pos left

@@ -1,0 +1,111 @@
+//! What flags are, by the constraints that define them.
+ghost use Rattle.std.specs.Prelude.{◌≡◌, [], ◌∷◌, pos, Contains, IfSome};
+ghost use Rattle.ground_form.specs.declared.con.Con.TheVariants as con;
+
+use crate::constants::only_value;
+use form_build::Maker;
+use ground_form::Con;
+use std::alloc::AllocError;
+
+/// The flag that the constraint defines by a question about a variable, or by parts.
+fn flag_defined(con: &Con) -> Option<u32> {
+    match con {
+        Con::MemberDef { flag, .. } => Some(*flag),
+        Con::AndDef { flag, .. } => Some(*flag),
+        _ => None,
+    }
+}
+
+/// Notes that constraint k defines a flag.
+fn note_place(places: &mut [usize], con: &Con, k: usize) {
+    if let Some(flag) = flag_defined(con) {
+        let x = flag as usize;
+        if x < places.len() {
+            places[x] = k;
+        }
+    }
+}
+
+/// For each variable the number of a constraint: of a flag that of its definition. Who reads it
+/// looks whether it is.
+pub(crate) fn definitions(maker: &Maker) -> Result<Vec<usize>, AllocError> {
+    let mut places = Vec::new(maker.alloc());
+    places.resize(maker.domains().len(), 0)?;
+    for (k, con) in maker.cons().iter().enumerate() {
+        note_place(&mut places, con, k);
+    }
+    Ok(places)
+}
+
+/// The constraint that is noted for a variable.
+fn definition<'a>(maker: &'a Maker, places: &[usize], x: u32) -> Option<&'a Con>
+    ensures { IfSome result (λ c. Contains maker.now.cons c.now) }
+{
+    let x = x as usize;
+    if x >= places.len() {
+        return None;
+    }
+    let k = places[x];
+    let cons = maker.cons();
+    if k < cons.len() { Some(&cons[k]) } else { None }
+}
+
+/// The variable and the value, where the constraint says that the flag tells whether the variable
+/// has that value.
+fn asked_by(c: &Con, flag: u32) -> Option<(u32, u64)>
+    ensures { IfSome result (λ q. c.now ≡ con.MemberDef flag q.0 ((pos q.1, pos q.1) ∷ [])) }
+{
+    match c {
+        Con::MemberDef {
+            flag: own,
+            var,
+            set,
+        } => {
+            let value = only_value(set)?;
+            if *own == flag {
+                Some((*var, value))
+            } else {
+                None
+            }
+        }
+        _ => None,
+    }
+}
+
+/// The variable and the value, where the flag tells whether the variable has that value.
+pub(crate) fn question(maker: &Maker, places: &[usize], flag: u32) -> Option<(u32, u64)>
+    ensures { IfSome result (λ q. Contains maker.now.cons
+        (con.MemberDef flag q.0 ((pos q.1, pos q.1) ∷ []))) }
+{
+    let c = definition(maker, places, flag)?;
+    asked_by(c, flag)
+}
+
+/// The parts, where the constraint says that the flag tells whether all have the truths that they
+/// want.
+fn parts_in(c: &Con, flag: u32) -> Option<&[(u32, bool)]>
+    ensures { IfSome result (λ ps. c.now ≡ con.AndDef flag ps.now) }
+{
+    match c {
+        Con::AndDef { flag: own, parts } => {
+            if *own == flag {
+                Some(parts.items())
+            } else {
+                None
+            }
+        }
+        _ => None,
+    }
+}
+
+/// The parts of which the flag tells whether all have the truths that they want.
+pub(crate) fn parts_of<'a>(
+    maker: &'a Maker,
+    places: &[usize],
+    flag: u32,
+) -> Option<&'a [(u32, bool)]>
+    ensures { IfSome result (λ ps. Contains maker.now.cons (con.AndDef flag ps.now)) }
+{
+    let c = definition(maker, places, flag)?;
+    parts_in(c, flag)
+}

@@ -1,0 +1,4 @@
+pub mod PackedLaws
+pub mod Packings
+pub mod PlanLaws
+pub mod SmallRowLaws

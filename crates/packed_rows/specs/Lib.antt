@@ -1,0 +1,3 @@
+pub mod Loads
+pub mod Plans
+pub mod SmallRows

@@ -1,6 +1,0 @@
-use Rattle.std.proofs.Common.{◌^◌, take}
-use Rattle.pairwise_forms.proofs.WholeLaws.{AreSmallRows}
-use Rattle.pairwise_forms.proofs.whole.are_bounded.Given as goal
-
-abbrev pub invariant-loop-row : goal.invariant-loop-row
-invariant-loop-row l = AreSmallRows l.boxes (take l.row-index l.rows) (2 ^ 60) l.left
