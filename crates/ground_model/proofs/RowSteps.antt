@@ -46,3 +46,10 @@ nothing_stated known f g test d = adds_fewer known f g (λ a. true) d
 -- all rows
 pub rows_all : {X : Type 0} (known : List (ℕ × ℤ)) (g : Ground) (p : List ℤ → X → Bool) (xs : List X) (k : ℕ) (rows : List Row) → length xs ≤ k → AreRowsWhere known g (λ values. list_all (p values) (take k xs)) rows → AreRowsWhere known g (λ values. list_all (p values) xs) rows
 rows_all known g p xs k rows h are a w kn = sym (ap (list_all (p (take g.search a))) (take_all k xs h)) ∙ are a w kn
+
+-- what is stated of a packing, and then again of each
+pub once_more : (p t : Bool) → ((not p || t) && t) ≡ t
+once_more true true = refl
+once_more true false = refl
+once_more false true = refl
+once_more false false = refl

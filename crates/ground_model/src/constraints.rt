@@ -63,8 +63,12 @@ fn require_each(
     Ok(())
 }
 
+/// Of a packing with at most so many bins the sums are stated as well. They tell the same of each
+/// bin by fewer machines, and with few bins their flags are few.
+const FEW_BINS: usize = 16;
+
 /// States that a constraint holds for these objects: as one packing where it says that they are
-/// one, else for each of them.
+/// one, and for each of them where it doesn't, or where they are few.
 fn require_members(
     maker: &mut Maker,
     objects: &Objects<'_>,
@@ -78,7 +82,7 @@ fn require_members(
         list_all (λ n. holds_for objects.now values constraint.now (Some n)) members.now)) }
 {
     let packs = require_packed(maker, objects, known, constraint, members)?;
-    if packs {
+    if packs && members.len() > FEW_BINS {
         return Ok(());
     }
     require_each(maker, objects, known, constraint, members)?;
