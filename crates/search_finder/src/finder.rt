@@ -1,5 +1,8 @@
-//! `SearchFinder`, who finds by branch and bound.
-ghost use Rattle.std.specs.Prelude.{◌≡◌};
+//! A search by branch and bound, as a finder does it.
+ghost use Rattle.std.specs.Prelude.{◌≡◌, [], true, None, Some, length, IfOk, OnOk};
+ghost use Rattle.ground_form.specs.WellMade.{IsWellMade};
+ghost use Rattle.run_finder.specs.Outcomes.{OutcomeOf};
+ghost use Rattle.search_run.specs.Replay.{is_run};
 
 use crate::ended::outcome_of;
 use bound_search::{Limits, search};
@@ -7,54 +10,32 @@ use branch_choice::Chooser;
 use ground_form::Ground;
 use proof_log::Record;
 use rule_law::Kit;
-use run_finder::{Finder, Outcome};
-use std::alloc::{AllocError, Global};
+use run_finder::Outcome;
+use std::alloc::AllocError;
 
-/// Finds by branch and bound, with propagators, a chooser of splits and a budget.
-#[derive(Drop)]
-pub struct SearchFinder {
-    alloc: Global,
-    kit: Kit,
-    chooser: Chooser,
-    budget: u32,
-}
-
-impl SearchFinder {
-    /// The finder with this kit and this chooser, which takes at most so many decisions a search.
-    /// It takes no memory.
-    pub fn new(alloc: Global, kit: Kit, chooser: Chooser, budget: u32) -> SearchFinder
-        ensures { result.budget ≡ budget }
-    {
-        SearchFinder {
-            alloc,
-            kit,
-            chooser,
-            budget,
-        }
-    }
-}
-
-impl Finder for SearchFinder {
-    ghost allowed = { λ f. f.budget };
-
-    fn budget(&self) -> u32 {
-        self.budget
-    }
-
-    fn find(
-        &mut self,
-        g: Ground,
-        hints: &[Option<i64>],
-        journal: &mut Record,
-    ) -> Result<Outcome, AllocError> {
-        self.kit.begin();
-        let limits = Limits {
-            alloc: self.alloc,
-            budget: self.budget,
-        };
-        let end = search(limits, &g, &mut self.kit, &self.chooser, hints, journal)?;
-        let outcome = outcome_of(self.alloc, &g, journal.lines(), end)?;
-        journal.keep(g);
-        Ok(outcome)
-    }
+/// Searches for a best solution, and leaves problem and run in the present round of the record: all
+/// that `Finder::find` has to do, for a finder that has a kit and a chooser at hand.
+///
+/// # Errors
+/// Want of memory; the present round then has some lines of a run, and may lack the problem.
+pub fn find(
+    limits: Limits,
+    kit: &mut Kit,
+    chooser: &Chooser,
+    g: Ground,
+    hints: &[Option<i64>],
+    journal: &mut Record,
+) -> Result<Outcome, AllocError>
+    requires well_made { IsWellMade g }
+    requires lines { journal.old.lines ≡ [] }
+    requires hints { length hints.now ≡ g.search }
+    ensures problem { OnOk result (journal.new.ground ≡ Some g) }
+    ensures run { is_run g journal.new.lines ≡ true }
+    ensures outcome { IfOk result (λ o. OutcomeOf g limits.budget journal.new.lines o) }
+    ensures rounds { journal.new.rounds ≡ journal.old.rounds }
+{
+    let end = search(limits, &g, kit, chooser, hints, journal)?;
+    let outcome = outcome_of(limits.alloc, &g, journal.lines(), end)?;
+    journal.keep(g);
+    Ok(outcome)
 }

@@ -1,10 +1,10 @@
-//! The search as a finder.
+//! The search as a finder does it.
 //!
-//! - `finder`: `SearchFinder`, a kit, a chooser and a budget.
+//! - `finder`: `find`, by a kit, a chooser and a budget.
 //! - `ended`: what the lines of an ended search show.
 #![tactic(auto)]
 
 mod ended;
 mod finder;
 
-pub use finder::SearchFinder;
+pub use finder::find;

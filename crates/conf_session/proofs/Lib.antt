@@ -1,0 +1,7 @@
+mod LastFound
+mod KeyLaws
+mod KeptLaws
+mod Following
+mod KnownWords
+mod RoundLaws
+mod StepLaws

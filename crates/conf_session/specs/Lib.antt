@@ -1,0 +1,4 @@
+pub mod Standing
+pub mod Keeping
+pub mod Keys
+pub mod Steps

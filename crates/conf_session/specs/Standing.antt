@@ -1,0 +1,69 @@
+-- What a session has come to. What a reader believes after this file: what stands as failed behind
+-- an event, and which values a session goes by.
+use Rattle.std.specs.Prelude.{◌≡◌, ℕ, Bool, ◌+◌, ◌^◌, ◌≤◌, not, cond, List, [], ◌∷◌, ◌++◌, ℤ, Option, None, Some, filter, length, map, take}
+use Rattle.std.specs.List.{list_any}
+use Rattle.class_table.specs.Outline.{Outline}
+use Rattle.class_table.specs.Same.{same_name}
+use Rattle.conf_events.specs.declared.event.Event.{Event}
+use Rattle.ground_cells.specs.CellBoxes.{cell_boxes}
+use Rattle.ground_form.specs.StandsFor.{StandsFor}
+use Rattle.ground_form.specs.WellMade.{IsWellMade}
+use Rattle.ground_form.specs.declared.ground.Ground.{Ground}
+use Rattle.log_check.specs.Added.{last_values}
+use Rattle.log_form.specs.declared.line.Line.{Line}
+use Rattle.reconfigure.specs.Failing.{unknown_word}
+use Rattle.run_finder.specs.declared.outcome.Outcome.{Outcome}
+use Rattle.run_finder.specs.declared.outcome.Outcome.TheVariants as outcomes
+use Rattle.conf_session.specs.Keeping.{most_kept}
+
+-- the problem of the model with the clauses that were kept, the former values, the words that stand
+-- as failed, and how many constraints the problem had at first
+pub record Standing : Type 0 where
+  pub ground : Ground
+  pub former : List (Option ℤ)
+  pub failed : List (List ℕ)
+  pub begun : ℕ
+
+-- what every session keeps: the problem is well made and holds at most so many kept clauses, and
+-- there is a former value, or none, for each searched variable
+pub record IsStanding (s : Standing) : Type 0 where
+  pub well_made : IsWellMade s.ground
+  pub hints : length s.former ≡ s.ground.search
+  pub few : s.begun ≤ 2 ^ 31
+  pub grown : s.begun ≤ length s.ground.cons
+  pub kept : length s.ground.cons ≤ s.begun + most_kept
+
+-- it is a session over these objects: its problem stands for some question about configurations,
+-- one value for each of their cells, and each word that stands as failed names one of them
+pub record IsOver (o : Outline) (s : Standing) : Type 0 where
+  pub test : List ℤ → Bool
+  pub functions : List (Bool × (List ℤ → ℤ))
+  pub stands : StandsFor s.ground (cell_boxes o) test functions
+  pub failed : unknown_word o s.failed ≡ None
+
+-- ---- what failed
+
+-- the words that stand as failed with one more, where it isn't one of them yet
+abbrev pub with_word : List ℕ → List (List ℕ) → List (List ℕ)
+with_word word failed = cond (list_any (same_name word) failed) failed (failed ++ word ∷ [])
+
+-- those without this one
+abbrev pub without_word : List ℕ → List (List ℕ) → List (List ℕ)
+without_word word failed = filter (λ w. not (same_name word w)) failed
+
+-- those behind an event
+abbrev pub failed_behind : Event → List (List ℕ) → List (List ℕ)
+failed_behind e failed = cond e.fails (with_word e.path failed) (without_word e.path failed)
+
+-- ---- former values
+
+-- the values that were found last are former values, where some were found
+abbrev pub values_found : ℕ → List (Option ℤ) → Option (List ℤ) → List (Option ℤ)
+values_found n former None = former
+values_found n former (Some a) = map Some (take n a)
+
+-- those behind a round: where a best configuration was found its values, else those before
+abbrev pub former_behind : ℕ → List (Option ℤ) → Outcome → List Line → List (Option ℤ)
+former_behind n former outcomes.Best ls = values_found n former (last_values ls)
+former_behind n former outcomes.NoSolution ls = former
+former_behind n former outcomes.Spent ls = former

@@ -1,0 +1,15 @@
+//! A session over a model, event by event: what answers each, printed as soon as it is found.
+//!
+//! - `holding`: `hold_session`, the loop over the events.
+//! - `answer`: the answer to one event, and its text.
+//! - `telling`: what the lines of a round tell of the model.
+//!
+//! What answers a session stands in `specs/Sessions`.
+#![tactic(auto)]
+
+mod answer;
+mod holding;
+mod telling;
+
+pub use answer::Setting;
+pub use holding::hold_session;
