@@ -254,7 +254,7 @@ is_built (Reconfigure model former failed budget log order) = true
 is_built (Check model log former failed) = true
 is_built (Verify model config) = true
 is_built (Gen n) = true
-is_built (Session model former events budget order) = false
+is_built (Session model former events budget order) = true
 is_built (Core model budget order) = false
 
 -- a request that this program answers

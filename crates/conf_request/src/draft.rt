@@ -203,7 +203,7 @@ impl Draft<'_> {
             Draft::CheckFormer(..) => true,
             Draft::Verify(..) => true,
             Draft::Gen(..) => true,
-            Draft::Session(..) => false,
+            Draft::Session(..) => true,
             Draft::Core(..) => false,
         }
     }

@@ -6,7 +6,7 @@ use Rattle.conf_request.specs.declared.request.Request.TheVariants.{Solve, Recon
 use Rattle.conf_syntax.specs.declared.tree.Program.{Program}
 use Rattle.desk_io.specs.Desk.{Files, OfFile}
 use Rattle.model_generator.specs.Generated.{generated}
-use Rattle.confsolve_run.specs.Asking.{Asked, Best, Generated, Checked, Satisfied, OfChecked, OfText, OfAsked, former_text, text_of}
+use Rattle.confsolve_run.specs.Asking.{Asked, Best, Generated, Checked, Satisfied, Held, OfChecked, OfText, OfAsked, former_text, text_of}
 use Rattle.model_reader.specs.TextModel.{HasModel}
 
 pub file_map : (told : Option Files) (name : List ℕ) (P Q : List ℕ → Type 0) → ((bytes : List ℕ) → P bytes → Q bytes) → OfFile told name P → OfFile told name Q
@@ -25,7 +25,8 @@ asked_map told (Verify model config) P Q f h = file_map told config (λ bytes. P
 asked_map told (Gen n) P Q f h = f (Generated n) h
 asked_map told (Reconfigure model former failed budget log order) P Q f h =
     file_map told former (λ bytes. P (Best (Some (former_text bytes failed)) budget order)) (λ bytes. Q (Best (Some (former_text bytes failed)) budget order)) (λ bytes. f (Best (Some (former_text bytes failed)) budget order)) h
-asked_map told (Session model former events budget order) P Q f h = absurd h
+asked_map told (Session model former events budget order) P Q f h =
+    file_map told former _ _ (λ before. file_map told events (λ bytes. P (Held before bytes budget order)) (λ bytes. Q (Held before bytes budget order)) (λ bytes. f (Held before bytes budget order))) h
 asked_map told (Core model budget order) P Q f h = absurd h
 
 pub text_map : (told : Option Files) (r : Request) (P Q : List ℕ → Type 0) → ((text : List ℕ) → P text → Q text) → OfText told r P → OfText told r Q

@@ -13,8 +13,8 @@ use Rattle.confsolve_run.specs.Answer.{IsAnswer}
 use Rattle.confsolve_run.specs.Asking.{OfAsked, OfText, log_file}
 use Rattle.model_reader.specs.TextModel.{IsModelOf}
 use Rattle.confsolve_run.specs.Delivery.{Outside, outside, log_text, IsLoggedIn, IsLogFrontIn, IsLogFront, IsCutOff}
-use Rattle.confsolve_run.specs.Ending.{Trace, trace, Breaks, Begins, EndsModel, EndsModelAt, Ends, EndsAt, RunEnds, RunEndsAt}
-use Rattle.model_reader.specs.Models.{IsWithin}
+use Rattle.confsolve_run.specs.Ending.{Trace, trace, IsBegun, EndsModel, EndsModelAt, Ends, EndsAt, RunEnds, RunEndsAt}
+use Rattle.model_reader.specs.Models.{IsWithin, outline_of, constraints_of, goals_of}
 use Rattle.confsolve_run.specs.Recorded.{IsRecorded}
 use Rattle.confsolve_run.specs.Refusal.{IsReason, IsDeniedOf, IsTooLongText}
 use Rattle.model_reader.specs.ModelRefusal.{IsRefusedFor, IsTextRefused}
@@ -22,6 +22,7 @@ use Rattle.run_status.specs.Stages.{Stage, Unasked, Unread, Refused, Answered, U
 use Rattle.confsolve_run.specs.Unreadable.{Unreadable}
 use Rattle.confsolve_run.specs.Told.{IsLogOf, stored, StoresSome, IsBroken}
 use Rattle.confsolve_run.proofs.AskedParts.{risen_earlier}
+use Rattle.confsolve_run.proofs.Holdings.{answer_begun}
 use Rattle.confsolve_run.proofs.Asking.{asked_map, text_map, text_read}
 
 -- ---- the log
@@ -57,10 +58,10 @@ begun_of r journal text before now (inr c) = whole_front (log_file r) journal be
 
 -- ---- a model
 
-pub model_denied : (t : Trace) (p : Program) (s : Status) → Unreadable t.reads t.reads_now s (IsRefusedFor s p ⊎ (IsWithin p × IsDeniedOf t.before.files t.request t.journal s p)) → t.now ≡ t.before → EndsModel t p s
-model_denied t p s (inl h) same = subst (λ x. EndsModelAt (stage_of x) t p x) (sym h.0) (h.1, same)
-model_denied t p s (inr (inl h)) same = subst (λ x. EndsModelAt (stage_of x) t p x) (sym h) (inl same)
-model_denied t p s (inr (inr h)) same = subst (λ g. EndsModelAt g t p s) (sym h.0) (h.1, same)
+pub model_denied : (t : Trace) (p : Program) (s : Status) → t.journal.rounds ≡ [] → Unreadable t.reads t.reads_now s (IsRefusedFor s p ⊎ (IsWithin p × IsDeniedOf t.before.files t.request t.journal s p)) → t.now ≡ t.before → EndsModel t p s
+model_denied t p s none (inl h) same = subst (λ x. EndsModelAt (stage_of x) t p x) (sym h.0) (h.1, same)
+model_denied t p s none (inr (inl h)) same = subst (λ x. EndsModelAt (stage_of x) t p x) (sym h) (inl (same, none))
+model_denied t p s none (inr (inr h)) same = subst (λ g. EndsModelAt g t p s) (sym h.0) (h.1, same)
 
 pub model_answered : (t : Trace) (p : Program) (s : Status) (name log : Option (List ℕ)) (text : List ℕ) → stage_of s ≡ Answered → IsRecorded t.orders t.request s t.journal → name ≡ log_file t.request → IsLogOf (is_some name) t.journal log → t.now.files ≡ stored name log t.before.files → IsWithin p → OfAsked t.before.files t.request (λ asked. IsAnswer t.orders t.journal asked p s text) → t.now.printed ≡ with_printed text t.before.printed → EndsModel t p s
 model_answered t p s name log text stage recorded is h files within answers printed =
@@ -68,19 +69,13 @@ model_answered t p s name log text stage recorded is h files within answers prin
     subst (λ g. EndsModelAt g t p s) (sym stage)
     (record { recorded = recorded; logged = logged }, (within, asked_map t.before.files t.request _ _ (λ asked a. (text, a, printed)) answers))
 
--- writing broke off
-pub record IsBegun (t : Trace) (p : Program) : Type 0 where
-  pub begins : Begins t
-  pub within : IsWithin p
-  pub breaks : OfAsked t.before.files t.request (λ asked. Breaks t asked p)
-
 pub model_begun : (t : Trace) (p : Program) (s : Status) (name log : Option (List ℕ)) (text : List ℕ) → IsRecorded t.orders t.request s t.journal → name ≡ log_file t.request → IsLogOf (is_some name) t.journal log → IsBroken name log text t.before t.now → IsWithin p → OfAsked t.before.files t.request (λ asked. IsAnswer t.orders t.journal asked p s text) → IsBegun t p
 model_begun t p s name log text recorded is h broken within answers =
     let cut = cut_of t.request t.journal name log text t.before t.now is h broken in
     record {
       begins = record { status = s; recorded = recorded; logged = begun_of t.request t.journal text t.before t.now cut };
       within = within;
-      breaks = asked_map t.before.files t.request _ _ (λ asked a. (s, text, a, cut)) answers;
+      breaks = asked_map t.before.files t.request _ _ (λ asked a. (s, text, answer_begun (outline_of p) (constraints_of p) (goals_of p) t.orders t.journal asked s text a, cut)) answers;
     }
 
 -- the same, where the outside was as before when writing began
@@ -88,6 +83,11 @@ pub begun_from : (t : Trace) (p : Program) (s : Status) (name log : Option (List
 begun_from t p s name log text files printed f q recorded is h broken within answers =
     model_begun t p s name log text recorded is (subst (λ n. IsLogOf (is_some n) t.journal log) (sym is) h)
     (subst (λ x. IsBroken name log text (outside t.before.files x) t.now) q (subst (λ x. IsBroken name log text (outside x printed) t.now) f broken)) within answers
+
+-- the same of an answer that was printed
+pub answered_from : (t : Trace) (p : Program) (s : Status) (name log : Option (List ℕ)) (text : List ℕ) (files : Option Files) (printed : Option (List ℕ)) → files ≡ t.before.files → printed ≡ t.before.printed → stage_of s ≡ Answered → IsRecorded t.orders t.request s t.journal → name ≡ log_file t.request → IsLogOf (is_some (log_file t.request)) t.journal log → t.now.files ≡ stored name log files → IsWithin p → OfAsked t.before.files t.request (λ asked. IsAnswer t.orders t.journal asked p s text) → t.now.printed ≡ with_printed text printed → EndsModel t p s
+answered_from t p s name log text files printed f q stage recorded is h stores within answers prints =
+    model_answered t p s name log text stage recorded is (subst (λ n. IsLogOf (is_some n) t.journal log) (sym is) h) (stores ∙ ap (λ x. stored name log x) f) within answers (prints ∙ ap (λ x. with_printed text x) q)
 
 -- ---- a text
 
@@ -105,9 +105,9 @@ text_at Lost t text p s is (inl same) = inl same
 text_at Lost t text p s is (inr h) = inr (h.0, (p, is, h.1))
 
 -- the text is no model's
-pub text_refused : (t : Trace) (text : List ℕ) (s : Status) → Denied s (IsTextRefused text s) → t.now ≡ t.before → Ends t text s
-text_refused t text s (inl h) same = subst (λ x. EndsAt (stage_of x) t text x) (sym h) (inl same)
-text_refused t text s (inr h) same = subst (λ g. EndsAt g t text s) (sym h.0) (inr (inl (inl h.1)), same)
+pub text_refused : (t : Trace) (text : List ℕ) (s : Status) → t.journal.rounds ≡ [] → Denied s (IsTextRefused text s) → t.now ≡ t.before → Ends t text s
+text_refused t text s none (inl h) same = subst (λ x. EndsAt (stage_of x) t text x) (sym h) (inl (same, none))
+text_refused t text s none (inr h) same = subst (λ g. EndsAt g t text s) (sym h.0) (inr (inl (inl h.1)), same)
 
 -- ---- a request
 
@@ -131,14 +131,14 @@ run_ends r os journal files mid_files printed mid_printed now reads mid reads_no
     (subst (λ x. Ends (trace r os journal (outside files x) now mid reads_now mid_writes writes_now) text s) q
     (subst (λ x. Ends (trace r os journal (outside x mid_printed) now mid reads_now mid_writes writes_now) text s) f h)))
 
-pub run_denied : (t : Trace) (s : Status) → Unreadable t.reads t.reads_now s (OfText t.before.files t.request (λ bytes. IsTooLongText bytes s)) → t.now ≡ t.before → RunEnds t s
-run_denied t s (inl h) same = subst (λ x. RunEndsAt (stage_of x) t x) (sym h.0) (h.1, same)
-run_denied t s (inr (inl h)) same = subst (λ x. RunEndsAt (stage_of x) t x) (sym h) (inl same)
-run_denied t s (inr (inr h)) same = subst (λ g. RunEndsAt g t s) (sym h.0) (text_map t.before.files t.request _ _ (λ bytes long. inl long) h.1, same)
+pub run_denied : (t : Trace) (s : Status) → t.journal.rounds ≡ [] → Unreadable t.reads t.reads_now s (OfText t.before.files t.request (λ bytes. IsTooLongText bytes s)) → t.now ≡ t.before → RunEnds t s
+run_denied t s none (inl h) same = subst (λ x. RunEndsAt (stage_of x) t x) (sym h.0) (h.1, same)
+run_denied t s none (inr (inl h)) same = subst (λ x. RunEndsAt (stage_of x) t x) (sym h) (inl (same, none))
+run_denied t s none (inr (inr h)) same = subst (λ g. RunEndsAt g t s) (sym h.0) (text_map t.before.files t.request _ _ (λ bytes long. inl long) h.1, same)
 
 same_outside : (files now_files : Option Files) (printed now_printed : Option (List ℕ)) → now_files ≡ files → now_printed ≡ printed → outside now_files now_printed ≡ outside files printed
 same_outside files now_files printed now_printed f q = ap (λ x. outside x now_printed) f ∙ ap (λ x. outside files x) q
 
-pub denied_from : (r : Request) (os : List Order) (journal : Journal) (files now_files : Option Files) (printed now_printed : Option (List ℕ)) (reads reads_now writes writes_now : ℕ) (s : Status) → now_files ≡ files → now_printed ≡ printed → Unreadable reads reads_now s (OfText files r (λ bytes. IsTooLongText bytes s)) → RunEnds (trace r os journal (outside files printed) (outside now_files now_printed) reads reads_now writes writes_now) s
-denied_from r os journal files now_files printed now_printed reads reads_now writes writes_now s f q h =
-    run_denied (trace r os journal (outside files printed) (outside now_files now_printed) reads reads_now writes writes_now) s h (same_outside files now_files printed now_printed f q)
+pub denied_from : (r : Request) (os : List Order) (journal : Journal) (files now_files : Option Files) (printed now_printed : Option (List ℕ)) (reads reads_now writes writes_now : ℕ) (s : Status) → journal.rounds ≡ [] → now_files ≡ files → now_printed ≡ printed → Unreadable reads reads_now s (OfText files r (λ bytes. IsTooLongText bytes s)) → RunEnds (trace r os journal (outside files printed) (outside now_files now_printed) reads reads_now writes writes_now) s
+denied_from r os journal files now_files printed now_printed reads reads_now writes writes_now s none f q h =
+    run_denied (trace r os journal (outside files printed) (outside now_files now_printed) reads reads_now writes writes_now) s none h (same_outside files now_files printed now_printed f q)

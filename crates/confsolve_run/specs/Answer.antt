@@ -1,11 +1,14 @@
 -- What answers that which is asked of a model. What a reader believes after this file: what the text
 -- that is printed and the status say of the model, and what the record holds that shows it.
-use Rattle.std.specs.Prelude.{◌≡◌, [], List, Option, None, Some, IsSome, map, true, slice_index_or, ℕ, ℤ}
+use Rattle.std.specs.Prelude.{◌≡◌, ◌≤◌, [], List, length, Option, None, Some, IsSome, map, true, slice_index_or, ℕ, ℤ}
 use Rattle.answer_text.specs.Texts.{check_text, gen_text, generated_budget, satisfied_text, solve_text}
 use Rattle.branch_choice.specs.declared.split.Order.{Order}
 use Rattle.branch_choice.specs.declared.split.Order.TheVariants as orders
 use Rattle.class_table.specs.Outline.{Outline}
 use Rattle.conf_eval.specs.Satisfying.{Satisfies}
+use Rattle.conf_events.specs.Limits.{events_bytes}
+use Rattle.conf_events.specs.Texts.{bad_line, events_of}
+use Rattle.conf_events.specs.declared.event.Event.{Event}
 use Rattle.conf_syntax.specs.declared.tree.Program.{Program}
 use Rattle.conf_types.specs.Programs.{ResolvedConstraint, ResolvedGoal}
 use Rattle.config_json.specs.Former.{hints, missing}
@@ -25,10 +28,11 @@ use Rattle.proof_log.specs.Spelling.{lines_text}
 use Rattle.run_status.specs.declared.status.Status.{Status}
 use Rattle.run_status.specs.declared.status.Status.TheVariants as status
 use Rattle.serde_json.specs.Data.{Data}
+use Rattle.session_run.specs.Sessions.{Situation, situation, subject, AreHeld, AreBegun}
 use Rattle.serde_json.specs.Find.{as_object}
 use Rattle.reconfigure.specs.Failing.{unknown_word}
 use Rattle.reconfigure.specs.declared.repair.Repair.{Repair}
-use Rattle.confsolve_run.specs.Asking.{Asked, Best, Generated, Checked, Satisfied, FormerText, IsShort}
+use Rattle.confsolve_run.specs.Asking.{Asked, Best, Generated, Checked, Satisfied, Held, FormerText, IsShort, former_text}
 use Rattle.model_reader.specs.Models.{outline_of, constraints_of, goals_of}
 
 -- ---- statuses
@@ -108,6 +112,16 @@ abbrev pub OfRepair : Outline → Option FormerText → (Option Repair → Type 
 OfRepair o None P = P None
 OfRepair o (Some f) P = (r : Repair) × IsRepairOf o f r × P (Some r)
 
+-- P holds of the values that a former text gives, with nothing that failed yet, and of the events
+-- that a text has, each line of which is one
+pub record IsDay (o : Outline) (before bytes : List ℕ)
+    (P : Situation → List Event → Type 0) : Type 0 where
+  pub repair : Repair
+  pub former : IsRepairOf o (former_text before []) repair
+  pub short : length bytes ≤ events_bytes
+  pub good : bad_line o bytes ≡ None
+  pub holds : P (situation repair.former []) (events_of o bytes)
+
 -- the text that was printed, with the status, answers what is asked of a model; the orders are
 -- those of the choosers, and the journal is what the record holds
 abbrev pub IsModelAnswer : Outline → List ResolvedConstraint → List ResolvedGoal → List Order
@@ -121,7 +135,28 @@ IsModelAnswer o ks gs os journal (Checked former bytes) s text =
     OfRepair o former (λ r. IsChecked o ks gs r bytes journal s text)
 IsModelAnswer o ks gs os journal (Satisfied bytes) s text =
     (journal ≡ empty) × IsVerified o ks gs bytes s text
+IsModelAnswer o ks gs os journal (Held before bytes budget order) s text =
+    IsDay o before bytes (λ p es. AreHeld (subject o ks gs budget) p es journal.rounds s text)
+
+-- the text answers it as far as it was answered when writing or memory failed: of a session the
+-- first events, else all
+abbrev pub IsModelBegun : Outline → List ResolvedConstraint → List ResolvedGoal → List Order
+    → Journal → Asked → Status → List ℕ → Type 0
+IsModelBegun o ks gs os journal (Held before bytes budget order) s text =
+    IsDay o before bytes (λ p es. AreBegun (subject o ks gs budget) p es journal.rounds text)
+IsModelBegun o ks gs os journal (Best former budget order) s text =
+    IsModelAnswer o ks gs os journal (Best former budget order) s text
+IsModelBegun o ks gs os journal (Generated n) s text =
+    IsModelAnswer o ks gs os journal (Generated n) s text
+IsModelBegun o ks gs os journal (Checked former bytes) s text =
+    IsModelAnswer o ks gs os journal (Checked former bytes) s text
+IsModelBegun o ks gs os journal (Satisfied bytes) s text =
+    IsModelAnswer o ks gs os journal (Satisfied bytes) s text
 
 abbrev pub IsAnswer : List Order → Journal → Asked → Program → Status → List ℕ → Type 0
 IsAnswer os journal asked p s text =
     IsModelAnswer (outline_of p) (constraints_of p) (goals_of p) os journal asked s text
+
+abbrev pub IsAnswerBegun : List Order → Journal → Asked → Program → Status → List ℕ → Type 0
+IsAnswerBegun os journal asked p s text =
+    IsModelBegun (outline_of p) (constraints_of p) (goals_of p) os journal asked s text

@@ -1,11 +1,11 @@
 -- What is asked of which model. What a reader believes after this file: which text is that of a
 -- request's model, and what the request asks of it.
-use Rattle.std.specs.Prelude.{◌≡◌, ◌≤◌, ◌⊎◌, length, List, Option, Some, None, IfSome, IsSomeAnd, String, ℕ}
+use Rattle.std.specs.Prelude.{◌≡◌, ◌≤◌, ◌⊎◌, Bool, true, false, length, List, [], Option, Some, None, IfSome, IsSomeAnd, String, ℕ}
 use Rattle.std.specs.Option.{option_and_then}
 use Rattle.std.specs.declared.alloc.Global.{Global}
 use Rattle.conf_request.specs.Words.{request, model_file}
 use Rattle.conf_request.specs.declared.request.Request.{Request}
-use Rattle.conf_request.specs.declared.request.Request.TheVariants.{Solve, Reconfigure, Check, Verify, Gen}
+use Rattle.conf_request.specs.declared.request.Request.TheVariants.{Solve, Reconfigure, Check, Verify, Gen, Session, Core}
 use Rattle.desk_io.specs.Desk.{Files, OfFile}
 use Rattle.model_generator.specs.Generated.{generated}
 use Rattle.model_limits.specs.Limits.{config_bytes}
@@ -48,6 +48,9 @@ pub data Asked : Type 0 where
   Checked : Option FormerText → List ℕ → Asked
   -- whether it is satisfied by the configuration whose text has these bytes
   Satisfied : List ℕ → Asked
+  -- the best repair behind each event of a text, from a former text on, within a budget of
+  -- decisions each and by the order of the chooser of a number
+  Held : List ℕ → List ℕ → ℕ → ℕ → Asked
 
 -- where files are told, P holds of what a request asks of its model that has a log checked, and
 -- names a former configuration or none
@@ -66,7 +69,9 @@ OfAsked told (Reconfigure model former failed budget log order) P =
 OfAsked told (Check model log former failed) P = OfChecked told log former failed P
 OfAsked told (Verify model config) P = OfFile told config (λ bytes. P (Satisfied bytes))
 OfAsked told (Gen n) P = P (Generated n)
-OfAsked told r P = ⊥
+OfAsked told (Session model former events budget order) P =
+    OfFile told former (λ before. OfFile told events (λ bytes. P (Held before bytes budget order)))
+OfAsked told (Core model budget order) P = ⊥
 
 -- where files are told, P holds of the former text that is named, and one is
 abbrev pub OfNamed : Option Files → Option (List ℕ) → List (List ℕ) → (FormerText → Type 0)
@@ -79,7 +84,18 @@ abbrev pub OfFormer : Option Files → Request → (FormerText → Type 0) → T
 OfFormer told (Reconfigure model former failed budget log order) P =
     OfNamed told (Some former) failed P
 OfFormer told (Check model log former failed) P = OfNamed told former failed P
+OfFormer told (Session model former events budget order) P = OfNamed told (Some former) [] P
 OfFormer told r P = ⊥
+
+-- the request is a session
+abbrev pub is_session : Request → Bool
+is_session (Solve model budget log order) = false
+is_session (Reconfigure model former failed budget log order) = false
+is_session (Check model log former failed) = false
+is_session (Verify model config) = false
+is_session (Gen n) = false
+is_session (Session model former events budget order) = true
+is_session (Core model budget order) = false
 
 -- ---- files
 
@@ -88,6 +104,7 @@ abbrev pub IsFurther : Request → List ℕ → Type 0
 IsFurther (Reconfigure model former failed budget log order) name = name ≡ former
 IsFurther (Check model log former failed) name = (former ≡ Some name) ⊎ (name ≡ log)
 IsFurther (Verify model config) name = name ≡ config
+IsFurther (Session model former events budget order) name = (name ≡ former) ⊎ (name ≡ events)
 IsFurther r name = ⊥
 
 -- the file that a log is written to, where the request asks for one

@@ -1,6 +1,6 @@
 -- How a run ends, stage by stage. What a reader believes after this file: what was printed and
 -- written, what the status says, and which faults came.
-use Rattle.std.specs.Prelude.{◌≡◌, ◌⊎◌, List, Option, IfSome, String, ℕ}
+use Rattle.std.specs.Prelude.{◌≡◌, ◌⊎◌, List, [], Option, IfSome, String, ℕ}
 use Rattle.std.specs.declared.alloc.Global.{Global}
 use Rattle.branch_choice.specs.declared.split.Order.{Order}
 use Rattle.conf_request.specs.Words.{request}
@@ -10,7 +10,7 @@ use Rattle.desk_io.specs.Desk.{Files, with_printed}
 use Rattle.desk_io.specs.Fault.{HasRisen}
 use Rattle.proof_log.specs.Rounds.{Journal}
 use Rattle.run_status.specs.declared.status.Status.{Status}
-use Rattle.confsolve_run.specs.Answer.{IsAnswer}
+use Rattle.confsolve_run.specs.Answer.{IsAnswer, IsAnswerBegun}
 use Rattle.confsolve_run.specs.Asking.{Asked, OfAsked, OfText}
 use Rattle.model_reader.specs.TextModel.{HasModel}
 use Rattle.confsolve_run.specs.Delivery.{Outside, IsLogged, IsLogFront, IsCutOff}
@@ -70,7 +70,7 @@ Prints t s asked p =
 -- writing an answer broke off
 abbrev pub Breaks : Trace → Asked → Program → Type 0
 Breaks t asked p =
-    (s : Status) × (text : List ℕ) × IsAnswer t.orders t.journal asked p s text
+    (s : Status) × (text : List ℕ) × IsAnswerBegun t.orders t.journal asked p s text
     × IsCutOff t.request t.journal text t.before t.now
 
 -- whatever is known of the model's text: the record holds what the answer rests on, and its log was
@@ -84,6 +84,23 @@ pub record Begins (t : Trace) : Type 0 where
   pub status : Status
   pub recorded : IsRecorded t.orders t.request status t.journal
   pub logged : IsLogFront t.request t.journal t.before.files t.now.files
+
+-- nothing was printed or written, and no round was closed
+abbrev pub IsUntouched : Trace → Type 0
+IsUntouched t = (t.now ≡ t.before) × (t.journal.rounds ≡ [])
+
+-- writing an answer of a model broke off
+pub record IsBegun (t : Trace) (p : Program) : Type 0 where
+  pub begins : Begins t
+  pub within : IsWithin p
+  pub breaks : OfAsked t.before.files t.request (λ asked. Breaks t asked p)
+
+-- an answer of a model was printed whole
+pub record IsHeldWhole (t : Trace) (p : Program) (s : Status) : Type 0 where
+  pub stage : stage_of s ≡ Answered
+  pub delivers : Delivers t s
+  pub within : IsWithin p
+  pub prints : OfAsked t.before.files t.request (λ asked. Prints t s asked p)
 
 -- how a run over a model ends
 abbrev pub EndsModelAt : Stage → Trace → Program → Status → Type 0
@@ -100,7 +117,7 @@ EndsModelAt Unwritten t p s =
     HasRisen t.writes t.writes_now × Begins t
     × (IsWithin p × OfAsked t.before.files t.request (λ asked. Breaks t asked p))
 EndsModelAt Lost t p s =
-    (t.now ≡ t.before)
+    IsUntouched t
     ⊎ (Begins t × (IsWithin p × OfAsked t.before.files t.request (λ asked. Breaks t asked p)))
 
 abbrev pub EndsModel : Trace → Program → Status → Type 0
@@ -118,7 +135,7 @@ EndsAt Unwritten t text s =
     HasRisen t.writes t.writes_now × Begins t
     × OfModel t.before.files t.request text (Breaks t)
 EndsAt Lost t text s =
-    (t.now ≡ t.before) ⊎ (Begins t × OfModel t.before.files t.request text (Breaks t))
+    IsUntouched t ⊎ (Begins t × OfModel t.before.files t.request text (Breaks t))
 
 abbrev pub Ends : Trace → List ℕ → Status → Type 0
 Ends t text s = EndsAt (stage_of s) t text s
@@ -138,7 +155,7 @@ RunEndsAt Refused t s =
 RunEndsAt Answered t s = Delivers t s × OfTrace t (Prints t s)
 RunEndsAt Unwritten t s =
     HasRisen t.writes t.writes_now × Begins t × OfTrace t (Breaks t)
-RunEndsAt Lost t s = (t.now ≡ t.before) ⊎ (Begins t × OfTrace t (Breaks t))
+RunEndsAt Lost t s = IsUntouched t ⊎ (Begins t × OfTrace t (Breaks t))
 
 abbrev pub RunEnds : Trace → Status → Type 0
 RunEnds t s = RunEndsAt (stage_of s) t s

@@ -4,6 +4,7 @@ pub mod Checking
 pub mod Delivery
 pub mod Ending
 pub mod Recorded
+pub mod Holding
 pub mod Refusal
 pub mod Told
 pub mod Unreadable

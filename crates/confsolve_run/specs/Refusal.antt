@@ -3,6 +3,8 @@
 use Rattle.std.specs.Prelude.{◌≡◌, ◌⊎◌, ◌+◌, ◌<◌, ◌≤◌, List, [], Option, None, Some, IsSome, length, take, ℕ, ℤ}
 use Rattle.class_table.specs.Outline.{Outline}
 use Rattle.conf_eval.specs.Breaking.{IsWrongConstraint}
+use Rattle.conf_events.specs.Limits.{events_bytes}
+use Rattle.conf_events.specs.Texts.{bad_line}
 use Rattle.conf_syntax.specs.declared.tree.Program.{Program}
 use Rattle.conf_types.specs.Programs.{ResolvedConstraint, ResolvedGoal}
 use Rattle.config_json.specs.Former.{missing}
@@ -25,7 +27,7 @@ use Rattle.reconfigure.specs.Failing.{unknown_word}
 use Rattle.reconfigure.specs.declared.repair.Repair.{Repair}
 use Rattle.conf_request.specs.declared.request.Request.{Request}
 use Rattle.confsolve_run.specs.Answer.{IsConfigOf, OfRepair}
-use Rattle.confsolve_run.specs.Asking.{Asked, Best, Generated, Checked, Satisfied, FormerText, IsShort, OfAsked, OfFormer}
+use Rattle.confsolve_run.specs.Asking.{Asked, Best, Generated, Checked, Satisfied, Held, FormerText, IsShort, OfAsked, OfFormer}
 use Rattle.model_reader.specs.TextModel.{HasModel}
 use Rattle.model_reader.specs.ModelRefusal.{IsRefusedAs, IsTextRefused}
 use Rattle.model_reader.specs.Models.{IsWithin, outline_of, constraints_of, goals_of}
@@ -118,6 +120,13 @@ abbrev pub IsUnchecked : Outline → List ResolvedConstraint → List ResolvedGo
     → Journal → List ℕ → Status → Type 0
 IsUnchecked o ks gs r journal bytes s = HasProblem o ks gs r journal (IsUnfit bytes s)
 
+-- a text of events: it is too long, or a line of it is no event, the first such one
+abbrev pub IsEventsRefused : Outline → List ℕ → Status → Type 0
+IsEventsRefused o bytes (status.Limit kind.Events None) = events_bytes < length bytes
+IsEventsRefused o bytes (status.Events line) =
+    (length bytes ≤ events_bytes) × (bad_line o bytes ≡ Some line)
+IsEventsRefused o bytes s = ⊥
+
 abbrev pub IsModelDenied : Outline → List ResolvedConstraint → List ResolvedGoal → Journal → Asked
     → Status → Type 0
 IsModelDenied o ks gs journal (Best former budget order) s = ⊥
@@ -125,6 +134,7 @@ IsModelDenied o ks gs journal (Generated n) s = ⊥
 IsModelDenied o ks gs journal (Checked former bytes) s =
     OfRepair o former (λ r. IsUnchecked o ks gs r journal bytes s)
 IsModelDenied o ks gs journal (Satisfied bytes) s = IsUnverified o ks bytes s
+IsModelDenied o ks gs journal (Held before bytes budget order) s = IsEventsRefused o bytes s
 
 -- the former text that the request names is refused, or else what it asks of a model
 abbrev pub IsDenied : Option Files → Request → Journal → Status → Outline

@@ -2,7 +2,7 @@
 //!
 //! `run_text` is the entry: it reads the text's model, builds it, answers what is asked of it,
 //! and delivers the answer.
-ghost use Rattle.std.specs.Prelude.{map, ◌≡◌, ◌⊎◌, ◌≤◌, IsTrue, List, Some, true, length, is_some, option_copied, IfOk, IfErr, OnOk, ℕ};
+ghost use Rattle.std.specs.Prelude.{map, ◌≡◌, ◌⊎◌, ◌≤◌, IsTrue, List, Some, true, false, length, is_some, option_copied, IfOk, IfErr, OnOk, ℕ};
 ghost use Rattle.std.specs.Option.{option_map};
 ghost use Rattle.conf_request.specs.Words.{is_built, IsLawful};
 ghost use Rattle.conf_syntax.specs.Trees.{program_tokens, nesting};
@@ -11,7 +11,7 @@ ghost use Rattle.model_limits.specs.Limits.{model_bytes, most_nesting};
 ghost use Rattle.proof_log.specs.Rounds.{empty};
 ghost use Rattle.run_status.specs.declared.status.Status.{Status as AStatus};
 ghost use Rattle.confsolve_run.specs.Answer.{IsModelAnswer, IsAnswer};
-ghost use Rattle.confsolve_run.specs.Asking.{IsFurther, OfAsked, log_file};
+ghost use Rattle.confsolve_run.specs.Asking.{IsFurther, OfAsked, is_session, log_file};
 ghost use Rattle.confsolve_run.specs.Delivery.{outside};
 ghost use Rattle.confsolve_run.specs.Ending.{Ends, EndsModel, trace};
 ghost use Rattle.model_reader.specs.Models.{IsWithin};
@@ -28,6 +28,7 @@ use crate::checking::check;
 use crate::delivering::deliver;
 use crate::former::repair_of;
 use crate::searching::{Wanted, generated, solve};
+use crate::session::hold_model;
 use crate::verifying::verify;
 use conf_request::{FileName, Request};
 use conf_syntax::Program;
@@ -46,6 +47,13 @@ fn log_file(request: &Request) -> Option<&FileName>
         Request::Solve { log, .. } | Request::Reconfigure { log, .. } => log.as_ref(),
         _ => None,
     }
+}
+
+/// Whether a request is a session.
+fn is_session(request: &Request) -> bool
+    ensures { result ≡ is_session request.now }
+{
+    matches!(request, Request::Session { .. })
 }
 
 /// What is wanted of a search that a request asks for.
@@ -75,6 +83,7 @@ fn asked<D: Desk>(
     requires ready { IsReady built.table.now built.objects.now built.model.now.constraints
         built.model.now.goals }
     requires is_built { is_built request.now ≡ true }
+    requires other { is_session request.now ≡ false }
     requires lawful { IsLawful request.now }
     requires empty { journal.old ≡ empty }
     ensures stage { IfOk result (λ a. stage_of a.status ≡ Answered) }
@@ -154,6 +163,7 @@ fn outcome<D: Desk>(
     requires may_read { (name : List ℕ) → IsFurther request.now name
         → IsTrue (D.may_read desk.old name) }
     requires is_built { is_built request.now ≡ true }
+    requires other { is_session request.now ≡ false }
     requires lawful { IsLawful request.now }
     requires empty { journal.old ≡ empty }
     ensures stage { IfOk result (λ a. stage_of a.status ≡ Answered) }
@@ -214,8 +224,11 @@ fn answer_model<D: Desk>(
         (outside (D.files desk.new) (D.printed desk.new))
         (D.read_faults desk.old) (D.read_faults desk.new) (D.write_faults desk.old)
         (D.write_faults desk.new)) program.now result }
-    ensures rounds { journal.new.rounds ≡ journal.old.rounds }
+    ensures rounds { is_session request.now ≡ false → journal.new.rounds ≡ journal.old.rounds }
 {
+    if is_session(request) {
+        return hold_model(with, desk, program, request, kit, journal);
+    }
     let answer = match outcome(with, desk, program, request, kit, journal) {
         Ok(answer) => answer,
         Err(status) => return status,
@@ -251,7 +264,7 @@ pub(crate) fn run_text<D: Desk>(
         (D.read_faults desk.old) (D.read_faults desk.new) (D.write_faults desk.old)
         (D.write_faults desk.new)) text.now result }
     ensures stands { (s : AStatus) → IsTextRefused text.now s → IsUnless s result }
-    ensures rounds { journal.new.rounds ≡ journal.old.rounds }
+    ensures rounds { is_session request.now ≡ false → journal.new.rounds ≡ journal.old.rounds }
 {
     match read_model(with.alloc, text) {
         Ok(program) => answer_model(with, desk, &program, request, kit, journal),

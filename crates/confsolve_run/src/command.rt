@@ -1,14 +1,14 @@
 //! From words to what is printed: `run` reads the words, and then the text of the model that they
 //! name.
-ghost use Rattle.std.specs.Prelude.{map, ◌≡◌, ◌↔◌, ◌⊎◌, List, None, Some, true, IsTrue, IfSome, ℕ};
+ghost use Rattle.std.specs.Prelude.{map, ◌≡◌, ◌↔◌, ◌⊎◌, List, [], None, Some, true, false, IsTrue, IfSome, ℕ};
 ghost use Rattle.conf_request.specs.Words.{request, is_built, model_file, IsLawful};
 ghost use Rattle.conf_request.specs.declared.request.Request.{Request as ARequest};
 ghost use Rattle.desk_io.specs.Desk.{with_printed};
 ghost use Rattle.desk_io.specs.Fault.{HasRisen};
 ghost use Rattle.proof_log.specs.Rounds.{empty};
 ghost use Rattle.run_status.specs.declared.status.Status.{Status as AStatus};
-ghost use Rattle.confsolve_run.specs.Answer.{IsAnswer};
-ghost use Rattle.confsolve_run.specs.Asking.{Reads, Writes, IsFurther, OfText, log_file, text_of};
+ghost use Rattle.confsolve_run.specs.Answer.{IsAnswer, IsAnswerBegun};
+ghost use Rattle.confsolve_run.specs.Asking.{Reads, Writes, IsFurther, OfText, is_session, log_file, text_of};
 ghost use Rattle.confsolve_run.specs.Delivery.{outside, IsLogged, IsLogFront, IsCutOff};
 ghost use Rattle.confsolve_run.specs.Ending.{OfRequest, RunEnds, trace};
 ghost use Rattle.confsolve_run.specs.Recorded.{IsRecorded};
@@ -52,7 +52,7 @@ fn run_request<D: Desk>(
     ensures stands { (text : List ℕ) (s : AStatus)
         → text_of (D.files desk.old) request.now ≡ Some text → IsStanding text s
         → IsUnless s result }
-    ensures rounds { journal.new.rounds ≡ journal.old.rounds }
+    ensures rounds { is_session request.now ≡ false → journal.new.rounds ≡ journal.old.rounds }
 {
     match text_of(with.alloc, desk, request) {
         Ok(text) => run_text(with, desk, &text, request, kit, journal),
@@ -98,19 +98,20 @@ pub fn run<D: Desk>(
     ensures silent { is_silent (stage_of result) ≡ true → D.printed desk.new ≡ D.printed desk.old }
     ensures files { is_silent (stage_of result) ≡ true → D.files desk.new ≡ D.files desk.old }
 
-    // writing broke off within the log or the text of an answer
+    // writing broke off within the log or the text of an answer; of a session the rounds are those
+    // of the events that were answered
     ensures write_fault { result ≡ Status.WriteFault → OfRequest (D.files desk.old) words.now
         (λ r asked p. (s : AStatus) × (text : List ℕ)
-        × IsAnswer (map (λ c. c.order) choosers.now) journal.new asked p s text
+        × IsAnswerBegun (map (λ c. c.order) choosers.now) journal.new asked p s text
         × IsCutOff r journal.new text (outside (D.files desk.old) (D.printed desk.old))
         (outside (D.files desk.new) (D.printed desk.new))) }
-    // want of memory came before writing, or in it
+    // want of memory came before writing and before a round was closed, or the same is so
     ensures memory { result ≡ Status.Memory
-        → (outside (D.files desk.new) (D.printed desk.new)
-        ≡ outside (D.files desk.old) (D.printed desk.old))
+        → ((outside (D.files desk.new) (D.printed desk.new)
+        ≡ outside (D.files desk.old) (D.printed desk.old)) × (journal.new.rounds ≡ []))
         ⊎ OfRequest (D.files desk.old) words.now
         (λ r asked p. (s : AStatus) × (text : List ℕ)
-        × IsAnswer (map (λ c. c.order) choosers.now) journal.new asked p s text
+        × IsAnswerBegun (map (λ c. c.order) choosers.now) journal.new asked p s text
         × IsCutOff r journal.new text (outside (D.files desk.old) (D.printed desk.old))
         (outside (D.files desk.new) (D.printed desk.new))) }
 
@@ -133,7 +134,9 @@ pub fn run<D: Desk>(
         → HasRisen (D.read_faults desk.old) (D.read_faults desk.new) }
     ensures unwritten { result ≡ Status.WriteFault
         → HasRisen (D.write_faults desk.old) (D.write_faults desk.new) }
-    ensures rounds { journal.new.rounds ≡ journal.old.rounds }
+    // no other command has rounds
+    ensures rounds { IfSome (request words.now) (λ r. is_session r ≡ false
+        → journal.new.rounds ≡ journal.old.rounds) }
 {
     let with = Resources { alloc, choosers };
     match request_of(alloc, words) {

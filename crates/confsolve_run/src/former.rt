@@ -93,7 +93,7 @@ fn copied(alloc: Global, paths: &[PathText]) -> Result<Vec<PathText>, AllocError
 }
 
 /// The repair that a former configuration's text and the words that name what failed ask for.
-fn repair_in(
+pub(crate) fn repair_in(
     alloc: Global,
     built: Built<'_>,
     bytes: &[u8],

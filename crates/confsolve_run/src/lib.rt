@@ -6,6 +6,8 @@
 //! - `former`: the text of a configuration, and the repair that one asks for.
 //! - `searching`, `checking`, `verifying`: what is asked of a model: a best configuration, what a
 //!   log shows, whether a configuration satisfies it.
+//! - `session`: the answers to a text of events, each printed as it is found.
+//! - `finder`: who searches for the rounds of a session.
 //! - `answer`: an answer, and what it takes to find one.
 //! - `delivering`: the log is written, and the answer printed.
 //! - `laws`: a text has one model.
@@ -16,9 +18,11 @@ mod answering;
 mod checking;
 mod command;
 mod delivering;
+mod finder;
 mod former;
 mod laws;
 mod searching;
+mod session;
 mod source;
 mod verifying;
 

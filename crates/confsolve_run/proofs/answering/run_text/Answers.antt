@@ -1,4 +1,5 @@
-use Rattle.std.proofs.Common.{map, refl}
+use Rattle.std.proofs.Common.{map, refl, ap}
+use Rattle.proof_log.specs.Rounds.{Journal}
 use Rattle.confsolve_run.specs.Delivery.{outside}
 use Rattle.confsolve_run.specs.Ending.{trace}
 use Rattle.confsolve_run.proofs.Endings.{text_at, text_refused}
@@ -13,7 +14,7 @@ returns-in-Err-clause-ends g c =
     let here = outside (g.D.Desk.files c.args.desk.now) (g.D.Desk.printed c.args.desk.now) in
     let reads = g.D.Desk.read_faults c.args.desk.now in
     let writes = g.D.Desk.write_faults c.args.desk.now in
-    text_refused (trace c.args.request.now (map (λ x. x.order) c.args.with.choosers.now) c.args.journal.now here here reads reads writes writes) c.args.text.now c.in-Err.status c.in-Err.ensures.refused refl
+    text_refused (trace c.args.request.now (map (λ x. x.order) c.args.with.choosers.now) c.args.journal.now here here reads reads writes writes) c.args.text.now c.in-Err.status (ap (λ (j : Journal). j.rounds) c.requires.empty) c.in-Err.ensures.refused refl
 
 pub returns-in-Ok-clause-ends : goal.returns-in-Ok-clause-ends
 returns-in-Ok-clause-ends g c =

@@ -1,4 +1,5 @@
-use Rattle.std.proofs.Common.{◌≡◌, ◌≤◌, ℕ, List, length, map, subst, sym}
+use Rattle.proof_log.specs.Rounds.{Journal}
+use Rattle.std.proofs.Common.{ap, ◌≡◌, ◌≤◌, ℕ, List, length, map, subst, sym}
 use Rattle.model_limits.specs.Limits.{model_bytes}
 use Rattle.confsolve_run.specs.Asking.{OfText}
 use Rattle.confsolve_run.specs.Delivery.{outside}
@@ -38,4 +39,4 @@ returns-in-Err-clause-ends g c =
     let printed = g.D.Desk.printed in
     let reads = g.D.Desk.read_faults in
     let writes = g.D.Desk.write_faults in
-    denied_from c.args.request.now (map (λ x. x.order) c.args.with.choosers.now) c.args.journal.now (files before) (files now) (printed before) (printed now) (reads before) (reads now) (writes before) (writes now) c.in-Err.status e.files e.printed e.refused
+    denied_from c.args.request.now (map (λ x. x.order) c.args.with.choosers.now) c.args.journal.now (files before) (files now) (printed before) (printed now) (reads before) (reads now) (writes before) (writes now) c.in-Err.status (ap (λ (j : Journal). j.rounds) c.requires.empty) e.files e.printed e.refused
