@@ -75,6 +75,8 @@ class Model:
             shape = ("one", shape[1])
         if shape[0] in ("one", "many", "ref", "set") and shape[1] not in self.classes:
             raise Wrong(f"{shape[1]} is no class")
+        if shape[0] == "span" and shape[1] > shape[2]:
+            raise Wrong("a range without a value")
         return shape
 
     def attributes(self, klass):

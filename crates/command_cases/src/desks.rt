@@ -9,7 +9,7 @@
 //! - `read NAME LIMIT`, `store NAME TEXT`, `sevens NAME COUNT`, `append NAME TEXT` and `print
 //!   TEXT`: what a call gives; `sevens` stores so many bytes 7.
 //! - `holds NAME`, `printed` and `behind`: what the file holds, what was printed, and what of it
-//!   stands behind the first line.
+//!   stands behind the first line; `whole` is all that was printed, however long.
 //! - `run WORD ..`: the status of a run, its number, and its line where it has one; a word `""` is
 //!   empty.
 //! - `asks WORD ..`: what the words ask for.
@@ -305,6 +305,7 @@ impl Subject for Desks {
             },
             "load" => self.load(alloc, text),
             "printed" => bytes_text(alloc, printed(&self.desk)),
+            "whole" => String::from_utf8_lossy(alloc, printed(&self.desk)),
             "behind" => bytes_text(alloc, behind_first_line(printed(&self.desk))),
             "asks" => asked(alloc, text),
             _ => self.make_or_call(alloc, case.ask, text),
