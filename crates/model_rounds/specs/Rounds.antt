@@ -1,0 +1,25 @@
+-- Closed rounds of a record. What a reader believes after this file: what the lines of a round
+-- show, and how the search ended that left them.
+use Rattle.std.specs.Prelude.{[], Some}
+use Rattle.log_check.specs.Verdicts.{ending}
+use Rattle.model_search.specs.Findings.{finding}
+use Rattle.model_search.specs.declared.finding.Finding.{Finding}
+use Rattle.model_search.specs.declared.finding.Finding.TheVariants as findings
+use Rattle.proof_log.specs.Rounds.{Journal}
+use Rattle.proof_log.specs.declared.record.Round.{Round}
+use Rattle.run_finder.specs.declared.outcome.Outcome.{Outcome}
+use Rattle.run_finder.specs.declared.outcome.Outcome.TheVariants as outcomes
+
+-- a round as the record of a run
+abbrev pub journal_of : Round → Journal
+journal_of round = record { ground = Some round.ground; lines = round.lines; rounds = [] }
+
+-- what the lines of a round tell
+abbrev pub told_by : Round → Finding
+told_by round = finding round.ground (ending round.ground round.lines)
+
+-- how a search ended of which this is told
+abbrev pub end_of : Finding → Outcome
+end_of (findings.Best t) = outcomes.Best
+end_of findings.NoneExists = outcomes.NoSolution
+end_of (findings.Open last) = outcomes.Spent
