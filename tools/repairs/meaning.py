@@ -33,6 +33,8 @@ def packed(items):
 class Model:
     """A model: its objects and leaves, and its constraints and objectives as functions.
 
+    The constraints stand in the order of the text, as their places do.
+
     A configuration is one value per leaf: a number, a truth value, the number of a value of an
     enumeration, an object, or a list of objects.
     """
@@ -40,7 +42,9 @@ class Model:
     def __init__(self, text):
         self.enums, self.classes, self.roots = {}, {}, {}
         self.goals, self.wheres = [], []
-        items = Parser(text).items()
+        parser = Parser(text)
+        items = parser.items()
+        self.places = parser.stated
         for item in items:
             self.declare(item)
         for klass in self.classes:

@@ -18,24 +18,30 @@ class Wrong(Exception):
     """A text that is no model, or one without meaning."""
 
 
-def tokens_of(text):
-    """The tokens of a text; second spellings give the first one."""
+def placed_tokens(text):
+    """The tokens of a text, each with its place; second spellings give the first one."""
     tokens, at = [], GAP.match(text).end()
     while at < len(text):
         found = TOKEN.match(text, at)
         if not found:
             raise Wrong(f"no token at {at}")
-        tokens.append(SPELLINGS.get(found.group(), found.group()))
+        tokens.append((SPELLINGS.get(found.group(), found.group()), at))
         at = GAP.match(text, found.end()).end()
     return tokens
 
 
 class Parser:
-    """Reads the items of a model: nested tuples, whose first part says what they are."""
+    """Reads the items of a model: nested tuples, whose first part says what they are.
+
+    The places of the constraints that were read are kept, in their order.
+    """
 
     def __init__(self, text):
-        self.tokens = tokens_of(text)
+        placed = placed_tokens(text)
+        self.tokens = [token for token, _ in placed]
+        self.places = [place for _, place in placed]
         self.at = 0
+        self.stated = []
 
     def peek(self):
         return self.tokens[self.at] if self.at < len(self.tokens) else ""
@@ -111,14 +117,18 @@ class Parser:
             return ("var", name, shape)
         self.need("where")
         if not self.maybe("{"):
-            listed = [self.expr()]
-            self.need(";")
-            return ("where", listed)
+            return ("where", [self.constraint()])
         listed = []
         while not self.maybe("}"):
-            listed.append(self.expr())
-            self.need(";")
+            listed.append(self.constraint())
         return ("where", listed)
+
+    def constraint(self):
+        place = self.places[self.at] if self.at < len(self.places) else None
+        expr = self.expr()
+        self.need(";")
+        self.stated.append(place)
+        return expr
 
     def count(self):
         if not self.maybe("["):

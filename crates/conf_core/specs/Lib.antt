@@ -1,2 +1,3 @@
 pub mod Parts
 pub mod Cores
+pub mod Searching

@@ -11,6 +11,7 @@ ghost use Rattle.ground_model.specs.Stated.{IsReady, IsReadyConstraint};
 
 use crate::fixing::is_of_pass;
 use crate::known::known_cells;
+use crate::origins::Origins;
 use crate::required::require_tree;
 use crate::rows::require_packed;
 use conf_types::Constraint;
@@ -161,6 +162,7 @@ fn require_pass(
     known: &[(u32, i64)],
     list: &[Constraint],
     fixing: bool,
+    origins: &mut Origins,
 ) -> Result<(), AllocError>
     requires ready { All (IsReadyConstraint objects.now) list.now }
     requires known { HasKnown objects.now known.now maker.old }
@@ -168,6 +170,7 @@ fn require_pass(
         (λ values. list_all (holds_in fixing objects.now values) list.now)) }
 {
     for constraint in list {
+        origins.note(maker.cons().len())?;
         require_in_pass(maker, objects, known, constraint, fixing)?;
     }
     Ok(())
@@ -178,13 +181,14 @@ fn require_fixing(
     maker: &mut Maker,
     objects: &Objects<'_>,
     list: &[Constraint],
+    origins: &mut Origins,
 ) -> Result<(), AllocError>
     requires ready { All (IsReadyConstraint objects.now) list.now }
     requires cells { HasCells objects.now maker.old }
     ensures says { OnOk result (Requires [] maker.old maker.new
         (λ values. list_all (holds_in true objects.now values) list.now)) }
 {
-    require_pass(maker, objects, &[], list, true)?;
+    require_pass(maker, objects, &[], list, true, origins)?;
     Ok(())
 }
 
@@ -193,6 +197,7 @@ fn require_others(
     maker: &mut Maker,
     objects: &Objects<'_>,
     list: &[Constraint],
+    origins: &mut Origins,
 ) -> Result<(), AllocError>
     requires ready { All (IsReadyConstraint objects.now) list.now }
     requires cells { HasCells objects.now maker.old }
@@ -200,7 +205,7 @@ fn require_others(
         (λ values. list_all (holds_in false objects.now values) list.now)) }
 {
     let known = known_cells(maker)?;
-    require_pass(maker, objects, known.as_slice(), list, false)?;
+    require_pass(maker, objects, known.as_slice(), list, false, origins)?;
     Ok(())
 }
 
@@ -209,13 +214,14 @@ pub(crate) fn require_constraints(
     maker: &mut Maker,
     objects: &Objects<'_>,
     list: &[Constraint],
+    origins: &mut Origins,
 ) -> Result<(), AllocError>
     requires ready { All (IsReadyConstraint objects.now) list.now }
     requires cells { HasCells objects.now maker.old }
     ensures says { OnOk result (Requires [] maker.old maker.new
         (λ values. list_all (holds_of objects.now values) list.now)) }
 {
-    require_fixing(maker, objects, list)?;
-    require_others(maker, objects, list)?;
+    require_fixing(maker, objects, list, origins)?;
+    require_others(maker, objects, list, origins)?;
     Ok(())
 }

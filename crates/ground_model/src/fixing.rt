@@ -6,7 +6,7 @@ ghost use Rattle.form_truths.specs.Tests.{wanted};
 ghost use Rattle.ground_model.specs.Fixing.{is_and, is_attribute, is_constant, is_equality, fixes};
 
 use conf_syntax::Op;
-use conf_types::{RExpr, RNode};
+use conf_types::{Constraint, RExpr, RNode};
 
 /// Whether it is `and`.
 fn is_and(op: Op) -> bool
@@ -88,6 +88,14 @@ fn fixes(e: &RExpr) -> bool
         RNode::Dot(_, _, _) => false,
         RNode::Quant(_) => false,
     }
+}
+
+/// Whether a constraint seems to give cells their values. Others may be stated by these values, so
+/// who blames them has to look at it, too.
+pub fn seems_to_fix(constraint: &Constraint) -> bool
+    ensures { result ≡ fixes constraint.now.tree }
+{
+    fixes(&constraint.expr)
 }
 
 /// Whether a constraint is required in the pass for those that fix something, or in that for the

@@ -10,6 +10,7 @@
 //! - `fixing`: which constraints are required first.
 //! - `goals`: the objectives as variables.
 //! - `known`: cells whose values constraints fix.
+//! - `origins`: for which constraint of the model each of the problem's was stated.
 //! - `problem`: the problem of a model.
 //! - `required`: one expression as a form, and required.
 //! - `rows`: a constraint of a class as one packing.
@@ -21,9 +22,12 @@ mod constraints;
 mod fixing;
 mod goals;
 mod known;
+mod origins;
 mod problem;
 mod required;
 mod rows;
 mod sets;
 
-pub use problem::ground;
+pub use fixing::seems_to_fix;
+pub use origins::Origins;
+pub use problem::{ground, ground_with_origins};

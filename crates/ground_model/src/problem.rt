@@ -20,6 +20,7 @@ ghost use Rattle.ground_model.specs.Stated.{IsReadyModel};
 use crate::allowance::{allowance, has_at_most};
 use crate::constraints::require_constraints;
 use crate::goals::{goals_of, idle_goals};
+use crate::origins::Origins;
 use crate::sets::require_full_sets;
 use conf_types::TypedModel;
 use form_build::Maker;
@@ -63,6 +64,7 @@ fn require_model(
     maker: &mut Maker,
     model: &TypedModel,
     objects: &Objects<'_>,
+    origins: &mut Origins,
 ) -> Result<(), AllocError>
     requires ready { IsReadyModel objects.now model.now.constraints model.now.goals }
     requires cells { HasCells objects.now maker.old }
@@ -70,7 +72,7 @@ fn require_model(
         (satisfied_by objects.now model.now.constraints)) }
 {
     require_full_sets(maker, objects)?;
-    require_constraints(maker, objects, model.constraints())?;
+    require_constraints(maker, objects, model.constraints(), origins)?;
     Ok(())
 }
 
@@ -79,6 +81,7 @@ fn whole_problem(
     maker: Maker,
     model: &TypedModel,
     objects: &Objects<'_>,
+    origins: &mut Origins,
 ) -> Result<Ground, AllocError>
     requires cells { maker ≡ over_cells (cell_boxes objects.now) }
     requires ready { IsReadyModel objects.now model.now.constraints model.now.goals }
@@ -88,14 +91,19 @@ fn whole_problem(
         (functions objects.now model.now.goals)) }
 {
     let mut maker = maker;
-    require_model(&mut maker, model, objects)?;
+    require_model(&mut maker, model, objects, origins)?;
     let goals = goals_of(&mut maker, objects, model.goals())?;
     let g = maker.into_builder().finish(goals);
     Ok(g)
 }
 
 /// The problem of a model, however large.
-fn problem(alloc: Global, model: &TypedModel, objects: &Objects<'_>) -> Result<Ground, AllocError>
+fn problem(
+    alloc: Global,
+    model: &TypedModel,
+    objects: &Objects<'_>,
+    origins: &mut Origins,
+) -> Result<Ground, AllocError>
     requires ready { IsReadyModel objects.now model.now.constraints model.now.goals }
     ensures stands { IfOk result (λ g. StandsFor g
         (cell_boxes objects.now)
@@ -109,7 +117,39 @@ fn problem(alloc: Global, model: &TypedModel, objects: &Objects<'_>) -> Result<G
         let g = idle_problem(alloc, builder, model)?;
         return Ok(g);
     }
-    let g = whole_problem(Maker::over(alloc, builder), model, objects)?;
+    let g = whole_problem(Maker::over(alloc, builder), model, objects, origins)?;
+    Ok(g)
+}
+
+/// The ground problem of a model: its solutions are the configurations that satisfy the model, and
+/// its goals have the values of the model's objectives. The origins are told for which constraint
+/// of the model each of the problem's was stated.
+///
+/// # Errors
+///
+/// Where memory lacks, or the problem would be larger than the model's allowance.
+pub fn ground_with_origins(
+    alloc: Global,
+    model: &TypedModel,
+    objects: &Objects<'_>,
+    origins: &mut Origins,
+) -> Result<Ground, AllocError>
+    requires typed { IsTypedModel objects.now model.now.constraints model.now.goals }
+    requires narrow { model_narrow objects.now model.now.constraints model.now.goals ≡ true }
+    ensures stands { IfOk result (λ g. StandsFor g
+        (cell_boxes objects.now)
+        (satisfied_by objects.now model.now.constraints)
+        (functions objects.now model.now.goals)) }
+    ensures asks { (values : List ℤ) → satisfied_by objects.now model.now.constraints values ≡ true
+        ↔ Satisfies objects.now model.now.constraints values }
+    ensures few { IfOk result (λ g. HasAtMost (2 ^ 31) g) }
+    ensures allowance { IfOk result (λ g. HasAtMost
+        (allowance objects.now model.now.constraints model.now.goals) g) }
+{
+    let g = problem(alloc, model, objects, origins)?;
+    if !has_at_most(&g, allowance(model, objects).min(MOST)) {
+        return Err(AllocError);
+    }
     Ok(g)
 }
 
@@ -136,9 +176,7 @@ pub fn ground(
     ensures allowance { IfOk result (λ g. HasAtMost
         (allowance objects.now model.now.constraints model.now.goals) g) }
 {
-    let g = problem(alloc, model, objects)?;
-    if !has_at_most(&g, allowance(model, objects).min(MOST)) {
-        return Err(AllocError);
-    }
+    let mut origins = Origins::new(alloc);
+    let g = ground_with_origins(alloc, model, objects, &mut origins)?;
     Ok(g)
 }

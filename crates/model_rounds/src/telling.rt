@@ -1,5 +1,5 @@
 //! What the lines of a round tell of the model.
-ghost use Rattle.std.specs.Prelude.{◌≡◌, ◌≤◌, ℕ, true, length, option_copied, IfSome};
+ghost use Rattle.std.specs.Prelude.{◌≡◌, ◌≤◌, ◌++◌, ◌∷◌, [], ℕ, List, true, length, option_copied, IfSome};
 ghost use Rattle.branch_choice.specs.declared.split.Order.TheVariants as orders;
 ghost use Rattle.ground_form.specs.WellMade.{IsWellMade};
 ghost use Rattle.log_check.specs.Added.{last_values};
@@ -8,6 +8,7 @@ ghost use Rattle.log_check.specs.Verdicts.{ending, shown_of};
 ghost use Rattle.model_rounds.specs.Rounds.{journal_of, told_by, end_of};
 ghost use Rattle.model_search.specs.Problems.{IsProblemOf};
 ghost use Rattle.model_search.specs.Runs.{HasRun};
+ghost use Rattle.proof_log.specs.declared.record.Round.{Round as ARound};
 ghost use Rattle.run_finder.specs.Outcomes.{OutcomeOf};
 ghost use Rattle.search_run.specs.Replay.{is_run};
 
@@ -15,9 +16,19 @@ use ground_form::Ground;
 use kept_clauses::know_lines;
 use log_form::Line;
 use model_search::{Question, undecided_has_more};
-use proof_log::Round;
+use proof_log::{Record, Round};
 use run_finder::Outcome;
 use search_run::front_is_run;
+
+/// The last round of a record that has one.
+pub fn last_round(journal: &Record) -> &Round
+    requires { 1 ≤ length journal.now.rounds }
+    ensures { (before : List ARound) (round : ARound)
+        → journal.now.rounds ≡ before ++ round ∷ [] → result.now ≡ round }
+{
+    let rounds = journal.rounds();
+    &rounds[rounds.len() - 1]
+}
 
 /// What the lines of a run show is so. It looks at each line once.
 #[tactic(auto, using(crate::proofs::Meanings::laws_of_lines))]

@@ -23,4 +23,4 @@ pub use laws::undecided_has_more;
 pub use log::trimmed_text;
 pub use problem::problem_of;
 pub use question::Question;
-pub use searching::find_best;
+pub use searching::{find_best, no_hints};

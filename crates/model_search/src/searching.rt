@@ -27,8 +27,12 @@ use reconfigure::Repair;
 use rule_law::Kit;
 use std::alloc::{AllocError, Global};
 
-/// No value for any of these variables.
-fn no_hints(alloc: Global, count: u32) -> Result<Vec<Option<i64>>, AllocError>
+/// No value for any of so many variables.
+///
+/// # Errors
+///
+/// Want of memory.
+pub fn no_hints(alloc: Global, count: u32) -> Result<Vec<Option<i64>>, AllocError>
     ensures { IfOk result (λ hints. hints.items ≡ replicate count None) }
 {
     let mut hints = Vec::new(alloc);

@@ -1,0 +1,4 @@
+pub mod PartLists
+pub mod Rounds
+pub mod Narrowings
+pub mod CoreLaws

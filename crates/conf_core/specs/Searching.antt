@@ -1,0 +1,63 @@
+-- What the searches for a core hand on. What a reader believes after this file: nothing that
+-- `find_core` says.
+use Rattle.std.specs.Prelude.{◌≡◌, ◌++◌, ◌∷◌, [], ℕ, Bool, true, List, None, All, cond, filter, map}
+use Rattle.class_table.specs.Outline.{Outline}
+use Rattle.conf_core.specs.Cores.{HasRound, IsWithout}
+use Rattle.conf_core.specs.Parts.{IsPart, ArePartRounds}
+use Rattle.conf_core.specs.declared.narrowing.Settled.{Settled}
+use Rattle.conf_types.specs.Programs.{ResolvedConstraint}
+use Rattle.ground_form.specs.WellMade.{IsWellMade}
+use Rattle.log_form.specs.Acceptance.{accepted}
+use Rattle.model_search.specs.Problems.{IsProblemOf}
+use Rattle.proof_log.specs.declared.record.Round.{Round}
+use Rattle.run_finder.specs.Outcomes.{OutcomeOf}
+use Rattle.run_finder.specs.declared.outcome.Outcome.{Outcome}
+use Rattle.run_finder.specs.declared.outcome.Outcome.TheVariants as outcomes
+use Rattle.search_run.specs.Replay.{is_run}
+
+-- the rounds have one more, over the problem of these constraints, by a run that ended so
+pub record HasClosed (o : Outline) (ks : List ResolvedConstraint) (budget : ℕ) (part : List ℕ)
+    (rounds now : List Round) (end : Outcome) : Type 0 where
+  pub round : Round
+  pub more : now ≡ rounds ++ round ∷ []
+  pub part_is : round.part ≡ part
+  pub problem : IsProblemOf o ks [] None round.ground
+  pub well_made : IsWellMade round.ground
+  pub run : is_run round.ground round.lines ≡ true
+  pub outcome_is : OutcomeOf round.ground budget round.lines end
+
+-- further searches over parts were made
+pub record HasGrown (o : Outline) (ks : List ResolvedConstraint) (budget : ℕ)
+    (rounds now : List Round) : Type 0 where
+  pub further : List Round
+  pub more : now ≡ rounds ++ further
+  pub are : ArePartRounds o ks budget further
+
+-- the last round is a log that is accepted
+pub record EndsAccepted (rounds : List Round) : Type 0 where
+  pub before : List Round
+  pub round : Round
+  pub more : rounds ≡ before ++ round ∷ []
+  pub well_made : IsWellMade round.ground
+  pub taken : accepted round.ground round.lines ≡ true
+
+-- ---- on the way to a core
+
+-- how the search ended without a constraint that was settled
+abbrev pub end_without : Settled → Outcome
+end_without s = cond s.unsure outcomes.Spent outcomes.Best
+
+abbrev pub indexes_of : List Settled → List ℕ
+indexes_of ss = map (λ (s : Settled). s.index) ss
+
+abbrev pub unsure_of : List Settled → List ℕ
+unsure_of ss = map (λ (s : Settled). s.index) (filter (λ (s : Settled). s.unsure) ss)
+
+-- no configuration satisfies the settled constraints and the rest; and of each settled one some
+-- search without it, with all others of these, found one or was undecided
+pub record IsNarrowed (ks : List ResolvedConstraint) (rounds : List Round)
+    (settled : List Settled) (rest : List ℕ) : Type 0 where
+  pub part : IsPart ks (indexes_of settled ++ rest)
+  pub shown : HasRound rounds (λ part. part ≡ indexes_of settled ++ rest) outcomes.NoSolution
+  pub tried : All (λ (s : Settled). HasRound rounds
+      (IsWithout (indexes_of settled ++ rest) s.index) (end_without s)) settled

@@ -1,0 +1,116 @@
+//! A search over a part of a model, which is a round of the record.
+ghost use Rattle.std.specs.Prelude.{◌≡◌, [], true, None, IfOk, OnOk, OnErr};
+ghost use Rattle.conf_core.specs.Parts.{IsPart, HasTried};
+ghost use Rattle.conf_core.specs.Searching.{HasClosed};
+ghost use Rattle.conf_limits.specs.Measures.{model_narrow};
+ghost use Rattle.conf_types.specs.Typing.{IsTypedModel};
+ghost use Rattle.ground_form.specs.WellMade.{IsWellMade};
+ghost use Rattle.model_search.specs.Problems.{IsProblemOf};
+
+use conf_types::TypedModel;
+use ground_form::Ground;
+use ground_model::{Origins, ground_with_origins};
+use model_rounds::{last_round, round_is_run};
+use model_search::{Question, no_hints};
+use object_alloc::Objects;
+use proof_log::Record;
+use run_finder::{Finder, Outcome};
+use std::alloc::{AllocError, Global};
+
+/// A model whose parts are searched, with its objects.
+#[derive(Clone, Copy)]
+pub(crate) struct Subject<'a> {
+    pub alloc: Global,
+    pub model: &'a TypedModel,
+    pub objects: &'a Objects<'a>,
+}
+
+/// How the search over a part ended, and for which of its constraints each of the problem's was
+/// stated.
+#[derive(Drop)]
+pub(crate) struct Tried {
+    pub end: Outcome,
+    pub origins: Origins,
+}
+
+/// The ground problem of a part.
+fn problem_of(
+    with: Subject<'_>,
+    part: &TypedModel,
+    origins: &mut Origins,
+) -> Result<Ground, AllocError>
+    requires typed { IsTypedModel with.objects.now part.now.constraints part.now.goals }
+    requires narrow { model_narrow with.objects.now part.now.constraints part.now.goals ≡ true }
+    ensures problem { IfOk result (λ g. IsProblemOf with.entry.objects.now part.now.constraints
+        part.now.goals None g) }
+    ensures well_made { IfOk result (λ g. IsWellMade g) }
+{
+    let g = ground_with_origins(with.alloc, part, with.objects, origins)?;
+    Ok(g)
+}
+
+/// Searches the problem of a part, without objectives, and closes the round.
+fn closed_round<F: Finder>(
+    with: Subject<'_>,
+    model: &TypedModel,
+    part: Vec<u32>,
+    finder: &mut F,
+    journal: &mut Record,
+) -> Result<Tried, AllocError>
+    requires typed { IsTypedModel with.objects.now model.now.constraints model.now.goals }
+    requires narrow { model_narrow with.objects.now model.now.constraints model.now.goals ≡ true }
+    requires goals { model.now.goals ≡ [] }
+    requires ground { journal.old.ground ≡ None }
+    requires lines { journal.old.lines ≡ [] }
+    ensures closed { IfOk result (λ t. HasClosed with.entry.objects.now model.now.constraints
+        (F.allowed finder.old) part.items journal.old.rounds journal.new.rounds t.end) }
+    ensures rounds { OnErr result (journal.new.rounds ≡ journal.old.rounds) }
+    ensures ground { OnOk result (journal.new.ground ≡ None) }
+    ensures lines { OnOk result (journal.new.lines ≡ []) }
+    ensures budget { F.allowed finder.new ≡ F.allowed finder.old }
+{
+    let mut origins = Origins::new(with.alloc);
+    let g = problem_of(with, model, &mut origins)?;
+    let hints = no_hints(with.alloc, g.search)?;
+    let end = finder.find(g, &hints, journal)?;
+    journal.close_part(part)?;
+    Ok(Tried { end, origins })
+}
+
+/// Searches a part of the model, which is then the record's last round.
+///
+/// # Errors
+/// Want of memory: the rounds are as before.
+pub(crate) fn try_part<F: Finder>(
+    with: Subject<'_>,
+    part: Vec<u32>,
+    finder: &mut F,
+    journal: &mut Record,
+) -> Result<Tried, AllocError>
+    requires typed { IsTypedModel with.objects.now with.model.now.constraints
+        with.model.now.goals }
+    requires narrow { model_narrow with.objects.now with.model.now.constraints
+        with.model.now.goals ≡ true }
+    requires part { IsPart with.model.now.constraints part.items }
+    requires ground { journal.old.ground ≡ None }
+    requires lines { journal.old.lines ≡ [] }
+    ensures tried { IfOk result (λ t. HasTried with.entry.objects.now
+        with.entry.model.now.constraints (F.allowed finder.old) part.items journal.old.rounds
+        journal.new.rounds t.end) }
+    ensures rounds { OnErr result (journal.new.rounds ≡ journal.old.rounds) }
+    ensures ground { OnOk result (journal.new.ground ≡ None) }
+    ensures lines { OnOk result (journal.new.lines ≡ []) }
+    ensures budget { F.allowed finder.new ≡ F.allowed finder.old }
+{
+    let model = with.model.only(with.alloc, &part)?;
+    let budget = finder.budget();
+    let tried = closed_round(with, &model, part, finder, journal)?;
+    let round = last_round(journal);
+    let question = Question {
+        model: &model,
+        objects: with.objects,
+        repair: None,
+    };
+    round_is_run(question, round, tried.end, budget);
+    Ok(tried)
+}
