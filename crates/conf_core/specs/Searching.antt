@@ -2,8 +2,10 @@
 -- `find_core` says.
 use Rattle.std.specs.Prelude.{◌≡◌, ◌++◌, ◌∷◌, [], ℕ, Bool, true, List, None, All, cond, filter, map}
 use Rattle.class_table.specs.Outline.{Outline}
-use Rattle.conf_core.specs.Cores.{HasRound, IsWithout}
+use Rattle.conf_core.specs.Cores.{HasRound, IsWithout, IsCore}
 use Rattle.conf_core.specs.Parts.{IsPart, ArePartRounds}
+use Rattle.conf_core.specs.declared.answer.CoreAnswer.{CoreAnswer}
+use Rattle.conf_core.specs.declared.answer.CoreAnswer.TheVariants as answers
 use Rattle.conf_core.specs.declared.narrowing.Settled.{Settled}
 use Rattle.conf_types.specs.Programs.{ResolvedConstraint}
 use Rattle.ground_form.specs.WellMade.{IsWellMade}
@@ -61,3 +63,9 @@ pub record IsNarrowed (ks : List ResolvedConstraint) (rounds : List Round)
   pub shown : HasRound rounds (λ part. part ≡ indexes_of settled ++ rest) outcomes.NoSolution
   pub tried : All (λ (s : Settled). HasRound rounds
       (IsWithout (indexes_of settled ++ rest) s.index) (end_without s)) settled
+
+-- the answer is a core
+abbrev pub IsCoreAnswer : Outline → List ResolvedConstraint → List Round → CoreAnswer → Type 0
+IsCoreAnswer o ks rounds answers.Solvable = ⊥
+IsCoreAnswer o ks rounds answers.Undecided = ⊥
+IsCoreAnswer o ks rounds (answers.Core keep unsure) = IsCore o ks rounds keep unsure

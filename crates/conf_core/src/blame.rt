@@ -71,7 +71,7 @@ pub(crate) struct Blamed {
 }
 
 /// Which constraints the record's last round blames.
-pub(crate) fn blamed(
+pub(crate) fn blamed_by(
     alloc: Global,
     constraints: &[Constraint],
     origins: &Origins,

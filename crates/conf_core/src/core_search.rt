@@ -1,15 +1,17 @@
 //! The first search over a model, and what comes behind it where there is no configuration.
 ghost use Rattle.std.specs.Prelude.{◌≡◌, ◌≤◌, ◌<◌, ◌^◌, ◌⊎◌, [], true, None, length, IfOk, OnOk, OnErr};
-ghost use Rattle.conf_core.specs.Cores.{BeginsSo, IsAnswered, IsCore};
-ghost use Rattle.conf_core.specs.Parts.{ArePartRounds};
-ghost use Rattle.conf_core.specs.Searching.{EndsAccepted, HasGrown, IsNarrowed};
+ghost use Rattle.std.specs.List.{range_with_len};
+ghost use Rattle.conf_core.specs.declared.answer.CoreAnswer.TheVariants as answers;
+ghost use Rattle.conf_core.specs.Cores.{BeginsSo, IsAnswered};
+ghost use Rattle.conf_core.specs.Parts.{ArePartRounds, IsPart};
+ghost use Rattle.conf_core.specs.Searching.{EndsAccepted, HasGrown, IsCoreAnswer, IsNarrowed, indexes_of, unsure_of};
 ghost use Rattle.conf_limits.specs.Measures.{model_narrow};
 ghost use Rattle.conf_types.specs.Typing.{IsTypedModel};
 ghost use Rattle.proof_log.specs.Rounds.{empty};
 ghost use Rattle.run_finder.specs.declared.outcome.Outcome.TheVariants as outcomes;
 
 use crate::answer::CoreAnswer;
-use crate::blame::blamed;
+use crate::blame::blamed_by;
 use crate::indexes::all_indexes;
 use crate::narrowing::{Settled, indexes, narrowed, unsure};
 use crate::part_search::{Subject, try_part};
@@ -57,7 +59,7 @@ struct Suspects {
 
 /// Those that the last round blames, or, where a search tells otherwise, also those that fix
 /// values, or all.
-fn suspects<F: Finder>(
+fn suspected<F: Finder>(
     with: Subject<'_>,
     origins: &Origins,
     finder: &mut F,
@@ -83,14 +85,15 @@ fn suspects<F: Finder>(
     ensures budget { F.allowed finder.new ≡ F.allowed finder.old }
 {
     let constraints = with.model.constraints();
-    let blamed = blamed(with.alloc, constraints, origins, journal)?;
+    let blamed = blamed_by(with.alloc, constraints, origins, journal)?;
     if are_impossible(with, &blamed.alone, finder, journal)? {
         return Ok(Suspects {
             list: blamed.alone,
             chunk: 1,
         });
     }
-    if are_impossible(with, &blamed.with_fixing, finder, journal)? {
+    let has_more = blamed.with_fixing.len() > blamed.alone.len();
+    if has_more && are_impossible(with, &blamed.with_fixing, finder, journal)? {
         return Ok(Suspects {
             list: blamed.with_fixing,
             chunk: 1,
@@ -140,7 +143,7 @@ fn blame<F: Finder>(
     ensures lines { OnOk result (journal.new.lines ≡ []) }
     ensures budget { F.allowed finder.new ≡ F.allowed finder.old }
 {
-    let suspects = suspects(with, origins, finder, journal)?;
+    let suspects = suspected(with, origins, finder, journal)?;
     let settled = narrowed(with, suspects.list, suspects.chunk, finder, journal)?;
     let answer = core_of(with.alloc, &settled)?;
     Ok(answer)

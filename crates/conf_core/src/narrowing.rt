@@ -3,11 +3,14 @@
 //! Constraints are left out some at a time. Where the others have no configuration either they stay
 //! out, and twice as many are tried next; else half as many, and a single one without which the
 //! others have a configuration, or aren't decided, is settled: it stays.
-ghost use Rattle.std.specs.Prelude.{◌≡◌, ◌≤◌, ◌<◌, ◌+◌, ◌*◌, ◌++◌, [], ◌∷◌, true, drop, length, IfOk, OnOk};
+ghost use Rattle.std.specs.Prelude.{◌≡◌, ◌≤◌, ◌<◌, ◌+◌, ◌*◌, ◌++◌, [], List, None, true, cond, drop, length, IfOk, OnOk};
 ghost use Rattle.conf_core.specs.Cores.{HasRound};
+ghost use Rattle.conf_core.specs.Parts.{IsPart};
 ghost use Rattle.conf_core.specs.Searching.{HasGrown, IsNarrowed, indexes_of, unsure_of};
 ghost use Rattle.conf_limits.specs.Measures.{model_narrow};
+ghost use Rattle.conf_types.specs.Programs.{ResolvedConstraint};
 ghost use Rattle.conf_types.specs.Typing.{IsTypedModel};
+ghost use Rattle.proof_log.specs.declared.record.Round.{Round as ARound};
 ghost use Rattle.run_finder.specs.declared.outcome.Outcome.TheVariants as outcomes;
 
 use crate::part_search::{Subject, try_part};

@@ -33,6 +33,19 @@ pub(crate) struct Tried {
     pub origins: Origins,
 }
 
+/// The question which configurations satisfy a model.
+fn question_about<'a>(model: &'a TypedModel, objects: &'a Objects<'a>) -> Question<'a>
+    ensures model { result.model ≡ model.entry }
+    ensures objects { result.objects ≡ objects.entry }
+    ensures repair { result.repair ≡ None }
+{
+    Question {
+        model,
+        objects,
+        repair: None,
+    }
+}
+
 /// The ground problem of a part.
 fn problem_of(
     with: Subject<'_>,
@@ -106,11 +119,6 @@ pub(crate) fn try_part<F: Finder>(
     let budget = finder.budget();
     let tried = closed_round(with, &model, part, finder, journal)?;
     let round = last_round(journal);
-    let question = Question {
-        model: &model,
-        objects: with.objects,
-        repair: None,
-    };
-    round_is_run(question, round, tried.end, budget);
+    round_is_run(question_about(&model, with.objects), round, tried.end, budget);
     Ok(tried)
 }
