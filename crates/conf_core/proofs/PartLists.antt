@@ -1,5 +1,5 @@
 -- Ascending lists of numbers of which some are left out.
-use Rattle.std.proofs.Common.{◌≡◌, ℕ, zero, suc, ◌+◌, ◌<◌, ◌≤◌, Bool, true, false, not, cond, List, [], ◌∷◌, ◌++◌, refl, sym, ap, subst, arith, length, map, drop, All, nat_eq}
+use Rattle.std.proofs.Common.{◌≡◌, ℕ, zero, suc, ◌+◌, ◌<◌, ◌≤◌, Bool, true, false, not, cond, List, [], ◌∷◌, ◌++◌, refl, sym, ap, ◌∙◌, subst, arith, length, map, drop, All, nat_eq}
 use Rattle.std.specs.List.{AllPairs, Contains, filter, range_with_len}
 use Rattle.std.proofs.lemmas.List.Elements.{All-nil, All-cons, All-head, All-tail, All-append, All-contains, All-contains_itself}
 use Rattle.std.proofs.lemmas.List.Kept.{AllPairs-cons}
@@ -135,6 +135,19 @@ all_ascend n = range_ascends n 0
 pub all_exist : (n : ℕ) → All (λ k. k < n) (range_with_len 0 n)
 all_exist n = all_as (λ k. k < 0 + n) (λ k. k < n) (range_with_len 0 n)
     (λ k less. omega (arith, less)) (range_below n 0)
+
+pub range_push : (n a : ℕ) → range_with_len a (n + 1) ≡ range_with_len a n ++ (a + n) ∷ []
+range_push zero a = let e : a + 0 ≡ a = omega arith in ap (λ m. m ∷ []) (sym e)
+range_push (suc n) a =
+    let e : a + 1 + n ≡ a + suc n = omega arith in
+    let more : suc n + 1 ≡ suc (n + 1) = omega arith in
+    ap (λ m. range_with_len a m) more
+    ∙ ap (λ ms. a ∷ ms) (range_push n (a + 1) ∙ ap (λ m. range_with_len (a + 1) n ++ m ∷ []) e)
+
+-- numbers that ascend, below n
+pub record AscendsBelow (n : ℕ) (xs : List ℕ) : Type 0 where
+  pub ascend : AllPairs ◌<◌ xs
+  pub below : All (λ k. k < n) xs
 
 -- ---- numbers of which some are marked
 

@@ -1,11 +1,11 @@
 //! Ascending lists of indexes.
-ghost use Rattle.std.specs.Prelude.{◌≡◌, ◌<◌, ◌^◌, ℕ, All, AllPairs, length, IfOk};
+ghost use Rattle.std.specs.Prelude.{◌≡◌, ◌<◌, ◌+◌, ◌^◌, ℕ, All, AllPairs, length, IfOk};
 ghost use Rattle.std.specs.List.{range_with_len};
 
 use std::alloc::{AllocError, Global};
 
 /// The indexes of a list of this length.
-#[tactic(auto, using(crate::proofs::PartLists::all_ascend, crate::proofs::PartLists::all_exist))]
+#[tactic(auto, using(crate::proofs::PartLists::all_ascend, crate::proofs::PartLists::all_exist, crate::proofs::PartLists::range_push))]
 pub(crate) fn all_indexes(alloc: Global, count: usize) -> Result<Vec<u32>, AllocError>
     requires { count < 2 ^ 32 }
     ensures all { IfOk result (λ list. list.items ≡ range_with_len 0 count) }
