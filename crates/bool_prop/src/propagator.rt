@@ -64,7 +64,7 @@ pub(crate) fn prune_one(
         Con::MemberDef { flag, var, set } => {
             prune_member(con, *flag, *var, set, domains, boxes, alloc)
         }
-        Con::ClauseCon { clause } => prune_clause(clause, domains, boxes),
+        Con::ClauseCon { clause } => prune_clause(clause.clause(), domains, boxes),
         _ => probe(con, domains, boxes, alloc),
     }
 }

@@ -47,7 +47,7 @@ fn excludes<V: View>(con: &Con, view: &V) -> bool
             excludes_element(view, *out, *index, items.items())
         }
         Con::CondDef { out, flag, item } => excludes_conditional(view, *out, *flag, *item),
-        Con::ClauseCon { clause } => excludes_clause(view, clause.literals()),
+        Con::ClauseCon { clause } => excludes_clause(view, clause.clause().literals()),
         Con::AllDiff { vars } => excludes_differing(view, vars.items()),
         Con::Pack { items } => excludes_packing(view, items.items()),
     }

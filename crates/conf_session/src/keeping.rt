@@ -9,7 +9,7 @@ ghost use Rattle.conf_session.specs.Keys.{AreKeysOf};
 use crate::stated::{Stated, insert, stated_clauses};
 use ground_form::{Con, Cons, Ground};
 use log_form::Line;
-use signed_clause::Clause;
+use signed_clause::ClauseHandle;
 use std::alloc::{AllocError, Global};
 
 /// How many clauses a session keeps.
@@ -22,7 +22,7 @@ fn add(
     cons: &mut Vec<Con>,
     stated: &mut Stated,
     room: usize,
-    clause: &Clause,
+    clause: &ClauseHandle,
 ) -> Result<usize, AllocError>
     requires keys { AreKeysOf cons.old.items stated.old.keys }
     ensures keys { OnOk result (AreKeysOf cons.new.items stated.new.keys) }
@@ -32,7 +32,7 @@ fn add(
     if room == 0 {
         return Ok(0);
     }
-    if !insert(alloc, stated, clause)? {
+    if !insert(alloc, stated, clause.clause())? {
         return Ok(room);
     }
     cons.push(Con::ClauseCon {
@@ -60,7 +60,7 @@ fn add_derived(
         return Ok(room);
     }
     match line {
-        Line::Chain(_, clause) => add(alloc, cons, stated, room, clause.clause()),
+        Line::Chain(_, clause) => add(alloc, cons, stated, room, clause),
         _ => Ok(room),
     }
 }

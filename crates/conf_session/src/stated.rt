@@ -90,7 +90,7 @@ fn note(alloc: Global, stated: &mut Stated, con: &Con) -> Result<(), AllocError>
         → AreKeysOf (cons ++ con.now ∷ []) stated.new.keys) }
 {
     if let Con::ClauseCon { clause } = con {
-        insert(alloc, stated, clause)?;
+        insert(alloc, stated, clause.clause())?;
     }
     Ok(())
 }

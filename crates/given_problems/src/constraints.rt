@@ -180,7 +180,7 @@ fn other_constraint(alloc: Global, kind: &str, words: &[&str]) -> Result<Con, Un
         "CondDef" => conditional(words),
         "ClauseCon" => {
             let clause = clause_of(alloc, words)?;
-            Ok(Con::ClauseCon { clause })
+            Ok(Con::of_clause(alloc, clause)?)
         }
         "AllDiff" => {
             let vars = variables(alloc, words)?;

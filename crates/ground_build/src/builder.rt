@@ -21,8 +21,8 @@ ghost use Rattle.ground_build.specs.Defining.{IsNewDefinition, IsNewStatement, D
 ghost use Rattle.ground_build.specs.NewDomains.{truth_values, linear_domain, picked_domain, when_domain};
 
 use crate::constraints::{
-    all_of_con, at_most_con, bound_con, clause_con, different_con, linear_con, member_con,
-    pack_con, pick_con, same_con, when_con,
+    all_of_con, at_most_con, bound_con, different_con, linear_con, member_con, pack_con, pick_con,
+    same_con, when_con,
 };
 use crate::domains::{item_or_nought, picked, sums, truths};
 use ground_form::{Con, Cons, Domains, Goals, Ground, copy_sets};
@@ -239,7 +239,7 @@ impl Builder {
         ensures ok { OnOk result (IsRequired self.old self.new (ClauseCon c)) }
         ensures err { OnErr result (self.new ≡ self.old) }
     {
-        let con = clause_con(c);
+        let con = Con::of_clause(*self.domains.allocator(), c)?;
         self.state(con)
     }
 

@@ -78,15 +78,6 @@ pub fn when_con(out: u32, flag: u32, item: u32) -> Con
     Con::CondDef { out, flag, item }
 }
 
-/// A clause. Its literals are those of one, as each clause's are.
-pub fn clause_con(clause: Clause) -> Con
-    ensures value { result ≡ ClauseCon clause }
-    ensures form { IsClause clause }
-{
-    let _literals = clause.literals();
-    Con::ClauseCon { clause }
-}
-
 /// A bound on a sum.
 pub fn bound_con(alloc: Global, terms: &[(i64, u32)], bound: i64) -> Result<Con, AllocError>
     ensures { IfOk result (λ con. con ≡ LinLe terms.now bound) }

@@ -125,7 +125,7 @@ fn is_as_its_kind(con: &Con, domains: &[IntSet]) -> bool
         Con::EqDef { flag, .. } => is_upto(domains, *flag, 1),
         Con::ElementDef { items, .. } => are_numbered(items.items()),
         Con::CondDef { flag, .. } => is_upto(domains, *flag, 1),
-        Con::ClauseCon { clause } => has_form(clause),
+        Con::ClauseCon { clause } => has_form(clause.clause()),
         Con::AllDiff { .. } => true,
         Con::Pack { items } => are_small(items.items(), domains),
     }

@@ -26,7 +26,7 @@ fn terms_of(con: &Con) -> usize {
         Con::EqDef { .. } => 2,
         Con::ElementDef { items, .. } => items.items().len(),
         Con::CondDef { .. } => 2,
-        Con::ClauseCon { clause } => clause.literals().len(),
+        Con::ClauseCon { clause } => clause.clause().literals().len(),
         Con::AllDiff { vars } => vars.items().len(),
         Con::Pack { items } => items.items().len(),
     }

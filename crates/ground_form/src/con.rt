@@ -4,10 +4,12 @@
 //! which is then called a flag. Five kinds define a flag as the truth of something, three define
 //! the value of a variable, and three only state.
 ghost use Rattle.std.specs.Prelude.{◌≡◌, IfOk};
+ghost use Rattle.signed_clause.specs.Clauses.{IsClause};
+ghost use Rattle.ground_form.specs.declared.con.Con.TheVariants.{ClauseCon};
 
 use crate::lists::{PackItems, Parts, Terms, VarList};
-use signed_clause::{Clause, IntSet};
-use std::alloc::AllocError;
+use signed_clause::{Clause, ClauseHandle, IntSet};
+use std::alloc::{AllocError, Global};
 
 /// A constraint over the values of variables.
 #[derive(Drop)]
@@ -82,8 +84,8 @@ pub enum Con {
     },
     /// Some literal's variable has a value in its set.
     ClauseCon {
-        /// The clause.
-        clause: Clause,
+        /// The clause, which copies of the constraint share.
+        clause: ClauseHandle,
     },
     /// The values at different places of the list differ.
     AllDiff {
@@ -98,7 +100,19 @@ pub enum Con {
 }
 
 impl Con {
-    /// The same constraint again.
+    /// The clause as a constraint.
+    pub fn of_clause(alloc: Global, clause: Clause) -> Result<Con, AllocError>
+        ensures value { IfOk result (λ con. con ≡ ClauseCon clause) }
+        ensures form { IsClause clause }
+    {
+        let _literals = clause.literals();
+        match ClauseHandle::of(alloc, clause) {
+            Ok(clause) => Ok(Con::ClauseCon { clause }),
+            Err(_) => Err(AllocError),
+        }
+    }
+
+    /// The same constraint again. A clause's literals are shared, and not copied.
     pub fn copy(&self) -> Result<Con, AllocError>
         ensures { IfOk result (λ con. con ≡ self.now) }
     {

@@ -23,7 +23,7 @@ impl Con {
             Con::EqDef { flag, left, right } => is_equality(o, *flag, *left, *right),
             Con::ElementDef { out, index, items } => is_element(o, *out, *index, items),
             Con::CondDef { out, flag, item } => is_conditional(o, *out, *flag, *item),
-            Con::ClauseCon { clause } => is_clause(o, clause),
+            Con::ClauseCon { clause } => is_clause(o, clause.clause()),
             Con::AllDiff { vars } => is_differing(o, vars),
             Con::Pack { items } => is_packing(o, items),
         }
@@ -139,7 +139,7 @@ fn is_clause(con: &Con, clause: &Clause) -> bool
     ensures { IsTrue result ↔ (ClauseCon clause.now ≡ con.now) }
 {
     match con {
-        Con::ClauseCon { clause: c } => c.same(clause),
+        Con::ClauseCon { clause: c } => c.clause().same(clause),
         _ => false,
     }
 }

@@ -36,7 +36,7 @@ pub fn holds_at(con: &Con, values: &[i64]) -> bool
         ),
         Con::ElementDef { out, index, items } => is_picked(values, *out, *index, items.items()),
         Con::CondDef { out, flag, item } => is_conditional(values, *out, *flag, *item),
-        Con::ClauseCon { clause } => clause_holds(clause.literals(), values),
+        Con::ClauseCon { clause } => clause_holds(clause.clause().literals(), values),
         Con::AllDiff { vars } => all_different(vars.items(), values),
         Con::Pack { items } => all_fit(items.items(), values),
     }

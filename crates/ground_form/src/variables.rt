@@ -24,7 +24,7 @@ impl Con {
             Con::EqDef { .. } => 3,
             Con::ElementDef { items, .. } => items.items().len() + 2,
             Con::CondDef { .. } => 3,
-            Con::ClauseCon { clause } => clause.literals().len(),
+            Con::ClauseCon { clause } => clause.clause().literals().len(),
             Con::AllDiff { vars } => vars.items().len(),
             Con::Pack { items } => item_count(items.items()),
         }
@@ -51,7 +51,7 @@ impl Con {
                 }
             }
             Con::CondDef { out, flag, item } => nth(&[*out, *flag, *item], i),
-            Con::ClauseCon { clause } => nth_literal(clause.literals(), i),
+            Con::ClauseCon { clause } => nth_literal(clause.clause().literals(), i),
             Con::AllDiff { vars } => nth(vars.items(), i),
             Con::Pack { items } => nth_item(items.items(), i),
         }

@@ -27,7 +27,7 @@ fn fixed_by(con: &Con) -> Option<(u32, i64)>
     ensures none { IfNone result ((k : ℕ × ℤ) → con.now ≡ ClauseCon (fixing_clause k) → ⊥) }
 {
     match con {
-        Con::ClauseCon { clause } => match clause.literals() {
+        Con::ClauseCon { clause } => match clause.clause().literals() {
             [l] => {
                 let v = only_value(&l.1)?;
                 Some((l.0, v))

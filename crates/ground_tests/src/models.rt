@@ -27,7 +27,7 @@ fn length_of(con: &Con) -> usize {
         Con::ReifLe { terms, .. } => terms.items().len(),
         Con::AndDef { parts, .. } => parts.items().len(),
         Con::ElementDef { items, .. } => items.items().len(),
-        Con::ClauseCon { clause } => clause.literals().len(),
+        Con::ClauseCon { clause } => clause.clause().literals().len(),
         Con::AllDiff { vars } => vars.items().len(),
         Con::Pack { items } => items.items().len(),
         Con::MemberDef { .. } | Con::EqDef { .. } | Con::CondDef { .. } => 0,

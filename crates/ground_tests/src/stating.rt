@@ -73,7 +73,7 @@ fn all_fit(values: &[i64], items: &[(u32, u32, u32)]) -> bool {
 fn is_true(values: &[i64], con: &Con) -> bool {
     match con {
         Con::LinLe { terms, bound } => is_at_most(values, terms.items(), *bound),
-        Con::ClauseCon { clause } => some_holds(values, clause.literals()),
+        Con::ClauseCon { clause } => some_holds(values, clause.clause().literals()),
         Con::AllDiff { vars } => all_differ(values, vars.items()),
         Con::Pack { items } => all_fit(values, items.items()),
         Con::LinDef { .. }

@@ -104,12 +104,8 @@ pub(crate) fn problem(alloc: Global) -> Result<Ground, AllocError> {
     for _ in 0..VARIABLES {
         domains.push(IntSet::range(alloc, 0, 199))?;
     }
-    let all = Con::ClauseCon {
-        clause: plain_clause(alloc, VARIABLES)?,
-    };
-    let first = Con::ClauseCon {
-        clause: plain_clause(alloc, 1)?,
-    };
+    let all = Con::of_clause(alloc, plain_clause(alloc, VARIABLES)?)?;
+    let first = Con::of_clause(alloc, plain_clause(alloc, 1)?)?;
     Ok(Ground {
         domains: Domains::of(domains),
         search: VARIABLES,

@@ -75,7 +75,7 @@ fn clause(alloc: Global, n: u32) -> Result<Case, AllocError> {
         literals.push((x, IntSet::range(alloc, 1, 1)))?;
     }
     let con = match Clause::of(literals) {
-        Ok(clause) => Con::ClauseCon { clause },
+        Ok(clause) => Con::of_clause(alloc, clause)?,
         Err(_) => Con::AllDiff {
             vars: VarList::of(Vec::new(alloc)),
         },

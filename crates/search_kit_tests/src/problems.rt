@@ -120,9 +120,7 @@ fn sum(alloc: Global, kind: u32, numbers: &mut Random) -> Result<Con, AllocError
             terms: terms(alloc, numbers)?,
             bound,
         },
-        4 => Con::ClauseCon {
-            clause: clause(alloc, numbers)?,
-        },
+        4 => Con::of_clause(alloc, clause(alloc, numbers)?)?,
         5 => Con::AllDiff {
             vars: vars(alloc, numbers)?,
         },

@@ -68,7 +68,7 @@ fn at_most(alloc: Global, terms: &[(i64, u32)], bound: i64) -> Result<Con, Alloc
 /// The variable has the value.
 fn is_value(alloc: Global, x: u32, value: i64) -> Result<Con, AllocError> {
     match Clause::of(vec![in alloc; (x, IntSet::range(alloc, value, value))]?) {
-        Ok(clause) => Ok(Con::ClauseCon { clause }),
+        Ok(clause) => Con::of_clause(alloc, clause),
         Err(_) => Err(AllocError),
     }
 }

@@ -254,9 +254,10 @@ impl Making {
                 terms: self.terms(count)?,
                 bound: number_from(&mut self.numbers, -2, 7),
             }),
-            Kind::ClauseCon => Ok(Con::ClauseCon {
-                clause: self.clause(count)?,
-            }),
+            Kind::ClauseCon => {
+                let clause = self.clause(count)?;
+                Con::of_clause(self.alloc, clause)
+            }
             Kind::AllDiff => Ok(Con::AllDiff {
                 vars: self.vars(count)?,
             }),

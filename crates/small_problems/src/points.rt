@@ -79,7 +79,7 @@ fn is_true(con: &Con, at: &Row) -> bool {
         Con::EqDef { flag, left, right } => says(at, *flag, value(at, *left) == value(at, *right)),
         Con::ElementDef { out, index, items } => is_picked(at, *out, *index, items.items()),
         Con::CondDef { out, flag, item } => is_conditional(at, *out, *flag, *item),
-        Con::ClauseCon { clause } => is_clause_true(clause, at),
+        Con::ClauseCon { clause } => is_clause_true(clause.clause(), at),
         Con::AllDiff { vars } => {
             let all = vars.items();
             (0..all.len()).all(|k| is_first_alone(&all[k..], at))

@@ -1,4 +1,4 @@
-use Rattle.std.proofs.Common.{All, ◌<◌, ℕ, length, subst, sym, List, ℤ, Bool, ◌∷◌, arith}
+use Rattle.std.proofs.Common.{All, ◌<◌, ℕ, length, subst, sym, List, ℤ, Bool, ◌∷◌, ◌∙◌, arith}
 use Rattle.signed_clause.specs.Clauses.{Literals}
 use Rattle.ground_form.specs.declared.con.Con.{Con}
 use Rattle.ground_form.specs.Meaning.{vars_of, term_vars}
@@ -40,7 +40,7 @@ is_picked-requires-clause-index c = (subst (λ (con : Con). Named con (length c.
 pub clause_holds-requires : goal.clause_holds-requires
 clause_holds-requires c =
     let n = length c.args.values.now in
-    subst (λ (ls : Literals). All (λ l. l.0 < n) ls) (sym c.literals.ensures.items) (all_literals c.in-ClauseCon.clause n (subst (λ (con : Con). Named con n) c.in-ClauseCon.is c.requires.variables))
+    subst (λ (ls : Literals). All (λ l. l.0 < n) ls) (sym (c.literals.ensures.items ∙ c.clause.ensures)) (all_literals c.in-ClauseCon.clause n (subst (λ (con : Con). Named con n) c.in-ClauseCon.is c.requires.variables))
 
 pub all_fit-requires-clause-places : goal.all_fit-requires-clause-places
 all_fit-requires-clause-places c =

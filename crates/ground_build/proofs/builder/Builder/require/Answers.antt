@@ -3,4 +3,4 @@ use Rattle.ground_build.proofs.builder.Builder.require.Goals as goal
 
 pub state-requires-clause-new : goal.state-requires-clause-new
 state-requires-clause-new c =
-    can_require c.args.self.now c.clause_con-con.result c.args.c c.clause_con-con.ensures.value c.clause_con-con.ensures.form c.requires.variables
+    can_require c.args.self.now c.in_ok-con.con c.args.c c.in_ok-con.ensures.value c.of_clause.ensures.form c.requires.variables
