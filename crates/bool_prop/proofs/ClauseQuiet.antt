@@ -5,7 +5,7 @@ use Rattle.std.proofs.lemmas.Bool.{and_from, cases_eq}
 use Rattle.std.proofs.lemmas.Bool.Decides.{nat_tests}
 use Rattle.signed_clause.specs.Ranges.{Ranges, has, IsValid}
 use Rattle.signed_clause.specs.SetAlgebra.{is_disjoint, is_within, less}
-use Rattle.signed_clause.specs.Clauses.{Boxes, Literal, Literals, box_of, set_of, false_in, unit_of, alone_of, IsClause, IsClauseFrom}
+use Rattle.signed_clause.specs.Clauses.{Boxes, Literal, Literals, box_of, set_of, false_in, unit_of, alone_of, IsClause, IsClauseFrom, IsWithinBoxes}
 use Rattle.signed_clause.proofs.SetFacts.{within_law}
 use Rattle.ground_form.specs.declared.con.Con.TheVariants.{ClauseCon}
 use Rattle.ground_form.specs.Meaning.{clause_vars}
@@ -137,3 +137,8 @@ clause_quiet boxes c s o f n h =
 -- variables that have domains have boxes
 pub named_here : (xs : List ℕ) (domains boxes : Boxes) → length boxes ≡ length domains → All (λ x. x < length domains) xs → All (λ x. x < length boxes) xs
 named_here xs domains boxes e h = λ k d lt. let n = h k d lt in omega arith
+
+-- so have the literals
+pub literals_here : (ls c : Literals) (domains boxes : Boxes) → ls ≡ c → length boxes ≡ length domains → All (λ x. x < length domains) (clause_vars c) → IsWithinBoxes ls boxes
+literals_here ls c domains boxes e s n =
+    subst (λ (z : Literals). IsWithinBoxes z boxes) (sym e) (all_literals c (length boxes) (named_here (clause_vars c) domains boxes s n))

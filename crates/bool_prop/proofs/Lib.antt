@@ -3,3 +3,4 @@ pub mod MemberLaws
 pub mod ConjunctionQuiet
 pub mod ConjunctionReasons
 pub mod Asked
+pub mod RestLaws

@@ -1,7 +1,8 @@
 //! Clauses.
 //!
-//! A clause that is false in the boxes or unit explains itself. The test stops as soon as two
-//! literals meet their boxes, and nothing is copied where it finds nothing.
+//! A clause that is false in the boxes or unit explains itself. The test looks first at the literals
+//! by which the clause rested last. Else it walks the literals until two meet their boxes. Nothing
+//! is copied where it finds nothing.
 ghost use Rattle.std.specs.Prelude.{◌≡◌, IfOk};
 ghost use Rattle.std.specs.List.{All};
 ghost use Rattle.signed_clause.specs.Ranges.{IsValid};
@@ -9,14 +10,18 @@ ghost use Rattle.ground_form.specs.declared.con.Con.TheVariants.{ClauseCon};
 ghost use Rattle.ground_form.specs.WellMade.{IsWellMadeCon};
 ghost use Rattle.rule_law.specs.Answers.{AreBoxesWithin, IsAnswer};
 
+use crate::resting::{does_rest, find_rest};
+use crate::rests::Rests;
 use signed_clause::{Clause, IntSet};
 use std::alloc::AllocError;
 
-/// What a clause has to say in the boxes.
+/// What the clause, which is constraint `k`, has to say in the boxes.
 ///
 /// # Errors
 /// Want of memory.
 pub fn prune_clause(
+    rests: &mut Rests,
+    k: u32,
     clause: &Clause,
     domains: &[IntSet],
     boxes: &[IntSet],
@@ -26,9 +31,18 @@ pub fn prune_clause(
     requires sets { All (λ d. IsValid d) domains.now }
     ensures answer { IfOk result (λ a. IsAnswer (ClauseCon clause.now) domains.now boxes.now a) }
 {
-    if !clause.acts(boxes) {
+    let literals = clause.literals();
+    if does_rest(literals, rests.get(k), boxes) {
         return Ok(None);
     }
-    let copy = clause.copy()?;
-    Ok(Some(copy))
+    match find_rest(literals, boxes) {
+        Some(rest) => {
+            rests.keep(k, rest)?;
+            Ok(None)
+        }
+        None => {
+            let copy = clause.copy()?;
+            Ok(Some(copy))
+        }
+    }
 }

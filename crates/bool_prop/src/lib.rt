@@ -6,6 +6,7 @@
 //! explanation. Nothing is built where none has.
 //!
 //! - `conjunction`, `member`, `clause`: one module for each kind.
+//! - `resting`: why a clause needs no look. `rests`: what is kept of it.
 //! - `propagator`: `BoolProp`, the face.
 #![tactic(auto)]
 
@@ -13,5 +14,7 @@ mod clause;
 mod conjunction;
 mod member;
 mod propagator;
+mod resting;
+mod rests;
 
 pub use propagator::BoolProp;

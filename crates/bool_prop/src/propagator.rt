@@ -10,18 +10,26 @@ ghost use Rattle.bool_prop.specs.Handled.{is_handled};
 use crate::clause::prune_clause;
 use crate::conjunction::prune_conjunction;
 use crate::member::prune_member;
+use crate::rests::Rests;
 use ground_form::{Con, Ground, Kind};
 use rule_law::{Propagator, Repeats, probe};
 use signed_clause::{Clause, IntSet};
 use std::alloc::{AllocError, Global};
 
+/// What is kept between calls.
+#[derive(Drop)]
+pub(crate) struct Cache {
+    repeats: Repeats,
+    rests: Rests,
+}
+
 /// The propagator of conjunctions, memberships and clauses. The boxes of a flag and of the first
-/// parts tell at once that there is nothing to say; what is kept is which conjunctions have a
-/// variable that stands twice.
+/// parts tell at once that there is nothing to say, and so do mostly two literals of a clause; what
+/// is kept is which conjunctions have a variable that stands twice, and of clauses these literals.
 #[derive(Drop)]
 pub struct BoolProp {
     alloc: Global,
-    repeats: Repeats,
+    cache: Cache,
 }
 
 impl BoolProp {
@@ -31,7 +39,10 @@ impl BoolProp {
     {
         BoolProp {
             alloc,
-            repeats: Repeats::new(alloc),
+            cache: Cache {
+                repeats: Repeats::new(alloc),
+                rests: Rests::new(alloc),
+            },
         }
     }
 }
@@ -46,7 +57,7 @@ fn is_handled(kind: Kind) -> bool
 /// What a constraint has to say in the boxes.
 pub(crate) fn prune_one(
     alloc: Global,
-    repeats: &mut Repeats,
+    cache: &mut Cache,
     k: u32,
     con: &Con,
     domains: &[IntSet],
@@ -59,12 +70,27 @@ pub(crate) fn prune_one(
 {
     match con {
         Con::AndDef { flag, parts } => {
-            prune_conjunction(repeats, k, con, *flag, parts.items(), domains, boxes, alloc)
+            prune_conjunction(
+                &mut cache.repeats,
+                k,
+                con,
+                *flag,
+                parts.items(),
+                domains,
+                boxes,
+                alloc,
+            )
         }
         Con::MemberDef { flag, var, set } => {
             prune_member(con, *flag, *var, set, domains, boxes, alloc)
         }
-        Con::ClauseCon { clause } => prune_clause(clause.clause(), domains, boxes),
+        Con::ClauseCon { clause } => prune_clause(
+            &mut cache.rests,
+            k,
+            clause.clause(),
+            domains,
+            boxes,
+        ),
         _ => probe(con, domains, boxes, alloc),
     }
 }
@@ -77,7 +103,8 @@ impl Propagator for BoolProp {
     }
 
     fn begin(&mut self) {
-        self.repeats.forget();
+        self.cache.repeats.forget();
+        self.cache.rests.forget();
     }
 
     fn prune(
@@ -89,7 +116,7 @@ impl Propagator for BoolProp {
         let con = &g.cons.items()[k as usize];
         prune_one(
             self.alloc,
-            &mut self.repeats,
+            &mut self.cache,
             k,
             con,
             g.domains.items(),
