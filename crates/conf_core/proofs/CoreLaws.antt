@@ -7,7 +7,9 @@ use Rattle.class_table.specs.Outline.{Outline}
 use Rattle.conf_core.proofs.PartLists.{all_as, contains_here, contains_later, marked_ascend, marked_within}
 use Rattle.conf_core.specs.Cores.{HasRound, IsWithout, without, IsCore}
 use Rattle.conf_core.specs.Parts.{part_of, IsPart, IsPartRound, ArePartRounds}
-use Rattle.conf_core.specs.Searching.{IsNarrowed, indexes_of, unsure_of, end_without}
+use Rattle.conf_core.specs.Searching.{IsNarrowed, IsCoreAnswer, indexes_of, unsure_of, end_without}
+use Rattle.conf_core.specs.declared.answer.CoreAnswer.{CoreAnswer}
+use Rattle.conf_core.specs.declared.answer.CoreAnswer.TheVariants as answers
 use Rattle.conf_core.specs.declared.narrowing.Settled.{Settled}
 use Rattle.conf_eval.specs.Best.{HasNone}
 use Rattle.conf_eval.specs.Satisfying.{Satisfies, Holds}
@@ -32,7 +34,7 @@ none_told o ks (findings.Open last) e h = absurd cc
 best_told : (o : Outline) (ks : List ResolvedConstraint) (told : Finding) →
     end_of told ≡ outcomes.Best → Tells o ks [] None told →
     (t : List ℤ) × IsConfiguration o t × Satisfies o ks t
-best_told o ks (findings.Best t) e h = (t, h.0, h.1.0)
+best_told o ks (findings.Best t) e h = (t, h.0, h.1)
 best_told o ks findings.NoneExists e h = absurd cc
 best_told o ks (findings.Open last) e h = absurd cc
 
@@ -52,7 +54,7 @@ others_within c part (k ∷ ks) h =
     let rest = others_within c part ks
     (All-tail (λ n. (n ≡ c → ⊥) → Contains part n) k ks h) in
     elim (nat_eq k c) as (λ b. nat_eq k c ≡ b
-        → All (λ n. Contains part n) (cond (not b) (k ∷ without c ks) (without c ks))) [
+    → All (λ n. Contains part n) (cond (not b) (k ∷ without c ks) (without c ks))) [
       | true ↦ λ e. rest
       | false ↦ λ e. All-cons (λ n. Contains part n) k (without c ks) (first (differ k c e)) rest
     ] refl
@@ -77,7 +79,7 @@ module _ (P : ℕ → Outcome → Type 0) where
       P s.index (end_without s) → (Contains (unsure_of (s ∷ ss)) c → ⊥) → P s.index outcomes.Best
   settled_sure s ss c is first none =
       elim (s.unsure) as (λ b. P s.index (cond b outcomes.Spent outcomes.Best)
-          → (Contains (unsure_with s ss b) c → ⊥) → P s.index outcomes.Best) [
+      → (Contains (unsure_with s ss b) c → ⊥) → P s.index outcomes.Best) [
         | true ↦ λ p lack. absurd (lack (0, omega arith, is))
         | false ↦ λ p lack. p
       ] first none
@@ -87,7 +89,7 @@ module _ (P : ℕ → Outcome → Type 0) where
       All (λ c. P c outcomes.Spent) (unsure_of (s ∷ ss))
   first_undecided s ss first rest =
       elim (s.unsure) as (λ b. P s.index (cond b outcomes.Spent outcomes.Best)
-          → All (λ c. P c outcomes.Spent) (unsure_with s ss b)) [
+      → All (λ c. P c outcomes.Spent) (unsure_with s ss b)) [
         | true ↦ λ p. All-cons (λ c. P c outcomes.Spent) s.index (unsure_of ss) p rest
         | false ↦ λ p. rest
       ] first
@@ -147,9 +149,12 @@ module _ (o : Outline) (ks : List ResolvedConstraint) (budget : ℕ) (rounds : L
   possible keep c h =
       let is = All-contains (IsPartRound o ks budget) rounds h.round are h.there in
       let (t, point, holds) = best_told o (part_of ks h.round.part) (told_by h.round) h.ended
-      is.run.tells in
-      (t, point, smaller t h.round.part (without c keep)
-      (others_within c h.round.part keep h.part.others) holds)
+      is.run.tells in (
+        t,
+        point,
+        smaller t h.round.part (without c keep)
+            (others_within c h.round.part keep h.part.others) holds,
+      )
 
   -- ---- the core
 
@@ -182,3 +187,8 @@ module _ (o : Outline) (ks : List ResolvedConstraint) (budget : ℕ) (rounds : L
       (subst (λ ns. HasRound rounds (λ part. part ≡ ns) outcomes.NoSolution) is h.shown)
       (subst (λ ns. All (λ (s : Settled). HasRound rounds (IsWithout ns s.index) (end_without s))
       settled) is h.tried)
+
+  pub core_answer : (settled : List Settled) (a : CoreAnswer) →
+      a ≡ answers.Core (indexes_of settled) (unsure_of settled) → IsNarrowed ks rounds settled [] →
+      IsCoreAnswer o ks rounds a
+  core_answer settled a e h = subst (λ x. IsCoreAnswer o ks rounds x) (sym e) (core_is settled h)

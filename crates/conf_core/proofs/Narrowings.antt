@@ -1,13 +1,13 @@
 -- Lists of constraints that no configuration satisfies, which get shorter.
 use Rattle.std.proofs.Common.{◌≡◌, ℕ, zero, suc, ◌<◌, ◌≤◌, Bool, List, [], ◌∷◌, ◌++◌, refl, sym, ap, ◌∙◌, subst, arith, length, map, drop, get_or, All}
-use Rattle.std.specs.List.{AllPairs, Contains}
+use Rattle.std.specs.List.{AllPairs, Contains, range_with_len}
 use Rattle.std.proofs.lemmas.List.{append_assoc, map-append}
 use Rattle.std.proofs.lemmas.List.Elements.{All-nil, All-cons, All-append}
 use Rattle.class_table.specs.Outline.{Outline}
-use Rattle.conf_core.proofs.PartLists.{all_as, cut, pairs_cut, lacks, others_stay}
-use Rattle.conf_core.proofs.Rounds.{grown_round}
+use Rattle.conf_core.proofs.PartLists.{all_as, cut, pairs_cut, lacks, others_stay, all_ascend, all_exist}
+use Rattle.conf_core.proofs.Rounds.{grown_round, tried_round}
 use Rattle.conf_core.specs.Cores.{HasRound, IsWithout}
-use Rattle.conf_core.specs.Parts.{IsPart}
+use Rattle.conf_core.specs.Parts.{IsPart, HasTried}
 use Rattle.conf_core.specs.Searching.{HasGrown, IsNarrowed, indexes_of, end_without}
 use Rattle.conf_core.specs.declared.narrowing.Settled.{Settled}
 use Rattle.conf_types.specs.Programs.{ResolvedConstraint}
@@ -57,6 +57,27 @@ narrowed_first ks rounds list p h =
       shown = h;
       tried = All-nil (λ (s : Settled). HasRound rounds (IsWithout list s.index) (end_without s));
     }
+
+-- a search over the list tells so
+pub tried_narrowed : (o : Outline) (ks : List ResolvedConstraint) (budget : ℕ) (list : List ℕ)
+    (rounds now : List Round) (end : Outcome) → IsPart ks list →
+    HasTried o ks budget list rounds now end → end ≡ outcomes.NoSolution →
+    IsNarrowed ks now [] list
+tried_narrowed o ks budget list rounds now end p h e =
+    narrowed_first ks now list p
+    (subst (λ x. HasRound now (λ part. part ≡ list) x) e
+    (tried_round o ks budget list rounds now end h))
+
+-- a search over all constraints tells so
+pub tried_all : (o : Outline) (ks : List ResolvedConstraint) (budget : ℕ) (list : List ℕ)
+    (rounds now : List Round) (end : Outcome) → HasTried o ks budget list rounds now end →
+    list ≡ range_with_len 0 (length ks) → end ≡ outcomes.NoSolution →
+    IsNarrowed ks now [] (range_with_len 0 (length ks))
+tried_all o ks budget list rounds now end h is e =
+    subst (λ ns. IsNarrowed ks now [] ns) is
+    (tried_narrowed o ks budget list rounds now end
+    (subst (λ ns. IsPart ks ns) (sym is)
+    (record { ascend = all_ascend (length ks); exist = all_exist (length ks) })) h e)
 
 pub narrowed_grown : (o : Outline) (ks : List ResolvedConstraint) (budget : ℕ)
     (rounds now : List Round) (settled : List Settled) (rest : List ℕ) →

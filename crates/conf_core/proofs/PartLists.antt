@@ -172,7 +172,7 @@ module _ {X : Type 0} (number : X → ℕ) (marked : X → Bool) where
   marked_ascend (x ∷ xs) h =
       let rest = marked_ascend xs (pairs_tail ◌<◌ (number x) (map number xs) h) in
       elim (marked x) as (λ b. AllPairs ◌<◌ (map number (cond b (x ∷ filter marked xs)
-          (filter marked xs)))) [
+      (filter marked xs)))) [
         | true ↦ AllPairs-cons ◌<◌ (number x) (map number (filter marked xs))
             (some_marked (λ k. number x < k) xs (pairs_head ◌<◌ (number x) (map number xs) h)) rest
         | false ↦ rest

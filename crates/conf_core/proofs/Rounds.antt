@@ -91,17 +91,25 @@ tried_accepted o ks budget part rounds now end h =
           (sym (some_same h.round.ground run.ground run.kept)) run.taken;
     }
 
-pub tried_first : (o : Outline) (ks : List ResolvedConstraint) (budget : ℕ) (now : List Round)
-    (end : Outcome) → HasTried o ks budget (range_with_len 0 (length ks)) [] now end →
-    BeginsSo ks now end
-tried_first o ks budget now end h =
+pub tried_begins : (o : Outline) (ks : List ResolvedConstraint) (budget : ℕ) (part : List ℕ)
+    (rounds now : List Round) (end : Outcome) → HasTried o ks budget part rounds now end →
+    rounds ≡ [] → part ≡ range_with_len 0 (length ks) → BeginsSo ks now end
+tried_begins o ks budget part rounds now end h none all =
     record {
       first = h.round;
       rest = [];
-      rounds_are = h.more;
-      all = h.part_is;
+      rounds_are = h.more ∙ ap (λ rs. rs ++ h.round ∷ []) none;
+      all = h.part_is ∙ all;
       ended = h.ended;
     }
+
+pub tried_parts : (o : Outline) (ks : List ResolvedConstraint) (budget : ℕ) (part : List ℕ)
+    (rounds now : List Round) (end : Outcome) → HasTried o ks budget part rounds now end →
+    rounds ≡ [] → ArePartRounds o ks budget now
+tried_parts o ks budget part rounds now end h none =
+    subst (λ rs. All (IsPartRound o ks budget) rs)
+    (sym (h.more ∙ ap (λ rs. rs ++ h.round ∷ []) none))
+    (All-cons (IsPartRound o ks budget) h.round [] h.is (All-nil (IsPartRound o ks budget)))
 
 -- ---- further rounds
 

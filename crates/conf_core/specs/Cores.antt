@@ -1,6 +1,6 @@
 -- What to blame where a model has no configuration. What a reader believes after this file: when a
 -- list of constraints is a core, and which searches show it.
-use Rattle.std.specs.Prelude.{◌≡◌, ◌<◌, ◌×◌, ℕ, List, ◌∷◌, All, AllPairs, Contains, filter, length, not, nat_eq}
+use Rattle.std.specs.Prelude.{◌≡◌, ◌<◌, ℕ, ℤ, List, ◌∷◌, All, AllPairs, Contains, filter, length, not, nat_eq}
 use Rattle.std.specs.List.{range_with_len}
 use Rattle.class_table.specs.Outline.{Outline}
 use Rattle.conf_core.specs.Parts.{part_of, IsPart, ArePartRounds}

@@ -1,16 +1,18 @@
 -- What the searches for a core hand on. What a reader believes after this file: nothing that
 -- `find_core` says.
-use Rattle.std.specs.Prelude.{◌≡◌, ◌++◌, ◌∷◌, [], ℕ, Bool, true, List, None, All, cond, filter, map}
+use Rattle.std.specs.Prelude.{◌≡◌, ◌≤◌, ◌++◌, ◌∷◌, [], ℕ, Bool, true, List, None, All, cond, filter, map}
 use Rattle.class_table.specs.Outline.{Outline}
 use Rattle.conf_core.specs.Cores.{HasRound, IsWithout, IsCore}
 use Rattle.conf_core.specs.Parts.{IsPart, ArePartRounds}
 use Rattle.conf_core.specs.declared.answer.CoreAnswer.{CoreAnswer}
 use Rattle.conf_core.specs.declared.answer.CoreAnswer.TheVariants as answers
+use Rattle.conf_core.specs.declared.narrowing.Narrowing.{Narrowing}
 use Rattle.conf_core.specs.declared.narrowing.Settled.{Settled}
 use Rattle.conf_types.specs.Programs.{ResolvedConstraint}
 use Rattle.ground_form.specs.WellMade.{IsWellMade}
 use Rattle.log_form.specs.Acceptance.{accepted}
 use Rattle.model_search.specs.Problems.{IsProblemOf}
+use Rattle.proof_log.specs.Rounds.{Journal}
 use Rattle.proof_log.specs.declared.record.Round.{Round}
 use Rattle.run_finder.specs.Outcomes.{OutcomeOf}
 use Rattle.run_finder.specs.declared.outcome.Outcome.{Outcome}
@@ -63,6 +65,16 @@ pub record IsNarrowed (ks : List ResolvedConstraint) (rounds : List Round)
   pub shown : HasRound rounds (λ part. part ≡ indexes_of settled ++ rest) outcomes.NoSolution
   pub tried : All (λ (s : Settled). HasRound rounds
       (IsWithout (indexes_of settled ++ rest) s.index) (end_without s)) settled
+
+-- the loop over further searches, between two of them
+pub record IsUnderWay (o : Outline) (ks : List ResolvedConstraint) (budget : ℕ)
+    (rounds : List Round) (journal : Journal) (n : Narrowing) (allowed : ℕ) : Type 0 where
+  pub narrowed : IsNarrowed ks journal.rounds n.settled.items n.rest.items
+  pub grown : HasGrown o ks budget rounds journal.rounds
+  pub some : 1 ≤ n.chunk
+  pub ground : journal.ground ≡ None
+  pub lines : journal.lines ≡ []
+  pub budget_is : allowed ≡ budget
 
 -- the answer is a core
 abbrev pub IsCoreAnswer : Outline → List ResolvedConstraint → List Round → CoreAnswer → Type 0

@@ -35,7 +35,9 @@ fn mark(marks: &mut Vec<bool>, index: u32)
 fn mark_origin(marks: &mut Vec<bool>, part: &[u32], origins: &Origins, con: u32)
     ensures { length marks.new.items ≡ length marks.old.items }
 {
-    if let Some(i) = origins.of(con) && i < part.len() {
+    if let Some(i) = origins.of(con)
+        && i < part.len()
+    {
         mark(marks, part[i]);
     }
 }

@@ -14,7 +14,7 @@ use crate::answer::CoreAnswer;
 use crate::blame::blamed_by;
 use crate::indexes::all_indexes;
 use crate::narrowing::{Settled, indexes, narrowed, unsure};
-use crate::part_search::{Subject, try_part};
+use crate::part_search::{Subject, Tried, try_part};
 use conf_types::TypedModel;
 use ground_model::Origins;
 use log_form::Indexes;
@@ -24,7 +24,7 @@ use run_finder::{Finder, Outcome};
 use std::alloc::{AllocError, Global};
 
 /// Whether no configuration satisfies these constraints either: a search over them tells.
-#[tactic(auto, using(crate::proofs::Rounds::tried_grown, crate::proofs::Rounds::tried_narrowed))]
+#[tactic(auto, using(crate::proofs::Rounds::tried_grown, crate::proofs::Rounds::same_grown, crate::proofs::Narrowings::tried_narrowed))]
 fn are_impossible<F: Finder>(
     with: Subject<'_>,
     list: &[u32],
@@ -36,12 +36,13 @@ fn are_impossible<F: Finder>(
     requires narrow { model_narrow with.objects.now with.model.now.constraints
         with.model.now.goals ≡ true }
     requires part { IsPart with.model.now.constraints list.now }
+    requires budget { F.allowed finder.old ≡ with.budget }
     requires ground { journal.old.ground ≡ None }
     requires lines { journal.old.lines ≡ [] }
     ensures narrowed { IfOk result (λ yes. yes ≡ true
         → IsNarrowed with.entry.model.now.constraints journal.new.rounds [] list.now) }
     ensures grown { HasGrown with.entry.objects.now with.entry.model.now.constraints
-        (F.allowed finder.old) journal.old.rounds journal.new.rounds }
+        with.entry.budget journal.old.rounds journal.new.rounds }
     ensures ground { OnOk result (journal.new.ground ≡ None) }
     ensures lines { OnOk result (journal.new.lines ≡ []) }
     ensures budget { F.allowed finder.new ≡ F.allowed finder.old }
@@ -57,8 +58,56 @@ struct Suspects {
     chunk: usize,
 }
 
-/// Those that the last round blames, or, where a search tells otherwise, also those that fix
-/// values, or all.
+/// All constraints, of which half are left out first.
+fn all_suspects(with: Subject<'_>) -> Result<Suspects, AllocError>
+    requires few { length with.model.now.constraints < 2 ^ 32 }
+    ensures all { IfOk result (λ s. s.list.items
+        ≡ range_with_len 0 (length with.entry.model.now.constraints)) }
+    ensures some { IfOk result (λ s. 1 ≤ s.chunk) }
+{
+    let count = with.model.constraints().len();
+    let list = all_indexes(with.alloc, count)?;
+    let chunk = (count / 2).max(1);
+    Ok(Suspects { list, chunk })
+}
+
+/// The blamed constraints with those that fix values, or all where a search tells that some
+/// configuration satisfies these.
+fn wider_suspects<F: Finder>(
+    with: Subject<'_>,
+    list: Vec<u32>,
+    finder: &mut F,
+    journal: &mut Record,
+) -> Result<Suspects, AllocError>
+    requires typed { IsTypedModel with.objects.now with.model.now.constraints
+        with.model.now.goals }
+    requires narrow { model_narrow with.objects.now with.model.now.constraints
+        with.model.now.goals ≡ true }
+    requires few { length with.model.now.constraints < 2 ^ 32 }
+    requires all { IsNarrowed with.model.now.constraints journal.old.rounds []
+        (range_with_len 0 (length with.model.now.constraints)) }
+    requires part { IsPart with.model.now.constraints list.items }
+    requires budget { F.allowed finder.old ≡ with.budget }
+    requires ground { journal.old.ground ≡ None }
+    requires lines { journal.old.lines ≡ [] }
+    ensures narrowed { IfOk result (λ s. IsNarrowed with.entry.model.now.constraints
+        journal.new.rounds [] s.list.items) }
+    ensures some { IfOk result (λ s. 1 ≤ s.chunk) }
+    ensures grown { HasGrown with.entry.objects.now with.entry.model.now.constraints
+        with.entry.budget journal.old.rounds journal.new.rounds }
+    ensures ground { OnOk result (journal.new.ground ≡ None) }
+    ensures lines { OnOk result (journal.new.lines ≡ []) }
+    ensures budget { F.allowed finder.new ≡ F.allowed finder.old }
+{
+    if are_impossible(with, &list, finder, journal)? {
+        return Ok(Suspects { list, chunk: 1 });
+    }
+    let suspects = all_suspects(with)?;
+    Ok(suspects)
+}
+
+/// The constraints that the last round blames, or, where a search tells that some configuration
+/// satisfies these, also those that fix values, or all.
 fn suspected<F: Finder>(
     with: Subject<'_>,
     origins: &Origins,
@@ -73,35 +122,27 @@ fn suspected<F: Finder>(
     requires all { IsNarrowed with.model.now.constraints journal.old.rounds []
         (range_with_len 0 (length with.model.now.constraints)) }
     requires accepted { EndsAccepted journal.old.rounds }
+    requires budget { F.allowed finder.old ≡ with.budget }
     requires ground { journal.old.ground ≡ None }
     requires lines { journal.old.lines ≡ [] }
     ensures narrowed { IfOk result (λ s. IsNarrowed with.entry.model.now.constraints
         journal.new.rounds [] s.list.items) }
     ensures some { IfOk result (λ s. 1 ≤ s.chunk) }
     ensures grown { HasGrown with.entry.objects.now with.entry.model.now.constraints
-        (F.allowed finder.old) journal.old.rounds journal.new.rounds }
+        with.entry.budget journal.old.rounds journal.new.rounds }
     ensures ground { OnOk result (journal.new.ground ≡ None) }
     ensures lines { OnOk result (journal.new.lines ≡ []) }
     ensures budget { F.allowed finder.new ≡ F.allowed finder.old }
 {
-    let constraints = with.model.constraints();
-    let blamed = blamed_by(with.alloc, constraints, origins, journal)?;
+    let blamed = blamed_by(with.alloc, with.model.constraints(), origins, journal)?;
     if are_impossible(with, &blamed.alone, finder, journal)? {
         return Ok(Suspects {
             list: blamed.alone,
             chunk: 1,
         });
     }
-    let has_more = blamed.with_fixing.len() > blamed.alone.len();
-    if has_more && are_impossible(with, &blamed.with_fixing, finder, journal)? {
-        return Ok(Suspects {
-            list: blamed.with_fixing,
-            chunk: 1,
-        });
-    }
-    let list = all_indexes(with.alloc, constraints.len())?;
-    let chunk = (list.len() / 2).max(1);
-    Ok(Suspects { list, chunk })
+    let suspects = wider_suspects(with, blamed.with_fixing, finder, journal)?;
+    Ok(suspects)
 }
 
 /// The core that these constraints are.
@@ -131,14 +172,15 @@ fn blame<F: Finder>(
     requires all { IsNarrowed with.model.now.constraints journal.old.rounds []
         (range_with_len 0 (length with.model.now.constraints)) }
     requires accepted { EndsAccepted journal.old.rounds }
-    requires rounds { ArePartRounds with.objects.now with.model.now.constraints
-        (F.allowed finder.old) journal.old.rounds }
+    requires rounds { ArePartRounds with.objects.now with.model.now.constraints with.budget
+        journal.old.rounds }
+    requires budget { F.allowed finder.old ≡ with.budget }
     requires ground { journal.old.ground ≡ None }
     requires lines { journal.old.lines ≡ [] }
     ensures core { IfOk result (λ a. IsCoreAnswer with.entry.objects.now
         with.entry.model.now.constraints journal.new.rounds a) }
     ensures grown { HasGrown with.entry.objects.now with.entry.model.now.constraints
-        (F.allowed finder.old) journal.old.rounds journal.new.rounds }
+        with.entry.budget journal.old.rounds journal.new.rounds }
     ensures ground { OnOk result (journal.new.ground ≡ None) }
     ensures lines { OnOk result (journal.new.lines ≡ []) }
     ensures budget { F.allowed finder.new ≡ F.allowed finder.old }
@@ -147,6 +189,37 @@ fn blame<F: Finder>(
     let settled = narrowed(with, suspects.list, suspects.chunk, finder, journal)?;
     let answer = core_of(with.alloc, &settled)?;
     Ok(answer)
+}
+
+/// The first search, over all of the model.
+fn first_search<F: Finder>(
+    with: Subject<'_>,
+    finder: &mut F,
+    journal: &mut Record,
+) -> Result<Tried, AllocError>
+    requires typed { IsTypedModel with.objects.now with.model.now.constraints
+        with.model.now.goals }
+    requires narrow { model_narrow with.objects.now with.model.now.constraints
+        with.model.now.goals ≡ true }
+    requires few { length with.model.now.constraints < 2 ^ 32 }
+    requires budget { F.allowed finder.old ≡ with.budget }
+    requires empty { journal.old ≡ empty }
+    ensures begins { IfOk result (λ t. BeginsSo with.entry.model.now.constraints
+        journal.new.rounds t.end) }
+    ensures parts { IfOk result (λ t. ArePartRounds with.entry.objects.now
+        with.entry.model.now.constraints with.entry.budget journal.new.rounds) }
+    ensures accepted { IfOk result (λ t. EndsAccepted journal.new.rounds) }
+    ensures all { IfOk result (λ t. t.end ≡ outcomes.NoSolution
+        → IsNarrowed with.entry.model.now.constraints journal.new.rounds []
+        (range_with_len 0 (length with.entry.model.now.constraints))) }
+    ensures none { OnErr result (journal.new.rounds ≡ []) }
+    ensures ground { OnOk result (journal.new.ground ≡ None) }
+    ensures lines { OnOk result (journal.new.lines ≡ []) }
+    ensures budget { F.allowed finder.new ≡ F.allowed finder.old }
+{
+    let all = all_indexes(with.alloc, with.model.constraints().len())?;
+    let tried = try_part(with, all, finder, journal)?;
+    Ok(tried)
 }
 
 /// Searches the whole model, and where it has no configuration finds out which constraints are to
@@ -183,9 +256,9 @@ pub fn find_core<F: Finder>(
         alloc,
         model,
         objects,
+        budget: finder.budget(),
     };
-    let all = all_indexes(alloc, model.constraints().len())?;
-    let tried = try_part(with, all, finder, journal)?;
+    let tried = first_search(with, finder, journal)?;
     match tried.end {
         Outcome::Best => Ok(CoreAnswer::Solvable),
         Outcome::Spent => Ok(CoreAnswer::Undecided),

@@ -3,7 +3,7 @@
 //! Constraints are left out some at a time. Where the others have no configuration either they stay
 //! out, and twice as many are tried next; else half as many, and a single one without which the
 //! others have a configuration, or aren't decided, is settled: it stays.
-ghost use Rattle.std.specs.Prelude.{◌≡◌, ◌≤◌, ◌<◌, ◌+◌, ◌*◌, ◌++◌, [], List, None, true, cond, drop, length, IfOk, OnOk};
+ghost use Rattle.std.specs.Prelude.{◌≡◌, ◌≤◌, ◌<◌, ◌+◌, ◌*◌, ◌++◌, [], List, None, true, cond, drop, length, slice_index_or, IfOk, OnOk};
 ghost use Rattle.conf_core.specs.Cores.{HasRound};
 ghost use Rattle.conf_core.specs.Parts.{IsPart};
 ghost use Rattle.conf_core.specs.Searching.{HasGrown, IsNarrowed, indexes_of, unsure_of};
@@ -67,7 +67,7 @@ fn part_with(alloc: Global, settled: &[Settled], others: &[u32]) -> Result<Vec<u
 }
 
 /// Searches with the settled constraints and these others, which are the rest but for the first.
-#[tactic(auto, using(crate::proofs::Narrowings::cut_part, crate::proofs::Rounds::tried_round))]
+#[tactic(auto, using(crate::proofs::Rounds::tried_round, crate::proofs::Rounds::tried_grown, crate::proofs::Rounds::same_grown))]
 fn tried_with<F: Finder>(
     with: Subject<'_>,
     n: &Narrowing,
@@ -81,12 +81,13 @@ fn tried_with<F: Finder>(
         with.model.now.goals ≡ true }
     requires part { IsPart with.model.now.constraints
         (indexes_of n.now.settled.items ++ others.now) }
+    requires budget { F.allowed finder.old ≡ with.budget }
     requires ground { journal.old.ground ≡ None }
     requires lines { journal.old.lines ≡ [] }
     ensures tried { IfOk result (λ end. HasRound journal.new.rounds
         (λ part. part ≡ indexes_of n.now.settled.items ++ others.now) end) }
     ensures grown { HasGrown with.entry.objects.now with.entry.model.now.constraints
-        (F.allowed finder.old) journal.old.rounds journal.new.rounds }
+        with.entry.budget journal.old.rounds journal.new.rounds }
     ensures ground { OnOk result (journal.new.ground ≡ None) }
     ensures lines { OnOk result (journal.new.lines ≡ []) }
     ensures budget { F.allowed finder.new ≡ F.allowed finder.old }
@@ -96,8 +97,15 @@ fn tried_with<F: Finder>(
     Ok(tried.end)
 }
 
+/// The first of them.
+fn first_of(rest: &[u32]) -> u32
+    requires { 1 ≤ length rest.now }
+    ensures { result ≡ slice_index_or rest.now 0 0 }
+{
+    rest[0]
+}
+
 /// The next constraint is settled, and these others are left.
-#[tactic(auto, using(crate::proofs::Narrowings::narrowed_settle))]
 fn with_settled(n: Narrowing, others: Vec<u32>, unsure: bool) -> Result<Narrowing, AllocError>
     requires some { 1 ≤ length n.rest.items }
     requires others { others.items ≡ drop 1 n.rest.items }
@@ -109,7 +117,7 @@ fn with_settled(n: Narrowing, others: Vec<u32>, unsure: bool) -> Result<Narrowin
     ensures rest { IfOk result (λ new. new.rest.items ≡ others.items) }
     ensures chunk { IfOk result (λ new. new.chunk ≡ 1) }
 {
-    let index = n.rest[0];
+    let index = first_of(&n.rest);
     let mut settled = n.settled;
     settled.push(Settled { index, unsure })?;
     Ok(Narrowing {
@@ -117,6 +125,33 @@ fn with_settled(n: Narrowing, others: Vec<u32>, unsure: bool) -> Result<Narrowin
         rest: others,
         chunk: 1,
     })
+}
+
+/// What a search has come to without which the first constraints of the rest can't be left out:
+/// fewer of them are tried next, or a single one is settled.
+fn kept(n: Narrowing, others: Vec<u32>, size: usize, unsure: bool) -> Result<Narrowing, AllocError>
+    requires some { 1 ≤ size }
+    requires chunk { size ≤ n.chunk }
+    requires there { size ≤ length n.rest.items }
+    requires others { others.items ≡ drop size n.rest.items }
+    ensures narrowed { IfOk result (λ new. (ks : List ResolvedConstraint) (rounds : List ARound)
+        → IsNarrowed ks rounds n.settled.items n.rest.items
+        → HasRound rounds (λ part. part ≡ indexes_of n.settled.items ++ others.items)
+        (cond unsure outcomes.Spent outcomes.Best)
+        → IsNarrowed ks rounds new.settled.items new.rest.items) }
+    ensures some { IfOk result (λ new. 1 ≤ new.chunk) }
+    ensures less { IfOk result (λ new. 3 * length new.rest.items + new.chunk
+        < 3 * length n.rest.items + n.chunk) }
+{
+    if size > 1 {
+        return Ok(Narrowing {
+            settled: n.settled,
+            rest: n.rest,
+            chunk: size / 2,
+        });
+    }
+    let new = with_settled(n, others, unsure)?;
+    Ok(new)
 }
 
 /// What a search without the first constraints of the rest has come to.
@@ -144,21 +179,21 @@ fn behind(
             rest: others,
             chunk: size.saturating_mul(2),
         }),
-        Outcome::Best | Outcome::Spent => {
-            if size > 1 {
-                return Ok(Narrowing {
-                    settled: n.settled,
-                    rest: n.rest,
-                    chunk: size / 2,
-                });
-            }
-            with_settled(n, others, end == Outcome::Spent)
-        }
+        Outcome::Best => kept(n, others, size, false),
+        Outcome::Spent => kept(n, others, size, true),
     }
 }
 
+/// What stands behind the first so many of them.
+fn behind_first(alloc: Global, rest: &[u32], size: usize) -> Result<Vec<u32>, AllocError>
+    requires { size ≤ length rest.now }
+    ensures { IfOk result (λ others. others.items ≡ drop size rest.now) }
+{
+    rest[size..].to_vec(alloc)
+}
+
 /// One search more: without the first constraints of the rest.
-#[tactic(auto, using(crate::proofs::Narrowings::narrowed_grown))]
+#[tactic(auto, using(crate::proofs::Narrowings::narrowed_grown, crate::proofs::Narrowings::cut_part))]
 fn step<F: Finder>(
     with: Subject<'_>,
     n: Narrowing,
@@ -173,6 +208,7 @@ fn step<F: Finder>(
         n.rest.items }
     requires left { 1 ≤ length n.rest.items }
     requires some { 1 ≤ n.chunk }
+    requires budget { F.allowed finder.old ≡ with.budget }
     requires ground { journal.old.ground ≡ None }
     requires lines { journal.old.lines ≡ [] }
     ensures narrowed { IfOk result (λ new. IsNarrowed with.entry.model.now.constraints
@@ -181,13 +217,13 @@ fn step<F: Finder>(
     ensures less { IfOk result (λ new. 3 * length new.rest.items + new.chunk
         < 3 * length n.rest.items + n.chunk) }
     ensures grown { HasGrown with.entry.objects.now with.entry.model.now.constraints
-        (F.allowed finder.old) journal.old.rounds journal.new.rounds }
+        with.entry.budget journal.old.rounds journal.new.rounds }
     ensures ground { OnOk result (journal.new.ground ≡ None) }
     ensures lines { OnOk result (journal.new.lines ≡ []) }
     ensures budget { F.allowed finder.new ≡ F.allowed finder.old }
 {
     let size = n.chunk.min(n.rest.len());
-    let others = n.rest[size..].to_vec(with.alloc)?;
+    let others = behind_first(with.alloc, &n.rest, size)?;
     let end = tried_with(with, &n, &others, finder, journal)?;
     let new = behind(n, others, size, end)?;
     Ok(new)
@@ -207,12 +243,13 @@ pub(crate) fn narrowed<F: Finder>(
         with.model.now.goals ≡ true }
     requires narrowed { IsNarrowed with.model.now.constraints journal.old.rounds [] list.items }
     requires some { 1 ≤ chunk }
+    requires budget { F.allowed finder.old ≡ with.budget }
     requires ground { journal.old.ground ≡ None }
     requires lines { journal.old.lines ≡ [] }
     ensures narrowed { IfOk result (λ settled. IsNarrowed with.entry.model.now.constraints
         journal.new.rounds settled.items []) }
     ensures grown { HasGrown with.entry.objects.now with.entry.model.now.constraints
-        (F.allowed finder.old) journal.old.rounds journal.new.rounds }
+        with.entry.budget journal.old.rounds journal.new.rounds }
     ensures ground { OnOk result (journal.new.ground ≡ None) }
     ensures lines { OnOk result (journal.new.lines ≡ []) }
     ensures budget { F.allowed finder.new ≡ F.allowed finder.old }

@@ -17,12 +17,13 @@ use proof_log::Record;
 use run_finder::{Finder, Outcome};
 use std::alloc::{AllocError, Global};
 
-/// A model whose parts are searched, with its objects.
+/// A model whose parts are searched, with its objects, and how many decisions a search may take.
 #[derive(Clone, Copy)]
 pub(crate) struct Subject<'a> {
     pub alloc: Global,
     pub model: &'a TypedModel,
     pub objects: &'a Objects<'a>,
+    pub budget: u32,
 }
 
 /// How the search over a part ended, and for which of its constraints each of the problem's was
@@ -73,10 +74,11 @@ fn closed_round<F: Finder>(
     requires typed { IsTypedModel with.objects.now model.now.constraints model.now.goals }
     requires narrow { model_narrow with.objects.now model.now.constraints model.now.goals ≡ true }
     requires goals { model.now.goals ≡ [] }
+    requires budget { F.allowed finder.old ≡ with.budget }
     requires ground { journal.old.ground ≡ None }
     requires lines { journal.old.lines ≡ [] }
     ensures closed { IfOk result (λ t. HasClosed with.entry.objects.now model.now.constraints
-        (F.allowed finder.old) part.items journal.old.rounds journal.new.rounds t.end) }
+        with.entry.budget part.items journal.old.rounds journal.new.rounds t.end) }
     ensures rounds { OnErr result (journal.new.rounds ≡ journal.old.rounds) }
     ensures ground { OnOk result (journal.new.ground ≡ None) }
     ensures lines { OnOk result (journal.new.lines ≡ []) }
@@ -105,10 +107,11 @@ pub(crate) fn try_part<F: Finder>(
     requires narrow { model_narrow with.objects.now with.model.now.constraints
         with.model.now.goals ≡ true }
     requires part { IsPart with.model.now.constraints part.items }
+    requires budget { F.allowed finder.old ≡ with.budget }
     requires ground { journal.old.ground ≡ None }
     requires lines { journal.old.lines ≡ [] }
     ensures tried { IfOk result (λ t. HasTried with.entry.objects.now
-        with.entry.model.now.constraints (F.allowed finder.old) part.items journal.old.rounds
+        with.entry.model.now.constraints with.entry.budget part.items journal.old.rounds
         journal.new.rounds t.end) }
     ensures rounds { OnErr result (journal.new.rounds ≡ journal.old.rounds) }
     ensures ground { OnOk result (journal.new.ground ≡ None) }
@@ -116,9 +119,13 @@ pub(crate) fn try_part<F: Finder>(
     ensures budget { F.allowed finder.new ≡ F.allowed finder.old }
 {
     let model = with.model.only(with.alloc, &part)?;
-    let budget = finder.budget();
     let tried = closed_round(with, &model, part, finder, journal)?;
     let round = last_round(journal);
-    round_is_run(question_about(&model, with.objects), round, tried.end, budget);
+    round_is_run(
+        question_about(&model, with.objects),
+        round,
+        tried.end,
+        with.budget,
+    );
     Ok(tried)
 }
