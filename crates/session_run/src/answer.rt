@@ -14,13 +14,14 @@ ghost use Rattle.run_finder.specs.Outcomes.{OutcomeOf};
 ghost use Rattle.session_run.specs.Holding.{IsBetween, IsHinted, StandsAt, situation_of, HasStepped, HasRound, IsTold, IsTried, IsCut};
 ghost use Rattle.session_run.specs.Sessions.{situation_behind, subject};
 
-use crate::telling::{best_is_hints, finding_by, round_is_run};
+use crate::telling::{best_is_hints, finding_by};
 use answer_text::solve_text;
 use conf_events::Event;
 use conf_session::{Session, failed_behind};
 use conf_syntax::PathText;
 use desk_io::{Desk, WriteError, print_all};
 use model_reader::Built;
+use model_rounds::round_is_run;
 use model_search::{Finding, Question};
 use object_alloc::Hints;
 use proof_log::{Record, Round};
