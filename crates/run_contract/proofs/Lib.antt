@@ -1,0 +1,4 @@
+pub mod Asking
+pub mod Begun
+pub mod Reading
+pub mod Rounds
