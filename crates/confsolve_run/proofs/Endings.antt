@@ -58,12 +58,6 @@ begun_of r journal text before now (inr c) = whole_front (log_file r) journal be
 
 -- ---- a model
 
-pub model_denied : (t : Trace) (p : Program) (s : Status) → (t.journal.rounds ≡ []) ⊎ (IsWithin p × OfAsked t.before.files t.request (λ asked. Searches t asked p)) → Unreadable t.reads t.reads_now s (IsRefusedFor s p ⊎ (IsWithin p × IsDeniedOf t.before.files t.request t.journal s p)) → t.now ≡ t.before → EndsModel t p s
-model_denied t p s none (inl h) same = subst (λ x. EndsModelAt (stage_of x) t p x) (sym h.0) (h.1, same)
-model_denied t p s (inl none) (inr (inl h)) same = subst (λ x. EndsModelAt (stage_of x) t p x) (sym h) (inl (same, none))
-model_denied t p s (inr far) (inr (inl h)) same = subst (λ x. EndsModelAt (stage_of x) t p x) (sym h) (inr (inr (same, far)))
-model_denied t p s none (inr (inr h)) same = subst (λ g. EndsModelAt g t p s) (sym h.0) (h.1, same)
-
 pub model_answered : (t : Trace) (p : Program) (s : Status) (name log : Option (List ℕ)) (text : List ℕ) → stage_of s ≡ Answered → IsRecorded t.orders t.request s t.journal → name ≡ log_file t.request → IsLogOf (is_some name) t.journal log → t.now.files ≡ stored name log t.before.files → IsWithin p → OfAsked t.before.files t.request (λ asked. IsAnswer t.orders t.journal asked p s text) → t.now.printed ≡ with_printed text t.before.printed → EndsModel t p s
 model_answered t p s name log text stage recorded is h files within answers printed =
     let logged = subst (λ n. IsLoggedIn n t.journal t.before.files t.now.files) is (logged_of name log t.journal t.before.files t.now.files h files) in
