@@ -1,7 +1,9 @@
 -- Closed rounds of a record. What a reader believes after this file: what the lines of a round
 -- show, and how the search ended that left them.
-use Rattle.std.specs.Prelude.{[], Some}
+use Rattle.std.specs.Prelude.{[], List, Some}
+use Rattle.ground_form.specs.declared.ground.Ground.{Ground}
 use Rattle.log_check.specs.Verdicts.{ending}
+use Rattle.log_form.specs.declared.line.Line.{Line}
 use Rattle.model_search.specs.Findings.{finding}
 use Rattle.model_search.specs.declared.finding.Finding.{Finding}
 use Rattle.model_search.specs.declared.finding.Finding.TheVariants as findings
@@ -10,9 +12,13 @@ use Rattle.proof_log.specs.declared.record.Round.{Round}
 use Rattle.run_finder.specs.declared.outcome.Outcome.{Outcome}
 use Rattle.run_finder.specs.declared.outcome.Outcome.TheVariants as outcomes
 
+-- a problem, with lines over it, as the record of a run
+abbrev pub journal_with : (ground : Ground) → List Line → Journal
+journal_with g lines = record { ground = Some g; lines = lines; rounds = [] }
+
 -- a round as the record of a run
 abbrev pub journal_of : Round → Journal
-journal_of round = record { ground = Some round.ground; lines = round.lines; rounds = [] }
+journal_of round = journal_with round.ground round.lines
 
 -- what the lines of a round tell
 abbrev pub told_by : Round → Finding
