@@ -1,2 +1,2 @@
-pub mod Blaming
+pub mod Answering
 pub mod Searching

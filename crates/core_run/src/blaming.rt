@@ -14,9 +14,9 @@ use run_finder::Finder;
 use run_status::Status;
 use std::alloc::{AllocError, Global};
 
-/// A text with the status that it comes with.
+/// The text that tells what to blame, with the status that it comes with.
 #[derive(Drop)]
-pub struct Blame {
+pub struct Answer {
     pub status: Status,
     pub text: Vec<u8>,
 }
@@ -43,7 +43,7 @@ pub fn blame<F: Finder>(
     built: Built<'_>,
     finder: &mut F,
     journal: &mut Record,
-) -> Result<Blame, AllocError>
+) -> Result<Answer, AllocError>
     requires ready { IsReady built.table.now built.objects.now built.model.now.constraints
         built.model.now.goals }
     requires empty { journal.old ≡ empty }
@@ -60,5 +60,5 @@ pub fn blame<F: Finder>(
     let answer = find_core(alloc, built.model, built.objects, finder, journal)?;
     let text = core_text(alloc, built.model.constraints(), budget, &answer)?;
     let status = status_of(budget, &answer);
-    Ok(Blame { status, text })
+    Ok(Answer { status, text })
 }

@@ -9,4 +9,4 @@
 mod blaming;
 mod texts;
 
-pub use blaming::{Blame, blame};
+pub use blaming::{Answer, blame};

@@ -23,7 +23,8 @@ fn place_of(constraints: &[Constraint], index: u32) -> u32
     requires index { index < length constraints.now }
     ensures place { result ≡ (constraint_at constraints.now index).place }
 {
-    constraints[index as usize].place
+    let constraint = &constraints[index as usize];
+    constraint.place
 }
 
 /// Adds a constraint by its place.
