@@ -34,10 +34,10 @@ pub(crate) fn blamed(
         ⊎ IsSearchedSoFar built.entry.objects.now built.entry.model.now.constraints budget
         journal.new.rounds) }
 {
-    let blame = blame_model(with, built, budget, order, kit, journal)?;
+    let answer = blame_model(with, built, budget, order, kit, journal)?;
     Ok(Answer {
-        status: blame.status,
-        text: blame.text,
+        status: answer.status,
+        text: answer.text,
         log: None,
     })
 }

@@ -7,7 +7,7 @@ ghost use Rattle.run_status.specs.Stages.{Answered, stage_of};
 
 use crate::finder::{Resources, Searching};
 use bound_search::Limits;
-use core_run::{Blame, blame};
+use core_run::{Answer, blame};
 use model_reader::Built;
 use proof_log::Record;
 use rule_law::Kit;
@@ -22,7 +22,7 @@ pub fn blame_model(
     order: u8,
     kit: &mut Kit,
     journal: &mut Record,
-) -> Result<Blame, AllocError>
+) -> Result<Answer, AllocError>
     requires ready { IsReady built.table.now built.objects.now built.model.now.constraints
         built.model.now.goals }
     requires order { order ≤ 2 }
