@@ -32,7 +32,8 @@ fn add(
     if room == 0 {
         return Ok(0);
     }
-    if !insert(alloc, stated, clause.clause())? {
+    let literals = clause.clause();
+    if !insert(alloc, stated, literals)? {
         return Ok(room);
     }
     cons.push(Con::ClauseCon {
