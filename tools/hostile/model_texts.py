@@ -117,11 +117,13 @@ DECLARED = [
         b"enum E{z" + "".join(f",{short_name(n + 53)}" for n in range(size // 9)).encode() + b"}",
         "".join(f"var v{n} as E;" for n in range(size * 9000 // MODEL)).encode()]),
     model("a class with 10,000 attributes", counted(
-        "class C{", lambda n: f"var {short_name(n)} as bool;", "} var c as C;", 10_000)),
+        "class Class{", lambda n: f"var {short_name(n)} as bool;", "} var c as Class;", 10_000)),
     model("a class with 10,000 attributes, two objects", counted(
-        "class C{", lambda n: f"var {short_name(n)} as bool;", "} var c as C[2];", 10_000)),
-    model("attributes, no object", counted("class C{", lambda n: f"var {short_name(n)} as bool;",
+        "class Class{", lambda n: f"var {short_name(n)} as bool;", "} var c as Class[2];", 10_000)),
+    model("attributes, no object", counted("class Class{", lambda n: f"var {short_name(n)} as bool;",
                                            "}")),
+    model("attributes, 10,000 objects", counted(
+        "class Class{", lambda n: f"var {short_name(n)} as bool;", "} var c as Class[10000];")),
     model("the name of the last of many, twice", counted(
         "", lambda n: f"class {short_name(n)}{{}}", "class a{}")),
 ]
@@ -140,6 +142,9 @@ CLASSES = [
         lambda last, room: f"var z as {last}[10000];", 0.24)),
     model("10,000 objects below a chain of classes", chain(
         lambda last, room: f"var z as {last}[10000];")),
+    model("the same, and 20 quantifiers over a class without objects", chain(
+        lambda last, room: f"var z as {last}[10000];class Nobody{{}}"
+        + "where forall a in Nobody{true;};" * 20, 0.9)),
     model("classes that contain the next", lambda size: contained(size, "")),
     model("classes that contain in a circle", lambda size: contained(size, "var a as k0;")),
     model("classes that contain two of the next", branching),
@@ -148,13 +153,13 @@ CLASSES = [
 
 def leaves_without_cells(size):
     """10,000 objects with attributes that have no cells."""
-    parts = "".join(f"var {short_name(n)} as ref N[0];" for n in range(size // 19))
-    yield f"class N{{}} class C{{{parts}}} var c as C[10000];".encode()
+    parts = "".join(f"var {short_name(n)} as ref Empty[0];" for n in range(size // 23))
+    yield f"class Empty{{}} class Class{{{parts}}} var c as Class[10000];".encode()
 
 
 def long_keys(size):
     """10,000 objects with an attribute of a long name."""
-    yield b"class C{var " + b"a" * (size - 60) + b" as bool;} var c as C[10000];"
+    yield b"class C{var " + b"a" * (size - 60) + b" as 1..1;} var c as C[10000];"
 
 
 def long_paths(size):

@@ -19,6 +19,7 @@
 #include <stddef.h>
 #include <stdlib.h>
 #include <sys/mman.h>
+#include <sys/resource.h>
 #include <sys/syscall.h>
 #include <sys/uio.h>
 #include <unistd.h>
@@ -51,7 +52,7 @@ __attribute__((constructor)) static void begin(void) {
         if (page != MAP_FAILED) counts = page;
         syscall(SYS_close, fd);
     }
-    alarm(120);
+    setrlimit(RLIMIT_CPU, &(struct rlimit){60, 60});
     has_begun = 1;
 }
 

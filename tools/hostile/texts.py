@@ -87,4 +87,4 @@ def short_name(number):
         number -= 1
         made += SIGNS[number % len(SIGNS)]
         number //= len(SIGNS)
-    return made + "_" if made in KEYWORDS else made
+    return made + "__" if made in KEYWORDS else made
