@@ -133,9 +133,10 @@ middle_in : (ls : List Path) (a : Path) (xs ys : List Path) → IsAscending (ls 
     → IsAscending (ls ++ ys) → IsBefore a ys → IsAscending (ls ++ a ∷ ys)
 unfolding IsStrictlySortedBy
 middle_in [] a xs ys h g before = (before, g)
-middle_in (l ∷ ls) a xs ys h g before =
-    (all_with (λ q. path_cmp l q ≡ Less) ls a xs ys h.0 g.0,
-    middle_in ls a xs ys h.1 g.1 before)
+middle_in (l ∷ ls) a xs ys h g before = (
+  all_with (λ q. path_cmp l q ≡ Less) ls a xs ys h.0 g.0,
+  middle_in ls a xs ys h.1 g.1 before,
+)
 
 before_of : (ls : List Path) (a : Path) (xs : List Path) → IsAscending (ls ++ a ∷ xs)
     → IsBefore a xs
@@ -245,9 +246,11 @@ pub gone_first : (old new : List PathLeaf) (lines : List PlanLine) (a b : PathLe
     (xs ys : List PathLeaf) → HasCome old new lines (a ∷ xs) (b ∷ ys) → path_cmp a.0 b.0 ≡ Less
     → HasCome old new (lines ++ removal a ∷ []) xs (b ∷ ys)
 gone_first old new lines a b xs ys h e =
-    gone old new lines a xs (b ∷ ys) h
-    (e, before_less a.0 b.0 (paths ys) e
-    (before_of (map line_path lines) b.0 (paths ys) h.new_ascends))
+    gone old new lines a xs (b ∷ ys) h (
+      e,
+      before_less a.0 b.0 (paths ys) e
+          (before_of (map line_path lines) b.0 (paths ys) h.new_ascends),
+    )
 
 -- the first new leaf stands before the first old one, and so before all
 pub come_first : (old new : List PathLeaf) (lines : List PlanLine) (a b : PathLeaf)
@@ -255,9 +258,11 @@ pub come_first : (old new : List PathLeaf) (lines : List PlanLine) (a b : PathLe
     → path_cmp a.0 b.0 ≡ Greater → HasCome old new (lines ++ addition b ∷ []) (a ∷ xs) ys
 come_first old new lines a b xs ys h e =
     let turned = path_total.antisymm b.0 a.0 ∙ ap ordering_reverse e in
-    come old new lines b (a ∷ xs) ys h
-    (turned, before_less b.0 a.0 (paths xs) turned
-    (before_of (map line_path lines) a.0 (paths xs) h.old_ascends))
+    come old new lines b (a ∷ xs) ys h (
+      turned,
+      before_less b.0 a.0 (paths xs) turned
+          (before_of (map line_path lines) a.0 (paths xs) h.old_ascends),
+    )
 
 all_gone : (old new : List PathLeaf) (lines : List PlanLine) (xs : List PathLeaf)
     → HasCome old new lines xs [] → HasCome old new (lines ++ removals xs) [] []

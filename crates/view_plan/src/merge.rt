@@ -14,19 +14,19 @@ use view_leaves::{Leaf, Step, path_order};
 
 /// A line of a plan: where, and what became of the leaf.
 #[derive(Drop)]
-pub struct Line<'a> {
+pub struct Line<'l, 'a> {
     /// The leaf's path.
-    pub path: &'a [Step<'a>],
+    pub path: &'l [Step<'a>],
     /// What became of it.
     pub change: Change<'a>,
 }
 
 /// Lists what the first leaves of both configurations give, and says in which order they stand.
-fn turn<'a>(
+fn turn<'l, 'a>(
     alloc: Global,
-    old: &'a Leaf<'a>,
-    new: &'a Leaf<'a>,
-    lines: &mut Vec<Line<'a>>,
+    old: &'l Leaf<'a>,
+    new: &'l Leaf<'a>,
+    lines: &mut Vec<Line<'l, 'a>>,
 ) -> Result<Ordering, AllocError>
     ensures order { IfOk result (λ order. order
         ≡ path_cmp (leaf_seen old.now).0 (leaf_seen new.now).0) }
@@ -56,7 +56,7 @@ fn turn<'a>(
 }
 
 /// The leaves from an index on.
-fn rest<'a>(leaves: &'a [Leaf<'a>], from: usize) -> &'a [Leaf<'a>]
+fn rest<'l, 'a>(leaves: &'l [Leaf<'a>], from: usize) -> &'l [Leaf<'a>]
     requires { from ≤ length leaves.now }
     ensures { result.now ≡ drop from leaves.now }
 {
@@ -64,7 +64,10 @@ fn rest<'a>(leaves: &'a [Leaf<'a>], from: usize) -> &'a [Leaf<'a>]
 }
 
 /// Lists leaves that were removed.
-fn push_removed<'a>(old: &'a [Leaf<'a>], lines: &mut Vec<Line<'a>>) -> Result<(), AllocError>
+fn push_removed<'l, 'a>(
+    old: &'l [Leaf<'a>],
+    lines: &mut Vec<Line<'l, 'a>>,
+) -> Result<(), AllocError>
     ensures { OnOk result (lines_seen lines.new.items ≡ lines_seen lines.old.items
         ++ removals (leaves_seen old.now)) }
 {
@@ -78,7 +81,7 @@ fn push_removed<'a>(old: &'a [Leaf<'a>], lines: &mut Vec<Line<'a>>) -> Result<()
 }
 
 /// Lists leaves that were added.
-fn push_added<'a>(new: &'a [Leaf<'a>], lines: &mut Vec<Line<'a>>) -> Result<(), AllocError>
+fn push_added<'l, 'a>(new: &'l [Leaf<'a>], lines: &mut Vec<Line<'l, 'a>>) -> Result<(), AllocError>
     ensures { OnOk result (lines_seen lines.new.items ≡ lines_seen lines.old.items
         ++ additions (leaves_seen new.now)) }
 {
@@ -92,11 +95,11 @@ fn push_added<'a>(new: &'a [Leaf<'a>], lines: &mut Vec<Line<'a>>) -> Result<(), 
 }
 
 /// The plan from one configuration to another, each as its leaves in order of path.
-pub fn plan<'a>(
+pub fn plan<'l, 'a>(
     alloc: Global,
-    old: &'a [Leaf<'a>],
-    new: &'a [Leaf<'a>],
-) -> Result<Vec<Line<'a>>, AllocError>
+    old: &'l [Leaf<'a>],
+    new: &'l [Leaf<'a>],
+) -> Result<Vec<Line<'l, 'a>>, AllocError>
     requires old { IsAscending (paths (leaves_seen old.now)) }
     requires new { IsAscending (paths (leaves_seen new.now)) }
     ensures plan { IfOk result (λ lines. IsPlan (leaves_seen old.now) (leaves_seen new.now)

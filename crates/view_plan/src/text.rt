@@ -62,7 +62,7 @@ fn push_change(alloc: Global, text: &mut Vec<u8>, change: &Change<'_>) -> Result
 }
 
 /// Writes a line of a plan.
-fn push_line(alloc: Global, text: &mut Vec<u8>, line: &Line<'_>) -> Result<(), AllocError>
+fn push_line(alloc: Global, text: &mut Vec<u8>, line: &Line<'_, '_>) -> Result<(), AllocError>
     ensures { OnOk result (shows_fraction (line_seen line.now) ≡ false → text.new.items
         ≡ text.old.items ++ line_text (line_seen line.now)) }
 {
@@ -73,7 +73,7 @@ fn push_line(alloc: Global, text: &mut Vec<u8>, line: &Line<'_>) -> Result<(), A
 }
 
 /// Writes the lines of a plan.
-fn push_lines(alloc: Global, text: &mut Vec<u8>, lines: &[Line<'_>]) -> Result<(), AllocError>
+fn push_lines(alloc: Global, text: &mut Vec<u8>, lines: &[Line<'_, '_>]) -> Result<(), AllocError>
     ensures { OnOk result (list_any shows_fraction (lines_seen lines.now) ≡ false → text.new.items
         ≡ text.old.items ++ flat_map line_text (lines_seen lines.now)) }
 {
@@ -84,7 +84,7 @@ fn push_lines(alloc: Global, text: &mut Vec<u8>, lines: &[Line<'_>]) -> Result<(
 }
 
 /// How many lines count as changes.
-fn counted(lines: &[Line<'_>]) -> usize
+fn counted(lines: &[Line<'_, '_>]) -> usize
     ensures { result ≡ count_by counts (lines_seen lines.now) }
 {
     lines.iter().filter(|line| line.change.is_counted()).count()
@@ -92,7 +92,7 @@ fn counted(lines: &[Line<'_>]) -> usize
 
 /// The text of a plan: its lines, and the count of its changes. The contract says nothing of the
 /// text where a number with a fraction or an exponent is shown.
-pub fn plan_text(alloc: Global, lines: &[Line<'_>]) -> Result<Vec<u8>, AllocError>
+pub fn plan_text(alloc: Global, lines: &[Line<'_, '_>]) -> Result<Vec<u8>, AllocError>
     ensures { IfOk result (λ text. list_any shows_fraction (lines_seen lines.now) ≡ false
         → text.items ≡ plan_text (lines_seen lines.now)) }
 {

@@ -10,10 +10,10 @@ loop-i-preserved-in-Less c =
     let a = c.index-old-i.result in
     let b = c.index-new-j.result in (
       turn_less _ _ _ _ c.in_ok-turn.field-0 (leaf_seen a) (leaf_seen b) _ _ _ _ c.in-Less.is
-      c.in_ok-turn.ensures.order c.in_ok-turn.ensures.lines
-      (leaf_first c.args.old.now c.loop-i.i a c.loop-i-test.true c.index-old-i.is)
-      (leaf_first c.args.new.now c.loop-i.j b c.if-j-new.true c.index-new-j.is)
-      c.loop-i.invariant.0,
+          c.in_ok-turn.ensures.order c.in_ok-turn.ensures.lines
+          (leaf_first c.args.old.now c.loop-i.i a c.loop-i-test.true c.index-old-i.is)
+          (leaf_first c.args.new.now c.loop-i.j b c.if-j-new.true c.index-new-j.is)
+          c.loop-i.invariant.0,
       omega arith,
       c.loop-i.invariant.2,
     )
@@ -23,10 +23,10 @@ loop-i-preserved-in-Greater c =
     let a = c.index-old-i.result in
     let b = c.index-new-j.result in (
       turn_greater _ _ _ _ c.in_ok-turn.field-0 (leaf_seen a) (leaf_seen b) _ _ _ _ c.in-Greater.is
-      c.in_ok-turn.ensures.order c.in_ok-turn.ensures.lines
-      (leaf_first c.args.old.now c.loop-i.i a c.loop-i-test.true c.index-old-i.is)
-      (leaf_first c.args.new.now c.loop-i.j b c.if-j-new.true c.index-new-j.is)
-      c.loop-i.invariant.0,
+          c.in_ok-turn.ensures.order c.in_ok-turn.ensures.lines
+          (leaf_first c.args.old.now c.loop-i.i a c.loop-i-test.true c.index-old-i.is)
+          (leaf_first c.args.new.now c.loop-i.j b c.if-j-new.true c.index-new-j.is)
+          c.loop-i.invariant.0,
       c.loop-i.invariant.1,
       omega arith,
     )
@@ -36,10 +36,10 @@ loop-i-preserved c =
     let a = c.index-old-i.result in
     let b = c.index-new-j.result in (
       turn_equal _ _ _ _ c.in_ok-turn.field-0 (leaf_seen a) (leaf_seen b) _ _ _ _ c.in-Equal.is
-      c.in_ok-turn.ensures.order c.in_ok-turn.ensures.lines
-      (leaf_first c.args.old.now c.loop-i.i a c.loop-i-test.true c.index-old-i.is)
-      (leaf_first c.args.new.now c.loop-i.j b c.if-j-new.true c.index-new-j.is)
-      c.loop-i.invariant.0,
+          c.in_ok-turn.ensures.order c.in_ok-turn.ensures.lines
+          (leaf_first c.args.old.now c.loop-i.i a c.loop-i-test.true c.index-old-i.is)
+          (leaf_first c.args.new.now c.loop-i.j b c.if-j-new.true c.index-new-j.is)
+          c.loop-i.invariant.0,
       omega arith,
       omega arith,
     )
@@ -55,7 +55,7 @@ returns c =
     let ys = drop c.loop-i.j c.args.new.now in
     record {
       plan = elim c.loop-i-test.branch [
-        then-loop-i-test+else-j-new w ↦
+        | then-loop-i-test+else-j-new w ↦
             ends_with_old old new lines mid last c.rest.result.now c.rest-2.result.now xs ys
             c.rest.ensures c.rest-2.ensures c.in_ok-push_removed.ensures
             c.in_ok-push_added.ensures (no_leaf_left c.args.new.now c.loop-i.j w.if-j-new.false)
