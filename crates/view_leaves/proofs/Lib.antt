@@ -1,0 +1,4 @@
+pub mod Ascending
+pub mod Listing
+pub mod PathOrder
+pub mod ValuesRead

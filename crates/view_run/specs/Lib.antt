@@ -1,0 +1,4 @@
+pub mod Answers
+pub mod Ending
+pub mod Status
+pub mod Words

@@ -1,0 +1,13 @@
+//! What `confsolve-view` does: it reads the words, and then the files that they name.
+#![tactic(auto)]
+
+mod answer;
+mod command;
+mod request;
+mod source;
+mod status;
+
+pub use answer::{Plan, plan_between};
+pub use command::run;
+pub use request::{Request, request_of};
+pub use status::{Source, Status};

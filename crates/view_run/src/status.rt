@@ -1,0 +1,84 @@
+//! How a run ends.
+ghost use Rattle.std.specs.Prelude.{◌≡◌};
+ghost use Rattle.view_run.specs.Status.{number_of, line_of};
+ghost use Rattle.view_run.specs.declared.status.Status.TheVariants.{Memory};
+
+use std::alloc::AllocError;
+
+/// Which of the files.
+#[derive(Clone, Copy, Debug, PartialEq, Eq)]
+pub enum Source {
+    /// The former configuration's.
+    Former,
+    /// The new one's.
+    New,
+}
+
+/// How a run ends.
+#[derive(Clone, Copy, Debug, PartialEq, Eq)]
+pub enum Status {
+    /// Nothing differs.
+    Same,
+    /// Something differs.
+    Differs,
+    /// The words are no request.
+    Usage,
+    /// A file can't be read.
+    Unreadable(Source),
+    /// A file is longer than 16 MiB.
+    TooLong(Source),
+    /// A file is no JSON.
+    NotJson(Source),
+    /// A file is JSON, but no object.
+    NotObject(Source),
+    /// The answer couldn't be written.
+    WriteFault,
+    /// There was no memory.
+    Memory,
+}
+
+impl From<AllocError> for Status {
+    ghost from_gives = { λ _ s. s ≡ Memory };
+
+    fn from(_: AllocError) -> Self {
+        Status::Memory
+    }
+}
+
+impl Status {
+    /// The exit status of the program.
+    pub fn number(&self) -> u8
+        ensures { result ≡ number_of self.now }
+    {
+        match self {
+            Status::Same => 0,
+            Status::Differs => 1,
+            Status::Usage => 2,
+            Status::Unreadable(_) => 3,
+            Status::TooLong(_) => 4,
+            Status::NotJson(_) | Status::NotObject(_) => 5,
+            Status::WriteFault => 7,
+            Status::Memory => 8,
+        }
+    }
+
+    /// The line that says so on standard error, without its end; nothing where the run was answered.
+    pub fn line(&self) -> &'static str
+        ensures { result.now ≡ line_of self.now }
+    {
+        match self {
+            Status::Same | Status::Differs => "",
+            Status::Usage => "usage: confsolve-view plan FORMER NEW",
+            Status::Unreadable(Source::Former) => "former unreadable",
+            Status::Unreadable(Source::New) => "new unreadable",
+            Status::TooLong(Source::Former) => "former longer than 16 MiB",
+            Status::TooLong(Source::New) => "new longer than 16 MiB",
+            Status::NotJson(Source::Former) => "former not JSON",
+            Status::NotJson(Source::New) => "new not JSON",
+            Status::NotObject(Source::Former) => "former not an object",
+            Status::NotObject(Source::New) => "new not an object",
+            Status::WriteFault => "output not written",
+            Status::Memory => "no memory",
+        }
+    }
+}
