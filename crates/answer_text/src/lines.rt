@@ -27,7 +27,11 @@ pub(crate) fn push_objectives(
 }
 
 /// Adds that so many decisions didn't do.
-pub fn push_undecided(alloc: Global, text: &mut Vec<u8>, decisions: u32) -> Result<(), AllocError>
+pub(crate) fn push_undecided(
+    alloc: Global,
+    text: &mut Vec<u8>,
+    decisions: u32,
+) -> Result<(), AllocError>
     ensures text { OnOk result (text.new.items ≡ text.old.items ++ undecided_line decisions) }
 {
     let line = format!(in alloc; "undecided after {decisions} decisions\n")?;
@@ -35,7 +39,7 @@ pub fn push_undecided(alloc: Global, text: &mut Vec<u8>, decisions: u32) -> Resu
 }
 
 /// Adds a number with its name.
-pub fn push_number(
+pub(crate) fn push_number(
     alloc: Global,
     text: &mut Vec<u8>,
     name: &str,

@@ -13,7 +13,6 @@ use Rattle.ground_expr.specs.Asked.{functions}
 use Rattle.ground_form.specs.WellMade.{IsWellMade}
 use Rattle.ground_form.specs.declared.ground.Ground.{Ground}
 use Rattle.log_check.specs.Verdicts.{ending}
-use Rattle.model_rounds.specs.Rounds.{journal_of}
 use Rattle.model_search.proofs.RepairProblems.{repaired_by}
 use Rattle.model_search.specs.Findings.{finding}
 use Rattle.model_search.specs.Runs.{HasRun}
@@ -27,7 +26,7 @@ use Rattle.reconfigure.specs.declared.repair.Repair.{Repair}
 use Rattle.run_finder.specs.declared.outcome.Outcome.{Outcome}
 use Rattle.session_run.proofs.Meanings.{former_is}
 use Rattle.session_run.specs.Holding.{IsAt, StandsAt, situation_of, IsHinted, HasStepped, HasRound, IsTried, IsCut}
-use Rattle.session_run.specs.Sessions.{Subject, Situation, situation_behind, former_told}
+use Rattle.session_run.specs.Sessions.{Subject, Situation, situation_behind, former_told, journal_of}
 
 -- ---- where a session stands
 

@@ -1,5 +1,0 @@
-pub mod Asking
-pub mod Begun
-pub mod Ends
-pub mod Reading
-pub mod Rounds
