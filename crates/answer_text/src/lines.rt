@@ -27,11 +27,7 @@ pub(crate) fn push_objectives(
 }
 
 /// Adds that so many decisions didn't do.
-pub(crate) fn push_undecided(
-    alloc: Global,
-    text: &mut Vec<u8>,
-    decisions: u32,
-) -> Result<(), AllocError>
+pub fn push_undecided(alloc: Global, text: &mut Vec<u8>, decisions: u32) -> Result<(), AllocError>
     ensures text { OnOk result (text.new.items ≡ text.old.items ++ undecided_line decisions) }
 {
     let line = format!(in alloc; "undecided after {decisions} decisions\n")?;
@@ -39,7 +35,7 @@ pub(crate) fn push_undecided(
 }
 
 /// Adds a number with its name.
-pub(crate) fn push_number(
+pub fn push_number(
     alloc: Global,
     text: &mut Vec<u8>,
     name: &str,

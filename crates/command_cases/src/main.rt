@@ -1,9 +1,10 @@
 //! Runs the command on the cases of files, and prints of each file how many came out as they say.
 //!
 //! The files lie in `data`; `cases` says how they are written, and `desks` what those ask that are
-//! about desks, limits, words and logs. `repairs.series` is what `tools/repair-cases` wrote, and
-//! `sessions.series` what `tools/session-cases` did, which try every configuration. A case that
-//! came out otherwise is printed with its line and what the run printed and how it ended.
+//! about desks, limits, words and logs. `repairs.series` is what `tools/repair-cases` wrote,
+//! `sessions.series` what `tools/session-cases` did, and `cores.series` what `tools/core-cases` did,
+//! which try every configuration. A case that came out otherwise is printed with its line and what
+//! the run printed and how it ended.
 #![tactic(auto)]
 
 mod cases;
@@ -40,7 +41,7 @@ const FILES: [&str; 6] = [
 ];
 
 /// The files of what is asked of desks, and of runs over them.
-const DESK_FILES: [&str; 7] = [
+const DESK_FILES: [&str; 9] = [
     "desks.cases",
     "limits.cases",
     "words.cases",
@@ -48,6 +49,8 @@ const DESK_FILES: [&str; 7] = [
     "repair-desks.cases",
     "sessions.cases",
     "sessions.series",
+    "cores.cases",
+    "cores.series",
 ];
 
 /// Whether this is what the case says is printed.

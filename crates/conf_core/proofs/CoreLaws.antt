@@ -15,9 +15,9 @@ use Rattle.conf_eval.specs.Best.{HasNone}
 use Rattle.conf_eval.specs.Satisfying.{Satisfies, Holds}
 use Rattle.conf_types.specs.Programs.{ResolvedConstraint, constraint_at}
 use Rattle.model_rounds.specs.Rounds.{told_by, end_of}
-use Rattle.model_search.specs.Findings.{Tells}
-use Rattle.model_search.specs.declared.finding.Finding.{Finding}
-use Rattle.model_search.specs.declared.finding.Finding.TheVariants as findings
+use Rattle.model_rounds.specs.Findings.{Tells}
+use Rattle.model_rounds.specs.Finding.{Finding}
+use Rattle.model_rounds.specs.Finding.TheVariants as findings
 use Rattle.object_alloc.specs.Configurations.{IsConfiguration}
 use Rattle.proof_log.specs.declared.record.Round.{Round}
 use Rattle.run_finder.specs.declared.outcome.Outcome.{Outcome}

@@ -15,7 +15,7 @@ use Rattle.conf_types.specs.Programs.{ResolvedConstraint, ResolvedGoal, constrai
 use Rattle.ground_form.specs.declared.ground.Ground.{Ground}
 use Rattle.log_form.specs.Acceptance.{accepted}
 use Rattle.model_rounds.specs.Rounds.{journal_of, told_by, end_of}
-use Rattle.model_search.specs.Runs.{HasRun}
+use Rattle.model_rounds.specs.Runs.{HasRun}
 use Rattle.proof_log.specs.declared.record.Round.{Round}
 use Rattle.run_finder.specs.declared.outcome.Outcome.{Outcome}
 

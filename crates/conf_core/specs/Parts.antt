@@ -7,7 +7,7 @@ use Rattle.class_table.specs.Outline.{Outline}
 use Rattle.conf_types.specs.Programs.{ResolvedConstraint, constraint_at}
 use Rattle.ground_form.specs.WellMade.{IsWellMade}
 use Rattle.model_rounds.specs.Rounds.{journal_of, told_by, end_of}
-use Rattle.model_search.specs.Runs.{HasRun}
+use Rattle.model_rounds.specs.Runs.{HasRun}
 use Rattle.proof_log.specs.declared.record.Round.{Round}
 use Rattle.run_finder.specs.declared.outcome.Outcome.{Outcome}
 

@@ -11,7 +11,7 @@ use Rattle.conf_core.specs.declared.narrowing.Settled.{Settled}
 use Rattle.conf_types.specs.Programs.{ResolvedConstraint}
 use Rattle.ground_form.specs.WellMade.{IsWellMade}
 use Rattle.log_form.specs.Acceptance.{accepted}
-use Rattle.model_search.specs.Problems.{IsProblemOf}
+use Rattle.model_rounds.specs.Problems.{IsProblemOf}
 use Rattle.proof_log.specs.Rounds.{Journal}
 use Rattle.proof_log.specs.declared.record.Round.{Round}
 use Rattle.run_finder.specs.Outcomes.{OutcomeOf}

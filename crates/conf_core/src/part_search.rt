@@ -5,13 +5,12 @@ ghost use Rattle.conf_core.specs.Searching.{HasClosed};
 ghost use Rattle.conf_limits.specs.Measures.{model_narrow};
 ghost use Rattle.conf_types.specs.Typing.{IsTypedModel};
 ghost use Rattle.ground_form.specs.WellMade.{IsWellMade};
-ghost use Rattle.model_search.specs.Problems.{IsProblemOf};
+ghost use Rattle.model_rounds.specs.Problems.{IsProblemOf};
 
 use conf_types::TypedModel;
 use ground_form::Ground;
 use ground_model::{Origins, ground_with_origins};
-use model_rounds::{last_round, round_is_run};
-use model_search::{Question, no_hints};
+use model_rounds::{Question, last_round, no_hints, round_is_run};
 use object_alloc::Objects;
 use proof_log::Record;
 use run_finder::{Finder, Outcome};

@@ -1,6 +1,6 @@
 -- What words ask for. A reader believes after it: which lists of words are a request, and which
 -- request each of them is.
-use Rattle.std.specs.Prelude.{ℕ, ◌≡◌, ◌≤◌, Bool, true, false, not, ◌&&◌, ◌||◌, if◌then◌else◌}
+use Rattle.std.specs.Prelude.{ℕ, ◌≡◌, ◌≤◌, Bool, not, ◌&&◌, ◌||◌, if◌then◌else◌}
 use Rattle.std.specs.Prelude.{nat_eq, nat_le, nat_lt, List, [], ◌∷◌, ◌++◌, length, map, String}
 use Rattle.std.specs.Prelude.{string_bytes, codes, bytes_eq, Option, Some, None, is_none, IfNone}
 use Rattle.std.specs.Prelude.{option_map}
@@ -239,7 +239,7 @@ command_named word =
     else if bytes_eq word (command_text command.Core) then Some command.Core
     else None
 
--- what words ask for, of all commands: the first word is the command, those behind it are plain
+-- what words ask for: the first word is the command, those behind it are plain
 -- words and options
 abbrev pub parsed : List (List ℕ) → Option Request
 parsed [] = None
@@ -247,24 +247,9 @@ parsed (word ∷ words) =
     option_and_then (λ c. option_and_then (asked c (plain_words expected.Any words))
     (scan expected.Any nothing words)) (command_named word)
 
--- whether a request is one that this program answers; the others are no request yet
-abbrev pub is_built : Request → Bool
-is_built (Solve model budget log order) = true
-is_built (Reconfigure model former failed budget log order) = true
-is_built (Check model log former failed) = true
-is_built (Verify model config) = true
-is_built (Gen n) = true
-is_built (Session model former events budget order) = true
-is_built (Core model budget order) = false
-
--- a request that this program answers
-abbrev pub built : Option Request → Option Request
-built None = None
-built (Some r) = if is_built r then Some r else None
-
 -- what the words behind the program's name ask for
 unfoldable pub request : List (String Global) → Option Request
-request words = built (parsed (map string_bytes words))
+request words = parsed (map string_bytes words)
 
 -- the name of the model's file; `gen` makes its own model
 abbrev pub model_file : Request → Option (List ℕ)

@@ -3,7 +3,7 @@
 //! `draft_of` reads words without memory: it asks of each command which options and how many plain
 //! words it may have. `Draft::build` copies the words into the request.
 ghost use Rattle.std.specs.Prelude.{◌≡◌, map, string_bytes, option_map, option_copied, IfOk};
-ghost use Rattle.conf_request.specs.Words.{asked, check_of, verify_of, gen_of, parsed, is_built};
+ghost use Rattle.conf_request.specs.Words.{asked, check_of, verify_of, gen_of, parsed};
 ghost use Rattle.conf_request.specs.declared.command.Command.TheVariants as command;
 ghost use Rattle.conf_request.specs.Views.{given, plain, request_of};
 
@@ -192,22 +192,6 @@ fn paths(alloc: Global, words: PlainWords<'_>) -> Result<Paths, AllocError>
 }
 
 impl Draft<'_> {
-    /// Whether this program answers the request.
-    pub fn is_built(&self) -> bool
-        ensures { result ≡ is_built (request_of self.now) }
-    {
-        match self {
-            Draft::Solve(..) => true,
-            Draft::Reconfigure(..) => true,
-            Draft::Check(..) => true,
-            Draft::CheckFormer(..) => true,
-            Draft::Verify(..) => true,
-            Draft::Gen(..) => true,
-            Draft::Session(..) => true,
-            Draft::Core(..) => false,
-        }
-    }
-
     /// The request, with words of its own.
     pub fn build(self, alloc: Global) -> Result<Request, AllocError>
         ensures { IfOk result (λ built. built ≡ request_of self.entry) }

@@ -1,6 +1,6 @@
 //! Requests.
-ghost use Rattle.std.specs.Prelude.{◌≡◌, true, IfOk, IfErr, IsSome, IfSome, option_copied};
-ghost use Rattle.conf_request.specs.Words.{request, is_built, model_file, IsLawful};
+ghost use Rattle.std.specs.Prelude.{◌≡◌, IfOk, IfErr, IsSome, IfSome, option_copied};
+ghost use Rattle.conf_request.specs.Words.{request, model_file, IsLawful};
 
 use crate::draft::draft_of;
 use crate::file_name::FileName;
@@ -82,11 +82,10 @@ impl Request {
 pub fn request_of(alloc: Global, words: &[String]) -> Result<Option<Request>, AllocError>
     ensures request { IfOk result (λ found. found ≡ request words.now) }
     ensures memory { IfErr result (λ _. IsSome (request words.now)) }
-    ensures built { IfOk result (λ found. IfSome found (λ r. is_built r ≡ true)) }
     ensures lawful { IfOk result (λ found. IfSome found IsLawful) }
 {
     match draft_of(words) {
-        Some(draft) if draft.is_built() => Ok(Some(draft.build(alloc)?)),
-        _ => Ok(None),
+        Some(draft) => Ok(Some(draft.build(alloc)?)),
+        None => Ok(None),
     }
 }

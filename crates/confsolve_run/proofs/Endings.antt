@@ -9,21 +9,21 @@ use Rattle.desk_io.specs.Desk.{Files, with_file, with_printed}
 use Rattle.desk_io.specs.Whole.{StoresFront}
 use Rattle.proof_log.specs.Rounds.{Journal}
 use Rattle.run_status.specs.declared.status.Status.{Status}
-use Rattle.confsolve_run.specs.Answer.{IsAnswer}
-use Rattle.confsolve_run.specs.Asking.{OfAsked, OfText, log_file}
+use Rattle.round_commands.specs.Answer.{IsAnswer}
+use Rattle.round_commands.specs.Asking.{OfAsked, OfText, log_file}
 use Rattle.model_reader.specs.TextModel.{IsModelOf}
-use Rattle.confsolve_run.specs.Delivery.{Outside, outside, log_text, IsLoggedIn, IsLogFrontIn, IsLogFront, IsCutOff}
-use Rattle.confsolve_run.specs.Ending.{Trace, trace, IsBegun, EndsModel, EndsModelAt, Ends, EndsAt, RunEnds, RunEndsAt}
+use Rattle.round_commands.specs.Delivery.{Outside, outside, log_text, IsLoggedIn, IsLogFrontIn, IsLogFront, IsCutOff}
+use Rattle.round_commands.specs.Ending.{Trace, trace, Searches, IsBegun, EndsModel, EndsModelAt, Ends, EndsAt, RunEnds, RunEndsAt}
 use Rattle.model_reader.specs.Models.{IsWithin, outline_of, constraints_of, goals_of}
-use Rattle.confsolve_run.specs.Recorded.{IsRecorded}
-use Rattle.confsolve_run.specs.Refusal.{IsReason, IsDeniedOf, IsTooLongText}
+use Rattle.round_commands.specs.Recorded.{IsRecorded}
+use Rattle.round_commands.specs.Refusal.{IsReason, IsDeniedOf, IsTooLongText}
 use Rattle.model_reader.specs.ModelRefusal.{IsRefusedFor, IsTextRefused}
 use Rattle.run_status.specs.Stages.{Stage, Unasked, Unread, Refused, Answered, Unwritten, Lost, stage_of, Denied}
-use Rattle.confsolve_run.specs.Unreadable.{Unreadable}
+use Rattle.round_commands.specs.Unreadable.{Unreadable}
 use Rattle.confsolve_run.specs.Told.{IsLogOf, stored, StoresSome, IsBroken}
-use Rattle.confsolve_run.proofs.AskedParts.{risen_earlier}
-use Rattle.confsolve_run.proofs.Holdings.{answer_begun}
-use Rattle.confsolve_run.proofs.Asking.{asked_map, text_map, text_read}
+use Rattle.round_commands.proofs.Begun.{answer_begun}
+use Rattle.round_commands.proofs.Reading.{risen_earlier}
+use Rattle.round_commands.proofs.Asking.{asked_map, text_map, text_read}
 
 -- ---- the log
 
@@ -57,11 +57,6 @@ begun_of r journal text before now (inl c) = c.1
 begun_of r journal text before now (inr c) = whole_front (log_file r) journal before.files now.files c.0
 
 -- ---- a model
-
-pub model_denied : (t : Trace) (p : Program) (s : Status) → t.journal.rounds ≡ [] → Unreadable t.reads t.reads_now s (IsRefusedFor s p ⊎ (IsWithin p × IsDeniedOf t.before.files t.request t.journal s p)) → t.now ≡ t.before → EndsModel t p s
-model_denied t p s none (inl h) same = subst (λ x. EndsModelAt (stage_of x) t p x) (sym h.0) (h.1, same)
-model_denied t p s none (inr (inl h)) same = subst (λ x. EndsModelAt (stage_of x) t p x) (sym h) (inl (same, none))
-model_denied t p s none (inr (inr h)) same = subst (λ g. EndsModelAt g t p s) (sym h.0) (h.1, same)
 
 pub model_answered : (t : Trace) (p : Program) (s : Status) (name log : Option (List ℕ)) (text : List ℕ) → stage_of s ≡ Answered → IsRecorded t.orders t.request s t.journal → name ≡ log_file t.request → IsLogOf (is_some name) t.journal log → t.now.files ≡ stored name log t.before.files → IsWithin p → OfAsked t.before.files t.request (λ asked. IsAnswer t.orders t.journal asked p s text) → t.now.printed ≡ with_printed text t.before.printed → EndsModel t p s
 model_answered t p s name log text stage recorded is h files within answers printed =
@@ -102,7 +97,8 @@ text_at Refused t text p s is h = (reason h.0, h.1)
 text_at Answered t text p s is h = (h.0, (p, is, h.1))
 text_at Unwritten t text p s is h = (h.0, h.1, (p, is, h.2))
 text_at Lost t text p s is (inl same) = inl same
-text_at Lost t text p s is (inr h) = inr (h.0, (p, is, h.1))
+text_at Lost t text p s is (inr (inl h)) = inr (inl (h.0, (p, is, h.1)))
+text_at Lost t text p s is (inr (inr h)) = inr (inr (h.0, (p, is, h.1)))
 
 -- the text is no model's
 pub text_refused : (t : Trace) (text : List ℕ) (s : Status) → t.journal.rounds ≡ [] → Denied s (IsTextRefused text s) → t.now ≡ t.before → Ends t text s
@@ -120,8 +116,10 @@ run_at Answered r os journal before now reads mid reads_now writes writes_now te
 run_at Unwritten r os journal before now reads mid reads_now writes writes_now text s le read h =
     (h.0, record { status = h.1.status; recorded = h.1.recorded; logged = h.1.logged }, text_read before.files r text _ read h.2)
 run_at Lost r os journal before now reads mid reads_now writes writes_now text s le read (inl same) = inl same
-run_at Lost r os journal before now reads mid reads_now writes writes_now text s le read (inr h) =
-    inr (record { status = h.0.status; recorded = h.0.recorded; logged = h.0.logged }, text_read before.files r text _ read h.1)
+run_at Lost r os journal before now reads mid reads_now writes writes_now text s le read (inr (inl h)) =
+    inr (inl (record { status = h.0.status; recorded = h.0.recorded; logged = h.0.logged }, text_read before.files r text _ read h.1))
+run_at Lost r os journal before now reads mid reads_now writes writes_now text s le read (inr (inr h)) =
+    inr (inr (h.0, text_read before.files r text _ read h.1))
 
 -- reading changed neither files, nor what was printed, nor the count of failed writes
 pub run_ends : (r : Request) (os : List Order) (journal : Journal) (files mid_files : Option Files) (printed mid_printed : Option (List ℕ)) (now : Outside) (reads mid reads_now writes mid_writes writes_now : ℕ) (text : List ℕ) (s : Status) → mid_files ≡ files → mid_printed ≡ printed → mid_writes ≡ writes → reads ≤ mid → OfText files r (λ bytes. bytes ≡ text) → Ends (trace r os journal (outside mid_files mid_printed) now mid reads_now mid_writes writes_now) text s → RunEnds (trace r os journal (outside files printed) now reads reads_now writes writes_now) s

@@ -1,6 +1,4 @@
 pub mod AskedParts
-pub mod Asking
-pub mod Holdings
 pub mod Endings
 pub mod LogFiles
 pub mod OneAnswer

@@ -20,9 +20,9 @@ use Rattle.reconfigure.specs.declared.repair.Repair.{Repair}
 use Rattle.run_status.specs.declared.status.Status.{Status}
 use Rattle.run_status.specs.declared.status.Status.TheVariants as status
 use Rattle.confsolve_run.specs.Checking.{file_status, IsShownBy}
-use Rattle.confsolve_run.specs.Refusal.{IsUnfit, IsUnchecked}
-use Rattle.confsolve_run.specs.Unreadable.{Unreadable}
-use Rattle.confsolve_run.proofs.Asking.{file_map}
+use Rattle.round_commands.specs.Refusal.{IsUnfit, IsUnchecked}
+use Rattle.round_commands.specs.Unreadable.{Unreadable}
+use Rattle.round_commands.proofs.Asking.{file_map}
 
 some_same : {X : Type 0} (x y : X) → Some x ≡ Some y → x ≡ y
 some_same x y e = cc

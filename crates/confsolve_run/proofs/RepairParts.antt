@@ -11,16 +11,12 @@ use Rattle.proof_log.specs.Rounds.{Journal}
 use Rattle.reconfigure.specs.declared.repair.Repair.{Repair}
 use Rattle.run_status.specs.declared.status.Status.{Status}
 use Rattle.confsolve_run.specs.declared.answer.Answer.{Answer}
-use Rattle.confsolve_run.specs.Answer.{IsChecked, IsModelAnswer, IsRepairOf, IsSearched, order_at}
-use Rattle.confsolve_run.specs.Asking.{OfAsked, former_text}
-use Rattle.confsolve_run.specs.Refusal.{IsDenied, IsUnchecked}
-use Rattle.confsolve_run.specs.Unreadable.{Unreadable}
-use Rattle.confsolve_run.proofs.AskedParts.{unread_map, unread_earlier}
-use Rattle.confsolve_run.proofs.Asking.{file_map}
-
-pub no_word : (found : Option ℕ) → ((n : ℕ) → found ≡ Some n → ⊥) → found ≡ None
-no_word None h = refl
-no_word (Some n) h = absurd (h n refl)
+use Rattle.round_commands.specs.Answer.{IsChecked, IsModelAnswer, IsRepairOf, IsSearched, order_at}
+use Rattle.round_commands.specs.Asking.{OfAsked, former_text}
+use Rattle.round_commands.specs.Refusal.{IsDenied, IsUnchecked}
+use Rattle.round_commands.specs.Unreadable.{Unreadable}
+use Rattle.round_commands.proofs.Reading.{unread_map, unread_earlier}
+use Rattle.round_commands.proofs.Asking.{file_map}
 
 module _ (told : Option Files) (q : Request) (o : Outline) (ks : List ResolvedConstraint) (gs : List ResolvedGoal) (journal : Journal) (former : List ℕ) (failed words : List (List ℕ)) (named : words ≡ failed) (r : Repair) (repair : OfFile told former (λ bytes. IsRepairOf o (former_text bytes words) r)) where
   of_request : OfFile told former (λ bytes. IsRepairOf o (former_text bytes failed) r)

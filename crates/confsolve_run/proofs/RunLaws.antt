@@ -8,14 +8,14 @@ use Rattle.model_limits.specs.Limits.{model_bytes}
 use Rattle.proof_log.specs.Rounds.{Journal}
 use Rattle.run_status.specs.declared.status.Status.{Status}
 use Rattle.run_status.specs.declared.status.Status.TheVariants as status
-use Rattle.confsolve_run.specs.Asking.{OfText, log_file, text_of}
-use Rattle.confsolve_run.specs.Delivery.{IsLogFront, IsLogFrontIn}
-use Rattle.confsolve_run.specs.Ending.{Trace, Prints, Breaks, Delivers, Begins, IsUntouched, RunEnds, RunEndsAt, OfTrace}
-use Rattle.confsolve_run.specs.Refusal.{IsReason, IsTooLongText, IsStanding}
+use Rattle.round_commands.specs.Asking.{OfText, log_file, text_of}
+use Rattle.round_commands.specs.Delivery.{IsLogFront, IsLogFrontIn}
+use Rattle.round_commands.specs.Ending.{Trace, Prints, Breaks, Searches, Delivers, Begins, IsUntouched, RunEnds, RunEndsAt, OfTrace}
+use Rattle.round_commands.specs.Refusal.{IsReason, IsTooLongText, IsStanding}
 use Rattle.model_reader.specs.ModelRefusal.{IsTextRefused}
 use Rattle.run_status.specs.Stages.{Stage, Unasked, Unread, Refused, Answered, Unwritten, Lost, stage_of, is_silent, is_partial, IsSettled, IsUnless}
-use Rattle.confsolve_run.specs.Unreadable.{Unreadable}
-use Rattle.confsolve_run.proofs.Asking.{text_known}
+use Rattle.round_commands.specs.Unreadable.{Unreadable}
+use Rattle.round_commands.proofs.Asking.{text_known}
 
 -- what holds of the request holds where there is one
 pub given : (o : Option Request) (r : Request) (P : Request → Type 0) → o ≡ Some r → P r → IfSome o P
@@ -49,7 +49,7 @@ module _ (t : Trace) (s : Status) (h : RunEnds t s) where
   pub unwritten : s ≡ status.WriteFault → HasRisen t.writes t.writes_now × Begins t × OfTrace t (Breaks t)
   unwritten is = at Unwritten (ap stage_of is)
 
-  pub lost : s ≡ status.Memory → IsUntouched t ⊎ (Begins t × OfTrace t (Breaks t))
+  pub lost : s ≡ status.Memory → IsUntouched t ⊎ ((Begins t × OfTrace t (Breaks t)) ⊎ ((t.now ≡ t.before) × OfTrace t (Searches t)))
   lost is = at Lost (ap stage_of is)
 
 silent_at : (g : Stage) (t : Trace) (s : Status) → is_silent g ≡ true → RunEndsAt g t s → t.now ≡ t.before
@@ -75,7 +75,8 @@ front_at Refused t s is h = absurd cc
 front_at Answered t s is h = absurd cc
 front_at Unwritten t s is h = h.1.logged
 front_at Lost t s is (inl same) = untouched (log_file t.request) t.journal t.before.files t.now.files (ap (λ o. o.files) same.0)
-front_at Lost t s is (inr h) = h.0.logged
+front_at Lost t s is (inr (inl h)) = h.0.logged
+front_at Lost t s is (inr (inr h)) = untouched (log_file t.request) t.journal t.before.files t.now.files (ap (λ o. o.files) h.0)
 
 pub log_front : (t : Trace) (s : Status) → RunEnds t s → is_partial (stage_of s) ≡ true → IsLogFront t.request t.journal t.before.files t.now.files
 log_front t s h is = front_at (stage_of s) t s is h

@@ -8,8 +8,8 @@ use Rattle.model_search.specs.declared.finding.Finding.{Finding}
 use Rattle.proof_log.specs.Rounds.{Journal}
 use Rattle.reconfigure.specs.declared.repair.Repair.{Repair}
 use Rattle.run_status.specs.declared.status.Status.{Status}
-use Rattle.confsolve_run.specs.Answer.{searched_status, IsSearched}
-use Rattle.confsolve_run.specs.Recorded.{HasSearched}
+use Rattle.round_commands.specs.Answer.{searched_status, IsSearched}
+use Rattle.round_commands.specs.Recorded.{HasSearched}
 use Rattle.confsolve_run.specs.Told.{HoldsLog}
 
 pub holds_log : (o : Outline) (ks : List ResolvedConstraint) (gs : List ResolvedGoal) (r : Option Repair) (order : Order) (budget : ℕ) (journal : Journal) (told : Finding) → HasRun o ks gs r order budget journal told → HoldsLog journal

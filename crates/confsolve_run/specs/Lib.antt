@@ -1,11 +1,3 @@
-pub mod Answer
-pub mod Asking
 pub mod Checking
-pub mod Delivery
-pub mod Ending
-pub mod Recorded
-pub mod Holding
-pub mod Refusal
 pub mod Told
-pub mod Unreadable
 pub mod Verifying

@@ -8,7 +8,7 @@ use Rattle.ground_form.specs.declared.ground.Ground.{Ground}
 use Rattle.ground_form.specs.WellMade.{IsWellMade}
 use Rattle.log_form.specs.Acceptance.{accepted}
 use Rattle.proof_log.specs.Rounds.{Journal}
-use Rattle.confsolve_run.specs.Delivery.{Outside, log_text}
+use Rattle.round_commands.specs.Delivery.{Outside, log_text}
 
 -- the record holds a problem and accepted lines
 pub record HoldsLog (journal : Journal) : Type 0 where

@@ -1,12 +1,10 @@
-//! An answer, and what it takes to find one.
+//! An answer, and what is asked of a model.
 ghost use Rattle.std.specs.Prelude.{◌≡◌};
 
-use branch_choice::Chooser;
 use model_reader::Built;
 use model_search::Question;
 use reconfigure::Repair;
 use run_status::Status;
-use std::alloc::Global;
 
 /// A text with the status that it comes with, and the text of the log where one is wanted.
 #[derive(Drop)]
@@ -14,13 +12,6 @@ pub(crate) struct Answer {
     pub status: Status,
     pub text: Vec<u8>,
     pub log: Option<Vec<u8>>,
-}
-
-/// Where memory comes from, and a chooser for each of the orders first, small and former.
-#[derive(Clone, Copy)]
-pub(crate) struct Resources<'a> {
-    pub alloc: Global,
-    pub choosers: &'a [Chooser; 3],
 }
 
 /// What is asked of a model, or of a repair of it.

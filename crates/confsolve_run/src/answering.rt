@@ -2,39 +2,39 @@
 //!
 //! `run_text` is the entry: it reads the text's model, builds it, answers what is asked of it,
 //! and delivers the answer.
-ghost use Rattle.std.specs.Prelude.{map, ◌≡◌, ◌⊎◌, ◌≤◌, IsTrue, List, Some, true, false, length, is_some, option_copied, IfOk, IfErr, OnOk, ℕ};
+ghost use Rattle.std.specs.Prelude.{map, ◌≡◌, ◌⊎◌, ◌≤◌, IsTrue, List, [], Some, true, false, length, is_some, option_copied, IfOk, IfErr, OnOk, OnErr, ℕ};
 ghost use Rattle.std.specs.Option.{option_map};
-ghost use Rattle.conf_request.specs.Words.{is_built, IsLawful};
+ghost use Rattle.conf_request.specs.Words.{IsLawful};
 ghost use Rattle.conf_syntax.specs.Trees.{program_tokens, nesting};
 ghost use Rattle.conf_syntax.specs.Words.{AreWords};
 ghost use Rattle.model_limits.specs.Limits.{model_bytes, most_nesting};
 ghost use Rattle.proof_log.specs.Rounds.{empty};
 ghost use Rattle.run_status.specs.declared.status.Status.{Status as AStatus};
-ghost use Rattle.confsolve_run.specs.Answer.{IsModelAnswer, IsAnswer};
-ghost use Rattle.confsolve_run.specs.Asking.{IsFurther, OfAsked, is_session, log_file};
-ghost use Rattle.confsolve_run.specs.Delivery.{outside};
-ghost use Rattle.confsolve_run.specs.Ending.{Ends, EndsModel, trace};
+ghost use Rattle.round_commands.specs.Answer.{IsModelAnswer, IsModelSearched, IsAnswer, IsAnswerSearched};
+ghost use Rattle.round_commands.specs.Asking.{IsFurther, OfAsked, closes_rounds, is_session, log_file};
+ghost use Rattle.round_commands.specs.Delivery.{outside};
+ghost use Rattle.round_commands.specs.Ending.{Ends, EndsModel, trace};
 ghost use Rattle.model_reader.specs.Models.{IsWithin};
 ghost use Rattle.model_reader.specs.Ready.{IsReady};
-ghost use Rattle.confsolve_run.specs.Recorded.{IsRecorded};
-ghost use Rattle.confsolve_run.specs.Refusal.{IsDenied, IsDeniedOf};
+ghost use Rattle.round_commands.specs.Recorded.{IsRecorded};
+ghost use Rattle.round_commands.specs.Refusal.{IsDenied, IsDeniedOf};
 ghost use Rattle.model_reader.specs.ModelRefusal.{IsRefusedFor, IsTextRefused};
 ghost use Rattle.run_status.specs.Stages.{Answered, stage_of, IsUnless};
-ghost use Rattle.confsolve_run.specs.Unreadable.{Unreadable};
+ghost use Rattle.round_commands.specs.Unreadable.{Unreadable};
 ghost use Rattle.confsolve_run.specs.Told.{IsLogOf};
 
-use crate::answer::{Answer, Resources};
+use crate::answer::Answer;
+use crate::blaming::blamed;
 use crate::checking::check;
 use crate::delivering::deliver;
-use crate::former::repair_of;
 use crate::searching::{Wanted, generated, solve};
-use crate::session::hold_model;
 use crate::verifying::verify;
 use conf_request::{FileName, Request};
 use conf_syntax::Program;
 use desk_io::{Desk, WriteError};
 use model_reader::{Built, objects_of, read_model, table_of, typed_model};
 use proof_log::Record;
+use round_commands::{Resources, hold_model, repair_of};
 use rule_law::Kit;
 use run_status::Status;
 use std::alloc::Global;
@@ -82,7 +82,6 @@ fn asked<D: Desk>(
         → IsTrue (D.may_read desk.old name) }
     requires ready { IsReady built.table.now built.objects.now built.model.now.constraints
         built.model.now.goals }
-    requires is_built { is_built request.now ≡ true }
     requires other { is_session request.now ≡ false }
     requires lawful { IsLawful request.now }
     requires empty { journal.old ≡ empty }
@@ -101,7 +100,10 @@ fn asked<D: Desk>(
         (D.read_faults desk.new) s (IsDenied (D.files desk.old) request.now journal.new s
         built.entry.objects.now built.entry.model.now.constraints
         built.entry.model.now.goals)) }
-    ensures rounds { journal.new.rounds ≡ journal.old.rounds }
+    ensures cut { OnErr result ((journal.new.rounds ≡ [])
+        ⊎ OfAsked (D.files desk.old) request.now (λ asked. IsModelSearched built.entry.objects.now
+        built.entry.model.now.constraints journal.new asked)) }
+    ensures rounds { closes_rounds request.now ≡ false → journal.new.rounds ≡ journal.old.rounds }
     ensures files { D.files desk.new ≡ D.files desk.old }
     ensures printed { D.printed desk.new ≡ D.printed desk.old }
     ensures read_faults { D.read_faults desk.old ≤ D.read_faults desk.new }
@@ -144,7 +146,10 @@ fn asked<D: Desk>(
             }
         },
         Request::Verify { config, .. } => verify(with.alloc, desk, config, built),
-        Request::Session { .. } | Request::Core { .. } => unreachable!(),
+        Request::Core { budget, order, .. } => {
+            Ok(blamed(with, built, *budget, *order, kit, journal)?)
+        }
+        Request::Session { .. } => unreachable!(),
     }
 }
 
@@ -162,7 +167,6 @@ fn outcome<D: Desk>(
     requires few { length (program_tokens program.now) ≤ model_bytes }
     requires may_read { (name : List ℕ) → IsFurther request.now name
         → IsTrue (D.may_read desk.old name) }
-    requires is_built { is_built request.now ≡ true }
     requires other { is_session request.now ≡ false }
     requires lawful { IsLawful request.now }
     requires empty { journal.old ≡ empty }
@@ -181,7 +185,10 @@ fn outcome<D: Desk>(
         (D.read_faults desk.new) s (IsRefusedFor s program.now
         ⊎ (IsWithin program.now
         × IsDeniedOf (D.files desk.old) request.now journal.new s program.now))) }
-    ensures rounds { journal.new.rounds ≡ journal.old.rounds }
+    ensures cut { OnErr result ((journal.new.rounds ≡ [])
+        ⊎ (IsWithin program.now × OfAsked (D.files desk.old) request.now
+        (λ asked. IsAnswerSearched journal.new asked program.now))) }
+    ensures rounds { closes_rounds request.now ≡ false → journal.new.rounds ≡ journal.old.rounds }
     ensures files { D.files desk.new ≡ D.files desk.old }
     ensures printed { D.printed desk.new ≡ D.printed desk.old }
     ensures read_faults { D.read_faults desk.old ≤ D.read_faults desk.new }
@@ -215,7 +222,6 @@ fn answer_model<D: Desk>(
         → IsTrue (D.may_read desk.old name) }
     requires may_write { (name : List ℕ) → log_file request.now ≡ Some name
         → IsTrue (D.may_write desk.old name) }
-    requires is_built { is_built request.now ≡ true }
     requires lawful { IsLawful request.now }
     requires empty { journal.old ≡ empty }
     ensures ends { EndsModel (trace request.now (map (λ c. c.order) with.entry.choosers.now)
@@ -224,7 +230,7 @@ fn answer_model<D: Desk>(
         (outside (D.files desk.new) (D.printed desk.new))
         (D.read_faults desk.old) (D.read_faults desk.new) (D.write_faults desk.old)
         (D.write_faults desk.new)) program.now result }
-    ensures rounds { is_session request.now ≡ false → journal.new.rounds ≡ journal.old.rounds }
+    ensures rounds { closes_rounds request.now ≡ false → journal.new.rounds ≡ journal.old.rounds }
 {
     if is_session(request) {
         return hold_model(with, desk, program, request, kit, journal);
@@ -255,7 +261,6 @@ pub(crate) fn run_text<D: Desk>(
         → IsTrue (D.may_read desk.old name) }
     requires may_write { (name : List ℕ) → log_file request.now ≡ Some name
         → IsTrue (D.may_write desk.old name) }
-    requires is_built { is_built request.now ≡ true }
     requires lawful { IsLawful request.now }
     requires empty { journal.old ≡ empty }
     ensures ends { Ends (trace request.now (map (λ c. c.order) with.entry.choosers.now) journal.new
@@ -264,7 +269,7 @@ pub(crate) fn run_text<D: Desk>(
         (D.read_faults desk.old) (D.read_faults desk.new) (D.write_faults desk.old)
         (D.write_faults desk.new)) text.now result }
     ensures stands { (s : AStatus) → IsTextRefused text.now s → IsUnless s result }
-    ensures rounds { is_session request.now ≡ false → journal.new.rounds ≡ journal.old.rounds }
+    ensures rounds { closes_rounds request.now ≡ false → journal.new.rounds ≡ journal.old.rounds }
 {
     match read_model(with.alloc, text) {
         Ok(program) => answer_model(with, desk, &program, request, kit, journal),

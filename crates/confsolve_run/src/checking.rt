@@ -9,14 +9,14 @@ ghost use Rattle.model_search.specs.Findings.{Tells};
 ghost use Rattle.model_search.specs.Problems.{IsProblemOf};
 ghost use Rattle.model_search.specs.Wanted.{IsUnderstood};
 ghost use Rattle.proof_log.specs.Rounds.{empty};
-ghost use Rattle.confsolve_run.specs.Answer.{IsChecked, checked_status};
+ghost use Rattle.round_commands.specs.Answer.{IsChecked, checked_status};
 ghost use Rattle.answer_text.specs.Texts.{check_text};
 ghost use Rattle.confsolve_run.specs.Checking.{IsShownBy, file_status};
 ghost use Rattle.model_reader.specs.Ready.{IsReady};
-ghost use Rattle.confsolve_run.specs.Recorded.{HasChecked};
-ghost use Rattle.confsolve_run.specs.Refusal.{IsUnfit, IsUnchecked};
+ghost use Rattle.round_commands.specs.Recorded.{HasChecked};
+ghost use Rattle.round_commands.specs.Refusal.{IsUnfit, IsUnchecked};
 ghost use Rattle.run_status.specs.Stages.{Answered, stage_of};
-ghost use Rattle.confsolve_run.specs.Unreadable.{Unreadable};
+ghost use Rattle.round_commands.specs.Unreadable.{Unreadable};
 
 use crate::answer::{Answer, question_of};
 use answer_text::check_text;

@@ -1,27 +1,27 @@
 //! From words to what is printed: `run` reads the words, and then the text of the model that they
 //! name.
 ghost use Rattle.std.specs.Prelude.{map, ◌≡◌, ◌↔◌, ◌⊎◌, List, [], None, Some, true, false, IsTrue, IfSome, ℕ};
-ghost use Rattle.conf_request.specs.Words.{request, is_built, model_file, IsLawful};
+ghost use Rattle.conf_request.specs.Words.{request, model_file, IsLawful};
 ghost use Rattle.conf_request.specs.declared.request.Request.{Request as ARequest};
 ghost use Rattle.desk_io.specs.Desk.{with_printed};
 ghost use Rattle.desk_io.specs.Fault.{HasRisen};
 ghost use Rattle.proof_log.specs.Rounds.{empty};
 ghost use Rattle.run_status.specs.declared.status.Status.{Status as AStatus};
-ghost use Rattle.confsolve_run.specs.Answer.{IsAnswer, IsAnswerBegun};
-ghost use Rattle.confsolve_run.specs.Asking.{Reads, Writes, IsFurther, OfText, is_session, log_file, text_of};
-ghost use Rattle.confsolve_run.specs.Delivery.{outside, IsLogged, IsLogFront, IsCutOff};
-ghost use Rattle.confsolve_run.specs.Ending.{OfRequest, RunEnds, trace};
-ghost use Rattle.confsolve_run.specs.Recorded.{IsRecorded};
-ghost use Rattle.confsolve_run.specs.Refusal.{IsReason, IsStanding};
+ghost use Rattle.round_commands.specs.Answer.{IsAnswer, IsAnswerBegun, IsAnswerSearched};
+ghost use Rattle.round_commands.specs.Asking.{Reads, Writes, IsFurther, OfText, closes_rounds, log_file, text_of};
+ghost use Rattle.round_commands.specs.Delivery.{outside, IsLogged, IsLogFront, IsCutOff};
+ghost use Rattle.round_commands.specs.Ending.{OfRequest, RunEnds, trace};
+ghost use Rattle.round_commands.specs.Recorded.{IsRecorded};
+ghost use Rattle.round_commands.specs.Refusal.{IsReason, IsStanding};
 ghost use Rattle.run_status.specs.Stages.{Refused, Answered, stage_of, is_silent, is_partial, IsSettled, IsUnless};
 
-use crate::answer::Resources;
 use crate::answering::run_text;
 use crate::source::text_of;
 use branch_choice::Chooser;
 use conf_request::{Request, request_of};
 use desk_io::Desk;
 use proof_log::Record;
+use round_commands::Resources;
 use rule_law::Kit;
 use run_status::Status;
 use std::alloc::Global;
@@ -40,7 +40,6 @@ fn run_request<D: Desk>(
         → IsTrue (D.may_read desk.old name) }
     requires may_write { (name : List ℕ) → log_file request.now ≡ Some name
         → IsTrue (D.may_write desk.old name) }
-    requires is_built { is_built request.now ≡ true }
     requires lawful { IsLawful request.now }
     requires empty { journal.old ≡ empty }
     ensures ends { RunEnds (trace request.now (map (λ c. c.order) with.entry.choosers.now)
@@ -52,7 +51,7 @@ fn run_request<D: Desk>(
     ensures stands { (text : List ℕ) (s : AStatus)
         → text_of (D.files desk.old) request.now ≡ Some text → IsStanding text s
         → IsUnless s result }
-    ensures rounds { is_session request.now ≡ false → journal.new.rounds ≡ journal.old.rounds }
+    ensures rounds { closes_rounds request.now ≡ false → journal.new.rounds ≡ journal.old.rounds }
 {
     match text_of(with.alloc, desk, request) {
         Ok(text) => run_text(with, desk, &text, request, kit, journal),
@@ -105,15 +104,20 @@ pub fn run<D: Desk>(
         × IsAnswerBegun (map (λ c. c.order) choosers.now) journal.new asked p s text
         × IsCutOff r journal.new text (outside (D.files desk.old) (D.printed desk.old))
         (outside (D.files desk.new) (D.printed desk.new))) }
-    // want of memory came before writing and before a round was closed, or the same is so
+    // want of memory came before writing and before a round was closed; or the same is so; or it came
+    // among the searches for what to blame, before writing
     ensures memory { result ≡ Status.Memory
         → ((outside (D.files desk.new) (D.printed desk.new)
         ≡ outside (D.files desk.old) (D.printed desk.old)) × (journal.new.rounds ≡ []))
-        ⊎ OfRequest (D.files desk.old) words.now
+        ⊎ (OfRequest (D.files desk.old) words.now
         (λ r asked p. (s : AStatus) × (text : List ℕ)
         × IsAnswerBegun (map (λ c. c.order) choosers.now) journal.new asked p s text
         × IsCutOff r journal.new text (outside (D.files desk.old) (D.printed desk.old))
-        (outside (D.files desk.new) (D.printed desk.new))) }
+        (outside (D.files desk.new) (D.printed desk.new)))
+        ⊎ ((outside (D.files desk.new) (D.printed desk.new)
+        ≡ outside (D.files desk.old) (D.printed desk.old))
+        × OfRequest (D.files desk.old) words.now
+        (λ r asked p. IsAnswerSearched journal.new asked p))) }
 
     // the record holds what the answer rests on, and the log's file a front of the log
     ensures kept { result ≡ Status.WriteFault → IfSome (request words.now)
@@ -134,8 +138,8 @@ pub fn run<D: Desk>(
         → HasRisen (D.read_faults desk.old) (D.read_faults desk.new) }
     ensures unwritten { result ≡ Status.WriteFault
         → HasRisen (D.write_faults desk.old) (D.write_faults desk.new) }
-    // no other command has rounds
-    ensures rounds { IfSome (request words.now) (λ r. is_session r ≡ false
+    // no command but a session and `core` has rounds
+    ensures rounds { IfSome (request words.now) (λ r. closes_rounds r ≡ false
         → journal.new.rounds ≡ journal.old.rounds) }
 {
     let with = Resources { alloc, choosers };

@@ -3,7 +3,7 @@ ghost use Rattle.std.specs.Prelude.{◌≡◌, ◌≤◌, List, Some, OnOk, OnEr
 ghost use Rattle.std.specs.Option.{option_map};
 ghost use Rattle.desk_io.specs.Desk.{with_printed};
 ghost use Rattle.desk_io.specs.Fault.{HasRisen};
-ghost use Rattle.confsolve_run.specs.Delivery.{outside};
+ghost use Rattle.round_commands.specs.Delivery.{outside};
 ghost use Rattle.confsolve_run.specs.Told.{stored, StoresSome, IsBroken};
 
 use crate::answer::Answer;

@@ -3,26 +3,23 @@
 //! - `command`: `run`, which reads the words.
 //! - `source`: the text of the model, from its file or made for `gen`.
 //! - `answering`: from the text to what is asked of its model, and to the answer.
-//! - `former`: the text of a configuration, and the repair that one asks for.
-//! - `searching`, `checking`, `verifying`: what is asked of a model: a best configuration, what a
-//!   log shows, whether a configuration satisfies it.
-//! - `session`: the answers to a text of events, each printed as it is found.
-//! - `finder`: who searches for the rounds of a session.
-//! - `answer`: an answer, and what it takes to find one.
+//! - `searching`, `checking`, `verifying`, `blaming`: what is asked of a model: a best configuration,
+//!   what a log shows, whether a configuration satisfies it, what to blame where there is none.
+//! - `answer`: an answer, and what is asked of a model.
 //! - `delivering`: the log is written, and the answer printed.
 //! - `laws`: a text has one model.
+//!
+//! What `run` promises stands in `round_commands`, as do a session and the searches of `core`.
 #![tactic(auto)]
 
 mod answer;
 mod answering;
+mod blaming;
 mod checking;
 mod command;
 mod delivering;
-mod finder;
-mod former;
 mod laws;
 mod searching;
-mod session;
 mod source;
 mod verifying;
 

@@ -6,3 +6,4 @@ pub mod Aims
 pub mod Fixing
 pub mod Known
 pub mod RowsAsked
+pub use Rattle.ground_expr.specs.Asked

@@ -1,1 +1,2 @@
 pub mod Meanings
+pub use Rattle.model_search.proofs.RepairProblems

@@ -6,4 +6,5 @@
 
 mod telling;
 
+pub use model_search::{Finding, Question, no_hints};
 pub use telling::{last_round, lines_mean, round_is_run};

@@ -10,7 +10,7 @@ use Rattle.conf_eval.specs.Satisfying.{objectives}
 use Rattle.conf_types.specs.Programs.{ResolvedConstraint, ResolvedGoal}
 use Rattle.ground_cells.proofs.Points.{cells_agree}
 use Rattle.ground_cells.specs.CellBoxes.{cell_boxes}
-use Rattle.ground_expr.specs.Asked.{functions}
+use Rattle.ground_model.specs.Asked.{functions}
 use Rattle.ground_form.specs.declared.con.Con.{Con}
 use Rattle.ground_form.specs.declared.ground.GroundGoal.{GroundGoal}
 use Rattle.ground_form.specs.declared.ground.Ground.{Ground}

@@ -3,3 +3,4 @@ pub mod Problems
 pub mod Runs
 pub mod Searching
 pub mod Wanted
+pub use Rattle.ground_model.specs.Asked

@@ -86,7 +86,7 @@ line_text (status.Limit kind place) = limit_text kind place
 line_text status.Usage =
     codes "usage: confsolve solve MODEL, reconfigure MODEL FORMER [FAILED ..], "
     ++ (codes "check MODEL LOG [FORMER [FAILED ..]], verify MODEL CONFIG, "
-    ++ codes "session MODEL FORMER EVENTS, gen N")
+    ++ codes "session MODEL FORMER EVENTS, core MODEL, gen N")
 line_text status.ReadFault = codes "read fault"
 line_text status.WriteFault = codes "write fault"
 line_text (status.Former kind) = former_text kind

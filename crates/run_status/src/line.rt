@@ -9,7 +9,7 @@ use std::alloc::{AllocError, Global};
 /// What may be asked of the program.
 const USAGE: &str = "usage: confsolve solve MODEL, reconfigure MODEL FORMER [FAILED ..], \
     check MODEL LOG [FORMER [FAILED ..]], verify MODEL CONFIG, \
-    session MODEL FORMER EVENTS, gen N";
+    session MODEL FORMER EVENTS, core MODEL, gen N";
 
 /// The name of a limit.
 fn kind_name(kind: LimitKind) -> &'static str

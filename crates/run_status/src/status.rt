@@ -9,10 +9,10 @@ use std::alloc::AllocError;
 #[derive(Debug, Drop)]
 pub enum Status {
     /// The answer was printed: a configuration that satisfies the model and than which none is
-    /// better, or, of `verify`, that the configuration satisfies the model, or, of `check`, what
-    /// the log shows where that isn't that there is none.
+    /// better, or, of `verify`, that the configuration satisfies the model, or, of `core`, that
+    /// some does, or, of `check`, what the log shows where that isn't that there is none.
     Done,
-    /// `none exists` was printed: no configuration satisfies the model.
+    /// `none exists` or a core was printed: no configuration satisfies the model.
     NoneExists,
     /// So many decisions were allowed, and they didn't suffice. The best configuration that was
     /// found, if any was, was printed.

@@ -8,8 +8,8 @@ use Rattle.conf_events.specs.declared.event.Event.{Event}
 use Rattle.conf_session.specs.Standing.{Standing}
 use Rattle.desk_io.specs.Desk.{with_printed}
 use Rattle.desk_io.specs.Whole.{PrintsFront}
-use Rattle.model_search.specs.Runs.{is_open}
-use Rattle.model_search.specs.declared.finding.Finding.{Finding}
+use Rattle.model_rounds.specs.Runs.{is_open}
+use Rattle.model_rounds.specs.Finding.{Finding}
 use Rattle.proof_log.specs.declared.record.Round.{Round}
 use Rattle.session_run.proofs.Stepping.{situation_is, nothing_printed}
 use Rattle.session_run.specs.Holding.{StandsAt, situation_of, IsTold, IsCut, IsUpTo}

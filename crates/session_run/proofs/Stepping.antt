@@ -9,15 +9,16 @@ use Rattle.conf_session.specs.Standing.{Standing, failed_behind, former_behind}
 use Rattle.conf_session.specs.Steps.{Steps, IsStep}
 use Rattle.desk_io.specs.Desk.{with_printed}
 use Rattle.desk_io.specs.Whole.{PrintsFront}
-use Rattle.ground_expr.specs.Asked.{functions}
+use Rattle.model_rounds.specs.Asked.{functions}
 use Rattle.ground_form.specs.WellMade.{IsWellMade}
 use Rattle.ground_form.specs.declared.ground.Ground.{Ground}
 use Rattle.log_check.specs.Verdicts.{ending}
-use Rattle.model_search.proofs.RepairProblems.{repaired_by}
-use Rattle.model_search.specs.Findings.{finding}
-use Rattle.model_search.specs.Runs.{HasRun}
-use Rattle.model_search.specs.declared.finding.Finding.{Finding}
-use Rattle.model_search.specs.declared.finding.Finding.TheVariants as findings
+use Rattle.model_rounds.specs.Rounds.{journal_of}
+use Rattle.model_rounds.proofs.RepairProblems.{repaired_by}
+use Rattle.model_rounds.specs.Findings.{finding}
+use Rattle.model_rounds.specs.Runs.{HasRun}
+use Rattle.model_rounds.specs.Finding.{Finding}
+use Rattle.model_rounds.specs.Finding.TheVariants as findings
 use Rattle.object_alloc.specs.Hints.{AreHints}
 use Rattle.proof_log.specs.Rounds.{Journal}
 use Rattle.proof_log.specs.declared.record.Round.{Round}
@@ -26,7 +27,7 @@ use Rattle.reconfigure.specs.declared.repair.Repair.{Repair}
 use Rattle.run_finder.specs.declared.outcome.Outcome.{Outcome}
 use Rattle.session_run.proofs.Meanings.{former_is}
 use Rattle.session_run.specs.Holding.{IsAt, StandsAt, situation_of, IsHinted, HasStepped, HasRound, IsTried, IsCut}
-use Rattle.session_run.specs.Sessions.{Subject, Situation, situation_behind, former_told, journal_of}
+use Rattle.session_run.specs.Sessions.{Subject, Situation, situation_behind, former_told}
 
 -- ---- where a session stands
 

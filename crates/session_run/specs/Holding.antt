@@ -8,12 +8,12 @@ use Rattle.conf_session.specs.Standing.{Standing, IsOver}
 use Rattle.desk_io.specs.Desk.{with_printed}
 use Rattle.desk_io.specs.Whole.{PrintsFront}
 use Rattle.log_check.specs.Verdicts.{ending}
-use Rattle.model_search.specs.Findings.{finding}
-use Rattle.model_search.specs.Problems.{IsProblemOf}
-use Rattle.model_search.specs.Runs.{is_open}
-use Rattle.model_search.specs.Wanted.{IsUnderstood}
-use Rattle.model_search.specs.declared.finding.Finding.{Finding}
-use Rattle.model_search.specs.declared.finding.Finding.TheVariants as findings
+use Rattle.model_rounds.specs.Findings.{finding}
+use Rattle.model_rounds.specs.Problems.{IsProblemOf}
+use Rattle.model_rounds.specs.Runs.{is_open}
+use Rattle.model_rounds.specs.Wanted.{IsUnderstood}
+use Rattle.model_rounds.specs.Finding.{Finding}
+use Rattle.model_rounds.specs.Finding.TheVariants as findings
 use Rattle.object_alloc.specs.Hints.{AreHints}
 use Rattle.proof_log.specs.Rounds.{Journal}
 use Rattle.proof_log.specs.declared.record.Round.{Round}

@@ -11,10 +11,10 @@ use Rattle.conf_events.specs.declared.event.Event.{Event}
 use Rattle.conf_session.specs.Standing.{failed_behind}
 use Rattle.conf_types.specs.Programs.{ResolvedConstraint, ResolvedGoal}
 use Rattle.ground_form.specs.WellMade.{IsWellMade}
-use Rattle.model_search.specs.Runs.{HasRun, is_open}
-use Rattle.model_search.specs.declared.finding.Finding.{Finding}
-use Rattle.model_search.specs.declared.finding.Finding.TheVariants as findings
-use Rattle.proof_log.specs.Rounds.{Journal}
+use Rattle.model_rounds.specs.Rounds.{journal_of}
+use Rattle.model_rounds.specs.Runs.{HasRun, is_open}
+use Rattle.model_rounds.specs.Finding.{Finding}
+use Rattle.model_rounds.specs.Finding.TheVariants as findings
 use Rattle.proof_log.specs.declared.record.Round.{Round}
 use Rattle.reconfigure.specs.declared.repair.Repair.{Repair}
 use Rattle.run_status.specs.declared.status.Status.{Status}
@@ -49,10 +49,6 @@ former_told former (findings.Open last) = former
 
 abbrev pub situation_behind : Situation → Event → Finding → Situation
 situation_behind p e told = situation (former_told p.former told) (failed_behind e p.failed)
-
--- a round as the record of a run
-abbrev pub journal_of : Round → Journal
-journal_of round = record { ground = Some round.ground; lines = round.lines; rounds = [] }
 
 -- the round is a run, within the budget, over the problem of a repair of what stands behind the
 -- event, by the values in force; it tells this; and the text is what a repair then prints

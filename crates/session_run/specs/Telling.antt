@@ -1,7 +1,7 @@
 -- What the end of a search tells, by the values that its lines found last.
 use Rattle.std.specs.Prelude.{List, ℤ, Option, None, Some}
-use Rattle.model_search.specs.declared.finding.Finding.{Finding}
-use Rattle.model_search.specs.declared.finding.Finding.TheVariants as findings
+use Rattle.model_rounds.specs.Finding.{Finding}
+use Rattle.model_rounds.specs.Finding.TheVariants as findings
 use Rattle.run_finder.specs.declared.outcome.Outcome.{Outcome}
 use Rattle.run_finder.specs.declared.outcome.Outcome.TheVariants as outcomes
 

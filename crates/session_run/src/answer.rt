@@ -1,27 +1,26 @@
 //! The answer to one event.
-ghost use Rattle.std.specs.Prelude.{◌≡◌, ◌≤◌, ◌++◌, ◌∷◌, [], List, Some, None, IsSome, length, option_copied, IfOk, IfSome, OnOk, OnErr, IsErrOf};
+ghost use Rattle.std.specs.Prelude.{◌≡◌, ◌≤◌, Some, IsSome, length, option_copied, IfOk, IfSome, OnOk, OnErr, IsErrOf};
 ghost use Rattle.answer_text.specs.Texts.{solve_text};
 ghost use Rattle.conf_session.specs.Standing.{failed_behind};
 ghost use Rattle.desk_io.specs.Fault.{HasRisen};
 ghost use Rattle.log_check.specs.Added.{last_values};
 ghost use Rattle.log_check.specs.Verdicts.{ending};
 ghost use Rattle.model_reader.specs.Ready.{IsReady};
-ghost use Rattle.model_search.specs.Findings.{finding, Tells};
-ghost use Rattle.model_search.specs.Wanted.{IsUnderstood};
+ghost use Rattle.model_rounds.specs.Findings.{finding, Tells};
+ghost use Rattle.model_rounds.specs.Wanted.{IsUnderstood};
 ghost use Rattle.object_alloc.specs.Named.{object_named};
-ghost use Rattle.proof_log.specs.declared.record.Round.{Round as ARound};
 ghost use Rattle.run_finder.specs.Outcomes.{OutcomeOf};
 ghost use Rattle.session_run.specs.Holding.{IsBetween, IsHinted, StandsAt, situation_of, HasStepped, HasRound, IsTold, IsTried, IsCut};
 ghost use Rattle.session_run.specs.Sessions.{situation_behind, subject};
 
-use crate::telling::{best_is_hints, finding_by, round_is_run};
+use crate::telling::{best_is_hints, finding_by};
 use answer_text::solve_text;
 use conf_events::Event;
 use conf_session::{Session, failed_behind};
 use conf_syntax::PathText;
 use desk_io::{Desk, WriteError, print_all};
 use model_reader::Built;
-use model_search::{Finding, Question};
+use model_rounds::{Finding, Question, last_round, round_is_run};
 use object_alloc::Hints;
 use proof_log::{Record, Round};
 use reconfigure::Repair;
@@ -95,16 +94,6 @@ fn stepped<F: Finder>(
 {
     let outcome = session.step(with.alloc, with.built.objects, event, finder, journal)?;
     Ok(outcome)
-}
-
-/// The last round of a record that has one.
-fn last_round(journal: &Record) -> &Round
-    requires { 1 ≤ length journal.now.rounds }
-    ensures { (before : List ARound) (round : ARound)
-        → journal.now.rounds ≡ before ++ round ∷ [] → result.now ≡ round }
-{
-    let rounds = journal.rounds();
-    &rounds[rounds.len() - 1]
 }
 
 /// What a round tells of the model whose repair it is about, and its text.

@@ -2,7 +2,7 @@
 //!
 //! - `holding`: `hold_session`, the loop over the events.
 //! - `answer`: the answer to one event, and its text.
-//! - `telling`: what the lines of a round tell of the model.
+//! - `telling`: what the end of a search tells, and the lines that it left.
 //!
 //! What answers a session stands in `specs/Sessions`.
 #![tactic(auto)]

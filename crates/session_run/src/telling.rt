@@ -1,65 +1,22 @@
-//! What the lines of a round tell of the model.
-ghost use Rattle.std.specs.Prelude.{◌≡◌, ◌≤◌, ℕ, ℤ, List, Option, None, Some, true, length, map, take, option_copied, IfOk, IfSome};
+//! What the end of a search tells, and the lines that it left.
+ghost use Rattle.std.specs.Prelude.{◌≡◌, ◌≤◌, ℕ, ℤ, List, Some, length, map, take, option_copied, IfOk, IfSome};
 ghost use Rattle.std.specs.Option.{option_map};
-ghost use Rattle.branch_choice.specs.declared.split.Order.TheVariants as orders;
-ghost use Rattle.ground_form.specs.WellMade.{IsWellMade};
 ghost use Rattle.log_check.specs.Added.{last_values};
-ghost use Rattle.log_check.specs.Soundness.{Means, FoundSolves};
-ghost use Rattle.log_check.specs.Verdicts.{ending, shown_of};
-ghost use Rattle.model_search.specs.Findings.{finding, Tells};
-ghost use Rattle.model_search.specs.Problems.{IsProblemOf};
-ghost use Rattle.model_search.specs.Runs.{HasRun};
+ghost use Rattle.log_check.specs.Verdicts.{ending};
+ghost use Rattle.model_rounds.specs.Findings.{finding, Tells};
+ghost use Rattle.model_rounds.specs.Finding.TheVariants as findings;
 ghost use Rattle.object_alloc.specs.Hints.{AreHints};
 ghost use Rattle.run_finder.specs.Outcomes.{OutcomeOf};
-ghost use Rattle.search_run.specs.Replay.{is_run};
-ghost use Rattle.model_search.specs.declared.finding.Finding.TheVariants as findings;
-ghost use Rattle.session_run.specs.Sessions.{journal_of};
 ghost use Rattle.session_run.specs.Telling.{told_of};
 
 use conf_eval::full_sets_are_hints;
 use conf_session::last_found;
 use ground_form::Ground;
-use kept_clauses::know_lines;
 use log_form::Line;
-use model_search::{Finding, Question, undecided_has_more};
+use model_rounds::{Finding, Question};
 use object_alloc::Config;
-use proof_log::Round;
 use run_finder::Outcome;
-use search_run::front_is_run;
 use std::alloc::{AllocError, Global};
-
-/// What accepted lines show is so: a law. It looks at each line once.
-#[tactic(auto, using(crate::proofs::Meanings::laws_of_lines))]
-fn lines_mean(g: &Ground, lines: &[Line])
-    requires well_made { IsWellMade g.now }
-    requires run { is_run g.now lines.now ≡ true }
-    ensures means { Means g.now (shown_of (ending g.now lines.now)) }
-    ensures found { FoundSolves g.now (ending g.now lines.now).found }
-    ensures long { IfSome (last_values lines.now) (λ a. g.now.search ≤ length a) }
-{
-    front_is_run(g, lines);
-    know_lines(lines);
-}
-
-/// A round over the problem of what is asked, by a run that ended so, is a run that tells what its
-/// lines tell: a law.
-#[tactic(auto, using(crate::proofs::Meanings::run_of))]
-pub(crate) fn round_is_run(question: Question<'_>, round: &Round, outcome: Outcome, budget: u32)
-    requires problem { IsProblemOf question.objects.now question.model.now.constraints
-        question.model.now.goals (option_copied question.repair) round.now.ground }
-    requires run { is_run round.now.ground round.now.lines ≡ true }
-    requires outcome { OutcomeOf round.now.ground budget round.now.lines outcome }
-    ensures run { HasRun question.entry.objects.now question.entry.model.now.constraints
-        question.entry.model.now.goals (option_copied question.entry.repair) orders.Own budget
-        (journal_of round.now) (finding round.now.ground
-        (ending round.now.ground round.now.lines)) }
-    ensures long { IfSome (last_values round.now.lines)
-        (λ a. round.now.ground.search ≤ length a) }
-{
-    let lines = round.lines.items();
-    lines_mean(&round.ground, lines);
-    undecided_has_more(question, &round.ground, lines);
-}
 
 /// The configuration of which these values begin with the values.
 fn front_of(alloc: Global, g: &Ground, values: &[i64]) -> Result<Config, AllocError>

@@ -1,6 +1,0 @@
-use Rattle.confsolve_run.proofs.Holdings.{as_many_hints}
-use Rattle.confsolve_run.proofs.session.session_of.Goals as goal
-
-pub new-session-requires-clause-hints : goal.new-session-requires-clause-hints
-new-session-requires-clause-hints c =
-    as_many_hints c.args.built.objects.now c.args.built.model.now.constraints c.args.built.model.now.goals c.in_ok-g.g c.args.former c.in_ok-g.ensures.problem c.requires.hints

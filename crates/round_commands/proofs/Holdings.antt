@@ -1,0 +1,296 @@
+-- A session that was held, as a run over a model ends.
+use Rattle.std.proofs.Common.{◌≡◌, ◌⊎◌, false, cond, inl, inr, ◌∙◌, ℕ, true, List, [], ◌∷◌, ℤ, Option, None, Some, Result, Ok, Err, IfOk, IfErr, OnErr, All, IfSome, IsSome, IsSomeAnd, suc, length, map, refl, sym, subst, ap, append-nil}
+use Rattle.std.proofs.lemmas.List.Elements.{All-nil, All-cons}
+use Rattle.std.specs.List.{list_any}
+use Rattle.branch_choice.specs.declared.split.Order.{Order}
+use Rattle.class_table.specs.Outline.{Outline}
+use Rattle.conf_events.specs.declared.event.Event.{Event}
+use Rattle.conf_request.specs.declared.request.Request.{Request}
+use Rattle.conf_request.specs.declared.request.Request.TheVariants.{Solve, Reconfigure, Check, Verify, Gen, Session, Core}
+use Rattle.conf_syntax.specs.declared.tree.Program.{Program}
+use Rattle.conf_types.specs.Programs.{ResolvedConstraint, ResolvedGoal}
+use Rattle.conf_session.specs.Standing.{Standing}
+use Rattle.desk_io.specs.Desk.{Files, OfFile}
+use Rattle.ground_cells.specs.CellBoxes.{domain_box}
+use Rattle.model_rounds.specs.Asked.{functions}
+use Rattle.ground_form.specs.declared.ground.Ground.{Ground}
+use Rattle.model_reader.proofs.ModelParts.{at_model}
+use Rattle.desk_io.specs.declared.whole.WriteError.{WriteError}
+use Rattle.model_reader.specs.Building.{IsResolved}
+use Rattle.model_reader.specs.ModelRefusal.{IsRefusedFor}
+use Rattle.model_reader.specs.Models.{IsWithin}
+use Rattle.model_rounds.specs.Rounds.{told_by}
+use Rattle.model_rounds.specs.Problems.{IsProblemOf}
+use Rattle.model_rounds.specs.Runs.{is_open}
+use Rattle.model_rounds.specs.Finding.{Finding}
+use Rattle.object_alloc.proofs.HintLaws.{hints_lie}
+use Rattle.object_alloc.specs.Cells.{cells}
+use Rattle.object_alloc.specs.Hints.{AreCellHints, AreHints}
+use Rattle.object_alloc.specs.declared.object.Cell.{Cell}
+use Rattle.proof_log.specs.Rounds.{Journal}
+use Rattle.proof_log.specs.declared.record.Round.{Round}
+use Rattle.reconfigure.specs.Failing.{unknown_word}
+use Rattle.run_status.specs.declared.status.FormerKind.TheVariants as former
+use Rattle.run_status.specs.declared.status.Status.TheVariants as status
+use Rattle.run_status.specs.Stages.{Answered, Denied, stage_of}
+use Rattle.run_status.specs.declared.status.Status.{Status}
+use Rattle.session_run.specs.Holding.{StandsAt, situation_of}
+use Rattle.session_run.specs.Sessions.{Situation, Subject, situation, situation_behind, subject, session_status, is_none_told, IsAnswered, AreAnswered, AreHeld, AreBegun}
+use Rattle.round_commands.specs.Answer.{IsModelAnswer, IsModelBegun, IsDay}
+use Rattle.round_commands.specs.Asking.{Asked, Best, Generated, Checked, Satisfied, Held, Blamed, FormerText, OfAsked, former_text}
+use Rattle.round_commands.specs.Delivery.{IsLogged, IsLogFront}
+use Rattle.round_commands.specs.Ending.{Trace, Prints, Breaks, IsBegun, IsHeldWhole}
+use Rattle.round_commands.proofs.Asking.{asked_map, file_map}
+use Rattle.round_commands.specs.Holding.{AreTextsRefused, ForModel, IsDayOf, IsDayRefused, IsOpenedBy, IsOpenedFor, HasBudget, HasWhole, HasPart}
+use Rattle.round_commands.specs.Refusal.{IsDenied, IsDeniedOf, IsEventsRefused, IsFormerRefused, IsUnread}
+use Rattle.round_commands.specs.Unreadable.{Unreadable}
+use Rattle.round_commands.proofs.Reading.{unread_map}
+use Rattle.round_commands.proofs.Rounds.{round_of}
+use Rattle.round_commands.specs.Recorded.{HasHeld, IsRecorded, IsRoundOf}
+use Rattle.round_commands.specs.declared.session.Day.{Day}
+use Rattle.round_commands.specs.declared.session.Opened.{Opened}
+
+-- ---- a session that is opened
+
+one_each : (o : Outline) (cs : List Cell) (hs : List (Option ℤ)) → AreCellHints o cs hs → length hs ≡ length cs
+one_each o [] [] h = refl
+one_each o [] (k ∷ hs) h = absurd h
+one_each o (c ∷ cs) [] h = absurd h
+one_each o (c ∷ cs) (k ∷ hs) h = ap suc (one_each o cs hs h.1)
+
+boxes_size : (o : Outline) (cs : List Cell) → length (map (λ (c : Cell). domain_box o c.domain) cs) ≡ length cs
+boxes_size o [] = refl
+boxes_size o (c ∷ cs) = ap suc (boxes_size o cs)
+
+-- there is a hint, or none, for each searched variable
+pub as_many_hints : (o : Outline) (ks : List ResolvedConstraint) (gs : List ResolvedGoal) (g : Ground) (hs : List (Option ℤ)) → IsProblemOf o ks gs None g → AreHints o hs → length hs ≡ g.search
+as_many_hints o ks gs g hs p h = one_each o (cells o) hs (hints_lie o hs h) ∙ sym (p.stands.searched ∙ boxes_size o (cells o))
+
+pub opened_situation : (state : Option Standing) (former : List (Option ℤ)) → IsSome state → IfSome state (λ s. s.former ≡ former) → IfSome state (λ s. s.failed ≡ []) → situation_of state ≡ situation former []
+opened_situation None former some f w = absurd cc
+opened_situation (Some st) former some f w = ap (λ (x : List (Option ℤ)). situation x st.failed) f ∙ ap (λ (x : List (List ℕ)). situation former x) w
+
+pub opened_at : (o : Outline) (ks : List ResolvedConstraint) (gs : List ResolvedGoal) (budget : ℕ) (g : Ground) (former : List (Option ℤ)) (state : Option Standing) → IsProblemOf o ks gs None g → AreHints o former → IsSomeAnd state (λ s. s.ground ≡ g) → IfSome state (λ s. s.former ≡ former) → IfSome state (λ s. s.failed ≡ []) →
+    StandsAt (subject o ks gs budget) (situation_of state) state
+opened_at o ks gs budget g former None p h is f w = is
+opened_at o ks gs budget g former (Some st) p h is f w =
+    let problem : IsProblemOf o ks gs None st.ground = subst (λ (x : Ground). IsProblemOf o ks gs None x) (sym is) p in
+    record {
+      over = record {
+        test = problem.test;
+        functions = functions o gs;
+        stands = problem.stands;
+        failed = subst (λ (ws : List (List ℕ)). unknown_word o ws ≡ None) (sym w) refl;
+      };
+      problem = problem;
+      hints = subst (λ (hs : List (Option ℤ)). AreHints o hs) (sym f) h;
+      former = refl;
+      failed = refl;
+    }
+
+some_and : (state : Option Standing) (P : Standing → Type 0) → IsSomeAnd state P → IsSome state
+some_and None P h = absurd h
+some_and (Some st) P h = refl
+
+pub opened_situation_and : (state : Option Standing) (g : Ground) (former : List (Option ℤ)) → IsSomeAnd state (λ s. s.ground ≡ g) → IfSome state (λ s. s.former ≡ former) → IfSome state (λ s. s.failed ≡ []) → situation_of state ≡ situation former []
+opened_situation_and state g former is f w = opened_situation state former (some_and state (λ s. s.ground ≡ g) is) f w
+
+-- ---- what a request asks for
+
+opened_by : (o : Outline) (before bytes : List ℕ) (budget order : ℕ) (x : Opened) (d : Day) → IsDayOf o before bytes d → situation_of x.session.state ≡ situation d.former [] → x.events ≡ d.events → x.budget ≡ budget → IsOpenedBy o before bytes budget order x
+opened_by o before bytes budget order x d h at events within = record {
+  repair = h.repair;
+  former = h.former;
+  short = h.short;
+  good = h.good;
+  situation_is = at ∙ ap (λ (hs : List (Option ℤ)). situation hs []) h.values;
+  events = events ∙ h.events;
+  budget_is = within;
+}
+
+pub opened_for : (told : Option Files) (q : Request) (o : Outline) (x : Opened) (model former events before bytes : List ℕ) (budget order : ℕ) (d : Day) → q ≡ Session model former events budget order → OfFile told former (λ r. r ≡ before) → OfFile told events (λ r. r ≡ bytes) → IsDayOf o before bytes d →
+    situation_of x.session.state ≡ situation d.former [] → x.events ≡ d.events → x.budget ≡ budget → OfAsked told q (IsOpenedFor o x)
+opened_for told q o x model former events before bytes budget order d is f e h at evs within =
+    subst (λ (r : Request). OfAsked told r (IsOpenedFor o x)) (sym is)
+    (file_map told former (λ r. r ≡ before) _ (λ r same.
+    file_map told events (λ r. r ≡ bytes) (λ bs. IsOpenedBy o r bs budget order x) (λ bs equal.
+    subst (λ (a : List ℕ). IsOpenedBy o a bs budget order x) (sym same) (subst (λ (b : List ℕ). IsOpenedBy o before b budget order x) (sym equal) (opened_by o before bytes budget order x d h at evs within))) e) f)
+
+pub has_budget : (q : Request) (model former events : List ℕ) (budget order n : ℕ) → q ≡ Session model former events budget order → n ≡ budget → HasBudget q n
+has_budget q model former events budget order n is within = subst (λ (r : Request). HasBudget r n) (sym is) within
+
+-- a text that isn't read as an object is refused as a former one
+pub unread_refused : (o : Outline) (f : FormerText) (s : Status) → IsUnread f.bytes s → IsFormerRefused o f s
+unread_refused o f (status.Former (former.UnknownObject n)) h = absurd h
+unread_refused o f (status.Former former.NotJson) h = h
+unread_refused o f (status.Former former.NotObject) h = h
+unread_refused o f s h = h
+
+-- ---- what is refused
+
+module _ (told : Option Files) (q : Request) (o : Outline) (ks : List ResolvedConstraint) (gs : List ResolvedGoal) (model former events : List ℕ) (budget order : ℕ) (is : q ≡ Session model former events budget order) (s : Status) where
+  at_request : ((journal : Journal) → IsDenied told (Session model former events budget order) journal s o ks gs) → (journal : Journal) → IsDenied told q journal s o ks gs
+  at_request h = λ journal. subst (λ (r : Request). IsDenied told r journal s o ks gs) (sym is) (h journal)
+
+  long_or_unread : AreTextsRefused told former events s → (journal : Journal) → IsDenied told q journal s o ks gs
+  long_or_unread (inl h) = at_request (λ journal. inl (file_map told former (λ before. IsUnread before s) _ (λ before u. unread_refused o (former_text before []) s u) h))
+  long_or_unread (inr h) = at_request (λ journal. inr (file_map told former _ _ (λ before. file_map told events (λ bytes. (p : Outline) → IsEventsRefused p bytes s) (λ bytes. IsEventsRefused o bytes s) (λ bytes u. u o)) h))
+
+  pub texts_denied : (reads reads_now : ℕ) → Unreadable reads reads_now s (AreTextsRefused told former events s) → Unreadable reads reads_now s ((journal : Journal) → IsDenied told q journal s o ks gs)
+  texts_denied reads reads_now h = unread_map reads reads_now s _ _ long_or_unread h
+
+  of_day : (before bytes : List ℕ) → OfFile told former (λ r. r ≡ before) → OfFile told events (λ r. r ≡ bytes) → IsDayRefused o before bytes s → (journal : Journal) → IsDenied told q journal s o ks gs
+  of_day before bytes f e (inl h) = at_request (λ journal. inl (file_map told former (λ r. r ≡ before) _ (λ r same. subst (λ (b : List ℕ). IsFormerRefused o (former_text b []) s) (sym same) h) f))
+  of_day before bytes f e (inr h) = at_request (λ journal. inr (file_map told former (λ r. r ≡ before) _ (λ r same. file_map told events (λ b. b ≡ bytes) (λ b. IsEventsRefused o b s) (λ b equal. subst (λ (c : List ℕ). IsEventsRefused o c s) (sym equal) h) e) f))
+
+  pub day_denied : (reads reads_now : ℕ) (before bytes : List ℕ) → OfFile told former (λ r. r ≡ before) → OfFile told events (λ r. r ≡ bytes) → Denied s (IsDayRefused o before bytes s) → Unreadable reads reads_now s ((journal : Journal) → IsDenied told q journal s o ks gs)
+  day_denied reads reads_now before bytes f e (inl h) = inr (inl h)
+  day_denied reads reads_now before bytes f e (inr h) = inr (inr (h.0, of_day before bytes f e h.1))
+
+-- ---- how a session ends
+
+module _ (o : Outline) (ks : List ResolvedConstraint) (gs : List ResolvedGoal) (os : List Order) (journal : Journal) (x : Opened) where
+  -- what was said of the session's situation and events is said of what was asked
+  said_of : (before bytes : List ℕ) (budget order : ℕ) (P : Subject → Situation → List Event → Type 0) → IsOpenedBy o before bytes budget order x → P (subject o ks gs x.budget) (situation_of x.session.state) x.events → IsDay o before bytes (λ p es. P (subject o ks gs budget) p es)
+  said_of before bytes budget order P h said = record {
+    repair = h.repair;
+    former = h.former;
+    short = h.short;
+    good = h.good;
+    holds =
+        subst (λ (es : List Event). P (subject o ks gs budget) (situation h.repair.former []) es) h.events
+        (subst (λ (p : Situation). P (subject o ks gs budget) p x.events) h.situation_is
+        (subst (λ (n : ℕ). P (subject o ks gs n) (situation_of x.session.state) x.events) h.budget_is said));
+  }
+
+  whole_answer : (asked : Asked) (end : Status) (text : List ℕ) → IsOpenedFor o x asked → AreHeld (subject o ks gs x.budget) (situation_of x.session.state) x.events journal.rounds end text → IsModelAnswer o ks gs os journal asked end text
+  whole_answer (Held before bytes budget order) end text h a = said_of before bytes budget order (λ s p es. AreHeld s p es journal.rounds end text) h a
+  whole_answer (Best former budget order) end text h a = absurd h
+  whole_answer (Generated n) end text h a = absurd h
+  whole_answer (Checked former bytes) end text h a = absurd h
+  whole_answer (Satisfied bytes) end text h a = absurd h
+  whole_answer (Blamed budget order) end text h a = absurd h
+
+  part_answer : (asked : Asked) (s : Status) (text : List ℕ) → IsOpenedFor o x asked → AreBegun (subject o ks gs x.budget) (situation_of x.session.state) x.events journal.rounds text → IsModelBegun o ks gs os journal asked s text
+  part_answer (Held before bytes budget order) s text h a = said_of before bytes budget order (λ u p es. AreBegun u p es journal.rounds text) h a
+  part_answer (Best former budget order) s text h a = absurd h
+  part_answer (Generated n) s text h a = absurd h
+  part_answer (Checked former bytes) s text h a = absurd h
+  part_answer (Satisfied bytes) s text h a = absurd h
+  part_answer (Blamed budget order) s text h a = absurd h
+
+-- ---- the record
+
+rounds_of : (s : Subject) (p : Situation) (es : List Event) (ts : List Finding) (rounds : List Round) (text : List ℕ) → AreAnswered s p es ts rounds text → All (IsRoundOf s.budget) rounds × (map told_by rounds ≡ ts)
+rounds_of s p [] [] [] text h = (All-nil (IsRoundOf s.budget), refl)
+rounds_of s p [] [] (round ∷ rounds) text h = absurd h
+rounds_of s p [] (t ∷ ts) rounds text h = absurd h
+rounds_of s p (e ∷ es) [] rounds text h = absurd h
+rounds_of s p (e ∷ es) (t ∷ ts) [] text h = absurd h
+rounds_of s p (e ∷ es) (t ∷ ts) (round ∷ rounds) text h =
+    let here = round_of s.outline s.constraints s.goals (Some h.3.repair) s.budget round t h.3.run in
+    let rest = rounds_of s (situation_behind p e t) es ts rounds h.1 h.4 in
+    (All-cons (IsRoundOf s.budget) round rounds here.0 rest.0, ap (λ (x : Finding). x ∷ map told_by rounds) here.1 ∙ ap (λ (xs : List Finding). t ∷ xs) rest.1)
+
+has_held : (s : Subject) (p : Situation) (es : List Event) (ts : List Finding) (journal : Journal) (text : List ℕ) → AreAnswered s p es ts journal.rounds text → HasHeld s.budget (session_status s.budget ts) journal
+has_held s p es ts journal text h =
+    let all = rounds_of s p es ts journal.rounds text h in
+    record { rounds = all.0; status_is = ap (session_status s.budget) (sym all.1) }
+
+recorded_held : (os : List Order) (q : Request) (n : ℕ) (s : Status) (journal : Journal) → HasBudget q n → HasHeld n s journal → IsRecorded os q s journal
+recorded_held os (Session model former events budget order) n s journal is h = subst (λ (b : ℕ). HasHeld b s journal) is h
+recorded_held os (Solve model budget log order) n s journal is h = absurd is
+recorded_held os (Reconfigure model former failed budget log order) n s journal is h = absurd is
+recorded_held os (Check model log former failed) n s journal is h = absurd is
+recorded_held os (Verify model config) n s journal is h = absurd is
+recorded_held os (Gen n) m s journal is h = absurd is
+recorded_held os (Core model budget order) n s journal is h = absurd is
+
+-- a session has no log
+logged_none : (q : Request) (n : ℕ) (journal : Journal) (before now : Option Files) → HasBudget q n → now ≡ before → IsLogged q journal before now
+logged_none (Session model former events budget order) n journal before now is same = same
+logged_none (Solve model budget log order) n journal before now is same = absurd is
+logged_none (Reconfigure model former failed budget log order) n journal before now is same = absurd is
+logged_none (Check model log former failed) n journal before now is same = absurd is
+logged_none (Verify model config) n journal before now is same = absurd is
+logged_none (Gen n) m journal before now is same = absurd is
+logged_none (Core model budget order) n journal before now is same = absurd is
+
+front_none : (q : Request) (n : ℕ) (journal : Journal) (before now : Option Files) → HasBudget q n → now ≡ before → IsLogFront q journal before now
+front_none (Session model former events budget order) n journal before now is same = same
+front_none (Solve model budget log order) n journal before now is same = absurd is
+front_none (Reconfigure model former failed budget log order) n journal before now is same = absurd is
+front_none (Check model log former failed) n journal before now is same = absurd is
+front_none (Verify model config) n journal before now is same = absurd is
+front_none (Gen n) m journal before now is same = absurd is
+front_none (Core model budget order) n journal before now is same = absurd is
+
+-- ---- over the model that a program is
+
+session_stage : (budget : ℕ) (ts : List Finding) → stage_of (session_status budget ts) ≡ Answered
+session_stage budget ts =
+    elim (list_any is_open ts) as (λ b. stage_of (cond b (status.Undecided budget) (cond (list_any is_none_told ts) status.NoneExists status.Done)) ≡ Answered) [
+      | true ↦ refl
+      | false ↦ elim (list_any is_none_told ts) as (λ b. stage_of (cond b status.NoneExists status.Done) ≡ Answered) [ true ↦ refl | false ↦ refl ]
+    ]
+
+module _ (t : Trace) (p : Program) (table o : Outline) (cs : List ResolvedConstraint) (gs : List ResolvedGoal) (objects_are : o ≡ table) (made : IsResolved p table cs gs) (within : IsWithin p) (x : Opened) (asked_for : OfAsked t.before.files t.request (IsOpenedFor o x)) (budget : HasBudget t.request x.budget) (files : t.now.files ≡ t.before.files) where
+  pub whole_of : (end : Status) → HasWhole o cs gs x t.journal end t.before.printed t.now.printed → IsHeldWhole t p end
+  whole_of end h = record {
+    stage = ap stage_of h.1.status_is ∙ session_stage x.budget h.1.told;
+    delivers = record {
+      recorded = recorded_held t.orders t.request x.budget end t.journal budget (subst (λ (s : Status). HasHeld x.budget s t.journal) (sym h.1.status_is) (has_held (subject o cs gs x.budget) (situation_of x.session.state) x.events h.1.told t.journal h.0 h.1.answered));
+      logged = logged_none t.request x.budget t.journal t.before.files t.now.files budget files;
+    };
+    within = within;
+    prints = asked_map t.before.files t.request (IsOpenedFor o x) (λ asked. Prints t end asked p) (λ asked is. (
+      h.0,
+      at_model p table o cs gs objects_are made (λ y ks hs. IsModelAnswer y ks hs t.orders t.journal asked end h.0) (whole_answer o cs gs t.orders t.journal x asked end h.0 is h.1),
+      h.2,
+    )) asked_for;
+  }
+
+  pub part_of : HasPart o cs gs x t.journal t.before.printed t.now.printed → IsBegun t p
+  part_of h =
+      let end = session_status x.budget h.1.told in
+      record {
+        begins = record {
+          status = end;
+          recorded = recorded_held t.orders t.request x.budget end t.journal budget (has_held (subject o cs gs x.budget) (situation_of x.session.state) h.1.done h.1.told t.journal h.0 h.1.answered);
+          logged = front_none t.request x.budget t.journal t.before.files t.now.files budget files;
+        };
+        within = within;
+        breaks = asked_map t.before.files t.request (IsOpenedFor o x) (λ asked. Breaks t asked p) (λ asked is. (
+          end,
+          h.0,
+          at_model p table o cs gs objects_are made (λ y ks hs. IsModelBegun y ks hs t.orders t.journal asked end h.0) (part_answer o cs gs t.orders t.journal x asked end h.0 is h.1),
+          inr (logged_none t.request x.budget t.journal t.before.files t.now.files budget files, h.2),
+        )) asked_for;
+      }
+
+-- ---- results
+
+module _ (t : Trace) (o : Outline) (cs : List ResolvedConstraint) (gs : List ResolvedGoal) (x : Opened) (mid : Option (List ℕ)) (same : mid ≡ t.before.printed) (asked_for : OfAsked t.before.files t.request (IsOpenedFor o x)) (budget : HasBudget t.request x.budget) (files : t.now.files ≡ t.before.files) where
+  pub wholes : (res : Result Status WriteError) → IfOk res (λ end. HasWhole o cs gs x t.journal end mid t.now.printed) → IfOk res (λ end. ForModel o cs gs (λ p. IsHeldWhole t p end))
+  wholes (Ok end) h = λ p table objects_are made within. whole_of t p table o cs gs objects_are made within x asked_for budget files end (subst (λ (q : Option (List ℕ)). HasWhole o cs gs x t.journal end q t.now.printed) same h)
+  wholes (Err e) h = tt
+
+  pub parts : (res : Result Status WriteError) → OnErr res (HasPart o cs gs x t.journal mid t.now.printed) → OnErr res (ForModel o cs gs (λ p. IsBegun t p))
+  parts (Ok end) h = tt
+  parts (Err e) h = λ p table objects_are made within. part_of t p table o cs gs objects_are made within x asked_for budget files (subst (λ (q : Option (List ℕ)). HasPart o cs gs x t.journal q t.now.printed) same h)
+
+module _ (t : Trace) (p : Program) (table o : Outline) (cs : List ResolvedConstraint) (gs : List ResolvedGoal) (objects_are : o ≡ table) (made : IsResolved p table cs gs) (within : IsWithin p) where
+  pub model_whole : (res : Result (Result Status WriteError) Status) → IfOk res (λ r. IfOk r (λ end. ForModel o cs gs (λ q. IsHeldWhole t q end))) → IfOk res (λ r. IfOk r (IsHeldWhole t p))
+  model_whole (Ok (Ok end)) h = h p table objects_are made within
+  model_whole (Ok (Err e)) h = tt
+  model_whole (Err s) h = tt
+
+  pub model_part : (res : Result (Result Status WriteError) Status) → IfOk res (λ r. OnErr r (ForModel o cs gs (λ q. IsBegun t q))) → IfOk res (λ r. OnErr r (IsBegun t p))
+  model_part (Ok (Ok end)) h = tt
+  model_part (Ok (Err e)) h = h p table objects_are made within
+  model_part (Err s) h = tt
+
+  pub model_denies : (reads reads_now : ℕ) (told : Option Files) (q : Request) (journal : Journal) (res : Result (Result Status WriteError) Status) → IfErr res (λ s. Unreadable reads reads_now s ((j : Journal) → IsDenied told q j s o cs gs)) → IfErr res (λ s. Unreadable reads reads_now s (IsRefusedFor s p ⊎ (IsWithin p × IsDeniedOf told q journal s p)))
+  model_denies reads reads_now told q journal (Ok r) h = tt
+  model_denies reads reads_now told q journal (Err s) h =
+      unread_map reads reads_now s _ _ (λ d. inr (within, at_model p table o cs gs objects_are made (λ y ks hs. IsDenied told q journal s y ks hs) (d journal))) h

@@ -1,0 +1,102 @@
+-- What the steps of a session hand on. What a reader believes after this file: nothing that `run`
+-- says.
+use Rattle.std.specs.Prelude.{◌≡◌, ◌⊎◌, ◌≤◌, List, [], Option, None, IsSome, length, ℕ}
+use Rattle.std.specs.List.{All}
+use Rattle.class_table.specs.Outline.{Outline}
+use Rattle.conf_events.specs.Limits.{events_bytes}
+use Rattle.conf_events.specs.Texts.{bad_line, events_of}
+use Rattle.conf_request.specs.declared.request.Request.{Request}
+use Rattle.conf_request.specs.declared.request.Request.TheVariants.{Session}
+use Rattle.conf_syntax.specs.declared.tree.Program.{Program}
+use Rattle.conf_types.specs.Programs.{ResolvedConstraint, ResolvedGoal}
+use Rattle.desk_io.specs.Desk.{Files, OfFile, with_printed}
+use Rattle.desk_io.specs.Whole.{PrintsFront}
+use Rattle.model_reader.specs.Building.{IsResolved}
+use Rattle.model_reader.specs.Models.{IsWithin}
+use Rattle.object_alloc.specs.Named.{object_named}
+use Rattle.proof_log.specs.Rounds.{Journal}
+use Rattle.reconfigure.specs.declared.repair.Repair.{Repair}
+use Rattle.run_status.specs.declared.status.Status.{Status}
+use Rattle.session_run.specs.Holding.{StandsAt, situation_of}
+use Rattle.session_run.specs.Sessions.{situation, subject, AreHeld, AreBegun}
+use Rattle.round_commands.specs.Answer.{IsRepairOf}
+use Rattle.round_commands.specs.Asking.{Asked, Best, Generated, Checked, Satisfied, Held, Blamed, former_text}
+use Rattle.round_commands.specs.Refusal.{IsEventsRefused, IsFormerRefused, IsUnread}
+use Rattle.round_commands.specs.declared.session.Day.{Day}
+use Rattle.round_commands.specs.declared.session.Opened.{Opened}
+
+-- the values and the events are those of the texts
+pub record IsDayOf (o : Outline) (before bytes : List ℕ) (d : Day) : Type 0 where
+  pub repair : Repair
+  pub former : IsRepairOf o (former_text before []) repair
+  pub short : length bytes ≤ events_bytes
+  pub good : bad_line o bytes ≡ None
+  pub values : d.former ≡ repair.former
+  pub events : d.events ≡ events_of o bytes
+
+-- one of the files of a former text and of events is too long
+abbrev pub AreTextsRefused : Option Files → List ℕ → List ℕ → Status → Type 0
+AreTextsRefused told former events s =
+    OfFile told former (λ before. IsUnread before s)
+    ⊎ OfFile told former (λ before. OfFile told events
+    (λ bytes. (o : Outline) → IsEventsRefused o bytes s))
+
+-- one of the texts is refused
+abbrev pub IsDayRefused : Outline → List ℕ → List ℕ → Status → Type 0
+IsDayRefused o before bytes s =
+    IsFormerRefused o (former_text before []) s ⊎ IsEventsRefused o bytes s
+
+-- the session begins with the values of the former text, and has the events of the other
+pub record IsOpenedBy (o : Outline) (before bytes : List ℕ) (budget order : ℕ)
+    (x : Opened) : Type 0 where
+  pub repair : Repair
+  pub former : IsRepairOf o (former_text before []) repair
+  pub short : length bytes ≤ events_bytes
+  pub good : bad_line o bytes ≡ None
+  pub situation_is : situation_of x.session.state ≡ situation repair.former []
+  pub events : x.events ≡ events_of o bytes
+  pub budget_is : x.budget ≡ budget
+
+abbrev pub IsOpenedFor : Outline → Opened → Asked → Type 0
+IsOpenedFor o x (Held before bytes budget order) = IsOpenedBy o before bytes budget order x
+IsOpenedFor o x (Best former budget order) = ⊥
+IsOpenedFor o x (Generated n) = ⊥
+IsOpenedFor o x (Checked former bytes) = ⊥
+IsOpenedFor o x (Satisfied bytes) = ⊥
+IsOpenedFor o x (Blamed budget order) = ⊥
+
+-- it is over the model, its events are of the model's objects, and its order has a chooser
+pub record IsOpen (o : Outline) (ks : List ResolvedConstraint) (gs : List ResolvedGoal)
+    (x : Opened) : Type 0 where
+  pub at : StandsAt (subject o ks gs x.budget) (situation_of x.session.state) x.session.state
+  pub named : All (λ e. IsSome (object_named o e.path)) x.events
+  pub order : x.order ≤ 2
+
+-- the request is a session with this budget
+abbrev pub HasBudget : Request → ℕ → Type 0
+HasBudget (Session model former events budget order) n = n ≡ budget
+HasBudget r n = ⊥
+
+-- all events were answered, and the text of the answers printed
+abbrev pub HasWhole : Outline → List ResolvedConstraint → List ResolvedGoal → Opened → Journal
+    → Status → Option (List ℕ) → Option (List ℕ) → Type 0
+HasWhole o ks gs x journal end printed now =
+    (text : List ℕ)
+    × AreHeld (subject o ks gs x.budget) (situation_of x.session.state) x.events journal.rounds
+    end text
+    × (now ≡ with_printed text printed)
+
+-- the first of them were, and a front of the text was printed
+abbrev pub HasPart : Outline → List ResolvedConstraint → List ResolvedGoal → Opened → Journal
+    → Option (List ℕ) → Option (List ℕ) → Type 0
+HasPart o ks gs x journal printed now =
+    (text : List ℕ)
+    × AreBegun (subject o ks gs x.budget) (situation_of x.session.state) x.events journal.rounds
+    text
+    × PrintsFront text printed now
+
+-- P holds of each program whose model these are the parts of
+abbrev pub ForModel : Outline → List ResolvedConstraint → List ResolvedGoal → (Program → Type 0)
+    → Type 0
+ForModel o ks gs P =
+    (p : Program) → (table : Outline) → o ≡ table → IsResolved p table ks gs → IsWithin p → P p

@@ -1,0 +1,10 @@
+pub mod Holding
+pub mod Asking
+pub mod Answer
+pub mod Recorded
+pub mod Refusal
+pub mod Unreadable
+pub mod Delivery
+pub mod Ending
+pub mod Statuses
+pub use Rattle.core_run.specs.Blaming

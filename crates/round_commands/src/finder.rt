@@ -1,0 +1,44 @@
+//! Who searches for rounds: whoever has a kit and a chooser at hand.
+ghost use Rattle.std.specs.Prelude.{◌≡◌};
+
+use bound_search::Limits;
+use branch_choice::Chooser;
+use ground_form::Ground;
+use proof_log::Record;
+use rule_law::Kit;
+use run_finder::{Finder, Outcome};
+use search_finder::find;
+use std::alloc::{AllocError, Global};
+
+/// Where memory comes from, and a chooser for each of the orders first, small and former.
+#[derive(Clone, Copy)]
+pub struct Resources<'a> {
+    pub alloc: Global,
+    pub choosers: &'a [Chooser; 3],
+}
+
+/// Searches by branch and bound, with a kit and a chooser of others. What the kit has cached is
+/// kept from search to search.
+#[derive(Drop)]
+pub(crate) struct Searching<'a> {
+    pub limits: Limits,
+    pub kit: &'a mut Kit,
+    pub chooser: &'a Chooser,
+}
+
+impl<'a> Finder for Searching<'a> {
+    ghost allowed = { λ f. f.limits.budget };
+
+    fn budget(&self) -> u32 {
+        self.limits.budget
+    }
+
+    fn find(
+        &mut self,
+        g: Ground,
+        hints: &[Option<i64>],
+        journal: &mut Record,
+    ) -> Result<Outcome, AllocError> {
+        find(self.limits, self.kit, self.chooser, g, hints, journal)
+    }
+}

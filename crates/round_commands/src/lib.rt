@@ -1,0 +1,27 @@
+//! What a run of the command promises, and the parts of it that stand on the former configuration
+//! or on several searches.
+//!
+//! - `former`: the text of a configuration as it was or is to be: its file, what it is read as, and
+//!   the repair that one asks for.
+//! - `session`: the answers to a text of events, each printed as it is found.
+//! - `blaming`: what to blame where a model has no configuration.
+//! - `finder`: who searches for the rounds, and by what.
+//!
+//! What a run promises, as definitions:
+//! - `specs/Asking`: which text is that of a request's model, and what is asked of it.
+//! - `specs/Answer`: what answers it; `specs/Recorded`: what the record then holds.
+//! - `specs/Refusal`: why it is refused; `specs/Unreadable`: or why a file gave nothing.
+//! - `specs/Delivery`: what is printed and written; `specs/Ending`: how a run ends, by stages.
+//!
+//! `specs/Holding` says what steps of a session hand on.
+#![tactic(auto)]
+
+mod blaming;
+mod finder;
+mod former;
+mod session;
+
+pub use blaming::blame_model;
+pub use finder::Resources;
+pub use former::{config_bytes, former_of, repair_in, repair_of};
+pub use session::hold_model;

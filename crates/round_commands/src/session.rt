@@ -1,0 +1,450 @@
+//! `session`: the best repair behind each event of a text, each answer printed as it is found.
+ghost use Rattle.std.specs.Prelude.{map, ◌≡◌, ◌⊎◌, ◌≤◌, ◌^◌, IsTrue, IsSome, List, [], None, Some, true, length, IfOk, IfErr, OnErr, OnOk, IsErrOf, ℕ};
+ghost use Rattle.std.specs.List.{All};
+ghost use Rattle.class_table.specs.Outline.{Outline};
+ghost use Rattle.conf_events.specs.Limits.{events_bytes};
+ghost use Rattle.conf_events.specs.Texts.{bad_line, events_of};
+ghost use Rattle.conf_request.specs.Words.{IsLawful};
+ghost use Rattle.conf_syntax.specs.Trees.{program_tokens, nesting};
+ghost use Rattle.conf_syntax.specs.Words.{AreWords};
+ghost use Rattle.desk_io.specs.Desk.{OfFile};
+ghost use Rattle.desk_io.specs.Fault.{HasRisen};
+ghost use Rattle.model_limits.specs.Limits.{model_bytes, most_nesting};
+ghost use Rattle.model_reader.specs.ModelRefusal.{IsRefusedFor};
+ghost use Rattle.model_reader.specs.Models.{IsWithin};
+ghost use Rattle.model_reader.specs.Ready.{IsReady};
+ghost use Rattle.model_rounds.specs.Problems.{IsProblemOf};
+ghost use Rattle.object_alloc.specs.Hints.{AreHints};
+ghost use Rattle.object_alloc.specs.Named.{object_named};
+ghost use Rattle.proof_log.specs.Rounds.{Journal, empty};
+ghost use Rattle.session_run.specs.Holding.{StandsAt, situation_of};
+ghost use Rattle.session_run.specs.Sessions.{situation, subject};
+ghost use Rattle.run_status.specs.Stages.{Denied};
+ghost use Rattle.round_commands.specs.Asking.{IsFurther, IsShort, OfAsked, former_text, is_session};
+ghost use Rattle.round_commands.specs.Delivery.{outside};
+ghost use Rattle.round_commands.specs.Ending.{EndsModel, IsBegun, IsHeldWhole, trace};
+ghost use Rattle.round_commands.specs.Holding.{IsDayOf, IsDayRefused, AreTextsRefused, IsOpenedFor, IsOpen, ForModel, HasBudget, HasWhole, HasPart};
+ghost use Rattle.round_commands.specs.Refusal.{IsDenied, IsDeniedOf, IsEventsRefused, IsFormerRefused};
+ghost use Rattle.round_commands.specs.Unreadable.{Unreadable};
+
+use crate::finder::{Resources, Searching};
+use crate::former::{config_bytes, repair_in};
+use bound_search::Limits;
+use conf_events::{EVENTS_BYTES, Events, EventsError, read_events};
+use conf_request::{FileName, Request};
+use conf_session::Session;
+use conf_syntax::Program;
+use desk_io::{Desk, ReadError, WriteError, read_all};
+use ground_form::Ground;
+use ground_model::ground;
+use model_reader::{Built, objects_of, table_of, typed_model};
+use object_alloc::{Hints, Objects};
+use proof_log::Record;
+use rule_law::Kit;
+use run_status::{LimitKind, Status};
+use session_run::{Setting, hold_session};
+use std::alloc::{AllocError, Global};
+
+/// What a session goes by: the former values, and the events.
+#[derive(Drop)]
+struct Day {
+    former: Hints,
+    events: Events,
+}
+
+/// A session that nothing happened in yet, with its events, how many decisions each search may
+/// take, and the number of its order.
+#[derive(Drop)]
+struct Opened {
+    session: Session,
+    events: Events,
+    budget: u32,
+    order: u8,
+}
+
+/// The bytes of a text of events.
+fn event_bytes<D: Desk>(alloc: Global, desk: &mut D, file: &FileName) -> Result<Vec<u8>, Status>
+    requires may_read { IsTrue (D.may_read desk.old file.now) }
+    ensures bytes { IfOk result (λ bytes. OfFile (D.files desk.old) file.now
+        (λ read. read ≡ bytes.items)) }
+    ensures short { IfOk result (λ bytes. length bytes.items ≤ events_bytes) }
+    ensures refused { IfErr result (λ s. Unreadable (D.read_faults desk.old)
+        (D.read_faults desk.new) s (OfFile (D.files desk.old) file.now
+        (λ bytes. (o : Outline) → IsEventsRefused o bytes s))) }
+    ensures files { D.files desk.new ≡ D.files desk.old }
+    ensures printed { D.printed desk.new ≡ D.printed desk.old }
+    ensures read_faults { D.read_faults desk.old ≤ D.read_faults desk.new }
+    ensures write_faults { D.write_faults desk.new ≡ D.write_faults desk.old }
+    ensures may_read { D.may_read desk.new ≡ D.may_read desk.old }
+    ensures may_write { D.may_write desk.new ≡ D.may_write desk.old }
+{
+    match read_all(alloc, desk, file.as_str(), EVENTS_BYTES) {
+        Ok(bytes) => Ok(bytes),
+        Err(ReadError::ReadFault) => Err(Status::ReadFault),
+        Err(ReadError::TooLong) => Err(Status::Limit {
+            kind: LimitKind::Events,
+            place: None,
+        }),
+        Err(ReadError::Memory) => Err(Status::Memory),
+    }
+}
+
+/// The events of a text.
+fn events_in(alloc: Global, bytes: &[u8], objects: &Objects<'_>) -> Result<Events, Status>
+    requires short { length bytes.now ≤ events_bytes }
+    ensures events { IfOk result (λ es. es ≡ events_of objects.now bytes.now) }
+    ensures good { OnOk result (bad_line objects.now bytes.now ≡ None) }
+    ensures named { IfOk result (λ es. All (λ e. IsSome (object_named objects.now e.path)) es) }
+    ensures refused { IfErr result (λ s. Denied s (IsEventsRefused objects.now bytes.now s)) }
+{
+    match read_events(alloc, bytes, objects) {
+        Ok(events) => Ok(events),
+        Err(EventsError::BadLine(line)) => Err(Status::Events { line }),
+        Err(EventsError::Memory) => Err(Status::Memory),
+    }
+}
+
+/// What a session goes by, by the texts of its files.
+fn day_in(alloc: Global, built: Built<'_>, before: &[u8], bytes: &[u8]) -> Result<Day, Status>
+    requires ready { IsReady built.table.now built.objects.now built.model.now.constraints
+        built.model.now.goals }
+    requires before { IsShort before.now }
+    requires short { length bytes.now ≤ events_bytes }
+    ensures day { IfOk result (λ d. IsDayOf built.entry.objects.now before.now bytes.now d) }
+    ensures hints { IfOk result (λ d. AreHints built.entry.objects.now d.former) }
+    ensures named { IfOk result (λ d.
+        All (λ e. IsSome (object_named built.entry.objects.now e.path)) d.events) }
+    ensures refused { IfErr result (λ s. Denied s (IsDayRefused built.entry.objects.now before.now
+        bytes.now s)) }
+{
+    let repair = repair_in(alloc, built, before, &[])?;
+    let events = events_in(alloc, bytes, built.objects)?;
+    Ok(Day {
+        former: repair.former,
+        events,
+    })
+}
+
+/// The texts of a session's files: of the former configuration, and of the events.
+#[derive(Drop)]
+struct Texts {
+    before: Vec<u8>,
+    bytes: Vec<u8>,
+}
+
+/// The texts of a session's files.
+fn texts_of<D: Desk>(
+    alloc: Global,
+    desk: &mut D,
+    former: &FileName,
+    events: &FileName,
+) -> Result<Texts, Status>
+    requires may_read_former { IsTrue (D.may_read desk.old former.now) }
+    requires may_read_events { IsTrue (D.may_read desk.old events.now) }
+    ensures former { IfOk result (λ t. OfFile (D.files desk.old) former.now
+        (λ read. read ≡ t.before.items)) }
+    ensures events { IfOk result (λ t. OfFile (D.files desk.old) events.now
+        (λ read. read ≡ t.bytes.items)) }
+    ensures before { IfOk result (λ t. IsShort t.before.items) }
+    ensures short { IfOk result (λ t. length t.bytes.items ≤ events_bytes) }
+    ensures refused { IfErr result (λ s. Unreadable (D.read_faults desk.old)
+        (D.read_faults desk.new) s (AreTextsRefused (D.files desk.old) former.now events.now s)) }
+    ensures files { D.files desk.new ≡ D.files desk.old }
+    ensures printed { D.printed desk.new ≡ D.printed desk.old }
+    ensures read_faults { D.read_faults desk.old ≤ D.read_faults desk.new }
+    ensures write_faults { D.write_faults desk.new ≡ D.write_faults desk.old }
+{
+    let before = config_bytes(alloc, desk, former)?;
+    let bytes = event_bytes(alloc, desk, events)?;
+    Ok(Texts { before, bytes })
+}
+
+/// The ground problem of a model.
+fn model_problem(alloc: Global, built: Built<'_>) -> Result<Ground, AllocError>
+    requires ready { IsReady built.table.now built.objects.now built.model.now.constraints
+        built.model.now.goals }
+    ensures problem { IfOk result (λ g. IsProblemOf built.entry.objects.now
+        built.entry.model.now.constraints built.entry.model.now.goals None g) }
+    ensures few { IfOk result (λ g. length g.cons ≤ 2 ^ 31) }
+{
+    let g = ground(alloc, built.model, built.objects)?;
+    Ok(g)
+}
+
+/// A session over a model and former values, in which nothing failed yet.
+fn session_of(alloc: Global, built: Built<'_>, former: Hints) -> Result<Session, AllocError>
+    requires ready { IsReady built.table.now built.objects.now built.model.now.constraints
+        built.model.now.goals }
+    requires hints { AreHints built.objects.now former }
+    ensures situation { IfOk result (λ s. situation_of s.state ≡ situation former []) }
+    ensures at { IfOk result (λ s. (budget : ℕ) → StandsAt (subject built.entry.objects.now
+        built.entry.model.now.constraints built.entry.model.now.goals budget) (situation_of s.state)
+        s.state) }
+{
+    let g = model_problem(alloc, built)?;
+    let session = Session::new(alloc, g, former);
+    Ok(session)
+}
+
+/// The session over a model that has this day before it, with its budget and its order.
+fn opening(
+    alloc: Global,
+    built: Built<'_>,
+    day: Day,
+    budget: u32,
+    order: u8,
+) -> Result<Opened, AllocError>
+    requires ready { IsReady built.table.now built.objects.now built.model.now.constraints
+        built.model.now.goals }
+    requires hints { AreHints built.objects.now day.former }
+    requires named { All (λ e. IsSome (object_named built.objects.now e.path)) day.events }
+    requires order { order ≤ 2 }
+    ensures situation { IfOk result (λ x. situation_of x.session.state ≡ situation day.former []) }
+    ensures events { IfOk result (λ x. x.events ≡ day.events) }
+    ensures budget { IfOk result (λ x. x.budget ≡ budget) }
+    ensures is_open { IfOk result (λ x. IsOpen built.entry.objects.now
+        built.entry.model.now.constraints built.entry.model.now.goals x) }
+{
+    let Day { former, events } = day;
+    let session = session_of(alloc, built, former)?;
+    Ok(Opened {
+        session,
+        events,
+        budget,
+        order,
+    })
+}
+
+/// The session that a request asks for.
+fn session_asked<D: Desk>(
+    alloc: Global,
+    desk: &mut D,
+    request: &Request,
+    built: Built<'_>,
+) -> Result<Opened, Status>
+    requires may_read { (name : List ℕ) → IsFurther request.now name
+        → IsTrue (D.may_read desk.old name) }
+    requires session { is_session request.now ≡ true }
+    requires lawful { IsLawful request.now }
+    requires ready { IsReady built.table.now built.objects.now built.model.now.constraints
+        built.model.now.goals }
+    ensures asked { IfOk result (λ x. OfAsked (D.files desk.old) request.now
+        (IsOpenedFor built.entry.objects.now x)) }
+    ensures is_open { IfOk result (λ x. IsOpen built.entry.objects.now
+        built.entry.model.now.constraints built.entry.model.now.goals x) }
+    ensures budget { IfOk result (λ x. HasBudget request.now x.budget) }
+    ensures refused { IfErr result (λ s. Unreadable (D.read_faults desk.old)
+        (D.read_faults desk.new) s ((journal : Journal) → IsDenied (D.files desk.old) request.now
+        journal s built.entry.objects.now built.entry.model.now.constraints
+        built.entry.model.now.goals)) }
+    ensures files { D.files desk.new ≡ D.files desk.old }
+    ensures printed { D.printed desk.new ≡ D.printed desk.old }
+    ensures read_faults { D.read_faults desk.old ≤ D.read_faults desk.new }
+    ensures write_faults { D.write_faults desk.new ≡ D.write_faults desk.old }
+{
+    let Request::Session {
+        former,
+        events,
+        budget,
+        order,
+        ..
+    } = request
+    else {
+        unreachable!()
+    };
+    let texts = match texts_of(alloc, desk, former, events) {
+        Ok(texts) => texts,
+        Err(status) => return Err(status),
+    };
+    let day = match day_in(alloc, built, &texts.before, &texts.bytes) {
+        Ok(day) => day,
+        Err(status) => return Err(status),
+    };
+    match opening(alloc, built, day, *budget, *order) {
+        Ok(opened) => Ok(opened),
+        Err(_) => Err(Status::Memory),
+    }
+}
+
+/// Answers the events of a session.
+fn hold_opened<D: Desk>(
+    with: Resources<'_>,
+    desk: &mut D,
+    built: Built<'_>,
+    opened: Opened,
+    kit: &mut Kit,
+    journal: &mut Record,
+) -> Result<Status, WriteError>
+    requires ready { IsReady built.table.now built.objects.now built.model.now.constraints
+        built.model.now.goals }
+    requires open { IsOpen built.objects.now built.model.now.constraints built.model.now.goals
+        opened }
+    requires empty { journal.old ≡ empty }
+    ensures whole { IfOk result (λ end. HasWhole built.entry.objects.now
+        built.entry.model.now.constraints built.entry.model.now.goals opened journal.new end
+        (D.printed desk.old) (D.printed desk.new)) }
+    ensures part { OnErr result (HasPart built.entry.objects.now
+        built.entry.model.now.constraints built.entry.model.now.goals opened journal.new
+        (D.printed desk.old) (D.printed desk.new)) }
+    ensures fault { IsErrOf result WriteError.WriteFault → HasRisen (D.write_faults desk.old)
+        (D.write_faults desk.new) }
+    ensures files { D.files desk.new ≡ D.files desk.old }
+    ensures write_faults { D.write_faults desk.old ≤ D.write_faults desk.new }
+    ensures read_faults { D.read_faults desk.new ≡ D.read_faults desk.old }
+{
+    let choosers = with.choosers;
+    let all = &choosers[..];
+    let chooser = &all[opened.order as usize];
+    kit.begin();
+    let limits = Limits {
+        alloc: with.alloc,
+        budget: opened.budget,
+    };
+    let mut finder = Searching {
+        limits,
+        kit,
+        chooser,
+    };
+    let setting = Setting {
+        alloc: with.alloc,
+        built,
+        budget: opened.budget,
+    };
+    let Opened {
+        session,
+        events,
+        ..
+    } = opened;
+    hold_session(setting, desk, session, events.items(), &mut finder, journal)
+}
+
+/// Answers the events of a session over a model's parts. What is refused leaves everything as it
+/// was.
+fn held_built<D: Desk>(
+    with: Resources<'_>,
+    desk: &mut D,
+    request: &Request,
+    built: Built<'_>,
+    kit: &mut Kit,
+    journal: &mut Record,
+) -> Result<Result<Status, WriteError>, Status>
+    requires may_read { (name : List ℕ) → IsFurther request.now name
+        → IsTrue (D.may_read desk.old name) }
+    requires session { is_session request.now ≡ true }
+    requires lawful { IsLawful request.now }
+    requires ready { IsReady built.table.now built.objects.now built.model.now.constraints
+        built.model.now.goals }
+    requires empty { journal.old ≡ empty }
+    ensures whole { IfOk result (λ r. IfOk r (λ end. ForModel built.entry.objects.now
+        built.entry.model.now.constraints built.entry.model.now.goals
+        (λ p. IsHeldWhole (trace request.now (map (λ c. c.order) with.entry.choosers.now)
+        journal.new (outside (D.files desk.old) (D.printed desk.old))
+        (outside (D.files desk.new) (D.printed desk.new))
+        (D.read_faults desk.old) (D.read_faults desk.new) (D.write_faults desk.old)
+        (D.write_faults desk.new)) p end))) }
+    ensures part { IfOk result (λ r. OnErr r (ForModel built.entry.objects.now
+        built.entry.model.now.constraints built.entry.model.now.goals
+        (λ p. IsBegun (trace request.now (map (λ c. c.order) with.entry.choosers.now)
+        journal.new (outside (D.files desk.old) (D.printed desk.old))
+        (outside (D.files desk.new) (D.printed desk.new))
+        (D.read_faults desk.old) (D.read_faults desk.new) (D.write_faults desk.old)
+        (D.write_faults desk.new)) p))) }
+    ensures fault { IfOk result (λ r. IsErrOf r WriteError.WriteFault
+        → HasRisen (D.write_faults desk.old) (D.write_faults desk.new)) }
+    ensures refused { IfErr result (λ s. Unreadable (D.read_faults desk.old)
+        (D.read_faults desk.new) s ((j : Journal) → IsDenied (D.files desk.old) request.now j s
+        built.entry.objects.now built.entry.model.now.constraints
+        built.entry.model.now.goals)) }
+    ensures same { OnErr result (outside (D.files desk.new) (D.printed desk.new)
+        ≡ outside (D.files desk.old) (D.printed desk.old)) }
+    ensures empty { OnErr result (journal.new ≡ empty) }
+{
+    let opened = match session_asked(with.alloc, desk, request, built) {
+        Ok(opened) => opened,
+        Err(status) => return Err(status),
+    };
+    Ok(hold_opened(with, desk, built, opened, kit, journal))
+}
+
+/// Answers the events of a session over the model that a program is. What is refused leaves
+/// everything as it was.
+fn held<D: Desk>(
+    with: Resources<'_>,
+    desk: &mut D,
+    program: &Program,
+    request: &Request,
+    kit: &mut Kit,
+    journal: &mut Record,
+) -> Result<Result<Status, WriteError>, Status>
+    requires words { AreWords (program_tokens program.now) }
+    requires nested { nesting program.now ≤ most_nesting }
+    requires few { length (program_tokens program.now) ≤ model_bytes }
+    requires may_read { (name : List ℕ) → IsFurther request.now name
+        → IsTrue (D.may_read desk.old name) }
+    requires session { is_session request.now ≡ true }
+    requires lawful { IsLawful request.now }
+    requires empty { journal.old ≡ empty }
+    ensures whole { IfOk result (λ r. IfOk r (IsHeldWhole (trace request.now
+        (map (λ c. c.order) with.entry.choosers.now) journal.new
+        (outside (D.files desk.old) (D.printed desk.old))
+        (outside (D.files desk.new) (D.printed desk.new))
+        (D.read_faults desk.old) (D.read_faults desk.new) (D.write_faults desk.old)
+        (D.write_faults desk.new)) program.now)) }
+    ensures part { IfOk result (λ r. OnErr r (IsBegun (trace request.now
+        (map (λ c. c.order) with.entry.choosers.now) journal.new
+        (outside (D.files desk.old) (D.printed desk.old))
+        (outside (D.files desk.new) (D.printed desk.new))
+        (D.read_faults desk.old) (D.read_faults desk.new) (D.write_faults desk.old)
+        (D.write_faults desk.new)) program.now)) }
+    ensures fault { IfOk result (λ r. IsErrOf r WriteError.WriteFault
+        → HasRisen (D.write_faults desk.old) (D.write_faults desk.new)) }
+    ensures refused { IfErr result (λ s. Unreadable (D.read_faults desk.old)
+        (D.read_faults desk.new) s (IsRefusedFor s program.now
+        ⊎ (IsWithin program.now
+        × IsDeniedOf (D.files desk.old) request.now journal.new s program.now))) }
+    ensures same { OnErr result (outside (D.files desk.new) (D.printed desk.new)
+        ≡ outside (D.files desk.old) (D.printed desk.old)) }
+    ensures empty { OnErr result (journal.new ≡ empty) }
+{
+    let table = table_of(with.alloc, program)?;
+    let model = typed_model(with.alloc, program, &table)?;
+    let objects = objects_of(with.alloc, &table, &model)?;
+    let built = Built {
+        table: &table,
+        model: &model,
+        objects: &objects,
+    };
+    held_built(with, desk, request, built, kit, journal)
+}
+
+/// Answers the events of a session over a model.
+pub fn hold_model<D: Desk>(
+    with: Resources<'_>,
+    desk: &mut D,
+    program: &Program,
+    request: &Request,
+    kit: &mut Kit,
+    journal: &mut Record,
+) -> Status
+    requires words { AreWords (program_tokens program.now) }
+    requires nested { nesting program.now ≤ most_nesting }
+    requires few { length (program_tokens program.now) ≤ model_bytes }
+    requires may_read { (name : List ℕ) → IsFurther request.now name
+        → IsTrue (D.may_read desk.old name) }
+    requires session { is_session request.now ≡ true }
+    requires lawful { IsLawful request.now }
+    requires empty { journal.old ≡ empty }
+    ensures ends { EndsModel (trace request.now (map (λ c. c.order) with.entry.choosers.now)
+        journal.new
+        (outside (D.files desk.old) (D.printed desk.old))
+        (outside (D.files desk.new) (D.printed desk.new))
+        (D.read_faults desk.old) (D.read_faults desk.new) (D.write_faults desk.old)
+        (D.write_faults desk.new)) program.now result }
+{
+    match held(with, desk, program, request, kit, journal) {
+        Ok(Ok(status)) => status,
+        Ok(Err(WriteError::WriteFault)) => Status::WriteFault,
+        Ok(Err(WriteError::Memory)) => Status::Memory,
+        Err(status) => status,
+    }
+}
