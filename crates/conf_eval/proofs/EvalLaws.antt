@@ -19,6 +19,7 @@ use Rattle.conf_eval.specs.Evaluating.{IsGiven, IsRoom, AllEvaluable, IsInner, A
 use Rattle.conf_eval.specs.declared.value.Value.{Value}
 use Rattle.conf_eval.specs.Fitting.{HasShape, IsEvaluable, IsEvaluableFilter, AreEvaluable, IsNarrow}
 use Rattle.conf_eval.specs.Listing.{held}
+use Rattle.conf_eval.specs.Memory.{takes_memory}
 use Rattle.conf_eval.specs.Meaning.{Setting, bind, keeps, all_true, value, values_of, int_of, object_of, objects_of, operate, quantified, Item, item_of, load, total}
 use Rattle.conf_eval.proofs.LawsNarrow.{value_narrow, in_left, in_right, in_dot, in_over, dot_shape, own_shape, first_body, later_bodies, AreInner as IsInside, inner, sum_narrow, load_back_narrow}
 use Rattle.conf_eval.proofs.LawsValues.{some_is}
@@ -233,3 +234,10 @@ module _ (n : node.RNode) (at : ℕ) (s : Setting) where
       no_quantified q.kind (objects_of (value (tree_of q.over) s)) (λ y. keeps (optional_tree q.filter) (bind s y)) (λ y. values_of (trees_of q.body.items) (bind s y))
       ∙ sym (ap (λ t. objects_of (value t s)) (quant_is x.value at))
       ∙ sym (ap (λ m. objects_of (value (node_tree m at) s)) e)
+
+-- ---- memory
+
+-- a quantifier takes memory
+pub quant_takes : (t : Tree) (q : quant.RQuant) (at : ℕ) → t ≡ quant_tree q at →
+    takes_memory t ≡ true
+quant_takes t q at is = ap takes_memory (is ∙ quant_is q at)

@@ -3,6 +3,7 @@ pub mod Evaluating
 pub mod Fitting
 pub mod Listing
 pub mod Meaning
+pub mod Memory
 pub mod Packing
 pub mod Satisfying
 pub mod TypedValues

@@ -1,8 +1,9 @@
 //! The values of attributes of objects, and of variables of the top level.
-ghost use Rattle.std.specs.Prelude.{◌≡◌, ◌++◌, ◌<◌, ◌^◌, [], nat_abs, drop, IfOk};
+ghost use Rattle.std.specs.Prelude.{◌≡◌, ◌++◌, ◌<◌, ◌^◌, [], nat_abs, drop, false, IfOk, IsOk};
 ghost use Rattle.conf_eval.specs.Evaluating.{IsGiven};
 ghost use Rattle.conf_eval.specs.Fitting.{HasShape};
 ghost use Rattle.conf_eval.specs.Listing.{members};
+ghost use Rattle.conf_eval.specs.Memory.{is_list};
 ghost use Rattle.conf_eval.specs.Meaning.{attribute_value, first_value, first_object};
 
 use crate::members::{Members, listed, slot, slot_count};
@@ -70,6 +71,7 @@ pub(crate) fn attribute_value(
     requires shape { HasShape scene.now.objects.now owner k shape }
     ensures value { IfOk result (λ v. v ≡ attribute_value scene.now.objects.now scene.now.values.now
         owner k shape) }
+    ensures memory { is_list shape ≡ false → IsOk result }
 {
     let cells = scene.objects.own_cells(owner, k);
     match shape {

@@ -1,5 +1,5 @@
 //! The calls that evaluate: an expression, and the objectives of a model.
-ghost use Rattle.std.specs.Prelude.{◌≡◌, ◌++◌, ◌∷◌, [], None, true, drop, IfOk, OnOk};
+ghost use Rattle.std.specs.Prelude.{◌≡◌, ◌++◌, ◌∷◌, [], None, true, drop, false, IfOk, IsOk, OnOk};
 ghost use Rattle.conf_types.specs.Trees.{tree_of};
 ghost use Rattle.conf_types.specs.Typing.{IsTypedModel};
 ghost use Rattle.object_alloc.specs.Configurations.{IsConfiguration};
@@ -7,6 +7,7 @@ ghost use Rattle.conf_eval.specs.Evaluating.{IsGiven, env_setting, setting_at};
 ghost use Rattle.conf_eval.specs.Fitting.{IsEvaluable};
 ghost use Rattle.conf_eval.specs.Meaning.{value, int_of};
 ghost use Rattle.conf_limits.specs.Measures.{model_narrow};
+ghost use Rattle.conf_eval.specs.Memory.{takes_memory};
 ghost use Rattle.conf_eval.specs.Satisfying.{objectives};
 
 use crate::evaluate::value_at;
@@ -50,7 +51,7 @@ impl Numbers {
 /// The value of an expression of a model at a configuration, where the names in scope stand for
 /// these objects.
 ///
-/// It takes memory for quantifiers and lists alone.
+/// It takes memory for quantifiers and lists alone; one behind `in` takes none.
 pub fn eval(
     alloc: Global,
     _model: &TypedModel,
@@ -64,6 +65,7 @@ pub fn eval(
         (env_setting objects.now config.now env.now) }
     ensures value { IfOk result (λ v. v ≡ value (tree_of e.now) (env_setting objects.now config.now
         env.now)) }
+    ensures memory { takes_memory (tree_of e.now) ≡ false → IsOk result }
 {
     let _count = objects.count();
     let scene = Scene {

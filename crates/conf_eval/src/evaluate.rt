@@ -2,7 +2,7 @@
 //!
 //! `value_at` is the entry. A quantifier and `in` look at the members of a list where they are kept
 //! (`members_at`); a list is made only where its value is asked for.
-ghost use Rattle.std.specs.Prelude.{◌≡◌, ◌<◌, ◌^◌, ◌++◌, ◌∷◌, [], ℕ, List, All, true, false, Some, drop, length, map, neg_ℤ, not, IfOk, count_by};
+ghost use Rattle.std.specs.Prelude.{◌≡◌, ◌<◌, ◌^◌, ◌++◌, ◌∷◌, [], ℕ, List, All, true, false, Some, drop, length, map, neg_ℤ, not, IfOk, count_by, cond, ◌||◌, IsOk};
 ghost use Rattle.std.specs.List.{list_all, list_any};
 ghost use Rattle.conf_types.specs.Trees.{tree_of, quant_tree, optional_tree, trees_of};
 ghost use Rattle.conf_types.specs.Trees as tree;
@@ -12,6 +12,7 @@ ghost use Rattle.conf_eval.specs.Evaluating.{IsGiven, IsRoom, AllEvaluable, AreI
 ghost use Rattle.conf_eval.specs.Fitting.{HasShape, IsEvaluable, IsEvaluableFilter, IsNarrow};
 ghost use Rattle.conf_eval.specs.Listing.{held, members, slots};
 ghost use Rattle.conf_eval.specs.Meaning.{value, keeps, values_of, bind, int_of, truth_of, object_of, objects_of, operate, attribute_value, local_object, total, all_true, first_of, item_of};
+ghost use Rattle.conf_eval.specs.Memory.{is_list, takes_memory, is_member_test, members_take};
 ghost use Rattle.conf_eval.specs.Packing.{item_view};
 
 use crate::attributes::{attribute_value, collect};
@@ -48,6 +49,7 @@ pub(crate) fn value_at(
     requires expr { IsEvaluable scene.now.objects.now scene.now.values.now (tree_of e.now)
         (setting_at scene.now vars.now) }
     ensures value { IfOk result (λ v. v ≡ value (tree_of e.now) (setting_at scene.now vars.now)) }
+    ensures memory { takes_memory (tree_of e.now) ≡ false → IsOk result }
 {
     match &e.node {
         RNode::Number(number) => Ok(Value::Int(i64::from(*number))),
@@ -96,6 +98,7 @@ fn minus_at(
         (setting_at scene.now vars.now) }
     ensures value { IfOk result (λ v. v
         ≡ Int (neg_ℤ (int_of (value (tree_of inner.now) (setting_at scene.now vars.now))))) }
+    ensures memory { takes_memory (tree_of inner.now) ≡ false → IsOk result }
 {
     let v = value_at(alloc, scene, vars, inner)?;
     Ok(negated(&v))
@@ -114,6 +117,7 @@ fn not_at(
         (setting_at scene.now vars.now) }
     ensures value { IfOk result (λ v. v
         ≡ Truth (not (truth_of (value (tree_of inner.now) (setting_at scene.now vars.now))))) }
+    ensures memory { takes_memory (tree_of inner.now) ≡ false → IsOk result }
 {
     let v = value_at(alloc, scene, vars, inner)?;
     Ok(Value::Truth(!truth_of(&v)))
@@ -136,6 +140,7 @@ fn dot_at(
         (Some (object_of (value (tree_of inner.now) (setting_at scene.now vars.now)))) k shape }
     ensures value { IfOk result (λ v. v ≡ attribute_value scene.now.objects.now scene.now.values.now
         (Some (object_of (value (tree_of inner.now) (setting_at scene.now vars.now)))) k shape) }
+    ensures memory { (takes_memory (tree_of inner.now) || is_list shape) ≡ false → IsOk result }
 {
     let v = value_at(alloc, scene, vars, inner)?;
     attribute_value(alloc, scene, Some(object_of(&v)), k, shape)
@@ -162,6 +167,9 @@ fn pair_at(
     ensures value { IfOk result (λ v. v
         ≡ operate op (value (tree_of left.now) (setting_at scene.now vars.now))
         (value (tree_of right.now) (setting_at scene.now vars.now))) }
+    ensures memory { (takes_memory (tree_of left.now) || cond (is_member_test op)
+        (members_take (tree_of right.now)) (takes_memory (tree_of right.now))) ≡ false
+        → IsOk result }
 {
     let v = value_at(alloc, scene, vars, left)?;
     if op == Op::In {
@@ -185,6 +193,7 @@ fn members_at<'a>(
         (setting_at scene.now vars.now) }
     ensures members { IfOk result (λ list. members scene.now.objects.now scene.now.values.now list
         ≡ objects_of (value (tree_of e.now) (setting_at scene.now vars.now))) }
+    ensures memory { members_take (tree_of e.now) ≡ false → IsOk result }
 {
     match &e.node {
         RNode::Paren(inner) => members_at(alloc, scene, vars, inner),
@@ -220,6 +229,7 @@ fn dotted_at<'a>(
     ensures members { IfOk result (λ list. members scene.now.objects.now scene.now.values.now list
         ≡ objects_of (attribute_value scene.now.objects.now scene.now.values.now
         (Some (object_of (value (tree_of inner.now) (setting_at scene.now vars.now)))) k shape)) }
+    ensures memory { takes_memory (tree_of inner.now) ≡ false → IsOk result }
 {
     let v = value_at(alloc, scene, vars, inner)?;
     Ok(listed(scene, Some(object_of(&v)), k, shape))

@@ -1,4 +1,4 @@
-use Rattle.std.proofs.Common.{◌≡◌, ◌<◌, ◌^◌, ap, sym, ◌∙◌, subst}
+use Rattle.std.proofs.Common.{◌<◌, ◌^◌, sym, subst}
 use Rattle.std.specs.Prelude.{nat_abs}
 use Rattle.conf_eval.specs.Meaning.{first_value}
 use Rattle.conf_eval.proofs.NumberLaws.{choice_small, ref_small}

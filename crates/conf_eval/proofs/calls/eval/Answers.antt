@@ -18,4 +18,4 @@ pub returns : goal.returns
 returns c =
     let o = c.args.objects.now in
     let there = value_there o c.args.env.now.this_object (tree_of c.args.e.now) c.args.config.now c.items.result.now c.args.env.now.vars c.items-2.result.now c.items.ensures.values c.items-2.ensures.items in
-    record { value = IfOk-weaker c.value_at.result _ _ (λ v h. h ∙ there) c.value_at.ensures.value }
+    record { value = IfOk-weaker c.value_at.result _ _ (λ v h. h ∙ there) c.value_at.ensures.value; memory = c.value_at.ensures.memory }

@@ -1,5 +1,5 @@
-use Rattle.std.proofs.Common.{◌≡◌, ◌<◌, ◌≤◌, ◌+◌, ◌+ℤ◌, ◌∷◌, [], ◌++◌, List, ℕ, Some, refl, sym, ap, ◌∙◌, subst, arith, drop, length, map, true, false, max, pos}
-use Rattle.std.specs.Prelude.{All, count_by}
+use Rattle.std.proofs.Common.{◌≡◌, ◌<◌, ◌+◌, ◌+ℤ◌, ℕ, sym, ap, ◌∙◌, subst, arith, drop, length, map, true, false, pos}
+use Rattle.std.specs.Prelude.{count_by}
 use Rattle.conf_syntax.specs.declared.tree.QuantKind.TheVariants as kind
 use Rattle.conf_types.specs.Trees.{tree_of, node_tree, quant_tree, optional_tree, trees_of}
 use Rattle.conf_types.specs.Trees as tree
@@ -12,7 +12,7 @@ use Rattle.conf_eval.specs.Fitting.{IsEvaluable, IsEvaluableFilter, IsNarrow}
 use Rattle.conf_eval.specs.Listing.{slots, held, members}
 use Rattle.conf_eval.specs.Meaning.{value, bind, keeps, values_of, first_of, item_of, int_of, objects_of, quantified, total, all_differ, fits_all}
 use Rattle.conf_eval.specs.Packing.{item_view}
-use Rattle.conf_eval.proofs.EvalLaws.{pair, dot, own, quant_is, quant_of, quant_moved, quant_value, quant_height, inner_here, inner_next, member_here, over_is, quant_inner, quant_bodies, rest_narrow, items_narrow, nth_evaluable, nth_low, nth_number, all_step, any_step, count_step, push_step, at_most_one, mapped_push, counts_are, no_number, no_list}
+use Rattle.conf_eval.proofs.EvalLaws.{pair, dot, own, quant_is, quant_takes, quant_moved, quant_value, quant_height, inner_here, inner_next, member_here, quant_inner, quant_bodies, rest_narrow, items_narrow, nth_evaluable, nth_low, nth_number, all_step, any_step, count_step, push_step, at_most_one, mapped_push, counts_are, no_number, no_list}
 use Rattle.conf_eval.proofs.LawsNarrow.{value_narrow}
 use Rattle.conf_eval.proofs.ListingLaws.{extent_held}
 use Rattle.conf_eval.proofs.PackingLaws.{small_step, sum_step}
@@ -337,12 +337,12 @@ value_at-pair_at-requires t c =
     let p = pair o vs c.requires.given s (tree_of c.args.e.now) c.requires.expr at op (tree_of l) (tree_of r) is in
     (omega (arith, c.decreases, p.low), (c.requires.given, (p.left, (p.right, p.number))))
 
-pub members_at-returns-in-Class : goal.members_at-returns-in-Class
-members_at-returns-in-Class t c =
+pub members_at-returns-in-Class-clause-members : goal.members_at-returns-in-Class-clause-members
+members_at-returns-in-Class-clause-members t c =
     let o = c.args.scene.now.objects.now in
     let vs = c.args.scene.now.values.now in
     let s = setting_at c.args.scene.now c.args.vars.now in
-    record { members = extent_held o.classes c.in-Class.class 0 (objects o) ∙ sym (ap (λ n. objects_of (value (node_tree n c.args.e.now.at) s)) c.in-Class.is) }
+    extent_held o.classes c.in-Class.class 0 (objects o) ∙ sym (ap (λ n. objects_of (value (node_tree n c.args.e.now.at) s)) c.in-Class.is)
 
 pub parts_at-forall_at-requires : goal.parts_at-forall_at-requires
 parts_at-forall_at-requires t c =
@@ -467,14 +467,14 @@ value_at-quant_at-requires t c =
     let high = ap height (quant_is q 0) in
     (omega (arith, c.decreases, low, same, high), (c.requires.given, quant_moved o vs s q at 0 (subst (λ y. IsEvaluable o vs y s) is c.requires.expr)))
 
-pub value_at-returns-in-Quant : goal.value_at-returns-in-Quant
-value_at-returns-in-Quant t c =
+pub value_at-returns-in-Quant-clause-value : goal.value_at-returns-in-Quant-clause-value
+value_at-returns-in-Quant-clause-value t c =
     let o = c.args.scene.now.objects.now in
     let vs = c.args.scene.now.values.now in
     let s = setting_at c.args.scene.now c.args.vars.now in
     let at = c.args.e.now.at in
     let is = ap (λ n. node_tree n at) c.in-Quant.is ∙ ap (λ q. quant_tree q at) (sym c.deref-in-Quant.ensures) in
-    record { value = IfOk-weaker c.quant_at.result _ _ (λ v h. h ∙ quant_value s c.deref-in-Quant.result.now 0 at ∙ sym (ap (λ y. value y s) is)) c.quant_at.ensures.value }
+    IfOk-weaker c.quant_at.result _ _ (λ v h. h ∙ quant_value s c.deref-in-Quant.result.now 0 at ∙ sym (ap (λ y. value y s) is)) c.quant_at.ensures.value
 
 pub parts_at-returns-in_ok-values-in-AllDifferent : goal.parts_at-returns-in_ok-values-in-AllDifferent
 parts_at-returns-in_ok-values-in-AllDifferent t c =
@@ -563,7 +563,14 @@ number_at-returns-in-None t c =
     let s = setting_at c.args.scene.now c.args.vars.now in
     record { number = no_number s c.args.body.now c.args.n c.in-None.ensures.lookup.3 }
 
-pub members_at-returns-in-Number : goal.members_at-returns-in-Number
-members_at-returns-in-Number t c =
+pub members_at-returns-in-Number-clause-members : goal.members_at-returns-in-Number-clause-members
+members_at-returns-in-Number-clause-members t c =
     let s = setting_at c.args.scene.now c.args.vars.now in
-    record { members = no_list c.args.e.now.node c.args.e.now.at s c.in-Number.is }
+    no_list c.args.e.now.node c.args.e.now.at s c.in-Number.is
+
+pub value_at-returns-in-Quant-clause-memory : goal.value_at-returns-in-Quant-clause-memory
+value_at-returns-in-Quant-clause-memory t c h =
+    let at = c.args.e.now.at in
+    let is = ap (λ n. node_tree n at) c.in-Quant.is ∙ ap (λ q. quant_tree q at) (sym c.deref-in-Quant.ensures) in
+    let yes = quant_takes (tree_of c.args.e.now) c.deref-in-Quant.result.now at is in
+    absurd (cc (yes, h))

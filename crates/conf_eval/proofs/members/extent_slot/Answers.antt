@@ -1,4 +1,4 @@
-use Rattle.std.proofs.Common.{◌≡◌, Option, None, ℕ, sym, ap, ◌∙◌, arith, true, false, cond, Some}
+use Rattle.std.proofs.Common.{None, sym, ◌∙◌, arith, true, false}
 use Rattle.object_alloc.specs.declared.object.Object.{Object}
 use Rattle.object_alloc.specs.Walk.{objects}
 use Rattle.conf_eval.proofs.ListingLaws.{no_extent_slot, own_extent_slot}

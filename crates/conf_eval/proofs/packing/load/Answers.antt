@@ -1,6 +1,6 @@
-use Rattle.std.proofs.Common.{◌≡◌, ◌+◌, ◌+ℤ◌, ap, sym, ◌∙◌, drop, map}
+use Rattle.std.proofs.Common.{◌+◌, ◌+ℤ◌, ap, sym, ◌∙◌, drop, map}
 use Rattle.conf_eval.specs.Meaning.{load}
-use Rattle.conf_eval.specs.Packing.{item_view, size_at}
+use Rattle.conf_eval.specs.Packing.{item_view}
 use Rattle.conf_eval.proofs.PackingLaws.{small_step, sum_step, load_next}
 use Rattle.conf_eval.proofs.packing.load.Goals as goal
 
