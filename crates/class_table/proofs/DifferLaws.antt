@@ -28,7 +28,7 @@ any_append p (x ∷ xs) ys = by (p x) (any_append p xs ys)
     by false h = h
 
 -- what differs from more names differs from fewer
-fewer : (ws more seen : List (List ℕ)) → all_differ ws (more ++ seen) ≡ true → all_differ ws seen ≡ true
+pub fewer : (ws more seen : List (List ℕ)) → all_differ ws (more ++ seen) ≡ true → all_differ ws seen ≡ true
 fewer [] more seen h = refl
 fewer (w ∷ ws) more seen h = by (list_any (same_name w) seen) (list_any (same_name w) more) (any_append (same_name w) more seen) (λ g. fewer ws more (seen ++ w ∷ []) g) h
   where
@@ -49,6 +49,15 @@ behind (x ∷ xs) ys seen h = by (list_any (same_name x) seen) (λ g. behind xs 
 
 pub apart : (xs ys : List (List ℕ)) → all_differ (xs ++ ys) [] ≡ true → all_differ ys [] ≡ true
 apart xs ys h = fewer ys xs [] (ap (λ s. all_differ ys s) (append-nil xs) ∙ behind xs ys [] h)
+
+-- names before others that all differ
+pub front_differs : (xs ys seen : List (List ℕ)) → all_differ (xs ++ ys) seen ≡ true → all_differ xs seen ≡ true
+front_differs [] ys seen h = refl
+front_differs (x ∷ xs) ys seen h = by (list_any (same_name x) seen) (λ g. front_differs xs ys (seen ++ x ∷ []) g) h
+  where
+    by : (b : Bool) → (all_differ (xs ++ ys) (seen ++ x ∷ []) ≡ true → all_differ xs (seen ++ x ∷ []) ≡ true) → cond b false (all_differ (xs ++ ys) (seen ++ x ∷ [])) ≡ true → cond b false (all_differ xs (seen ++ x ∷ [])) ≡ true
+    by true more g = g
+    by false more g = more g
 
 -- Places
 

@@ -16,6 +16,7 @@ pub mod AncestryLaws
 pub mod SoundLaws
 pub mod ClosedLaws
 pub mod DifferLaws
+pub mod PathLaws
 pub mod WordNames
 pub mod BareItems
 pub mod BareFaults

@@ -9,6 +9,7 @@ pub mod Cycles
 pub mod Graphs
 pub mod Scopes
 pub mod Tables
+pub mod Paths
 pub mod Named
 pub mod Sound
 pub mod Worded

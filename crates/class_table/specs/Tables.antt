@@ -35,10 +35,6 @@ IsFew e = length e.values < 2 ^ 32
 abbrev pub variable_name : Variable → List ℕ
 variable_name v = v.name
 
--- the names of the attributes that a class itself declares
-abbrev pub own_names : Class → List (List ℕ)
-own_names k = map variable_name k.own
-
 -- each of the names differs from those before it
 abbrev pub all_differ : List (List ℕ) → List (List ℕ) → Bool
 all_differ [] seen = true

@@ -48,7 +48,7 @@ fn no_children(alloc: Global, classes: &[Class]) -> Result<Vec<Edges>, AllocErro
 
 /// The parent of a class.
 #[tactic(auto, using(crate::proofs::ScopeLaws::parent_read))]
-fn parent_of(classes: &[Class], class: usize) -> Option<u32>
+pub(crate) fn parent_of(classes: &[Class], class: usize) -> Option<u32>
     requires class { class < length classes.now }
     ensures parent { result ≡ parent_in classes.now class }
 {
@@ -310,7 +310,7 @@ fn visit_all(
 }
 
 /// A zero for each class.
-fn zeros(alloc: Global, count: usize) -> Result<Vec<u32>, AllocError>
+pub(crate) fn zeros(alloc: Global, count: usize) -> Result<Vec<u32>, AllocError>
     ensures zeros { IfOk result (λ counts. length counts.items ≡ count) }
 {
     let mut counts = Vec::new(alloc);

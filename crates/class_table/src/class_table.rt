@@ -15,16 +15,18 @@ ghost use Rattle.class_table.specs.declared.fault.TableFault.{TableFault as AFau
 ghost use Rattle.class_table.specs.Faults.{OnFault, Stands, IsSmall, pointed, repeated};
 ghost use Rattle.class_table.specs.Names.{means, space, classes, declared};
 ghost use Rattle.class_table.specs.Outline.{outline, parent_in, own_in, is_a, attributes, class_meant};
+ghost use Rattle.class_table.specs.Paths.{ArePaths, HavePaths};
 ghost use Rattle.class_table.specs.Same.{same_name};
 ghost use Rattle.class_table.specs.Scopes.{HasParents};
 ghost use Rattle.class_table.specs.Sound.{IsSound};
-ghost use Rattle.class_table.specs.Tables.{enumeration_meant, root_meant, IsFew, IsTable, IsMeant, IsShapeOf, own_names, variable_name};
+ghost use Rattle.class_table.specs.Tables.{enumeration_meant, root_meant, IsFew, IsTable, IsMeant, IsShapeOf, variable_name};
 
+use crate::attributes::parent_of;
 use crate::build::check_classes;
 use crate::name_text::NameText;
 use crate::names::{Meaning, Space, names_of};
-use crate::own_names::own_names;
 use crate::parts::{class_decls, resolve_items};
+use crate::paths::{Paths, number_on, path_at, paths_of, variable_at};
 use crate::walk::State;
 use crate::{Class, Enumeration, Resolved, TableFault, Values, Variable};
 use conf_syntax::{ClassDecl, Item, Name, Program};
@@ -38,8 +40,8 @@ pub struct ClassTable {
     classes: Vec<Class>,
     enumerations: Vec<Enumeration>,
     roots: Vec<Variable>,
-    /// The names of each class's own attributes, to be found by hash.
-    attribute_names: Vec<Values>,
+    /// Paths down the classes, along which attributes are found.
+    paths: Paths,
     /// How many attributes each class has.
     counts: Vec<u32>,
     /// An order of the classes in which each stands behind its parent.
@@ -52,7 +54,8 @@ impl Model for ClassTable {
     ghost use Rattle.class_table.specs.Outline.{Outline};
     ghost use Rattle.class_table.specs.Scopes.{HasParents};
     ghost use Rattle.class_table.specs.Sound.{HasNesting};
-    ghost use Rattle.class_table.specs.Tables.{IsTable, IsFew, IsClosed, own_names};
+    ghost use Rattle.class_table.specs.Paths.{ArePaths, HavePaths};
+    ghost use Rattle.class_table.specs.Tables.{IsTable, IsFew, IsClosed};
 
     ghost Value = { Outline };
 
@@ -63,7 +66,8 @@ impl Model for ClassTable {
       classes : length t.classes.items < 2 ^ 32;
       roots : length t.roots.items < 2 ^ 32;
       values : All IsFew t.enumerations.items;
-      own_names : t.attribute_names.items ≡ map own_names t.classes.items;
+      paths : ArePaths t.classes.items t.order.items t.paths.all.items t.paths.on.items;
+      all : HavePaths t.classes.items t.paths.on.items;
       nesting : HasNesting t.classes.items;
       closed : IsClosed (record {
         names = t.names.entries;
@@ -145,10 +149,10 @@ impl ClassTable {
             Ok(family) => family,
             Err(fault) => return Err(fault),
         };
-        let attribute_names = own_names(alloc, &parts.classes, &family.counts, &family.order)?;
+        let paths = paths_of(alloc, &parts.classes, &family.counts, &family.order)?;
         Ok(ClassTable {
             names,
-            attribute_names,
+            paths,
             classes: parts.classes,
             enumerations: parts.enumerations,
             roots: parts.roots,
@@ -221,7 +225,7 @@ impl ClassTable {
         requires class { c < length self.now.classes }
         ensures parent { result ≡ parent_in self.now.classes c }
     {
-        parent_of(&self.classes, c)
+        parent_of(&self.classes, c as usize)
     }
 
     /// How many attributes a class has, inherited ones too.
@@ -274,8 +278,8 @@ impl ClassTable {
         &self.classes[c as usize].name
     }
 
-    /// An attribute of a class, by its number: the parent's attributes come first. The cost is the
-    /// number of parents between the class and the one that declares the attribute.
+    /// An attribute of a class, by its number: the parent's attributes come first. The cost is
+    /// logarithmic in the number of classes.
     pub fn attribute(&self, c: u32, k: u32) -> Attribute<'_>
         requires class { c < length self.now.classes }
         requires attribute { k < length (attributes self.now.classes c) }
@@ -286,16 +290,15 @@ impl ClassTable {
         ensures exists { IsShapeOf (length self.now.classes) (length self.now.enumerations)
             result.shape }
     {
-        let attribute = attribute_at(&self.classes, &self.counts, &self.order, c, k);
+        let attribute = attribute_at(&self.classes, &self.order, &self.paths, c, k);
         Attribute {
             name: &attribute.name,
             shape: attribute.shape,
         }
     }
 
-    /// The number of the attribute of this name, an inherited one too. The cost is one look-up by
-    /// hash for each class from `c` up to the one that declares the attribute; where there is none,
-    /// for each ancestor.
+    /// The number of the attribute of this name, an inherited one too. The cost is as many look-ups
+    /// by hash as the logarithm of the number of classes.
     pub fn attribute_named(&self, c: u32, name: &Name) -> Option<u32>
         requires class { c < length self.now.classes }
         ensures number { result ≡ position (same_name name.now)
@@ -314,9 +317,9 @@ impl ClassTable {
     {
         number_of(
             &self.classes,
-            &self.attribute_names,
             &self.counts,
             &self.order,
+            &self.paths,
             c,
             name,
         )
@@ -358,24 +361,16 @@ impl ClassTable {
     }
 }
 
-/// The attributes that a class itself declares.
-#[tactic(auto, using(crate::proofs::TableLaws::own_of_class))]
-fn own_of(classes: &[Class], c: u32) -> &[Variable]
-    requires class { c < length classes.now }
-    ensures own { result.now ≡ own_in classes.now c }
-{
-    classes[c as usize].own.items()
-}
-
 /// An attribute of a class, by its number.
 fn attribute_at<'a>(
     classes: &'a [Class],
-    counts: &[u32],
     order: &[State],
+    paths: &Paths,
     c: u32,
     k: u32,
 ) -> &'a Variable
-    requires table { IsTable classes.now counts.now order.now }
+    requires paths { ArePaths classes.now order.now paths.now.all.items paths.now.on.items }
+    requires all { HavePaths classes.now paths.now.on.items }
     requires class { c < length classes.now }
     requires attribute { k < length (attributes classes.now c) }
     ensures attribute { (d : AVariable) → result.now ≡ slice_index_or (attributes classes.now c) k
@@ -383,12 +378,11 @@ fn attribute_at<'a>(
 {
     let mut at = c;
     'up: loop {
-        let own = own_of(classes, at);
-        let inherited = counts[at as usize] as usize - own.len();
-        if k as usize >= inherited {
-            return &own[k as usize - inherited];
+        let path = path_at(classes, order, paths, at);
+        if k as usize >= path.from {
+            return variable_at(classes, path.spots[k as usize - path.from]);
         }
-        match parent_of(classes, at) {
+        match path.above {
             Some(parent) => at = parent,
             None => unreachable!(),
         }
@@ -398,14 +392,15 @@ fn attribute_at<'a>(
 /// The number of a class's attribute, by its name.
 fn number_of(
     classes: &[Class],
-    names: &[Values],
     counts: &[u32],
     order: &[State],
+    paths: &Paths,
     c: u32,
     name: &[u8],
 ) -> Option<u32>
     requires table { IsTable classes.now counts.now order.now }
-    requires names { names.now ≡ map own_names classes.now }
+    requires paths { ArePaths classes.now order.now paths.now.all.items paths.now.on.items }
+    requires all { HavePaths classes.now paths.now.on.items }
     requires class { c < length classes.now }
     ensures number { result ≡ position (same_name name.now)
         (map variable_name (attributes classes.now c)) }
@@ -413,25 +408,15 @@ fn number_of(
 {
     let mut at = c;
     'up: loop {
-        let own = &names[at as usize];
-        if let Some(number) = own.number(name) {
-            let inherited = counts[at as usize] as usize - own.len();
-            return Some((inherited + number) as u32);
+        let path = path_at(classes, order, paths, at);
+        if let Some(number) = number_on(path, counts[at as usize], name) {
+            return Some(number);
         }
-        match parent_of(classes, at) {
+        match path.above {
             Some(parent) => at = parent,
             None => return None,
         }
     }
-}
-
-/// The parent of a class.
-#[tactic(auto, using(crate::proofs::ScopeLaws::parent_read))]
-fn parent_of(classes: &[Class], c: u32) -> Option<u32>
-    requires class { c < length classes.now }
-    ensures parent { result ≡ parent_in classes.now c }
-{
-    classes[c as usize].parent
 }
 
 /// Whether class `d` is class `c` or an ancestor of it.
@@ -445,7 +430,7 @@ fn derives(classes: &[Class], c: u32, d: u32) -> bool
         if at == d {
             return true;
         }
-        match parent_of(classes, at) {
+        match parent_of(classes, at as usize) {
             Some(parent) => at = parent,
             None => return false,
         }

@@ -11,6 +11,7 @@ pub mod Limits
 pub mod Sums
 pub mod Laying
 pub mod Laid
+pub mod Listed
 pub mod Paths
 pub mod Named
 pub mod Parts

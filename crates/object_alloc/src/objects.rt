@@ -15,7 +15,7 @@ ghost use Rattle.object_alloc.specs.Paths.{is_inside, owner_in, path};
 ghost use Rattle.object_alloc.specs.Limits.{IsRefused, IsWithinLimits};
 ghost use Rattle.object_alloc.specs.Walk.{objects as all_objects, leaves_in, walk};
 
-use crate::cells::{cells_of_leaves, extent_of};
+use crate::cells::{Laid, cells_of_leaves, extent_of};
 use crate::extents::extent_sizes;
 use crate::fault::AllocFault;
 use crate::groups::{Groups, Place, cells_by_place, group_of, parts_of_objects};
@@ -92,7 +92,12 @@ pub fn allocate<'t>(alloc: Global, table: &'t ClassTable) -> Result<Objects<'t>,
     if let Err(fault) = lay_members(&mut layout, table, &sizes, top, None) {
         return Err(fault);
     }
-    let cells = cells_of_leaves(alloc, table, &layout.objects, &layout.leaves)?;
+    let laid = Laid {
+        table,
+        objects: &layout.objects,
+        sizes: &sizes,
+    };
+    let cells = cells_of_leaves(alloc, &laid, &layout.leaves)?;
     let spots = spots_of(alloc, &layout.objects)?;
     let parts = parts_of_objects(alloc, &layout.objects)?;
     let own_cells = cells_by_place(alloc, &cells)?;

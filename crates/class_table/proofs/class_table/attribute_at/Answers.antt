@@ -1,50 +1,41 @@
-use Rattle.std.proofs.Common.{◌≡◌, ◌-◌, ◌<◌, ◌≤◌, length, get_or, arith, sym, ◌∙◌, ap}
-use Rattle.std.specs.Prelude.{slice_index_or}
-use Rattle.class_table.specs.Outline.{own_in}
-use Rattle.class_table.proofs.TableLaws.{own_few, here, above, above_same, no_above, read_at}
+use Rattle.std.proofs.Common.{length, get_or, arith, sym, ◌∙◌, ap}
+use Rattle.class_table.specs.Paths.{inherited}
+use Rattle.class_table.proofs.PathLaws.{spot_low, spot_there, spot_same, read_above}
 use Rattle.class_table.proofs.class_table.attribute_at.Goals as goal
 
-pub overflow_sub-inherited : goal.overflow_sub-inherited
-overflow_sub-inherited c =
-    let few = own_few c.args.classes.now c.args.counts.now c.args.order.now c.requires.table c.up.at c.up.invariant.class in
-    omega (arith, ap length c.own_of-own.ensures.own)
+pub index-requires : goal.index-requires
+index-requires c =
+    let low = spot_low c.args.classes.now c.args.order.now c.path_at-path.result.now c.up.at c.path_at-path.ensures.on c.args.k c.if-k-path.true c.up.invariant.attribute in
+    omega (arith, low)
 
-pub returns-then-k-inherited : goal.returns-then-k-inherited
-returns-then-k-inherited c =
-    record {
-      attribute = λ d.
-          let cs = c.args.classes.now in
-          let counts = c.args.counts.now in
-          let len = ap length c.own_of-own.ensures.own in
-          let i = c.args.k - (slice_index_or counts c.up.at 0 - length (own_in cs c.up.at)) in
-          let same : c.args.k - (slice_index_or counts c.up.at 0 - length c.own_of-own.result.now) ≡ i = ap (λ n. c.args.k - (slice_index_or counts c.up.at 0 - n)) len in
-          let low : slice_index_or counts c.up.at 0 - length (own_in cs c.up.at) ≤ c.args.k = omega (arith, c.if-k-inherited.true) in
-          let few = own_few cs counts c.args.order.now c.requires.table c.up.at c.up.invariant.class in
-          let within : i < length (own_in cs c.up.at) = omega (arith, c.requires.table.counted c.up.at c.up.invariant.class, c.up.invariant.attribute) in
-          let read : c.index-own-k.result ≡ get_or (own_in cs c.up.at) i c.index-own-k.result =
-          c.index-own-k.is ∙ ap (λ n. get_or c.own_of-own.result.now n c.index-own-k.result) same ∙ ap (λ xs. get_or xs i c.index-own-k.result) c.own_of-own.ensures.own in
-          read_at (own_in cs c.up.at) i c.index-own-k.result d within read
-          ∙ here cs counts c.args.order.now c.requires.table c.up.at c.args.k d c.up.invariant.class c.up.invariant.attribute low
-          ∙ c.up.invariant.same d;
-    }
+pub variable_at-requires : goal.variable_at-requires
+variable_at-requires c =
+    record { there = spot_there c.args.classes.now c.args.order.now c.path_at-path.result.now c.up.at c.path_at-path.ensures.on c.args.k c.index.result.now c.if-k-path.true c.up.invariant.attribute c.index.ensures }
 
 pub up-preserved : goal.up-preserved
 up-preserved c =
     let cs = c.args.classes.now in
-    let counts = c.args.counts.now in
-    let len = ap length c.own_of-own.ensures.own in
-    let low : c.args.k < slice_index_or counts c.up.at 0 - length (own_in cs c.up.at) = omega (arith, c.if-k-inherited.false) in
-    let up = sym c.parent_of.ensures.parent ∙ c.in-Some.is in
+    let on = c.path_at-path.ensures.on in
+    let up = c.in-Some.is in
+    let low = c.if-k-path.false in
+    let size = on.path_is.from in
     record {
-      class = c.requires.table.parents c.up.at c.in-Some.parent up;
-      attribute = above cs counts c.args.order.now c.requires.table c.up.at c.in-Some.parent c.args.k c.up.invariant.class up low;
-      same = λ d. above_same cs counts c.args.order.now c.requires.table c.up.at c.in-Some.parent c.args.k d c.up.invariant.class up low ∙ c.up.invariant.same d;
+      class = (on.above c.in-Some.parent up).0;
+      attribute = omega (arith, low, size, ap (λ a. length (inherited cs a)) up);
+      same = λ d. sym (ap (λ a. get_or (inherited cs a) c.args.k d) up) ∙ read_above cs c.args.order.now c.path_at-path.result.now c.up.at on c.args.k d low c.up.invariant.attribute ∙ c.up.invariant.same d;
     }
 
 pub unreachable-requires : goal.unreachable-requires
 unreachable-requires c =
-    let cs = c.args.classes.now in
-    let counts = c.args.counts.now in
-    let len = ap length c.own_of-own.ensures.own in
-    let low : c.args.k < slice_index_or counts c.up.at 0 - length (own_in cs c.up.at) = omega (arith, c.if-k-inherited.false) in
-    no_above cs counts c.args.order.now c.requires.table c.up.at c.args.k c.up.invariant.class (sym c.parent_of.ensures.parent ∙ c.in-None.is) low
+    let on = c.path_at-path.ensures.on in
+    let low = c.if-k-path.false in
+    let size = on.path_is.from in
+    omega (arith, low, size, ap (λ a. length (inherited c.args.classes.now a)) c.in-None.is)
+
+pub returns-then-k-path : goal.returns-then-k-path
+returns-then-k-path c =
+    record {
+      attribute = λ d.
+          spot_same c.args.classes.now c.args.order.now c.path_at-path.result.now c.up.at c.path_at-path.ensures.on c.args.k c.index.result.now c.variable_at.result.now d c.if-k-path.true c.up.invariant.attribute c.index.ensures c.variable_at.ensures.variable
+          ∙ c.up.invariant.same d;
+    }

@@ -49,8 +49,15 @@ cells_of_leaves-requires-clause-few c =
     let few = few_objects o c.in-Ok.queue.items c.in-Ok.ensures.kinds c.in-Ok.ensures.few in
     omega (arith, few, ap length laid.0, ap length c.deref-4.ensures.value)
 
+pub cells_of_leaves-requires-clause-sizes : goal.cells_of_leaves-requires-clause-sizes
+cells_of_leaves-requires-clause-sizes c =
+    let o = c.args.table.now in
+    let k = c.in-Ok.ensures.kinds in
+    let sizes = kept_sizes o c.in-Ok.queue.items c.deref-2.result.now c.in_ok-sizes.sizes.items k c.deref-2.ensures.value c.in_ok-sizes.ensures.count c.in_ok-sizes.ensures.each in
+    subst (AreSizes o) (sym c.deref-5.ensures.value) sizes
+
 pub cells_of_leaves-requires-clause-shapes : goal.cells_of_leaves-requires-clause-shapes
-cells_of_leaves-requires-clause-shapes c = subst (AreThere c.args.table.now) (sym c.deref-5.ensures.value) c.in_default.ensures.laid.shapes
+cells_of_leaves-requires-clause-shapes c = subst (AreThere c.args.table.now) (sym c.deref-6.ensures.value) c.in_default.ensures.laid.shapes
 
 pub invariant_of-result : goal.invariant_of-result
 invariant_of-result c =
@@ -59,9 +66,9 @@ invariant_of-result c =
     let before : Layout = record { objects = c.new.result; leaves = c.new-2.result; cells = 0 } in
     let none = deep_none o c.in-Ok.queue.items k c.deref.result.now c.has_deep.result c.deref.ensures.value c.has_deep.ensures.deep c.if-has_deep.false in
     let sizes = kept_sizes o c.in-Ok.queue.items c.deref-2.result.now c.in_ok-sizes.sizes.items k c.deref-2.ensures.value c.in_ok-sizes.ensures.count c.in_ok-sizes.ensures.each in
-    let made = c.in_ok-cells.ensures.cells ∙ ap (cells_of o) c.deref-5.ensures.value in
+    let made = c.in_ok-cells.ensures.cells ∙ ap (cells_of o) c.deref-6.ensures.value in
     laid_out o c.in-Ok.queue.items before c.lay_members.new.layout c.in_ok-sizes.sizes.items c.in_ok-cells.cells.items (group c.in_ok-parts.parts.entries) (group c.in_ok-own_cells.own_cells.entries) k c.in-Ok.ensures.lawful c.in-Ok.ensures.few none c.class_count-classes.ensures.sound c.class_count-classes.ensures.values sizes c.new-2.ensures.items c.new.ensures.items c.in_default.ensures.laid made
-    (λ owner n. c.in_ok-parts.ensures.groups owner n ∙ ap (numbers_from (is_part_of owner n) 0) c.deref-7.ensures.value) (λ owner n. c.in_ok-own_cells.ensures.groups owner n ∙ ap (numbers_from (is_cell_of owner n) 0) c.deref-8.ensures.value)
+    (λ owner n. c.in_ok-parts.ensures.groups owner n ∙ ap (numbers_from (is_part_of owner n) 0) c.deref-8.ensures.value) (λ owner n. c.in_ok-own_cells.ensures.groups owner n ∙ ap (numbers_from (is_cell_of owner n) 0) c.deref-9.ensures.value)
 
 pub returns-clause-limits : goal.returns-clause-limits
 returns-clause-limits c =
@@ -70,9 +77,9 @@ returns-clause-limits c =
     let before : Layout = record { objects = c.new.result; leaves = c.new-2.result; cells = 0 } in
     let none = deep_none o c.in-Ok.queue.items k c.deref.result.now c.has_deep.result c.deref.ensures.value c.has_deep.ensures.deep c.if-has_deep.false in
     let sizes = kept_sizes o c.in-Ok.queue.items c.deref-2.result.now c.in_ok-sizes.sizes.items k c.deref-2.ensures.value c.in_ok-sizes.ensures.count c.in_ok-sizes.ensures.each in
-    let made = c.in_ok-cells.ensures.cells ∙ ap (cells_of o) c.deref-5.ensures.value in
+    let made = c.in_ok-cells.ensures.cells ∙ ap (cells_of o) c.deref-6.ensures.value in
     let all = laid_out o c.in-Ok.queue.items before c.lay_members.new.layout c.in_ok-sizes.sizes.items c.in_ok-cells.cells.items (group c.in_ok-parts.parts.entries) (group c.in_ok-own_cells.own_cells.entries) k c.in-Ok.ensures.lawful c.in-Ok.ensures.few none c.class_count-classes.ensures.sound c.class_count-classes.ensures.values sizes c.new-2.ensures.items c.new.ensures.items c.in_default.ensures.laid made
-    (λ owner n. c.in_ok-parts.ensures.groups owner n ∙ ap (numbers_from (is_part_of owner n) 0) c.deref-7.ensures.value) (λ owner n. c.in_ok-own_cells.ensures.groups owner n ∙ ap (numbers_from (is_cell_of owner n) 0) c.deref-8.ensures.value) in
+    (λ owner n. c.in_ok-parts.ensures.groups owner n ∙ ap (numbers_from (is_part_of owner n) 0) c.deref-8.ensures.value) (λ owner n. c.in_ok-own_cells.ensures.groups owner n ∙ ap (numbers_from (is_cell_of owner n) 0) c.deref-9.ensures.value) in
     all.limits
 
 pub spots_of-requires : goal.spots_of-requires
@@ -81,7 +88,7 @@ spots_of-requires c =
     let before : Layout = record { objects = c.new.result; leaves = c.new-2.result; cells = 0 } in
     let laid = laid_objects o before c.lay_members.new.layout c.new-2.ensures.items c.new.ensures.items c.in_default.ensures.laid in
     let few = few_objects o c.in-Ok.queue.items c.in-Ok.ensures.kinds c.in-Ok.ensures.few in
-    record { few = omega (arith, few, ap length laid.0, ap length c.deref-6.ensures.value) }
+    record { few = omega (arith, few, ap length laid.0, ap length c.deref-7.ensures.value) }
 
 pub parts_of_objects-requires : goal.parts_of_objects-requires
 parts_of_objects-requires c =
@@ -89,4 +96,4 @@ parts_of_objects-requires c =
     let before : Layout = record { objects = c.new.result; leaves = c.new-2.result; cells = 0 } in
     let laid = laid_objects o before c.lay_members.new.layout c.new-2.ensures.items c.new.ensures.items c.in_default.ensures.laid in
     let few = few_objects o c.in-Ok.queue.items c.in-Ok.ensures.kinds c.in-Ok.ensures.few in
-    record { few = omega (arith, few, ap length laid.0, ap length c.deref-7.ensures.value) }
+    record { few = omega (arith, few, ap length laid.0, ap length c.deref-8.ensures.value) }
