@@ -1,5 +1,5 @@
 -- Variables one by one.
-use Rattle.std.proofs.Common.{◌≡◌, ℕ, zero, suc, ◌+◌, ◌<◌, List, [], ◌∷◌, ◌++◌, Option, None, Some, length, drop, refl, ap, sym, ◌∙◌, subst, arith, length-append, append_assoc}
+use Rattle.std.proofs.Common.{◌≡◌, ℕ, zero, suc, ◌+◌, ◌<◌, List, [], ◌∷◌, ◌++◌, Option, None, Some, length, drop, refl, ap, sym, ◌∙◌, subst, arith, length-append, append_assoc, get_or}
 use Rattle.std.specs.Prelude.{Contains, slice_index_or}
 use Rattle.class_table.specs.declared.table.Resolved.{Resolved}
 use Rattle.class_table.specs.declared.table.Variable.{Variable}
@@ -8,6 +8,7 @@ use Rattle.class_table.specs.Sound.{IsSound}
 use Rattle.class_table.specs.Tables.{IsShapeOf}
 use Rattle.object_alloc.specs.declared.fault.AllocFault.{AllocFault}
 use Rattle.object_alloc.specs.declared.queue.Kind.{Kind}
+use Rattle.object_alloc.specs.Holding.{kinds_in}
 use Rattle.object_alloc.specs.Sums.{variables, held_kinds, kinds_of, IsExcess}
 use Rattle.object_alloc.proofs.QueueSteps.{excess_more}
 use Rattle.object_alloc.proofs.ShapeLaws.{shapes, root_shapes}
@@ -53,3 +54,11 @@ module _ (d : ℕ) (vs : List Variable) (k : ℕ) (s : Resolved) (h : k < length
   push_excess queue old f i x =
       excess_more (length queue + length (held_kinds d s)) (length old + length (kinds_of d vs)) f
       (omega (arith, ap length i, length-append queue (kinds_of d (drop k vs)), length-append old (kinds_of d vs), ap length kinds_at, length-append (held_kinds d s) (kinds_of d (drop (k + 1) vs)))) x
+
+-- the shape at an index, and those behind it
+pub shape_next : (d : ℕ) (shapes : List Resolved) (i : ℕ) (s : Resolved) → i < length shapes → kinds_in d (drop i shapes) ≡ held_kinds d (get_or shapes i s) ++ kinds_in d (drop (i + 1) shapes)
+shape_next d [] i s h = absurd (omega (arith, h))
+shape_next d (x ∷ xs) zero s h = refl
+shape_next d (x ∷ xs) (suc i) s h =
+    let same : suc (i + 1) ≡ suc i + 1 = omega arith in
+    shape_next d xs i s (omega (arith, h)) ∙ ap (λ k. held_kinds d (get_or xs i s) ++ kinds_in d (drop k (x ∷ xs))) same

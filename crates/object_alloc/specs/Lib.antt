@@ -9,6 +9,7 @@ pub mod Members
 pub mod Hints
 pub mod Limits
 pub mod Sums
+pub mod Holding
 pub mod Laying
 pub mod Laid
 pub mod Listed

@@ -17,7 +17,7 @@ use class_table::Resolved;
 
 impl<'t> Objects<'t> {
     /// The object that has this path. The cost is proportional to the path's length, but for an
-    /// inherited attribute, which costs one look-up for each class up to the one that declares it.
+    /// inherited attribute, which costs as many look-ups as the logarithm of the number of classes.
     pub fn object_at(&self, text: &[u8]) -> Option<u32>
         ensures object { result ≡ object_named self.now text.now }
         ensures own { (n : ℕ) → n < length (all_objects self.now) → path self.now n ≡ text.now

@@ -3,10 +3,12 @@
 //! `queue_all` is the entry. It takes the objects level by level: first those of the top level,
 //! then those that each one holds. It stops as soon as there are too many, so its work is bounded
 //! however many objects a model would have.
-ghost use Rattle.std.specs.Prelude.{◌≡◌, ◌+◌, ◌<◌, ◌≤◌, ◌^◌, ◌++◌, nat_lt, length, replicate, IfOk, IfErr, OnOk, IfSome};
+ghost use Rattle.std.specs.Prelude.{◌≡◌, ◌+◌, ◌<◌, ◌≤◌, ◌^◌, ◌++◌, ℕ, nat_lt, None, is_some, length, replicate, IfOk, IfErr, OnOk, IfSome};
 ghost use Rattle.std.specs.List.{sum_by};
 ghost use Rattle.model_limits.specs.Limits.{most_objects};
 ghost use Rattle.class_table.specs.Sound.{IsSound};
+ghost use Rattle.class_table.specs.Outline.{attributes};
+ghost use Rattle.object_alloc.specs.Holding.{AreHolding, HoldsSame, kinds_in, shapes_of};
 ghost use Rattle.object_alloc.specs.Sums.{Weigh, of_object, of_kind, variables, held_kinds, kinds_of, deep, IsExcess, IsLawful};
 ghost use Rattle.object_alloc.specs.Walk.{objects};
 
@@ -14,7 +16,7 @@ use crate::fault::AllocFault;
 use crate::shapes::{shape_at, variable_count};
 use class_table::{ClassTable, Resolved};
 use model_limits::{MOST_NAMES, MOST_OBJECTS};
-use std::alloc::Global;
+use std::alloc::{AllocError, Global};
 
 /// An object's class and depth.
 #[derive(Clone, Copy, Debug)]
@@ -78,6 +80,131 @@ fn push_members(
     Ok(())
 }
 
+/// For each class the shapes of its attributes that hold objects. They are listed when the first
+/// object of the class is met, so that other objects of it need no look at other attributes.
+type Holding = Vec<Option<Vec<Resolved>>>;
+
+/// No list for each of so many classes.
+fn no_holding(alloc: Global, count: u32) -> Result<Holding, AllocError>
+    ensures size { IfOk result (λ lists. length lists.items ≡ count) }
+    ensures none { IfOk result (λ lists. (c : ℕ) → shapes_of lists.items c ≡ None) }
+{
+    let mut lists = Vec::new(alloc);
+    for _class in 0..count {
+        lists.push(None)?;
+    }
+    Ok(lists)
+}
+
+/// Adds a shape, if an attribute of this shape holds objects.
+fn add_shape(shapes: &mut Vec<Resolved>, shape: Resolved) -> Result<(), AllocError>
+    ensures shapes { OnOk result ((d : ℕ) → kinds_in d shapes.new.items
+        ≡ kinds_in d shapes.old.items ++ held_kinds d shape) }
+{
+    match shape {
+        Resolved::One(_) | Resolved::Many(_, _) => shapes.push(shape)?,
+        _ => {}
+    }
+    Ok(())
+}
+
+/// The shapes of a class's attributes that hold objects.
+fn shapes_in(alloc: Global, table: &ClassTable, class: u32) -> Result<Vec<Resolved>, AllocError>
+    requires class { class < length table.now.classes }
+    ensures shapes { IfOk result (λ shapes. HoldsSame table.now class shapes.items) }
+{
+    let mut shapes = Vec::new(alloc);
+    for k in 0..table.attribute_count(class) {
+        let shape = shape_at(table, Some(class), k);
+        add_shape(&mut shapes, shape)?;
+    }
+    Ok(shapes)
+}
+
+/// Whether a class's shapes are listed.
+fn has_shapes(lists: &Holding, class: u32) -> bool
+    requires class { class < length lists.now.items }
+    ensures listed { result ≡ is_some (shapes_of lists.now.items class) }
+{
+    lists[class as usize].is_some()
+}
+
+/// Lists the shapes of a class, where they aren't yet.
+fn list_shapes(
+    alloc: Global,
+    table: &ClassTable,
+    lists: &mut Holding,
+    class: u32,
+) -> Result<(), AllocError>
+    requires class { class < length table.now.classes }
+    requires size { length lists.old.items ≡ length table.now.classes }
+    requires lists { AreHolding table.now lists.old.items }
+    ensures size { OnOk result (length lists.new.items ≡ length lists.old.items) }
+    ensures lists { OnOk result (AreHolding table.now lists.new.items) }
+    ensures there { OnOk result (shapes_of lists.new.items class ≡ None → ⊥) }
+{
+    if has_shapes(lists, class) {
+        return Ok(());
+    }
+    let shapes = shapes_in(alloc, table, class)?;
+    lists[class as usize] = Some(shapes);
+    Ok(())
+}
+
+/// The shapes of a class.
+fn shapes_at<'a>(table: &ClassTable, lists: &'a Holding, class: u32) -> &'a [Resolved]
+    requires class { class < length lists.now.items }
+    requires lists { AreHolding table.now lists.now.items }
+    requires there { shapes_of lists.now.items class ≡ None → ⊥ }
+    ensures shapes { HoldsSame table.now class result.now }
+{
+    match &lists[class as usize] {
+        Some(shapes) => shapes,
+        None => unreachable!(),
+    }
+}
+
+/// Adds the objects that attributes of these shapes hold.
+fn push_shapes(queue: &mut Vec<Kind>, shapes: &[Resolved], depth: u32) -> Result<(), AllocFault>
+    requires few { length queue.old.items ≤ most_objects }
+    ensures queue { OnOk result (queue.new.items ≡ queue.old.items ++ kinds_in depth shapes.now) }
+    ensures few { OnOk result (length queue.new.items ≤ most_objects) }
+    ensures fault { IfErr result (IsExcess (length queue.old.items + length
+        (kinds_in depth shapes.now))) }
+{
+    for shape in shapes {
+        if let Err(fault) = push_held(queue, *shape, depth) {
+            return Err(fault);
+        }
+    }
+    Ok(())
+}
+
+/// Adds the objects that an object of this class holds.
+fn push_parts(
+    alloc: Global,
+    queue: &mut Vec<Kind>,
+    table: &ClassTable,
+    lists: &mut Holding,
+    class: u32,
+    depth: u32,
+) -> Result<(), AllocFault>
+    requires class { class < length table.now.classes }
+    requires size { length lists.old.items ≡ length table.now.classes }
+    requires lists { AreHolding table.now lists.old.items }
+    requires few { length queue.old.items ≤ most_objects }
+    ensures size { OnOk result (length lists.new.items ≡ length lists.old.items) }
+    ensures lists { OnOk result (AreHolding table.now lists.new.items) }
+    ensures queue { OnOk result (queue.new.items ≡ queue.old.items
+        ++ kinds_of depth (attributes table.now.classes class)) }
+    ensures few { OnOk result (length queue.new.items ≤ most_objects) }
+    ensures fault { IfErr result (IsExcess (length queue.old.items + length
+        (kinds_of depth (attributes table.now.classes class)))) }
+{
+    list_shapes(alloc, table, lists, class)?;
+    push_shapes(queue, shapes_at(table, lists, class), depth)
+}
+
 /// The class and the depth of each object of a model, in some order.
 pub(crate) fn queue_all(alloc: Global, table: &ClassTable) -> Result<Vec<Kind>, AllocFault>
     requires sound { IsSound table.now }
@@ -91,11 +218,12 @@ pub(crate) fn queue_all(alloc: Global, table: &ClassTable) -> Result<Vec<Kind>, 
     if let Err(fault) = push_members(&mut queue, table, None, 1) {
         return Err(fault);
     }
+    let mut lists = no_holding(alloc, table.class_count())?;
     let mut head = 0;
     while head < queue.len() {
         let kind = queue[head];
-        let class = Some(kind.class);
-        if let Err(fault) = push_members(&mut queue, table, class, kind.depth + 1) {
+        let depth = kind.depth + 1;
+        if let Err(fault) = push_parts(alloc, &mut queue, table, &mut lists, kind.class, depth) {
             return Err(fault);
         }
         head += 1;

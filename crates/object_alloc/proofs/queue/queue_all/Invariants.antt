@@ -1,6 +1,7 @@
 use Rattle.std.proofs.Common.{◌≡◌, ◌-◌, ◌≤◌, length}
 use Rattle.std.specs.List.{sum_by}
 use Rattle.model_limits.specs.Limits.{most_objects}
+use Rattle.object_alloc.specs.Holding.{AreHolding}
 use Rattle.object_alloc.specs.Sums.{Weigh, of_object, IsLawful}
 use Rattle.object_alloc.specs.Walk.{objects}
 use Rattle.object_alloc.proofs.QueueSteps.{balance}
@@ -14,6 +15,8 @@ invariant-loop-head l =
       lawful : IsLawful (length l.table.classes) 1 l.queue.items;
       few : length l.queue.items ≤ most_objects;
       within : l.head ≤ length l.queue.items;
+      lists : AreHolding l.table l.lists.items;
+      size : length l.lists.items ≡ length l.table.classes;
     }
 
 abbrev pub decreases-loop-head : goal.decreases-loop-head
