@@ -17,6 +17,7 @@ pub record PictureGuest : Type 0 where
 
 -- what the guests of a holder come to, and what it can take where it says so
 pub record PictureLoad : Type 0 where
+  pub name : List ℕ
   pub sum : ℤ
   pub capacity : Option ℤ
 
@@ -43,7 +44,7 @@ total d name [] = pos 0
 total d name (p ∷ ps) = amount d name p +ℤ total d name ps
 
 abbrev pub load_of : Data → Path → List Path → PictureSize → PictureLoad
-load_of d p gs size = record { sum = total d size.name gs; capacity = number_at d size.capacity p }
+load_of d p gs size = record { name = size.name; sum = total d size.name gs; capacity = number_at d size.capacity p }
 
 abbrev pub guest_of : Data → Path → PictureGuest
 guest_of d p = record { path = p; class = option_and_then class_of (value_at p d) }

@@ -15,7 +15,7 @@ abbrev pub guest_path : Guest → Path
 guest_path g = path_seen g.path
 
 abbrev pub load_seen : Load → PictureLoad
-load_seen l = record { sum = l.sum; capacity = l.capacity }
+load_seen l = record { name = l.name.now; sum = l.sum; capacity = l.capacity }
 
 abbrev pub size_seen : Size → PictureSize
 size_seen s = record { name = s.name.now; capacity = s.capacity.now }

@@ -13,7 +13,9 @@ pub struct Size<'a> {
 
 /// What the guests of a holder come to.
 #[derive(Clone, Copy)]
-pub struct Load {
+pub struct Load<'s> {
+    /// The name of their sizes.
+    pub name: &'s str,
     /// The sum of their sizes.
     pub sum: i128,
     /// What the holder can take, where it says so.
@@ -31,11 +33,11 @@ pub struct Guest<'l, 'a> {
 
 /// A holder and what stands there.
 #[derive(Drop)]
-pub struct Holding<'l, 'a> {
+pub struct Holding<'s, 'l, 'a> {
     /// The holder's path.
     pub holder: &'l [Step<'a>],
     /// What its guests come to, a load for each size.
-    pub loads: Vec<Load>,
+    pub loads: Vec<Load<'s>>,
     /// Its guests, in order of path.
     pub guests: Vec<Guest<'l, 'a>>,
 }

@@ -61,13 +61,13 @@ struct Scene<'s, 'l, 'a> {
 }
 
 /// What a holder is, by the mentions of it.
-fn holding_of<'l, 'a>(
+fn holding_of<'s, 'l, 'a>(
     alloc: Global,
     whole: &'a Value,
-    sizes: &[Size<'_>],
+    sizes: &[Size<'s>],
     holder: &'l [Step<'a>],
     mentions: &[Mention<'l, 'a>],
-) -> Result<Holding<'l, 'a>, AllocError>
+) -> Result<Holding<'s, 'l, 'a>, AllocError>
     ensures { IfOk result (λ made. holding_seen made ≡ holding_of (view whole.now)
         (map size_seen sizes.now) (map step_seen holder.now) (mention_paths (map mention_seen
         mentions.now))) }
@@ -82,12 +82,12 @@ fn holding_of<'l, 'a>(
 }
 
 /// What stands at a part, where something does. The text is written anew.
-fn holding_at<'l, 'a>(
+fn holding_at<'s, 'l, 'a>(
     alloc: Global,
-    scene: &Scene<'_, 'l, 'a>,
+    scene: &Scene<'s, 'l, 'a>,
     part: &'l [Step<'a>],
     text: &mut Vec<u8>,
-) -> Result<Option<Holding<'l, 'a>>, AllocError>
+) -> Result<Option<Holding<'s, 'l, 'a>>, AllocError>
     ensures { IfOk result (λ made. map holding_seen (option_to_list made)
         ≡ held_at (view scene.now.whole.now) (map size_seen scene.now.sizes.now)
         scene.now.mentions.entries (map step_seen part.now)) }
@@ -108,11 +108,11 @@ fn holding_at<'l, 'a>(
 }
 
 /// What stands at each of these parts where something does.
-fn holdings_among<'l, 'a>(
+fn holdings_among<'s, 'l, 'a>(
     alloc: Global,
-    scene: &Scene<'_, 'l, 'a>,
+    scene: &Scene<'s, 'l, 'a>,
     parts: &[&'l [Step<'a>]],
-) -> Result<Vec<Holding<'l, 'a>>, AllocError>
+) -> Result<Vec<Holding<'s, 'l, 'a>>, AllocError>
     ensures { IfOk result (λ made. holdings_seen made.items
         ≡ flat_map (held_at (view scene.now.whole.now) (map size_seen scene.now.sizes.now)
         scene.now.mentions.entries) (paths_seen parts.now)) }
@@ -129,13 +129,13 @@ fn holdings_among<'l, 'a>(
 
 /// The picture of a configuration: the parts to which an attribute of this name refers, in order of
 /// path, each with its guests and what these come to.
-pub fn holdings<'l, 'a>(
+pub fn holdings<'s, 'l, 'a>(
     alloc: Global,
     whole: &'a Value,
     leaves: &'l [Leaf<'a>],
     attribute: &str,
-    sizes: &[Size<'_>],
-) -> Result<Vec<Holding<'l, 'a>>, AllocError>
+    sizes: &'s [Size<'s>],
+) -> Result<Vec<Holding<'s, 'l, 'a>>, AllocError>
     ensures { IfOk result (λ made. holdings_seen made.items ≡ holdings (view whole.now)
         attribute.now (map size_seen sizes.now) (leaves_seen leaves.now)) }
 {

@@ -37,24 +37,30 @@ fn total(whole: &Value, guests: &[Guest<'_, '_>], name: &str) -> i128
 }
 
 /// What the guests of a holder come to.
-fn load_of(whole: &Value, holder: &[Step<'_>], guests: &[Guest<'_, '_>], size: Size<'_>) -> Load
+fn load_of<'s>(
+    whole: &Value,
+    holder: &[Step<'_>],
+    guests: &[Guest<'_, '_>],
+    size: Size<'s>,
+) -> Load<'s>
     ensures { load_seen result ≡ load_of (view whole.now) (map step_seen holder.now)
         (map guest_path guests.now) (size_seen size.entry) }
 {
     Load {
+        name: size.name,
         sum: total(whole, guests, size.name),
         capacity: number_at(whole, holder, size.capacity),
     }
 }
 
 /// The loads of a holder, one for each size.
-pub(crate) fn loads_of(
+pub(crate) fn loads_of<'s>(
     alloc: Global,
     whole: &Value,
     holder: &[Step<'_>],
     guests: &[Guest<'_, '_>],
-    sizes: &[Size<'_>],
-) -> Result<Vec<Load>, AllocError>
+    sizes: &[Size<'s>],
+) -> Result<Vec<Load<'s>>, AllocError>
     ensures { IfOk result (λ loads. map load_seen loads.items ≡ map (load_of (view whole.now)
         (map step_seen holder.now) (map guest_path guests.now)) (map size_seen sizes.now)) }
 {

@@ -1,0 +1,14 @@
+//! How a picture is shown: as lines of text, or drawn as SVG.
+#![tactic(auto)]
+
+mod canvas;
+mod classes;
+mod names;
+mod shapes;
+mod sheet;
+mod shown;
+mod svg;
+
+pub use names::is_failed;
+pub use sheet::lines_of;
+pub use svg::svg_of;
