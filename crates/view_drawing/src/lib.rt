@@ -6,9 +6,7 @@ mod classes;
 mod names;
 mod shapes;
 mod sheet;
-mod shown;
 mod svg;
 
-pub use names::is_failed;
 pub use sheet::lines_of;
 pub use svg::svg_of;
