@@ -4,10 +4,12 @@
 mod holding;
 mod lookup;
 mod mentions;
+mod named;
 mod pictures;
 mod totals;
 mod ways;
 
 pub use holding::{Guest, Holding, Load, Size};
+pub use named::{are_parts, has_attribute};
 pub use pictures::holdings;
 pub use ways::parts;
