@@ -7,9 +7,10 @@ use Rattle.desk_io.specs.Whole.{PrintsFront}
 use Rattle.serde_json.specs.Data.{Data}
 use Rattle.view_leaves.specs.Reading.{text_json}
 use Rattle.view_run.specs.Answers.{IsPlanText}
-use Rattle.view_run.specs.Ending.{Trace, IsAsked, IsAnswered, IsCutOff, PlanEnds, IsFaulty, IsDenied, IsDelivered}
-use Rattle.view_run.specs.Words.{PlanAsked}
-use Rattle.view_run.specs.declared.status.Source.TheVariants.{Former, New}
+use Rattle.view_run.specs.Ending.{Trace, IsAsked, IsAnswered, IsCutOff, PlanEnds, IsFaulty, IsDenied, IsDelivered, IsPictured, PictureEnds, IsUndrawn, IsHandedOut}
+use Rattle.view_run.specs.Pictured.{IsPicture, IsBlank, IsDrawn}
+use Rattle.view_run.specs.Words.{PlanAsked, PictureAsked}
+use Rattle.view_run.specs.declared.status.Source.TheVariants.{Former, New, Config}
 use Rattle.view_run.specs.declared.status.Status.{Status as Ended}
 use Rattle.view_run.specs.declared.status.Status.TheVariants.{Same, Differs, Shown, Usage, Unreadable, TooLong, NotJson, NotObject, NoAttribute, NoPart, WriteFault, Memory}
 
@@ -136,3 +137,82 @@ delivered_ends files a t text b WriteFault asked h = record {
   risen = h.1;
 }
 delivered_ends files a t text b Memory asked h = tt
+
+-- ---- pictures
+
+pub is_drawn : (files : Option Files) (a : PictureAsked) (d : Data) (text : List ℕ)
+    → OfFile files a.config (λ bytes. text_json bytes ≡ Some d) → IsPicture d a text
+    → IsDrawn files a text
+is_drawn files a d text config picture = record { whole = d; config = config; picture = picture }
+
+-- a file that was refused
+pub config_undrawn : (files : Option Files) (a : PictureAsked) (reads now : ℕ) (s : Ended)
+    → IsFaulty files a.config Config reads now s → IsUndrawn files a reads now s
+config_undrawn files a reads now Same h = absurd h
+config_undrawn files a reads now Differs h = absurd h
+config_undrawn files a reads now Shown h = absurd h
+config_undrawn files a reads now Usage h = absurd h
+config_undrawn files a reads now (Unreadable s) h = h.1
+config_undrawn files a reads now (TooLong s) h =
+    subst (λ q. IsUndrawn files a reads now (TooLong q)) (sym h.0) h.1
+config_undrawn files a reads now (NotJson s) h =
+    subst (λ q. IsUndrawn files a reads now (NotJson q)) (sym h.0) h.1
+config_undrawn files a reads now (NotObject s) h =
+    subst (λ q. IsUndrawn files a reads now (NotObject q)) (sym h.0) h.1
+config_undrawn files a reads now NoAttribute h = absurd h
+config_undrawn files a reads now NoPart h = absurd h
+config_undrawn files a reads now WriteFault h = absurd h
+config_undrawn files a reads now Memory h = h
+
+-- a configuration that has no such picture
+pub blank_undrawn : (files : Option Files) (a : PictureAsked) (d : Data) (reads now : ℕ)
+    (s : Ended) → OfFile files a.config (λ bytes. text_json bytes ≡ Some d) → IsBlank d a s
+    → IsUndrawn files a reads now s
+blank_undrawn files a d reads now Same config h = absurd h
+blank_undrawn files a d reads now Differs config h = absurd h
+blank_undrawn files a d reads now Shown config h = absurd h
+blank_undrawn files a d reads now Usage config h = absurd h
+blank_undrawn files a d reads now (Unreadable s) config h = absurd h
+blank_undrawn files a d reads now (TooLong s) config h = absurd h
+blank_undrawn files a d reads now (NotJson s) config h = absurd h
+blank_undrawn files a d reads now (NotObject s) config h = absurd h
+blank_undrawn files a d reads now NoAttribute config h =
+    record { whole = d; config = config; lacks = h }
+blank_undrawn files a d reads now NoPart config h =
+    record { whole = d; config = config; lacks = h }
+blank_undrawn files a d reads now WriteFault config h = absurd h
+blank_undrawn files a d reads now Memory config h = tt
+
+pub undrawn_ends : (files : Option Files) (a : PictureAsked) (t : Trace) (s : Ended)
+    → IsUndrawn files a t.reads t.reads_now s → t.printed_now ≡ t.printed
+    → PictureEnds files a t s
+undrawn_ends files a t Same h silent = absurd h
+undrawn_ends files a t Differs h silent = absurd h
+undrawn_ends files a t Shown h silent = absurd h
+undrawn_ends files a t Usage h silent = absurd h
+undrawn_ends files a t (Unreadable s) h silent = (silent, h)
+undrawn_ends files a t (TooLong s) h silent = (silent, h)
+undrawn_ends files a t (NotJson s) h silent = (silent, h)
+undrawn_ends files a t (NotObject s) h silent = (silent, h)
+undrawn_ends files a t NoAttribute h silent = (silent, h)
+undrawn_ends files a t NoPart h silent = (silent, h)
+undrawn_ends files a t WriteFault h silent = absurd h
+undrawn_ends files a t Memory h silent = tt
+
+pub handed_out_ends : (files : Option Files) (a : PictureAsked) (t : Trace) (text : List ℕ)
+    (s : Ended) → IsDrawn files a text
+    → IsHandedOut text t.printed t.printed_now t.writes t.writes_now s → PictureEnds files a t s
+handed_out_ends files a t text Same drawn h = absurd h
+handed_out_ends files a t text Differs drawn h = absurd h
+handed_out_ends files a t text Shown drawn h =
+    record { text = text; drawn = drawn; printed = h }
+handed_out_ends files a t text Usage drawn h = absurd h
+handed_out_ends files a t text (Unreadable s) drawn h = absurd h
+handed_out_ends files a t text (TooLong s) drawn h = absurd h
+handed_out_ends files a t text (NotJson s) drawn h = absurd h
+handed_out_ends files a t text (NotObject s) drawn h = absurd h
+handed_out_ends files a t text NoAttribute drawn h = absurd h
+handed_out_ends files a t text NoPart drawn h = absurd h
+handed_out_ends files a t text WriteFault drawn h =
+    record { text = text; drawn = drawn; printed = h.0; risen = h.1 }
+handed_out_ends files a t text Memory drawn h = tt

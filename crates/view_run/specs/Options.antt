@@ -1,8 +1,7 @@
 -- The words behind the file and the attribute of a picture: sizes, as `cpu` or `cpu=room`, the word
 -- `--svg`, and `--failed` with a path behind it.
 use Rattle.std.specs.Prelude.{ℕ, Bool, true, false, not, ◌==◌, if◌then◌else◌, nat_eq, nat_lt, List, [], ◌∷◌, codes, bytes_eq, length}
-use Rattle.std.specs.List.{starts_with}
-use Rattle.std.specs.Str.Pattern.{before_first, after_first, position_or_len}
+use Rattle.std.specs.List.{starts_with, before_first, after_first, position_or_len}
 use Rattle.view_picture.specs.Picture.{PictureSize}
 
 -- a word that begins with a dash; such a file is named as `./-name`
