@@ -1,3 +1,4 @@
 pub mod HeldLaws
 pub mod MentionLaws
 pub mod PartLaws
+pub mod PartOrder

@@ -71,3 +71,6 @@ holdings_among d a sizes ls ps = flat_map (λ p. if_held d sizes p (guests_at a 
 
 abbrev pub holdings : Data → List ℕ → List PictureSize → List PathLeaf → List PictureHolding
 holdings d a sizes ls = holdings_among d a sizes ls (parts ls)
+
+abbrev pub holders : List PictureHolding → List Path
+holders hs = map (λ (h : PictureHolding). h.holder) hs
