@@ -82,7 +82,7 @@ unfolding IsStrictlySortedBy
 mapped_ascend s [] h = tt
 mapped_ascend s (p ∷ ps) h = (
   all_mapped (λ q. path_cmp p q ≡ Less) (λ q. path_cmp (s ∷ p) q ≡ Less) (λ q. s ∷ q)
-  (λ q less. same_first s p q ∙ less) ps h.0,
+      (λ q less. same_first s p q ∙ less) ps h.0,
   mapped_ascend s ps h.1,
 )
 
@@ -91,7 +91,7 @@ unfolding IsStrictlySortedBy
 ways_ascend [] = tt
 ways_ascend (s ∷ p) = (
   all_mapped (λ q. path_cmp [] q ≡ Less) (λ q. path_cmp (s ∷ []) q ≡ Less) (λ q. s ∷ q)
-  (λ q less. same_first s [] q ∙ less) (ways p) (ways_behind_none p),
+      (λ q less. same_first s [] q ∙ less) (ways p) (ways_behind_none p),
   mapped_ascend s (ways p) (ways_ascend p),
 )
 
@@ -188,9 +188,9 @@ behind_ascend p (l ∷ ls) first h =
     let rest = behind_ascend q ls h.0 h.1 in
     let front = drop (shared p q) (ways q) in (
       ascending_both q front (parts_behind q ls) (ascending_drop (shared p q) (ways q) (ways_ascend q))
-      rest.0 (all_drop (AtMost q) (shared p q) (ways q) (ways_at_most q)) rest.1,
+          rest.0 (all_drop (AtMost q) (shared p q) (ways q) (ways_at_most q)) rest.1,
       all_both (λ y. path_cmp p y ≡ Less) front (parts_behind q ls) (new_behind p q first.0)
-      (further p q first.0 (parts_behind q ls) rest.1),
+          (further p q first.0 (parts_behind q ls) rest.1),
     )
 
 pub parts_ascend : (ls : List PathLeaf) → IsAscending (paths ls) → IsAscending (parts ls)

@@ -2,10 +2,11 @@
 ghost use Rattle.std.specs.Prelude.{◌≡◌, map, option_to_list, IfOk};
 ghost use Rattle.std.specs.List.{flat_map};
 ghost use Rattle.serde_json.specs.View.{view};
+ghost use Rattle.view_leaves.specs.Ascending.{IsAscending, paths};
 ghost use Rattle.view_leaves.specs.Views.{step_seen, leaves_seen};
 ghost use Rattle.view_picture.specs.Held.{held_at};
 ghost use Rattle.view_picture.specs.Mentioned.{mention_seen, mention_paths};
-ghost use Rattle.view_picture.specs.Picture.{guest_of, holding_of, holdings};
+ghost use Rattle.view_picture.specs.Picture.{guest_of, holding_of, holders, holdings};
 ghost use Rattle.view_picture.specs.PictureViews.{guest_seen, guest_path, size_seen, holding_seen, holdings_seen};
 ghost use Rattle.view_picture.specs.Views.{paths_seen};
 
@@ -136,8 +137,10 @@ pub fn holdings<'s, 'l, 'a>(
     attribute: &str,
     sizes: &'s [Size<'s>],
 ) -> Result<Vec<Holding<'s, 'l, 'a>>, AllocError>
-    ensures { IfOk result (λ made. holdings_seen made.items ≡ holdings (view whole.now)
+    ensures holdings { IfOk result (λ made. holdings_seen made.items ≡ holdings (view whole.now)
         attribute.now (map size_seen sizes.now) (leaves_seen leaves.now)) }
+    ensures ascending { IfOk result (λ made. IsAscending (paths (leaves_seen leaves.now))
+        → IsAscending (holders (holdings_seen made.items))) }
 {
     let mentions = mentions_of(alloc, attribute, leaves)?;
     let scene = Scene {
