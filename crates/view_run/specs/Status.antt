@@ -1,5 +1,5 @@
 -- The numbers and the lines of statuses.
-use Rattle.std.specs.Prelude.{ℕ, List, [], ◌++◌, codes}
+use Rattle.std.specs.Prelude.{ℕ, List, [], codes}
 use Rattle.view_run.specs.declared.status.Source.{Source}
 use Rattle.view_run.specs.declared.status.Source.TheVariants.{Former, New, Config}
 use Rattle.view_run.specs.declared.status.Status.{Status as Ended}
@@ -24,8 +24,7 @@ line_of Same = []
 line_of Differs = []
 line_of Shown = []
 line_of Usage =
-    codes "usage: confsolve-view plan FORMER NEW, or "
-    ++ codes "picture CONFIG ATTRIBUTE [SIZE[=CAPACITY] ..] [--svg] [--failed PATH] .."
+    codes "usage: confsolve-view plan FORMER NEW, or picture CONFIG ATTRIBUTE [SIZE ..]"
 line_of (Unreadable Former) = codes "former unreadable"
 line_of (Unreadable New) = codes "new unreadable"
 line_of (Unreadable Config) = codes "configuration unreadable"

@@ -5,10 +5,6 @@ ghost use Rattle.view_run.specs.declared.status.Status.TheVariants.{Memory};
 
 use std::alloc::AllocError;
 
-/// What words are a request.
-const USAGE: &str = "usage: confsolve-view plan FORMER NEW, or \
-    picture CONFIG ATTRIBUTE [SIZE[=CAPACITY] ..] [--svg] [--failed PATH] ..";
-
 /// Which of the files.
 #[derive(Clone, Copy, Debug, PartialEq, Eq)]
 pub enum Source {
