@@ -1,8 +1,9 @@
-//! Tests of `confsolve-view`: the program runs the cases of `data/plan.cases`, and prints how many
-//! came out as they say.
+//! Tests of `confsolve-view`: the program runs the cases of `data/plan.cases` and
+//! `data/picture.cases`, and prints how many came out as they say.
 //!
 //! - `given TEXT` and `more TEXT`: the text of the former configuration.
 //! - `plan TEXT`: a plan to this text: what is printed, the status's number, and its line.
+//! - `picture WORDS`: a picture of it, by these words.
 //! - `words TEXT`: a run of these words where there are no files.
 //! - `fails N`: a plan from the text to itself where the call of the desk with that number fails,
 //!   and each handles 4 bytes.
@@ -17,9 +18,9 @@ use std::alloc::{AllocError, Global};
 use std::process::ExitCode;
 use view_run::run;
 
-/// The plans that cases ask for.
+/// The runs that cases ask for.
 #[derive(Drop)]
-struct Plans;
+struct Runs;
 
 /// A file.
 fn file(alloc: Global, name: &str, bytes: &[u8]) -> Result<StoredFile, AllocError> {
@@ -67,6 +68,20 @@ fn planned(
     )
 }
 
+/// A picture of a file in memory, by these words behind the file's.
+fn pictured(alloc: Global, config: &[u8], more: &[u8]) -> Result<String, AllocError> {
+    let mut words = owned(alloc, &["picture", "config"])?;
+    for word in words_of(alloc, more)? {
+        words.push(String::from_str(alloc, word)?)?;
+    }
+    let files = vec![in alloc; file(alloc, "config", config)?]?;
+    ran(
+        alloc,
+        &words,
+        MemoryDesk::new(alloc, files, Vec::new(alloc)),
+    )
+}
+
 /// The text with so many spaces behind it.
 fn spaced(alloc: Global, text: &[u8], count: i64) -> Result<Vec<u8>, AllocError> {
     let mut bytes = text.to_vec(alloc)?;
@@ -76,11 +91,12 @@ fn spaced(alloc: Global, text: &[u8], count: i64) -> Result<Vec<u8>, AllocError>
     Ok(bytes)
 }
 
-impl Subject for Plans {
+impl Subject for Runs {
     fn answer(&mut self, alloc: Global, case: &Case<'_>) -> Result<String, AllocError> {
         let numbers = numbers_of(alloc, &case.text)?;
         match case.ask {
             "plan" => planned(alloc, &case.given, &case.text, Vec::new(alloc), 0),
+            "picture" => pictured(alloc, &case.given, &case.text),
             "words" => {
                 let words = owned(alloc, &words_of(alloc, &case.text)?)?;
                 let desk = MemoryDesk::new(alloc, Vec::new(alloc), Vec::new(alloc));
@@ -106,8 +122,10 @@ impl Subject for Plans {
 }
 
 fn main(rt: HostRuntime) -> ExitCode {
-    match run_file(&rt, "plan.cases", &mut Plans) {
-        Ok(()) => ExitCode::from(0),
-        Err(_) => ExitCode::from(12),
+    for file in ["plan.cases", "picture.cases"] {
+        if run_file(&rt, file, &mut Runs).is_err() {
+            return ExitCode::from(12);
+        }
     }
+    ExitCode::from(0)
 }

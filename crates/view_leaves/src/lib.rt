@@ -10,7 +10,7 @@ mod values;
 mod walk;
 
 pub use leaf::Leaf;
-pub use path::{Step, path_order};
+pub use path::{Step, path_order, step_order};
 pub use reading::{TextError, read_text};
 pub use spelling::{push_path, push_word};
 pub use values::push_value;

@@ -15,7 +15,7 @@ pub enum Step<'a> {
 }
 
 /// The order of two steps: elements by their numbers, before keys by their bytes.
-fn step_order(left: Step<'_>, right: Step<'_>) -> Ordering
+pub fn step_order(left: Step<'_>, right: Step<'_>) -> Ordering
     ensures { result ≡ step_cmp (step_seen left.entry) (step_seen right.entry) }
 {
     match (left, right) {

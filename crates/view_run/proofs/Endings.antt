@@ -7,14 +7,15 @@ use Rattle.desk_io.specs.Whole.{PrintsFront}
 use Rattle.serde_json.specs.Data.{Data}
 use Rattle.view_leaves.specs.Reading.{text_json}
 use Rattle.view_run.specs.Answers.{IsPlanText}
-use Rattle.view_run.specs.Ending.{Trace, IsAsked, IsAnswered, IsCutOff, Ends, IsFaulty, IsDenied, IsDelivered}
-use Rattle.view_run.specs.Words.{Asked}
-use Rattle.view_run.specs.declared.status.Source.TheVariants.{Former, New}
+use Rattle.view_run.specs.Ending.{Trace, IsAsked, IsAnswered, IsCutOff, PlanEnds, IsFaulty, IsDenied, IsDelivered, IsPictured, PictureEnds, IsUndrawn, IsHandedOut}
+use Rattle.view_run.specs.Pictured.{IsPicture, IsBlank, IsDrawn}
+use Rattle.view_run.specs.Words.{PlanAsked, PictureAsked}
+use Rattle.view_run.specs.declared.status.Source.TheVariants.{Former, New, Config}
 use Rattle.view_run.specs.declared.status.Status.{Status as Ended}
-use Rattle.view_run.specs.declared.status.Status.TheVariants.{Same, Differs, Usage, Unreadable, TooLong, NotJson, NotObject, WriteFault, Memory}
+use Rattle.view_run.specs.declared.status.Status.TheVariants.{Same, Differs, Shown, Usage, Unreadable, TooLong, NotJson, NotObject, NoAttribute, NoPart, WriteFault, Memory}
 
 -- both files were read, and the plan between them made
-pub is_asked : (files later : Option Files) (a : Asked) (d e : Data) (text : List ℕ) (b : Bool)
+pub is_asked : (files later : Option Files) (a : PlanAsked) (d e : Data) (text : List ℕ) (b : Bool)
     → later ≡ files → OfFile files a.former (λ bytes. text_json bytes ≡ Some d)
     → OfFile later a.new (λ bytes. text_json bytes ≡ Some e) → IsPlanText d e text b
     → IsAsked files a text b
@@ -27,10 +28,11 @@ is_asked files later a d e text b same former new planned = record {
 }
 
 -- a file that was refused, as the former one
-pub former_denied : (files : Option Files) (a : Asked) (reads now : ℕ) (s : Ended)
+pub former_denied : (files : Option Files) (a : PlanAsked) (reads now : ℕ) (s : Ended)
     → IsFaulty files a.former Former reads now s → IsDenied files a reads now s
 former_denied files a reads now Same h = h
 former_denied files a reads now Differs h = h
+former_denied files a reads now Shown h = h
 former_denied files a reads now Usage h = h
 former_denied files a reads now (Unreadable s) h = h.1
 former_denied files a reads now (TooLong s) h =
@@ -39,14 +41,17 @@ former_denied files a reads now (NotJson s) h =
     subst (λ q. IsDenied files a reads now (NotJson q)) (sym h.0) h.1
 former_denied files a reads now (NotObject s) h =
     subst (λ q. IsDenied files a reads now (NotObject q)) (sym h.0) h.1
+former_denied files a reads now NoAttribute h = h
+former_denied files a reads now NoPart h = h
 former_denied files a reads now WriteFault h = h
 former_denied files a reads now Memory h = h
 
 -- and as the new one
-new_denied_here : (files : Option Files) (a : Asked) (reads now : ℕ) (s : Ended)
+new_denied_here : (files : Option Files) (a : PlanAsked) (reads now : ℕ) (s : Ended)
     → IsFaulty files a.new New reads now s → IsDenied files a reads now s
 new_denied_here files a reads now Same h = h
 new_denied_here files a reads now Differs h = h
+new_denied_here files a reads now Shown h = h
 new_denied_here files a reads now Usage h = h
 new_denied_here files a reads now (Unreadable s) h = h.1
 new_denied_here files a reads now (TooLong s) h =
@@ -55,6 +60,8 @@ new_denied_here files a reads now (NotJson s) h =
     subst (λ q. IsDenied files a reads now (NotJson q)) (sym h.0) h.1
 new_denied_here files a reads now (NotObject s) h =
     subst (λ q. IsDenied files a reads now (NotObject q)) (sym h.0) h.1
+new_denied_here files a reads now NoAttribute h = h
+new_denied_here files a reads now NoPart h = h
 new_denied_here files a reads now WriteFault h = h
 new_denied_here files a reads now Memory h = h
 
@@ -62,19 +69,22 @@ risen_earlier : (start reads now : ℕ) → start ≤ reads → HasRisen reads n
 risen_earlier start reads now le h = grind (arith, common_steps)
 
 -- faults since the start are no fewer than since a later point
-earlier : (files : Option Files) (a : Asked) (start reads now : ℕ) (s : Ended) → start ≤ reads
+earlier : (files : Option Files) (a : PlanAsked) (start reads now : ℕ) (s : Ended) → start ≤ reads
     → IsDenied files a reads now s → IsDenied files a start now s
 earlier files a start reads now Same le h = h
 earlier files a start reads now Differs le h = h
+earlier files a start reads now Shown le h = h
 earlier files a start reads now Usage le h = h
 earlier files a start reads now (Unreadable s) le h = risen_earlier start reads now le h
 earlier files a start reads now (TooLong s) le h = h
 earlier files a start reads now (NotJson s) le h = h
 earlier files a start reads now (NotObject s) le h = h
+earlier files a start reads now NoAttribute le h = h
+earlier files a start reads now NoPart le h = h
 earlier files a start reads now WriteFault le h = h
 earlier files a start reads now Memory le h = h
 
-pub new_denied : (files later : Option Files) (a : Asked) (start reads now : ℕ) (s : Ended)
+pub new_denied : (files later : Option Files) (a : PlanAsked) (start reads now : ℕ) (s : Ended)
     → later ≡ files → start ≤ reads → IsFaulty later a.new New reads now s
     → IsDenied files a start now s
 new_denied files later a start reads now s same le h =
@@ -82,19 +92,22 @@ new_denied files later a start reads now s same le h =
     (new_denied_here files a reads now s
     (subst (λ fs. IsFaulty fs a.new New reads now s) same h))
 
-pub denied_ends : (files : Option Files) (a : Asked) (t : Trace) (s : Ended)
-    → IsDenied files a t.reads t.reads_now s → t.printed_now ≡ t.printed → Ends files a t s
+pub denied_ends : (files : Option Files) (a : PlanAsked) (t : Trace) (s : Ended)
+    → IsDenied files a t.reads t.reads_now s → t.printed_now ≡ t.printed → PlanEnds files a t s
 denied_ends files a t Same h silent = absurd h
 denied_ends files a t Differs h silent = absurd h
+denied_ends files a t Shown h silent = h
 denied_ends files a t Usage h silent = h
 denied_ends files a t (Unreadable s) h silent = (silent, h)
 denied_ends files a t (TooLong s) h silent = (silent, h)
 denied_ends files a t (NotJson s) h silent = (silent, h)
 denied_ends files a t (NotObject s) h silent = (silent, h)
+denied_ends files a t NoAttribute h silent = absurd h
+denied_ends files a t NoPart h silent = absurd h
 denied_ends files a t WriteFault h silent = absurd h
 denied_ends files a t Memory h silent = tt
 
-answered : (files : Option Files) (a : Asked) (t : Trace) (text : List ℕ) (b c : Bool)
+answered : (files : Option Files) (a : PlanAsked) (t : Trace) (text : List ℕ) (b c : Bool)
     → IsAsked files a text b → b ≡ c → t.printed_now ≡ with_printed text t.printed
     → IsAnswered files a c t
 answered files a t text b c asked is printed = record {
@@ -103,16 +116,19 @@ answered files a t text b c asked is printed = record {
   printed = printed;
 }
 
-pub delivered_ends : (files : Option Files) (a : Asked) (t : Trace) (text : List ℕ) (b : Bool)
+pub delivered_ends : (files : Option Files) (a : PlanAsked) (t : Trace) (text : List ℕ) (b : Bool)
     (s : Ended) → IsAsked files a text b
-    → IsDelivered text b t.printed t.printed_now t.writes t.writes_now s → Ends files a t s
+    → IsDelivered text b t.printed t.printed_now t.writes t.writes_now s → PlanEnds files a t s
 delivered_ends files a t text b Same asked h = answered files a t text b false asked h.0 h.1
 delivered_ends files a t text b Differs asked h = answered files a t text b true asked h.0 h.1
+delivered_ends files a t text b Shown asked h = absurd h
 delivered_ends files a t text b Usage asked h = h
 delivered_ends files a t text b (Unreadable s) asked h = absurd h
 delivered_ends files a t text b (TooLong s) asked h = absurd h
 delivered_ends files a t text b (NotJson s) asked h = absurd h
 delivered_ends files a t text b (NotObject s) asked h = absurd h
+delivered_ends files a t text b NoAttribute asked h = absurd h
+delivered_ends files a t text b NoPart asked h = absurd h
 delivered_ends files a t text b WriteFault asked h = record {
   text = text;
   differs = b;
@@ -121,3 +137,82 @@ delivered_ends files a t text b WriteFault asked h = record {
   risen = h.1;
 }
 delivered_ends files a t text b Memory asked h = tt
+
+-- ---- pictures
+
+pub is_drawn : (files : Option Files) (a : PictureAsked) (d : Data) (text : List ℕ)
+    → OfFile files a.config (λ bytes. text_json bytes ≡ Some d) → IsPicture d a text
+    → IsDrawn files a text
+is_drawn files a d text config picture = record { whole = d; config = config; picture = picture }
+
+-- a file that was refused
+pub config_undrawn : (files : Option Files) (a : PictureAsked) (reads now : ℕ) (s : Ended)
+    → IsFaulty files a.config Config reads now s → IsUndrawn files a reads now s
+config_undrawn files a reads now Same h = absurd h
+config_undrawn files a reads now Differs h = absurd h
+config_undrawn files a reads now Shown h = absurd h
+config_undrawn files a reads now Usage h = absurd h
+config_undrawn files a reads now (Unreadable s) h = h.1
+config_undrawn files a reads now (TooLong s) h =
+    subst (λ q. IsUndrawn files a reads now (TooLong q)) (sym h.0) h.1
+config_undrawn files a reads now (NotJson s) h =
+    subst (λ q. IsUndrawn files a reads now (NotJson q)) (sym h.0) h.1
+config_undrawn files a reads now (NotObject s) h =
+    subst (λ q. IsUndrawn files a reads now (NotObject q)) (sym h.0) h.1
+config_undrawn files a reads now NoAttribute h = absurd h
+config_undrawn files a reads now NoPart h = absurd h
+config_undrawn files a reads now WriteFault h = absurd h
+config_undrawn files a reads now Memory h = h
+
+-- a configuration that has no such picture
+pub blank_undrawn : (files : Option Files) (a : PictureAsked) (d : Data) (reads now : ℕ)
+    (s : Ended) → OfFile files a.config (λ bytes. text_json bytes ≡ Some d) → IsBlank d a s
+    → IsUndrawn files a reads now s
+blank_undrawn files a d reads now Same config h = absurd h
+blank_undrawn files a d reads now Differs config h = absurd h
+blank_undrawn files a d reads now Shown config h = absurd h
+blank_undrawn files a d reads now Usage config h = absurd h
+blank_undrawn files a d reads now (Unreadable s) config h = absurd h
+blank_undrawn files a d reads now (TooLong s) config h = absurd h
+blank_undrawn files a d reads now (NotJson s) config h = absurd h
+blank_undrawn files a d reads now (NotObject s) config h = absurd h
+blank_undrawn files a d reads now NoAttribute config h =
+    record { whole = d; config = config; lacks = h }
+blank_undrawn files a d reads now NoPart config h =
+    record { whole = d; config = config; lacks = h }
+blank_undrawn files a d reads now WriteFault config h = absurd h
+blank_undrawn files a d reads now Memory config h = tt
+
+pub undrawn_ends : (files : Option Files) (a : PictureAsked) (t : Trace) (s : Ended)
+    → IsUndrawn files a t.reads t.reads_now s → t.printed_now ≡ t.printed
+    → PictureEnds files a t s
+undrawn_ends files a t Same h silent = absurd h
+undrawn_ends files a t Differs h silent = absurd h
+undrawn_ends files a t Shown h silent = absurd h
+undrawn_ends files a t Usage h silent = absurd h
+undrawn_ends files a t (Unreadable s) h silent = (silent, h)
+undrawn_ends files a t (TooLong s) h silent = (silent, h)
+undrawn_ends files a t (NotJson s) h silent = (silent, h)
+undrawn_ends files a t (NotObject s) h silent = (silent, h)
+undrawn_ends files a t NoAttribute h silent = (silent, h)
+undrawn_ends files a t NoPart h silent = (silent, h)
+undrawn_ends files a t WriteFault h silent = absurd h
+undrawn_ends files a t Memory h silent = tt
+
+pub handed_out_ends : (files : Option Files) (a : PictureAsked) (t : Trace) (text : List ℕ)
+    (s : Ended) → IsDrawn files a text
+    → IsHandedOut text t.printed t.printed_now t.writes t.writes_now s → PictureEnds files a t s
+handed_out_ends files a t text Same drawn h = absurd h
+handed_out_ends files a t text Differs drawn h = absurd h
+handed_out_ends files a t text Shown drawn h =
+    record { text = text; drawn = drawn; printed = h }
+handed_out_ends files a t text Usage drawn h = absurd h
+handed_out_ends files a t text (Unreadable s) drawn h = absurd h
+handed_out_ends files a t text (TooLong s) drawn h = absurd h
+handed_out_ends files a t text (NotJson s) drawn h = absurd h
+handed_out_ends files a t text (NotObject s) drawn h = absurd h
+handed_out_ends files a t text NoAttribute drawn h = absurd h
+handed_out_ends files a t text NoPart drawn h = absurd h
+handed_out_ends files a t text WriteFault drawn h =
+    record { text = text; drawn = drawn; printed = h.0; risen = h.1 }
+handed_out_ends files a t text Memory drawn h = tt

@@ -7,11 +7,12 @@ use Rattle.model_limits.specs.Limits.{config_bytes}
 use Rattle.serde_json.specs.Data.{Data}
 use Rattle.view_leaves.specs.Reading.{text_json, IsOther}
 use Rattle.view_run.specs.Answers.{IsPlanText}
-use Rattle.view_run.specs.Words.{Asked}
+use Rattle.view_run.specs.Pictured.{IsDrawn, LacksAttribute, LacksPart}
+use Rattle.view_run.specs.Words.{Asked, PlanAsked, PictureAsked, plan, picture}
 use Rattle.view_run.specs.declared.status.Source.{Source}
-use Rattle.view_run.specs.declared.status.Source.TheVariants.{Former, New}
+use Rattle.view_run.specs.declared.status.Source.TheVariants.{Former, New, Config}
 use Rattle.view_run.specs.declared.status.Status.{Status as Ended}
-use Rattle.view_run.specs.declared.status.Status.TheVariants.{Same, Differs, Usage, Unreadable, TooLong, NotJson, NotObject, WriteFault, Memory}
+use Rattle.view_run.specs.declared.status.Status.TheVariants.{Same, Differs, Shown, Usage, Unreadable, TooLong, NotJson, NotObject, NoAttribute, NoPart, WriteFault, Memory}
 
 -- what was printed, and how often reading and writing had failed, before a run and behind it
 pub record Trace : Type 0 where
@@ -22,12 +23,19 @@ pub record Trace : Type 0 where
   pub writes : ℕ
   pub writes_now : ℕ
 
-abbrev pub file_of : Asked → Source → List ℕ
-file_of asked Former = asked.former
-file_of asked New = asked.new
+-- what a plan's file holds; no other file is one
+abbrev pub OfSource : Option Files → PlanAsked → Source → (List ℕ → Type 0) → Type 0
+OfSource files asked Former P = OfFile files asked.former P
+OfSource files asked New P = OfFile files asked.new P
+OfSource files asked Config P = ⊥
+
+abbrev pub OfConfig : Option Files → PictureAsked → Source → (List ℕ → Type 0) → Type 0
+OfConfig files asked Former P = ⊥
+OfConfig files asked New P = ⊥
+OfConfig files asked Config P = OfFile files asked.config P
 
 -- the plan from what the former file holds to what the new one does, as a text
-pub record IsAsked (files : Option Files) (asked : Asked) (text : List ℕ) (differs : Bool) : Type 0 where
+pub record IsAsked (files : Option Files) (asked : PlanAsked) (text : List ℕ) (differs : Bool) : Type 0 where
   pub before : Data
   pub behind : Data
   pub former : OfFile files asked.former (λ bytes. text_json bytes ≡ Some before)
@@ -35,13 +43,13 @@ pub record IsAsked (files : Option Files) (asked : Asked) (text : List ℕ) (dif
   pub planned : IsPlanText before behind text differs
 
 -- that text was printed, and nothing else
-pub record IsAnswered (files : Option Files) (asked : Asked) (differs : Bool) (t : Trace) : Type 0 where
+pub record IsAnswered (files : Option Files) (asked : PlanAsked) (differs : Bool) (t : Trace) : Type 0 where
   pub text : List ℕ
   pub plan : IsAsked files asked text differs
   pub printed : t.printed_now ≡ with_printed text t.printed
 
 -- writing failed behind a front of that text
-pub record IsCutOff (files : Option Files) (asked : Asked) (t : Trace) : Type 0 where
+pub record IsCutOff (files : Option Files) (asked : PlanAsked) (t : Trace) : Type 0 where
   pub text : List ℕ
   pub differs : Bool
   pub plan : IsAsked files asked text differs
@@ -52,23 +60,27 @@ pub record IsCutOff (files : Option Files) (asked : Asked) (t : Trace) : Type 0 
 abbrev pub IsRefused : Trace → Type 0 → Type 0
 IsRefused t P = (t.printed_now ≡ t.printed) × P
 
-abbrev pub Ends : Option Files → Asked → Trace → Ended → Type 0
-Ends files asked t Same = IsAnswered files asked false t
-Ends files asked t Differs = IsAnswered files asked true t
-Ends files asked t Usage = ⊥
-Ends files asked t (Unreadable s) = IsRefused t (HasRisen t.reads t.reads_now)
-Ends files asked t (TooLong s) =
-    IsRefused t (OfFile files (file_of asked s) (λ bytes. config_bytes < length bytes))
-Ends files asked t (NotJson s) =
-    IsRefused t (OfFile files (file_of asked s) (λ bytes. text_json bytes ≡ None))
-Ends files asked t (NotObject s) = IsRefused t (OfFile files (file_of asked s) IsOther)
-Ends files asked t WriteFault = IsCutOff files asked t
-Ends files asked t Memory = ⊤
+abbrev pub PlanEnds : Option Files → PlanAsked → Trace → Ended → Type 0
+PlanEnds files asked t Same = IsAnswered files asked false t
+PlanEnds files asked t Differs = IsAnswered files asked true t
+PlanEnds files asked t Shown = ⊥
+PlanEnds files asked t Usage = ⊥
+PlanEnds files asked t (Unreadable s) = IsRefused t (HasRisen t.reads t.reads_now)
+PlanEnds files asked t (TooLong s) =
+    IsRefused t (OfSource files asked s (λ bytes. config_bytes < length bytes))
+PlanEnds files asked t (NotJson s) =
+    IsRefused t (OfSource files asked s (λ bytes. text_json bytes ≡ None))
+PlanEnds files asked t (NotObject s) = IsRefused t (OfSource files asked s IsOther)
+PlanEnds files asked t NoAttribute = ⊥
+PlanEnds files asked t NoPart = ⊥
+PlanEnds files asked t WriteFault = IsCutOff files asked t
+PlanEnds files asked t Memory = ⊤
 
 -- why a file was refused, and that it was this one
 abbrev pub IsFaulty : Option Files → List ℕ → Source → ℕ → ℕ → Ended → Type 0
 IsFaulty files name source reads reads_now Same = ⊥
 IsFaulty files name source reads reads_now Differs = ⊥
+IsFaulty files name source reads reads_now Shown = ⊥
 IsFaulty files name source reads reads_now Usage = ⊥
 IsFaulty files name source reads reads_now (Unreadable s) =
     (s ≡ source) × HasRisen reads reads_now
@@ -78,20 +90,25 @@ IsFaulty files name source reads reads_now (NotJson s) =
     (s ≡ source) × OfFile files name (λ bytes. text_json bytes ≡ None)
 IsFaulty files name source reads reads_now (NotObject s) =
     (s ≡ source) × OfFile files name IsOther
+IsFaulty files name source reads reads_now NoAttribute = ⊥
+IsFaulty files name source reads reads_now NoPart = ⊥
 IsFaulty files name source reads reads_now WriteFault = ⊥
 IsFaulty files name source reads reads_now Memory = ⊤
 
 -- why there is no plan
-abbrev pub IsDenied : Option Files → Asked → ℕ → ℕ → Ended → Type 0
+abbrev pub IsDenied : Option Files → PlanAsked → ℕ → ℕ → Ended → Type 0
 IsDenied files asked reads reads_now Same = ⊥
 IsDenied files asked reads reads_now Differs = ⊥
+IsDenied files asked reads reads_now Shown = ⊥
 IsDenied files asked reads reads_now Usage = ⊥
 IsDenied files asked reads reads_now (Unreadable s) = HasRisen reads reads_now
 IsDenied files asked reads reads_now (TooLong s) =
-    OfFile files (file_of asked s) (λ bytes. config_bytes < length bytes)
+    OfSource files asked s (λ bytes. config_bytes < length bytes)
 IsDenied files asked reads reads_now (NotJson s) =
-    OfFile files (file_of asked s) (λ bytes. text_json bytes ≡ None)
-IsDenied files asked reads reads_now (NotObject s) = OfFile files (file_of asked s) IsOther
+    OfSource files asked s (λ bytes. text_json bytes ≡ None)
+IsDenied files asked reads reads_now (NotObject s) = OfSource files asked s IsOther
+IsDenied files asked reads reads_now NoAttribute = ⊥
+IsDenied files asked reads reads_now NoPart = ⊥
 IsDenied files asked reads reads_now WriteFault = ⊥
 IsDenied files asked reads reads_now Memory = ⊤
 
@@ -101,11 +118,80 @@ IsDelivered text differs before now writes writes_now Same =
     (differs ≡ false) × (now ≡ with_printed text before)
 IsDelivered text differs before now writes writes_now Differs =
     (differs ≡ true) × (now ≡ with_printed text before)
+IsDelivered text differs before now writes writes_now Shown = ⊥
 IsDelivered text differs before now writes writes_now Usage = ⊥
 IsDelivered text differs before now writes writes_now (Unreadable s) = ⊥
 IsDelivered text differs before now writes writes_now (TooLong s) = ⊥
 IsDelivered text differs before now writes writes_now (NotJson s) = ⊥
 IsDelivered text differs before now writes writes_now (NotObject s) = ⊥
+IsDelivered text differs before now writes writes_now NoAttribute = ⊥
+IsDelivered text differs before now writes writes_now NoPart = ⊥
 IsDelivered text differs before now writes writes_now WriteFault =
     PrintsFront text before now × HasRisen writes writes_now
 IsDelivered text differs before now writes writes_now Memory = ⊤
+
+-- the picture of what the file holds was printed, and nothing else
+pub record IsPictured (files : Option Files) (asked : PictureAsked) (t : Trace) : Type 0 where
+  pub text : List ℕ
+  pub drawn : IsDrawn files asked text
+  pub printed : t.printed_now ≡ with_printed text t.printed
+
+-- writing failed behind a front of it
+pub record IsCutShort (files : Option Files) (asked : PictureAsked) (t : Trace) : Type 0 where
+  pub text : List ℕ
+  pub drawn : IsDrawn files asked text
+  pub printed : PrintsFront text t.printed t.printed_now
+  pub risen : HasRisen t.writes t.writes_now
+
+abbrev pub PictureEnds : Option Files → PictureAsked → Trace → Ended → Type 0
+PictureEnds files asked t Same = ⊥
+PictureEnds files asked t Differs = ⊥
+PictureEnds files asked t Shown = IsPictured files asked t
+PictureEnds files asked t Usage = ⊥
+PictureEnds files asked t (Unreadable s) = IsRefused t (HasRisen t.reads t.reads_now)
+PictureEnds files asked t (TooLong s) =
+    IsRefused t (OfConfig files asked s (λ bytes. config_bytes < length bytes))
+PictureEnds files asked t (NotJson s) =
+    IsRefused t (OfConfig files asked s (λ bytes. text_json bytes ≡ None))
+PictureEnds files asked t (NotObject s) = IsRefused t (OfConfig files asked s IsOther)
+PictureEnds files asked t NoAttribute = IsRefused t (LacksAttribute files asked)
+PictureEnds files asked t NoPart = IsRefused t (LacksPart files asked)
+PictureEnds files asked t WriteFault = IsCutShort files asked t
+PictureEnds files asked t Memory = ⊤
+
+-- why there is no picture
+abbrev pub IsUndrawn : Option Files → PictureAsked → ℕ → ℕ → Ended → Type 0
+IsUndrawn files asked reads reads_now Same = ⊥
+IsUndrawn files asked reads reads_now Differs = ⊥
+IsUndrawn files asked reads reads_now Shown = ⊥
+IsUndrawn files asked reads reads_now Usage = ⊥
+IsUndrawn files asked reads reads_now (Unreadable s) = HasRisen reads reads_now
+IsUndrawn files asked reads reads_now (TooLong s) =
+    OfConfig files asked s (λ bytes. config_bytes < length bytes)
+IsUndrawn files asked reads reads_now (NotJson s) =
+    OfConfig files asked s (λ bytes. text_json bytes ≡ None)
+IsUndrawn files asked reads reads_now (NotObject s) = OfConfig files asked s IsOther
+IsUndrawn files asked reads reads_now NoAttribute = LacksAttribute files asked
+IsUndrawn files asked reads reads_now NoPart = LacksPart files asked
+IsUndrawn files asked reads reads_now WriteFault = ⊥
+IsUndrawn files asked reads reads_now Memory = ⊤
+
+-- what printing a picture came to
+abbrev pub IsHandedOut : List ℕ → Option (List ℕ) → Option (List ℕ) → ℕ → ℕ → Ended → Type 0
+IsHandedOut text before now writes writes_now Same = ⊥
+IsHandedOut text before now writes writes_now Differs = ⊥
+IsHandedOut text before now writes writes_now Shown = now ≡ with_printed text before
+IsHandedOut text before now writes writes_now Usage = ⊥
+IsHandedOut text before now writes writes_now (Unreadable s) = ⊥
+IsHandedOut text before now writes writes_now (TooLong s) = ⊥
+IsHandedOut text before now writes writes_now (NotJson s) = ⊥
+IsHandedOut text before now writes writes_now (NotObject s) = ⊥
+IsHandedOut text before now writes writes_now NoAttribute = ⊥
+IsHandedOut text before now writes writes_now NoPart = ⊥
+IsHandedOut text before now writes writes_now WriteFault =
+    PrintsFront text before now × HasRisen writes writes_now
+IsHandedOut text before now writes writes_now Memory = ⊤
+
+abbrev pub Ends : Option Files → Asked → Trace → Ended → Type 0
+Ends files (plan a) t s = PlanEnds files a t s
+Ends files (picture a) t s = PictureEnds files a t s

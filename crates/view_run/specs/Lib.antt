@@ -1,4 +1,6 @@
 pub mod Answers
 pub mod Ending
+pub mod Options
+pub mod Pictured
 pub mod Status
 pub mod Words

@@ -1,29 +1,62 @@
 -- What words ask for.
-use Rattle.std.specs.Prelude.{ℕ, Bool, not, ◌&&◌, if◌then◌else◌, nat_eq, List, [], ◌∷◌, Option, None, Some, codes, bytes_eq}
-use Rattle.std.specs.List.{starts_with}
+use Rattle.std.specs.Prelude.{ℕ, Bool, true, false, not, ◌&&◌, ◌||◌, ◌==◌, if◌then◌else◌, nat_eq, List, [], ◌∷◌, ◌++◌, Option, None, Some, codes, bytes_eq, map, string_bytes}
+use Rattle.std.specs.List.{starts_with, list_any}
+use Rattle.view_picture.specs.Picture.{PictureSize}
+use Rattle.view_run.specs.Options.{is_option, are_options}
+use Rattle.view_run.specs.declared.request.PlanRequest.{PlanRequest}
+use Rattle.view_run.specs.declared.request.PictureRequest.{PictureRequest}
 use Rattle.view_run.specs.declared.request.Request.{Request}
+use Rattle.view_run.specs.declared.request.Request.TheVariants as request
 
 -- the files that a plan is asked of
-pub record Asked : Type 0 where
+pub record PlanAsked : Type 0 where
   pub former : List ℕ
   pub new : List ℕ
 
--- a word that begins with a dash; such a file is named as `./-name`
-abbrev pub is_option : List ℕ → Bool
-is_option word = starts_with nat_eq word (codes "-")
+-- the file and the attribute that a picture is asked of, and the words behind
+pub record PictureAsked : Type 0 where
+  pub config : List ℕ
+  pub attribute : List ℕ
+  pub options : List (List ℕ)
 
-abbrev pub plan_asked : List ℕ → List ℕ → List ℕ → Option Asked
-plan_asked command former new =
-    if bytes_eq command (codes "plan") && not (is_option former) && not (is_option new)
-    then Some (record { former = former; new = new }) else None
+pub data Asked : Type 0 where
+  plan : PlanAsked → Asked
+  picture : PictureAsked → Asked
 
--- what the words behind the program's name ask for: `plan` and two files
+-- `plan` is asked of two files
+abbrev pub plan_asked : List (List ℕ) → Option Asked
+plan_asked [] = None
+plan_asked (a ∷ []) = None
+plan_asked (a ∷ b ∷ []) =
+    if not (is_option a) && not (is_option b) then Some (plan (record { former = a; new = b }))
+    else None
+plan_asked (a ∷ b ∷ c ∷ more) = None
+
+-- `picture` of a file and an attribute, with sizes, `--svg` and `--failed` behind
+abbrev pub picture_asked : List (List ℕ) → Option Asked
+picture_asked [] = None
+picture_asked (a ∷ []) = None
+picture_asked (a ∷ b ∷ more) =
+    if not (is_option a) && not (is_option b) && are_options false more
+    then Some (picture (record { config = a; attribute = b; options = more })) else None
+
+-- what the words behind the program's name ask for
 abbrev pub asked : List (List ℕ) → Option Asked
 asked [] = None
-asked (a ∷ []) = None
-asked (a ∷ b ∷ []) = None
-asked (a ∷ b ∷ c ∷ []) = plan_asked a b c
-asked (a ∷ b ∷ c ∷ d ∷ more) = None
+asked (command ∷ words) =
+    if bytes_eq command (codes "plan") then plan_asked words
+    else if bytes_eq command (codes "picture") then picture_asked words else None
+
+abbrev pub plan_seen : PlanRequest → PlanAsked
+plan_seen r = record { former = r.former.now; new = r.new.now }
+
+abbrev pub picture_seen : PictureRequest → PictureAsked
+picture_seen r = record {
+  config = r.config.now;
+  attribute = r.attribute.now;
+  options = map string_bytes r.options.now;
+}
 
 abbrev pub request_seen : Request → Asked
-request_seen r = record { former = r.former.now; new = r.new.now }
+request_seen (request.Plan r) = plan (plan_seen r)
+request_seen (request.Picture r) = picture (picture_seen r)

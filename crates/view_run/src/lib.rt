@@ -3,11 +3,13 @@
 
 mod answer;
 mod command;
+mod options;
+mod picture;
 mod request;
 mod source;
 mod status;
 
 pub use answer::{Plan, plan_between};
 pub use command::run;
-pub use request::{Request, request_of};
+pub use request::{PictureRequest, PlanRequest, Request, request_of};
 pub use status::{Source, Status};

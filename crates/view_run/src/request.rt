@@ -1,21 +1,98 @@
 //! What the words ask for.
-ghost use Rattle.std.specs.Prelude.{◌≡◌, map, string_bytes, option_map};
-ghost use Rattle.view_run.specs.Words.{asked, is_option, request_seen};
+ghost use Rattle.std.specs.Prelude.{◌≡◌, false, map, string_bytes, option_map};
+ghost use Rattle.view_run.specs.Options.{is_option, are_options};
+ghost use Rattle.view_run.specs.Words.{asked, plan_asked, picture_asked, request_seen};
 
-/// A request, over the words that it is read from.
+/// The files that a plan is asked of.
 #[derive(Clone, Copy)]
-pub struct Request<'a> {
+pub struct PlanRequest<'a> {
     /// The file of the former configuration.
     pub former: &'a str,
     /// The file of the new one.
     pub new: &'a str,
 }
 
+/// What a picture is asked of.
+#[derive(Clone, Copy)]
+pub struct PictureRequest<'a> {
+    /// The file of the configuration.
+    pub config: &'a str,
+    /// The attribute by which guests refer to holders.
+    pub attribute: &'a str,
+    /// The words behind: sizes, `--svg` and `--failed`.
+    pub options: &'a [String],
+}
+
+/// A request, over the words that it is read from.
+#[derive(Clone, Copy)]
+pub enum Request<'a> {
+    /// The plan from one configuration to another.
+    Plan(PlanRequest<'a>),
+    /// The picture of a configuration.
+    Picture(PictureRequest<'a>),
+}
+
 /// Whether a word begins with a dash.
-fn is_option(word: &str) -> bool
+pub(crate) fn is_option(word: &str) -> bool
     ensures { result ≡ is_option word.now }
 {
     word.as_bytes().starts_with(b"-")
+}
+
+/// Whether words are the options of a picture.
+fn are_options(words: &[String]) -> bool
+    ensures { result ≡ are_options false (map string_bytes words.now) }
+{
+    let mut waits = false;
+    for word in words {
+        if waits {
+            waits = false;
+        } else if word.as_str() == "--failed" {
+            waits = true;
+        } else if word.as_str() != "--svg" && is_option(word) {
+            return false;
+        }
+    }
+    !waits
+}
+
+/// What the words behind `plan` ask for.
+fn plan_asked(words: &[String]) -> Option<Request<'_>>
+    ensures { option_map request_seen result ≡ plan_asked (map string_bytes words.now) }
+{
+    match words {
+        [former, new] => {
+            if !is_option(former) && !is_option(new) {
+                Some(Request::Plan(PlanRequest { former, new }))
+            } else {
+                None
+            }
+        }
+        [] => None,
+        [_] => None,
+        [_, _, _, ..] => None,
+    }
+}
+
+/// What the words behind `picture` ask for.
+fn picture_asked(words: &[String]) -> Option<Request<'_>>
+    ensures { option_map request_seen result ≡ picture_asked (map string_bytes words.now) }
+{
+    match words {
+        [config, attribute, options @ ..] => {
+            if !is_option(config) && !is_option(attribute) && are_options(options) {
+                Some(Request::Picture(PictureRequest {
+                    config,
+                    attribute,
+                    options,
+                }))
+            } else {
+                None
+            }
+        }
+        [] => None,
+        [_] => None,
+    }
 }
 
 /// What the words behind the program's name ask for, if they are a request.
@@ -23,16 +100,15 @@ pub fn request_of(words: &[String]) -> Option<Request<'_>>
     ensures { option_map request_seen result ≡ asked (map string_bytes words.now) }
 {
     match words {
-        [command, former, new] => {
-            if command.as_str() == "plan" && !is_option(former) && !is_option(new) {
-                Some(Request { former, new })
+        [] => None,
+        [command, more @ ..] => {
+            if command.as_str() == "plan" {
+                plan_asked(more)
+            } else if command.as_str() == "picture" {
+                picture_asked(more)
             } else {
                 None
             }
         }
-        [] => None,
-        [_] => None,
-        [_, _] => None,
-        [_, _, _, _, ..] => None,
     }
 }

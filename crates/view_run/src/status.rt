@@ -12,6 +12,8 @@ pub enum Source {
     Former,
     /// The new one's.
     New,
+    /// That of which a picture is asked.
+    Config,
 }
 
 /// How a run ends.
@@ -21,6 +23,8 @@ pub enum Status {
     Same,
     /// Something differs.
     Differs,
+    /// A picture was printed.
+    Shown,
     /// The words are no request.
     Usage,
     /// A file can't be read.
@@ -31,6 +35,10 @@ pub enum Status {
     NotJson(Source),
     /// A file is JSON, but no object.
     NotObject(Source),
+    /// No part has such an attribute.
+    NoAttribute,
+    /// What is said to have failed isn't there.
+    NoPart,
     /// The answer couldn't be written.
     WriteFault,
     /// There was no memory.
@@ -51,12 +59,13 @@ impl Status {
         ensures { result ≡ number_of self.now }
     {
         match self {
-            Status::Same => 0,
+            Status::Same | Status::Shown => 0,
             Status::Differs => 1,
             Status::Usage => 2,
             Status::Unreadable(_) => 3,
             Status::TooLong(_) => 4,
             Status::NotJson(_) | Status::NotObject(_) => 5,
+            Status::NoAttribute | Status::NoPart => 6,
             Status::WriteFault => 7,
             Status::Memory => 8,
         }
@@ -67,16 +76,23 @@ impl Status {
         ensures { result.now ≡ line_of self.now }
     {
         match self {
-            Status::Same | Status::Differs => "",
-            Status::Usage => "usage: confsolve-view plan FORMER NEW",
+            Status::Same | Status::Differs | Status::Shown => "",
+            Status::Usage =>
+                "usage: confsolve-view plan FORMER NEW, or picture CONFIG ATTRIBUTE [SIZE ..]",
             Status::Unreadable(Source::Former) => "former unreadable",
             Status::Unreadable(Source::New) => "new unreadable",
+            Status::Unreadable(Source::Config) => "configuration unreadable",
             Status::TooLong(Source::Former) => "former longer than 16 MiB",
             Status::TooLong(Source::New) => "new longer than 16 MiB",
+            Status::TooLong(Source::Config) => "configuration longer than 16 MiB",
             Status::NotJson(Source::Former) => "former not JSON",
             Status::NotJson(Source::New) => "new not JSON",
+            Status::NotJson(Source::Config) => "configuration not JSON",
             Status::NotObject(Source::Former) => "former not an object",
             Status::NotObject(Source::New) => "new not an object",
+            Status::NotObject(Source::Config) => "configuration not an object",
+            Status::NoAttribute => "no such attribute",
+            Status::NoPart => "failed part not in the configuration",
             Status::WriteFault => "output not written",
             Status::Memory => "no memory",
         }

@@ -1,0 +1,4 @@
+pub mod HeldLaws
+pub mod MentionLaws
+pub mod PartLaws
+pub mod PartOrder

@@ -1,0 +1,9 @@
+pub mod Held
+pub mod Lookup
+pub mod Mentioned
+pub mod Mentions
+pub mod Named
+pub mod Parts
+pub mod Picture
+pub mod PictureViews
+pub mod Views

@@ -1,0 +1,15 @@
+//! The picture of a placement: who stands where, and what the guests of a holder come to.
+#![tactic(auto)]
+
+mod holding;
+mod lookup;
+mod mentions;
+mod named;
+mod pictures;
+mod totals;
+mod ways;
+
+pub use holding::{Guest, Holding, Load, Size};
+pub use named::{are_parts, has_attribute};
+pub use pictures::holdings;
+pub use ways::parts;

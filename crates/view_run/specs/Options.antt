@@ -1,0 +1,53 @@
+-- The words behind the file and the attribute of a picture: sizes, as `cpu` or `cpu=room`, the word
+-- `--svg`, and `--failed` with a path behind it.
+use Rattle.std.specs.Prelude.{ℕ, Bool, true, false, not, ◌==◌, if◌then◌else◌, nat_eq, nat_lt, List, [], ◌∷◌, codes, bytes_eq, length}
+use Rattle.std.specs.List.{starts_with, before_first, after_first, position_or_len}
+use Rattle.view_picture.specs.Picture.{PictureSize}
+
+-- a word that begins with a dash; such a file is named as `./-name`
+abbrev pub is_option : List ℕ → Bool
+is_option word = starts_with nat_eq word (codes "-")
+
+abbrev pub is_svg : List ℕ → Bool
+is_svg word = bytes_eq word (codes "--svg")
+
+abbrev pub is_failed : List ℕ → Bool
+is_failed word = bytes_eq word (codes "--failed")
+
+-- whether words are options; the first is a path where one is waited for
+abbrev pub are_options : Bool → List (List ℕ) → Bool
+are_options waits [] = not waits
+are_options true (w ∷ ws) = are_options false ws
+are_options false (w ∷ ws) =
+    if is_failed w then are_options true ws
+    else if is_svg w then are_options false ws
+    else if is_option w then false else are_options false ws
+
+-- a name, or two with `=` between them
+abbrev pub is_equals : ℕ → Bool
+is_equals b = b == 61
+
+abbrev pub size_of : List ℕ → PictureSize
+size_of w =
+    if nat_lt (position_or_len is_equals w) (length w)
+    then record { name = before_first is_equals w; capacity = after_first is_equals w }
+    else record { name = w; capacity = w }
+
+abbrev pub sizes_of : Bool → List (List ℕ) → List PictureSize
+sizes_of waits [] = []
+sizes_of true (w ∷ ws) = sizes_of false ws
+sizes_of false (w ∷ ws) =
+    if is_failed w then sizes_of true ws
+    else if is_option w then sizes_of false ws else size_of w ∷ sizes_of false ws
+
+-- the paths of what failed
+abbrev pub failed_of : Bool → List (List ℕ) → List (List ℕ)
+failed_of waits [] = []
+failed_of true (w ∷ ws) = w ∷ failed_of false ws
+failed_of false (w ∷ ws) = failed_of (is_failed w) ws
+
+-- whether SVG is asked for
+abbrev pub wants_svg : Bool → List (List ℕ) → Bool
+wants_svg waits [] = false
+wants_svg true (w ∷ ws) = wants_svg false ws
+wants_svg false (w ∷ ws) = if is_svg w then true else wants_svg (is_failed w) ws

@@ -1,0 +1,75 @@
+//! The options of a picture.
+ghost use Rattle.std.specs.Prelude.{◌≡◌, false, map, string_bytes, IfOk};
+ghost use Rattle.view_picture.specs.PictureViews.{size_seen};
+ghost use Rattle.view_run.specs.Options.{size_of, sizes_of, failed_of, wants_svg};
+
+use crate::request::is_option;
+use std::alloc::{AllocError, Global};
+use view_picture::Size;
+
+/// The size that a word names, and under which name a holder has its capacity.
+fn size_of(word: &str) -> Size<'_>
+    ensures { size_seen result ≡ size_of word.now }
+{
+    match word.split_once('=') {
+        Some((name, capacity)) => Size { name, capacity },
+        None => Size {
+            name: word,
+            capacity: word,
+        },
+    }
+}
+
+/// The sizes among the options.
+pub(crate) fn sizes_of(alloc: Global, words: &[String]) -> Result<Vec<Size<'_>>, AllocError>
+    ensures { IfOk result (λ sizes. map size_seen sizes.items
+        ≡ sizes_of false (map string_bytes words.now)) }
+{
+    let mut sizes = Vec::new(alloc);
+    let mut waits = false;
+    for word in words {
+        if waits {
+            waits = false;
+        } else if word.as_str() == "--failed" {
+            waits = true;
+        } else if !is_option(word) {
+            sizes.push(size_of(word))?;
+        }
+    }
+    Ok(sizes)
+}
+
+/// The paths of what failed, among the options.
+pub(crate) fn failed_of(alloc: Global, words: &[String]) -> Result<Vec<&str>, AllocError>
+    ensures { IfOk result (λ failed. map (λ w. w.now) failed.items
+        ≡ failed_of false (map string_bytes words.now)) }
+{
+    let mut failed = Vec::new(alloc);
+    let mut waits = false;
+    for word in words {
+        if waits {
+            failed.push(word.as_str())?;
+            waits = false;
+        } else {
+            waits = word.as_str() == "--failed";
+        }
+    }
+    Ok(failed)
+}
+
+/// Whether SVG is asked for, among the options.
+pub(crate) fn wants_svg(words: &[String]) -> bool
+    ensures { result ≡ wants_svg false (map string_bytes words.now) }
+{
+    let mut waits = false;
+    for word in words {
+        if waits {
+            waits = false;
+        } else if word.as_str() == "--svg" {
+            return true;
+        } else {
+            waits = word.as_str() == "--failed";
+        }
+    }
+    false
+}
