@@ -11,10 +11,9 @@ use Rattle.ground_form.proofs.Weights.{least_term_fits, greatest_term_fits}
 use Rattle.box_view.proofs.EndLaws.{ends_in_order}
 use Rattle.linear_prop.specs.Rows.{spread_of, greatest_spread}
 use Rattle.linear_prop.specs.Falls.{least_at, greatest_at}
-use Rattle.linear_prop.specs.Explaining.{term_at, rise, IsCause, IsRowOver}
+use Rattle.linear_prop.specs.Explaining.{term_at, rise, IsCause}
 use Rattle.linear_prop.proofs.Spreads.{least_is, greatest_is}
 use Rattle.linear_prop.proofs.Products.{above_low_end, below_high_end, some_factor}
-use Rattle.linear_prop.proofs.RowFacts.{boxes_fit}
 
 -- no spread is more than twice the weight
 all_spreads_fit : (ts : List (ℤ × ℕ)) (boxes : Boxes) → unsigned_abs (greatest_spread ts boxes) ≤ 2 * weight_of ts boxes
@@ -24,9 +23,8 @@ all_spreads_fit (t ∷ ts) boxes =
     let a = least_term_fits t boxes in let b = greatest_term_fits t boxes in
     omega (arith, ints, clamps)
 
-pub spread_fits : (ts : List (ℤ × ℕ)) (domains boxes : Boxes) (x : ℤ) → IsRowOver ts domains boxes → x ≡ greatest_spread ts boxes → unsigned_abs x ≤ 2 ^ 65
-spread_fits ts domains boxes x o e =
-    let w = boxes_fit ts domains boxes o in let f = all_spreads_fit ts boxes in rw e (omega arith)
+pub spread_fits : (ts : List (ℤ × ℕ)) (boxes : Boxes) (x : ℤ) → weight_of ts boxes ≤ 2 ^ 61 → x ≡ greatest_spread ts boxes → unsigned_abs x ≤ 2 ^ 62
+spread_fits ts boxes x w e = let f = all_spreads_fit ts boxes in rw e (omega arith)
 
 rise_first : (ts : List (ℤ × ℕ)) (boxes : Boxes) (place : ℕ) (to : ℤ) → place < length ts → rise ts boxes place to 0 ≡ ((term_at ts place).0 *ℤ to) -ℤ least_term (term_at ts place) boxes
 rise_first ts boxes place to h =
@@ -59,14 +57,11 @@ between t boxes at to f above low high up down =
     (λ n. let d = down n in let b = below_high_end t.0 (low_of s) (high_of s) to o n least in record { low = omega (arith, ints); high = omega (arith, ints) })
     (λ n. let u = up n in let a = above_low_end t.0 (low_of s) (high_of s) to o n least in record { low = omega (arith, ints); high = omega (arith, ints) })
 
-value_fits : (low high to : ℤ) → unsigned_abs low ≤ 2 ^ 64 → unsigned_abs high ≤ 2 ^ 64 → low ≤ℤ to → to ≤ℤ high → unsigned_abs to ≤ 2 ^ 64
-value_fits low high to h k l m = omega (arith, ints)
-
 pub pruned_cause : (ts : List (ℤ × ℕ)) (boxes : Boxes) (bound least spread : ℤ) (place : ℕ) (t : ℤ × ℕ) (c at to : ℤ) (b : Ranges) (full slack : ℕ) →
     place < length ts → t ≡ term_at ts place → c ≡ t.0 → b ≡ box_of boxes t.1 → IsValid b → spread_of (term_at ts place) boxes ≡ spread → least ≡ least_sum ts boxes → least ≤ℤ bound →
-    pos full ≡ ((least +ℤ spread) -ℤ bound) -ℤ pos 1 → full ≤ 2 ^ 70 → c *ℤ at ≡ greatest_at c b → low_of b ≤ℤ at → at ≤ℤ high_of b → unsigned_abs (low_of b) ≤ 2 ^ 64 → unsigned_abs (high_of b) ≤ 2 ^ 64 →
+    pos full ≡ ((least +ℤ spread) -ℤ bound) -ℤ pos 1 → c *ℤ at ≡ greatest_at c b → low_of b ≤ℤ at → at ≤ℤ high_of b →
     c *ℤ to ≡ ((c *ℤ at) -ℤ pos full) +ℤ pos slack → slack ≤ full → (pos 0 ≤ℤ c → to ≤ℤ at) → (c <ℤ pos 0 → at ≤ℤ to) → IsCause ts boxes bound place to slack
-pruned_cause ts boxes bound least spread place t c at to b full slack h e f g valid s m w p small q low high lf hf paid l up down =
+pruned_cause ts boxes bound least spread place t c at to b full slack h e f g valid s m w p q low high paid l up down =
     let from_is : c *ℤ at ≡ greatest_term t boxes = q ∙ ap (λ (z : ℤ). greatest_at z b) f ∙ ap (λ (r : Ranges). greatest_at t.0 r) g ∙ greatest_is t boxes in
     let of_t : spread_of t boxes ≡ spread = ap (λ (u : ℤ × ℕ). spread_of u boxes) e ∙ s in
     let paid_t : t.0 *ℤ to ≡ ((c *ℤ at) -ℤ pos full) +ℤ pos slack = ap (λ (z : ℤ). z *ℤ to) (sym f) ∙ paid in
@@ -78,14 +73,22 @@ pruned_cause ts boxes bound least spread place t c at to b full slack h e f g va
     let n' = subst (λ (u : ℤ × ℕ). AreNumbers u boxes bound least to slack) e n in
     let span' = subst (λ (u : ℤ × ℕ). IsBetween u boxes to) e span in
     record {
-      small = omega arith;
       owed = let o = n'.owed in rw (first, sym m) o;
       above = λ k. n'.above;
       below = λ k. n'.below;
       low = λ k. span'.low;
       high = λ k. span'.high;
-      fits = let a = span.low in let z = span.high in value_fits (low_of b) (high_of b) to lf hf (omega (arith, ints)) (omega (arith, ints));
     }
+
+-- how far the term falls from its greatest to its least
+pub spread_is : (ts : List (ℤ × ℕ)) (boxes : Boxes) (place : ℕ) (t : ℤ × ℕ) (c at end spread : ℤ) (b : Ranges) → t ≡ term_at ts place → c ≡ t.0 → b ≡ box_of boxes t.1 →
+    spread_of (term_at ts place) boxes ≡ spread → c *ℤ at ≡ greatest_at c b → c *ℤ end ≡ least_at c b → (c *ℤ at) -ℤ (c *ℤ end) ≡ spread
+spread_is ts boxes place t c at end spread b e f g s p q =
+    let of_t : spread_of t boxes ≡ spread = ap (λ (u : ℤ × ℕ). spread_of u boxes) e ∙ s in
+    let high : greatest_at c b ≡ greatest_term t boxes = ap (λ (z : ℤ). greatest_at z b) f ∙ ap (λ (r : Ranges). greatest_at t.0 r) g ∙ greatest_is t boxes in
+    let low : least_at c b ≡ least_term t boxes = ap (λ (z : ℤ). least_at z b) f ∙ ap (λ (r : Ranges). least_at t.0 r) g ∙ least_is t boxes in
+    let is : spread ≡ greatest_term t boxes -ℤ least_term t boxes = sym of_t in
+    omega (arith, ints)
 
 pub factor_some : (ts : List (ℤ × ℕ)) (boxes : Boxes) (place : ℕ) (t : ℤ × ℕ) (c at spread : ℤ) (b : Ranges) → t ≡ term_at ts place → c ≡ t.0 → b ≡ box_of boxes t.1 →
     spread_of (term_at ts place) boxes ≡ spread → pos 0 <ℤ spread → c *ℤ at ≡ greatest_at c b → 0 < unsigned_abs c

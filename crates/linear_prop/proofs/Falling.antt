@@ -1,14 +1,16 @@
 -- How far a term falls, and the set of its literal.
-use Rattle.std.proofs.Common.{◌≡◌, ℕ, ◌*◌, ◌-◌, ◌≤◌, true, false, ◌&&◌, [], ◌∷◌, ℤ, pos, ◌+ℤ◌, ◌-ℤ◌, ◌*ℤ◌, ◌≤ℤ◌, ◌<ℤ◌, unsigned_abs, arith, refl, ap, sym, subst, ◌∙◌}
+use Rattle.std.proofs.Common.{◌≡◌, ℕ, suc, zero, ◌⊎◌, inl, inr, ◌*◌, ◌/◌, ◌-◌, ◌<◌, ◌≤◌, ◌^◌, true, false, ◌&&◌, [], ◌∷◌, ℤ, pos, ◌+ℤ◌, ◌-ℤ◌, ◌*ℤ◌, ◌≤ℤ◌, ◌<ℤ◌, unsigned_abs, arith, refl, ap, sym, subst, ◌∙◌}
 use Rattle.std.specs.Prelude.{int_lt}
 use Rattle.std.specs.Int.{int_min}
-use Rattle.std.proofs.lemmas.Int.{ints, unsigned_abs-mul}
-use Rattle.std.proofs.Math.Nat.{mul-le-mul_left}
+use Rattle.std.proofs.lemmas.Bool.{cases_lt}
+use Rattle.std.proofs.lemmas.Int.{ints, by_lt_z, unsigned_abs-mul}
+use Rattle.std.proofs.Math.Nat.{mul-le-mul_left, div-add-mod}
 use Rattle.signed_clause.specs.Ranges.{Ranges, has, in_range, is_nil, IsValid}
 use Rattle.ground_form.specs.Bounds.{low_of, high_of, reach_of}
 use Rattle.box_view.proofs.EndLaws.{above_low, below_high, ends_in_order, has_low, has_high}
+use Rattle.linear_prop.specs.Explaining.{span_of}
 use Rattle.linear_prop.specs.Falls.{least_at, IsBelow}
-use Rattle.linear_prop.proofs.Products.{below_same, above_same, above_low_end, below_high_end, some_factor}
+use Rattle.linear_prop.proofs.Products.{below_same, above_same, above_low_end, below_high_end, some_factor, falls_down, falls_up}
 
 pub part_below : (set s part : Ranges) (low high to v : ℤ) → IsValid set → low ≡ low_of set → high ≡ to -ℤ pos 1 → has s v ≡ (has set v && has part v) →
     has part v ≡ in_range (low, high) v → has s v ≡ (has set v && int_lt v to)
@@ -71,6 +73,41 @@ one_of_two x y n h k = grind arith
 pub least_fits : (c : ℤ) (s : Ranges) (n : ℕ) → low_of s ≤ℤ high_of s → unsigned_abs c * reach_of s ≤ n → unsigned_abs (least_at c s) ≤ n
 least_fits c s n o w =
     one_of_two (c *ℤ low_of s) (c *ℤ high_of s) n (product_fits c (low_of s) s n (omega (arith, ints)) o w) (product_fits c (high_of s) s n o (omega (arith, ints)) w)
+
+-- what lies between the ends of a set lies no further apart than they
+pub apart_fits : (c at end : ℤ) (s : Ranges) → low_of s ≤ℤ at → at ≤ℤ high_of s → low_of s ≤ℤ end → end ≤ℤ high_of s → unsigned_abs c * span_of s < 2 ^ 64 →
+    unsigned_abs c * unsigned_abs (at -ℤ end) < 2 ^ 64
+apart_fits c at end s a b d e w =
+    let le : unsigned_abs (at -ℤ end) ≤ span_of s = omega (arith, ints) in
+    let m : unsigned_abs c * unsigned_abs (at -ℤ end) ≤ unsigned_abs c * span_of s = mul-le-mul_left (unsigned_abs c) le in omega arith
+
+-- by how much a term falls from one value to another
+pub fall_is : (c at end : ℤ) → (pos 0 ≤ℤ c → end ≤ℤ at) → (c <ℤ pos 0 → at ≤ℤ end) → pos (unsigned_abs c * unsigned_abs (at -ℤ end)) ≡ (c *ℤ at) -ℤ (c *ℤ end)
+fall_is c at end h k =
+    let d = unsigned_abs (at -ℤ end) in
+    by_lt_z {P = pos (unsigned_abs c * d) ≡ (c *ℤ at) -ℤ (c *ℤ end)} c (pos 0)
+    (λ n. let o = k n in let is : end ≡ at +ℤ pos d = omega (arith, ints) in let e = ap (λ (z : ℤ). c *ℤ z) is ∙ falls_up c at d n in omega (arith, ints))
+    (λ n. let o = h n in let is : end ≡ at -ℤ pos d = omega (arith, ints) in let e = ap (λ (z : ℤ). c *ℤ z) is ∙ falls_down c at d n in omega (arith, ints))
+
+pub gap_is : (c at end : ℤ) (s : Ranges) (apart gap : ℕ) → gap ≡ unsigned_abs c * apart → apart ≡ unsigned_abs (at -ℤ end) → low_of s ≤ℤ at → at ≤ℤ high_of s →
+    (pos 0 ≤ℤ c → end ≡ low_of s) → (c <ℤ pos 0 → end ≡ high_of s) → c *ℤ end ≡ least_at c s → pos gap ≡ (c *ℤ at) -ℤ least_at c s
+gap_is c at end s apart gap g a low high up down least =
+    let f = fall_is c at end (λ n. let e = up n in omega (arith, ints)) (λ n. let e = down n in omega (arith, ints)) in
+    ap (λ (n : ℕ). pos n) (g ∙ ap (λ (n : ℕ). unsigned_abs c * n) a) ∙ f ∙ ap (λ (z : ℤ). (c *ℤ at) -ℤ z) least
+
+-- slack that doesn't pay the whole way
+steps_from : (size d slack : ℕ) → (d < slack / size) ⊎ (slack / size ≤ d) → slack < size * d → slack / size ≤ d
+steps_from size d slack (inl l) h =
+    let m : size * suc d ≤ size * (slack / size) = mul-le-mul_left size (omega (arith, l)) in
+    let e = div-add-mod slack size in absurd (omega (arith, m, e, h))
+steps_from size d slack (inr l) h = l
+
+pub steps_fit : (size d slack : ℕ) → slack < size * d → slack / size ≤ d
+steps_fit size d slack h = steps_from size d slack (cases_lt d (slack / size)) h
+
+pub some_size : (size d slack : ℕ) → slack < size * d → 0 < size
+some_size zero d slack h = absurd (omega arith)
+some_size (suc n) d slack h = omega arith
 
 -- ---- the two ways that it ends
 

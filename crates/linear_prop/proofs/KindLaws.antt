@@ -29,11 +29,13 @@ use Rattle.rule_law.proofs.ProbeLaws.{boxes_named}
 use Rattle.rule_law.proofs.Keeping.{acts_one}
 use Rattle.linear_prop.specs.Rows.{negated}
 use Rattle.linear_prop.specs.Flags.{with_flag, IsOpposed}
-use Rattle.linear_prop.specs.Explaining.{term_at, rise, IsCause, IsSoFar, IsRowOver}
+use Rattle.linear_prop.specs.Explaining.{span_of, term_at, rise, IsCause, IsSoFar, IsRowOver}
 use Rattle.linear_prop.proofs.Spreads.{least_is, weight_is}
 use Rattle.linear_prop.proofs.Literals.{cut_fresh, cut_same, sum_push, acts_push}
 use Rattle.linear_prop.proofs.Turning.{literals_push}
 use Rattle.linear_prop.proofs.Quieting.{sum_turned, vars_turned}
+use Rattle.linear_prop.proofs.RowFacts.{weights_within}
+use Rattle.std.proofs.Math.Nat.{mul-le-mul_left}
 
 -- ---- where a walk begins and ends
 
@@ -45,7 +47,6 @@ begun ts domains boxes bound place to slack out cause e =
       acts = refl;
       missed = λ h. refl;
       only = λ x h. refl;
-      small = cause.small;
       owed = let o = cause.owed in omega (arith, ints);
     })
 
@@ -73,11 +74,11 @@ less_test a b h = grind (arith, ints)
 at_most_test : (a b : ℤ) → a ≤ℤ b → int_lt b a ≡ false
 at_most_test a b h = grind (arith, ints)
 
-minus_one : (v : ℤ) → negsuc 0 *ℤ v ≡ pos 0 -ℤ v
+pub minus_one : (v : ℤ) → negsuc 0 *ℤ v ≡ pos 0 -ℤ v
 minus_one (pos v) = grind (arith, ints)
 minus_one (negsuc v) = grind (arith, ints)
 
-plus_one : (v : ℤ) → pos 1 *ℤ v ≡ v
+pub plus_one : (v : ℤ) → pos 1 *ℤ v ≡ v
 plus_one (pos v) = grind (arith, ints)
 plus_one (negsuc v) = grind (arith, ints)
 
@@ -131,13 +132,13 @@ follows_zero x ts bound turned_bound domains out e h n =
 -- ---- reasons
 
 pub row_reason : (con : Con) (ts : List (ℤ × ℕ)) (domains boxes : Boxes) (bound : ℤ) (place : ℕ) (to : ℤ) (slack : ℕ) (out : Literals) → IsSoFar ts domains boxes bound place to (length ts) out slack →
-    ((o : Literals) → bound <ℤ least_sum ts (cut domains o) → justified con domains o ≡ true) → IsReason con domains boxes out
+    ((o : Literals) → All (λ l. IsValid l.1) o → bound <ℤ least_sum ts (cut domains o) → justified con domains o ≡ true) → IsReason con domains boxes out
 row_reason con ts domains boxes bound place to slack out so follows = record {
   named = so.literals.named;
   differ = so.literals.differ;
   some = so.literals.some;
   sets = so.literals.sets;
-  follows = follows out (ended ts domains boxes bound place to slack out so);
+  follows = follows out so.literals.sets (ended ts domains boxes bound place to slack out so);
   acts = so.acts;
 }
 
@@ -200,27 +201,43 @@ flag_reason con ts domains boxes bound place to slack x v out false so e h n f g
 pub tail_repeat : (x : ℕ) (xs : List ℕ) → no_repeat (x ∷ xs) ≡ true → (has_number x xs ≡ false) × (no_repeat xs ≡ true)
 tail_repeat x xs h = let p = and_parts (not (has_number x xs)) (no_repeat xs) h in let q = p.0 in (grind arith, p.1)
 
-pub over_at_most : (ts : List (ℤ × ℕ)) (bound : ℤ) (domains boxes : Boxes) → IsWellMadeCon domains (LinLe ts bound) → All (λ d. IsValid d) domains → AreBoxesWithin domains boxes → no_repeat (term_vars ts) ≡ true → IsRowOver ts domains boxes
-over_at_most ts bound domains boxes m d b n = record {
-  differ = n;
-  named = boxes_named (LinLe ts bound) domains boxes b m;
-  fits = let w = m.bounded in omega arith;
-  domains_valid = d;
-  boxes_within = b;
-}
-
-reach_fits : (s : Ranges) → IsValid s → reach_of s ≤ 2 ^ 63
-reach_fits [] f = omega arith
-reach_fits (r ∷ rs) f =
+span_fits : (s : Ranges) → IsValid s → span_of s < 2 ^ 64
+span_fits [] f = omega arith
+span_fits (r ∷ rs) f =
     let low = has_low (r ∷ rs) f refl in let high = has_high (r ∷ rs) f refl in
     let a = low_within _ _ (r ∷ rs) _ f low in let b = top_within _ _ (r ∷ rs) _ f low in
     let c = low_within _ _ (r ∷ rs) _ f high in let e = top_within _ _ (r ∷ rs) _ f high in omega (arith, ints)
 
-single_weight : (c : ℤ) (x : ℕ) (domains : Boxes) → unsigned_abs c ≡ 1 → IsValid (box_of domains x) → term_weight (c, x) domains ≤ 2 ^ 63
-single_weight c x domains e f =
-    let r = reach_fits (box_of domains x) f in rw (weight_is (c, x) domains, e) (omega arith)
+single_span : (c : ℤ) (x : ℕ) (domains : Boxes) → unsigned_abs c ≡ 1 → IsValid (box_of domains x) → unsigned_abs c * span_of (box_of domains x) < 2 ^ 64
+single_span c x domains e f = let r = span_fits (box_of domains x) f in rw e (omega arith)
 
-more_named : (c : ℤ) (x : ℕ) (ts : List (ℤ × ℕ)) (boxes : Boxes) → x < length boxes → AreTermsNamed ts boxes → AreTermsNamed ((c, x) ∷ ts) boxes
+term_span : (t : ℤ × ℕ) (domains : Boxes) → term_weight t domains ≤ 2 ^ 60 → unsigned_abs t.0 * span_of (box_of domains t.1) < 2 ^ 64
+term_span t domains w =
+    let s = box_of domains t.1 in
+    let le : span_of s ≤ 2 * reach_of s = omega (arith, ints) in
+    let m : unsigned_abs t.0 * span_of s ≤ unsigned_abs t.0 * (2 * reach_of s) = mul-le-mul_left (unsigned_abs t.0) le in
+    let e = weight_is t domains in omega (arith, m, e, w)
+
+spans_fit : (ts : List (ℤ × ℕ)) (domains : Boxes) → weight_of ts domains ≤ 2 ^ 60 → All (λ t. unsigned_abs t.0 * span_of (box_of domains t.1) < 2 ^ 64) ts
+spans_fit [] domains w k d lt = absurd (omega arith)
+spans_fit (t ∷ ts) domains w zero d lt = term_span t domains (omega arith)
+spans_fit (t ∷ ts) domains w (suc k) d lt = spans_fit ts domains (omega arith) k d (omega arith)
+
+pub more_spans : (c : ℤ) (x : ℕ) (ts : List (ℤ × ℕ)) (domains : Boxes) → unsigned_abs c ≡ 1 → IsValid (box_of domains x) → All (λ t. unsigned_abs t.0 * span_of (box_of domains t.1) < 2 ^ 64) ts →
+    All (λ t. unsigned_abs t.0 * span_of (box_of domains t.1) < 2 ^ 64) ((c, x) ∷ ts)
+more_spans c x ts domains e f h zero d lt = single_span c x domains e f
+more_spans c x ts domains e f h (suc k) d lt = h k d (omega arith)
+
+pub over_at_most : (ts : List (ℤ × ℕ)) (bound : ℤ) (domains boxes : Boxes) → IsWellMadeCon domains (LinLe ts bound) → All (λ d. IsValid d) domains → AreBoxesWithin domains boxes → no_repeat (term_vars ts) ≡ true → IsRowOver ts domains boxes
+over_at_most ts bound domains boxes m d b n = record {
+  differ = n;
+  named = boxes_named (LinLe ts bound) domains boxes b m;
+  spans = spans_fit ts domains m.bounded;
+  domains_valid = d;
+  boxes_within = b;
+}
+
+pub more_named : (c : ℤ) (x : ℕ) (ts : List (ℤ × ℕ)) (boxes : Boxes) → x < length boxes → AreTermsNamed ts boxes → AreTermsNamed ((c, x) ∷ ts) boxes
 more_named c x ts boxes h n zero d lt = h
 more_named c x ts boxes h n (suc k) d lt = n k d (omega arith)
 
@@ -232,7 +249,7 @@ turned_named (t ∷ ts) boxes n (suc k) d lt = turned_named ts boxes (λ j e les
 turned_size : (c : ℤ) → unsigned_abs (pos 0 -ℤ c) ≡ unsigned_abs c
 turned_size c = omega (arith, ints)
 
-turned_weight : (ts : List (ℤ × ℕ)) (boxes : Boxes) → weight_of (negated ts) boxes ≡ weight_of ts boxes
+pub turned_weight : (ts : List (ℤ × ℕ)) (boxes : Boxes) → weight_of (negated ts) boxes ≡ weight_of ts boxes
 turned_weight [] boxes = refl
 turned_weight (t ∷ ts) boxes =
     let one : term_weight (pos 0 -ℤ t.0, t.1) boxes ≡ term_weight t boxes =
@@ -245,7 +262,7 @@ over_up x ts offset domains boxes m d b n =
     let named = boxes_named (LinDef x ts offset) domains boxes b m in record {
       differ = n;
       named = more_named (negsuc 0) x ts boxes named.0 named.1;
-      fits = let w = m.bounded in let one = single_weight (negsuc 0) x domains refl (are_sets domains d x) in omega arith;
+      spans = more_spans (negsuc 0) x ts domains refl (are_sets domains d x) (spans_fit ts domains (let w = m.bounded in omega arith));
       domains_valid = d;
       boxes_within = b;
     }
@@ -256,7 +273,7 @@ over_down x ts offset domains boxes m d b n =
     let named = boxes_named (LinDef x ts offset) domains boxes b m in record {
       differ = ap (λ (xs : List ℕ). no_repeat (x ∷ xs)) (vars_turned ts) ∙ n;
       named = more_named (pos 1) x (negated ts) boxes named.0 (turned_named ts boxes named.1);
-      fits = let w = m.bounded in let one = single_weight (pos 1) x domains refl (are_sets domains d x) in let same = turned_weight ts domains in omega arith;
+      spans = more_spans (pos 1) x (negated ts) domains refl (are_sets domains d x) (spans_fit (negated ts) domains (let w = m.bounded in let same = turned_weight ts domains in omega arith));
       domains_valid = d;
       boxes_within = b;
     }
@@ -267,7 +284,7 @@ over_one x ts bound domains boxes m d b n =
     let named = boxes_named (ReifLe x ts bound) domains boxes b m in record {
       differ = (tail_repeat x (term_vars ts) n).1;
       named = named.1;
-      fits = let w = m.bounded in omega arith;
+      spans = spans_fit ts domains m.bounded;
       domains_valid = d;
       boxes_within = b;
     }
@@ -278,10 +295,39 @@ over_zero x ts bound domains boxes m d b n =
     let named = boxes_named (ReifLe x ts bound) domains boxes b m in record {
       differ = ap no_repeat (vars_turned ts) ∙ (tail_repeat x (term_vars ts) n).1;
       named = turned_named ts boxes named.1;
-      fits = let w = m.bounded in let same = turned_weight ts domains in omega arith;
+      spans = spans_fit (negated ts) domains (let w = m.bounded in let same = turned_weight ts domains in omega arith);
       domains_valid = d;
       boxes_within = b;
     }
+
+-- ---- sums over the boxes
+
+pub fits_at_most : (ts : List (ℤ × ℕ)) (bound : ℤ) (domains boxes : Boxes) → IsWellMadeCon domains (LinLe ts bound) → All (λ d. IsValid d) domains → AreBoxesWithin domains boxes → weight_of ts boxes ≤ 2 ^ 61
+fits_at_most ts bound domains boxes m d b =
+    let w = m.bounded in let l = weights_within ts domains boxes (boxes_named (LinLe ts bound) domains boxes b m) d b in omega arith
+
+head_weight : (c : ℤ) (x : ℕ) (boxes : Boxes) → unsigned_abs c ≡ 1 → reach_of (box_of boxes x) ≤ 2 ^ 60 → term_weight (c, x) boxes ≤ 2 ^ 60
+head_weight c x boxes e r = rw (weight_is (c, x) boxes, e) (omega arith)
+
+fits_def : (x : ℕ) (ts : List (ℤ × ℕ)) (offset : ℤ) (domains boxes : Boxes) → IsWellMadeCon domains (LinDef x ts offset) → All (λ d. IsValid d) domains → AreBoxesWithin domains boxes → weight_of ts boxes ≤ 2 ^ 60
+fits_def x ts offset domains boxes m d b =
+    let w = m.bounded in let named = boxes_named (LinDef x ts offset) domains boxes b m in let l = weights_within ts domains boxes named.1 d b in omega arith
+
+pub fits_up : (x : ℕ) (ts : List (ℤ × ℕ)) (offset : ℤ) (domains boxes : Boxes) → IsWellMadeCon domains (LinDef x ts offset) → All (λ d. IsValid d) domains → AreBoxesWithin domains boxes →
+    reach_of (box_of boxes x) ≤ 2 ^ 60 → weight_of ((negsuc 0, x) ∷ ts) boxes ≤ 2 ^ 61
+fits_up x ts offset domains boxes m d b r = let l = fits_def x ts offset domains boxes m d b in let h = head_weight (negsuc 0) x boxes refl r in omega arith
+
+pub fits_down : (x : ℕ) (ts : List (ℤ × ℕ)) (offset : ℤ) (domains boxes : Boxes) → IsWellMadeCon domains (LinDef x ts offset) → All (λ d. IsValid d) domains → AreBoxesWithin domains boxes →
+    reach_of (box_of boxes x) ≤ 2 ^ 60 → weight_of ((pos 1, x) ∷ negated ts) boxes ≤ 2 ^ 61
+fits_down x ts offset domains boxes m d b r =
+    let l = fits_def x ts offset domains boxes m d b in let h = head_weight (pos 1) x boxes refl r in let same = turned_weight ts boxes in omega arith
+
+pub fits_one : (x : ℕ) (ts : List (ℤ × ℕ)) (bound : ℤ) (domains boxes : Boxes) → IsWellMadeCon domains (ReifLe x ts bound) → All (λ d. IsValid d) domains → AreBoxesWithin domains boxes → weight_of ts boxes ≤ 2 ^ 61
+fits_one x ts bound domains boxes m d b =
+    let w = m.bounded in let named = boxes_named (ReifLe x ts bound) domains boxes b m in let l = weights_within ts domains boxes named.1 d b in omega arith
+
+pub fits_zero : (x : ℕ) (ts : List (ℤ × ℕ)) (bound : ℤ) (domains boxes : Boxes) → IsWellMadeCon domains (ReifLe x ts bound) → All (λ d. IsValid d) domains → AreBoxesWithin domains boxes → weight_of (negated ts) boxes ≤ 2 ^ 61
+fits_zero x ts bound domains boxes m d b = let l = fits_one x ts bound domains boxes m d b in let same = turned_weight ts boxes in omega arith
 
 pub flag_apart : (x : ℕ) (ts : List (ℤ × ℕ)) → no_repeat (x ∷ term_vars ts) ≡ true → has_number x (term_vars ts) ≡ false
 flag_apart x ts n = (tail_repeat x (term_vars ts) n).0

@@ -2,6 +2,7 @@ pub mod Spreads
 pub mod RowTerms
 pub mod Products
 pub mod WalkSteps
+pub mod FarValues
 pub mod Falling
 pub mod Literals
 pub mod Turning

@@ -1,5 +1,5 @@
 -- What holds of a row over domains and boxes, term by term.
-use Rattle.std.proofs.Common.{◌≡◌, ℕ, suc, zero, ◌<◌, ◌≤◌, ◌^◌, max, unsigned_abs, true, false, List, [], ◌∷◌, ℤ, pos, ◌≤ℤ◌, All, length, ap, sym, subst, arith}
+use Rattle.std.proofs.Common.{◌*◌, ◌≡◌, ℕ, suc, ◌<◌, ◌≤◌, ◌^◌, max, unsigned_abs, true, false, List, [], ◌∷◌, ℤ, pos, ◌≤ℤ◌, All, length, sym, subst, arith}
 use Rattle.std.proofs.lemmas.Int.{ints}
 use Rattle.std.proofs.Math.Nat.{mul-le-mul_left}
 use Rattle.signed_clause.specs.Ranges.{Ranges, is_nil, IsValid}
@@ -9,21 +9,15 @@ use Rattle.ground_form.specs.Bounds.{low_of, high_of, reach_of, term_weight, wei
 use Rattle.box_rules.specs.Named.{AreTermsNamed}
 use Rattle.rule_law.specs.Answers.{AreBoxesWithin}
 use Rattle.box_view.proofs.EndLaws.{are_sets, ends_in_order}
-use Rattle.linear_prop.specs.Explaining.{term_at, IsTurn, IsRowOver}
+use Rattle.linear_prop.specs.Explaining.{span_of, term_at, IsTurn, IsRowOver}
 use Rattle.linear_prop.proofs.Turning.{low_end_within, high_end_within}
 use Rattle.linear_prop.proofs.Spreads.{weight_is}
 
 pub term_named : (ts : List (ℤ × ℕ)) (boxes : Boxes) (i : ℕ) (t : ℤ × ℕ) → AreTermsNamed ts boxes → i < length ts → t ≡ term_at ts i → t.1 < length boxes
 term_named ts boxes i t n h e = subst (λ (u : ℤ × ℕ). u.1 < length boxes) (sym e) (n i (pos 0, 0) h)
 
-weight_part : (ts : List (ℤ × ℕ)) (boxes : Boxes) (i : ℕ) → i < length ts → term_weight (term_at ts i) boxes ≤ weight_of ts boxes
-weight_part [] boxes i h = absurd (omega arith)
-weight_part (t ∷ ts) boxes zero h = omega arith
-weight_part (t ∷ ts) boxes (suc i) h = let more = weight_part ts boxes i (omega arith) in omega arith
-
-pub term_weighs : (ts : List (ℤ × ℕ)) (boxes : Boxes) (i : ℕ) (t : ℤ × ℕ) (n : ℕ) → weight_of ts boxes ≤ n → i < length ts → t ≡ term_at ts i → term_weight t boxes ≤ n
-term_weighs ts boxes i t n w h e =
-    let p = weight_part ts boxes i h in let s = ap (λ (u : ℤ × ℕ). term_weight u boxes) e in omega (arith, p, s, w)
+pub term_moves : (ts : List (ℤ × ℕ)) (domains boxes : Boxes) (i : ℕ) (t : ℤ × ℕ) → IsRowOver ts domains boxes → i < length ts → t ≡ term_at ts i → unsigned_abs t.0 * span_of (box_of domains t.1) < 2 ^ 64
+term_moves ts domains boxes i t o h e = subst (λ (u : ℤ × ℕ). unsigned_abs u.0 * span_of (box_of domains u.1) < 2 ^ 64) (sym e) (o.spans i (pos 0, 0) h)
 
 pub turn_of : (ts : List (ℤ × ℕ)) (domains boxes : Boxes) (i : ℕ) (t : ℤ × ℕ) → IsRowOver ts domains boxes → i < length ts → t ≡ term_at ts i → IsTurn ts domains boxes i t
 turn_of ts domains boxes i t o h e =
@@ -52,13 +46,10 @@ reach_within box d f g n h = reach_between (low_of d) (high_of d) (low_of box) (
 weight_within : (t : ℤ × ℕ) (domains boxes : Boxes) → reach_of (box_of boxes t.1) ≤ reach_of (box_of domains t.1) → term_weight t boxes ≤ term_weight t domains
 weight_within t domains boxes h = rw (weight_is t boxes, weight_is t domains) (mul-le-mul_left (unsigned_abs t.0) h)
 
-weights_within : (ts : List (ℤ × ℕ)) (domains boxes : Boxes) → AreTermsNamed ts boxes → All (λ d. IsValid d) domains → AreBoxesWithin domains boxes → weight_of ts boxes ≤ weight_of ts domains
+pub weights_within : (ts : List (ℤ × ℕ)) (domains boxes : Boxes) → AreTermsNamed ts boxes → All (λ d. IsValid d) domains → AreBoxesWithin domains boxes → weight_of ts boxes ≤ weight_of ts domains
 weights_within [] domains boxes n d b = omega arith
 weights_within (t ∷ ts) domains boxes n d b =
     let x = n 0 (pos 0, 0) (omega arith) in
     let reach = reach_within (box_of boxes t.1) (box_of domains t.1) (are_sets boxes b.sets t.1) (are_sets domains d t.1) (b.some t.1 x) (b.within t.1 x) in
     let one = weight_within t domains boxes reach in
     let more = weights_within ts domains boxes (λ k e lt. n (suc k) e (omega arith)) d b in omega arith
-
-pub boxes_fit : (ts : List (ℤ × ℕ)) (domains boxes : Boxes) → IsRowOver ts domains boxes → weight_of ts boxes ≤ 2 ^ 64
-boxes_fit ts domains boxes o = let w = weights_within ts domains boxes o.named o.domains_valid o.boxes_within in let f = o.fits in omega arith

@@ -14,7 +14,7 @@ use Rattle.signed_clause.specs.Clauses.{Boxes, Literal, Literals, box_of, false_
 use Rattle.signed_clause.proofs.SetFacts.{disjoint_law, within_law}
 use Rattle.signed_clause.proofs.RangeSteps.{left_at, has-less_valid, IsValid-less}
 use Rattle.ground_form.specs.Meaning.{clause_vars, term_vars}
-use Rattle.ground_form.specs.Bounds.{low_of, high_of, reach_of, term_weight, least_term, greatest_term, least_sum}
+use Rattle.ground_form.specs.Bounds.{low_of, high_of, least_term, greatest_term, least_sum}
 use Rattle.ground_form.proofs.Weights.{least_sum-drop}
 use Rattle.ground_form.proofs.Products.{mul_least}
 use Rattle.box_view.specs.Views.{cut}
@@ -23,8 +23,8 @@ use Rattle.box_view.proofs.EndLaws.{above_low, below_high, ends_in_order, has_lo
 use Rattle.rule_law.proofs.Keeping.{acts_one}
 use Rattle.linear_prop.specs.Falls.{least_at, greatest_at, IsBelow, IsFall}
 use Rattle.linear_prop.specs.Turns.{with_literal}
-use Rattle.linear_prop.specs.Explaining.{term_at, rise, IsCause, AreLiterals, IsSoFar, IsTurn}
-use Rattle.linear_prop.proofs.Spreads.{least_is, greatest_is, weight_is}
+use Rattle.linear_prop.specs.Explaining.{span_of, term_at, rise, IsCause, AreLiterals, IsSoFar, IsTurn}
+use Rattle.linear_prop.proofs.Spreads.{least_is, greatest_is}
 use Rattle.linear_prop.proofs.Literals.{number_append, repeat_push, split_number, vars_append, other_var, var_other, vars_push, cut_fresh, cut_same, sum_push, false_push, acts_push}
 
 -- ---- values
@@ -152,7 +152,6 @@ owed_more base slack left S S' f rest r r' low floor sum h a b c d = omega (arit
 
 -- the equations of numbers that a turn rests on: the term stands at `from`, and falls to the floor
 record IsStep (ts : List (ℤ × ℕ)) (boxes : Boxes) (place : ℕ) (to : ℤ) (i : ℕ) (t : ℤ × ℕ) (from floor : ℤ) (slack left : ℕ) : Type 0 where
-  small : left ≤ 2 ^ 70
   rises : least_term t boxes +ℤ rise ts boxes place to i ≡ from +ℤ rise ts boxes place to (i + 1)
   falls : floor ≡ (from -ℤ pos slack) +ℤ pos left
 
@@ -179,7 +178,6 @@ turn_none ts domains boxes bound place to i out slack left t from floor turn ste
       acts = so.acts;
       missed = λ h. so.missed (omega arith);
       only = so.only;
-      small = step.small;
       owed = owed_after ts domains boxes bound place to i out out slack left t from floor turn step so refl (subst (λ (z : ℤ). floor ≤ℤ z) is high);
     }
 
@@ -207,7 +205,6 @@ turn_some ts domains boxes bound place to i out slack left t from floor v set tu
           let no = var_other x ts i (pos 0, 0) h turn.here in
           let one = so.only x h in
           ap (has_number x) (vars_push out (t.1, set)) ∙ number_append x (clause_vars out) (t.1 ∷ []) ∙ rw (one, e, no) refl;
-      small = step.small;
       owed = owed_after ts domains boxes bound place to i out (out ++ (t.1, set) ∷ []) slack left t from floor turn step so
           (sum_push (take i ts) domains out (t.1, set) split.0) (subst (λ (z : ℤ). floor ≤ℤ z) is enough);
     }
@@ -217,11 +214,11 @@ pub turn_elsewhere : (ts : List (ℤ × ℕ)) (domains boxes : Boxes) (bound : �
     IsTurn ts domains boxes i t → IsSoFar ts domains boxes bound place to i out slack → (i ≡ place → ⊥) → from ≡ least_at t.0 (box_of boxes t.1) →
     IsFall t.0 from slack (box_of domains t.1) literal left → IsSoFar ts domains boxes bound place to (i + 1) (with_literal out t.1 literal) left
 turn_elsewhere ts domains boxes bound place to i out slack left t from None turn so n e fall =
-    let small = so.small in let rise = rise_other ts boxes place to i n in let is = e ∙ least_is t boxes in
+    let rise = rise_other ts boxes place to i n in let is = e ∙ least_is t boxes in
     turn_none ts domains boxes bound place to i out slack left t from ((from -ℤ pos slack) +ℤ pos left) turn
-    (record { small = let l = fall.0 in omega arith; rises = omega (arith, ints); falls = refl }) so fall.1
+    (record { rises = omega (arith, ints); falls = refl }) so fall.1
 turn_elsewhere ts domains boxes bound place to i out slack left t from (Some set) turn so n e fall =
-    let small = so.small in let rise = rise_other ts boxes place to i n in let is = e ∙ least_is t boxes in
+    let rise = rise_other ts boxes place to i n in let is = e ∙ least_is t boxes in
     let l = fall.0 in
     let floor = (from -ℤ pos slack) +ℤ pos left in
     let high : floor ≤ℤ least_at t.0 (box_of boxes t.1) = omega (arith, ints) in
@@ -229,7 +226,7 @@ turn_elsewhere ts domains boxes bound place to i out slack left t from (Some set
     let at = above_least t.0 (low_of (box_of boxes t.1)) (box_of boxes t.1) turn.box low in
     let is_disjoint_from_box = literal_disjoint t.0 floor (box_of domains t.1) set (box_of boxes t.1) turn.box fall.1 high in
     turn_some ts domains boxes bound place to i out slack left t from floor (low_of (box_of boxes t.1)) set turn
-    (record { small = omega arith; rises = omega (arith, ints); falls = refl }) so fall.1 low (omega (arith, ints))
+    (record { rises = omega (arith, ints); falls = refl }) so fall.1 low (omega (arith, ints))
     (acts_push boxes out (t.1, set) so.acts is_disjoint_from_box) (λ h. false_push boxes out (t.1, set) (so.missed (omega arith)) is_disjoint_from_box)
 
 -- at the place it falls no further, and its literal takes something away
@@ -239,7 +236,7 @@ pub turn_at_place : (ts : List (ℤ × ℕ)) (domains boxes : Boxes) (bound : �
 turn_at_place ts domains boxes bound place to i out slack left t None turn so e below fall =
     let here = rise_here ts boxes place to i t e turn.here turn.term in let after = rise_after ts boxes place to i e in let l = fall.0 in let f = fall.1 in
     turn_none ts domains boxes bound place to i out slack slack t (t.0 *ℤ to) (t.0 *ℤ to) turn
-    (record { small = so.small; rises = omega (arith, ints); falls = omega (arith, ints) }) so (omega (arith, ints))
+    (record { rises = omega (arith, ints); falls = omega (arith, ints) }) so (omega (arith, ints))
 turn_at_place ts domains boxes bound place to i out slack left t (Some set) turn so e below fall =
     let here = rise_here ts boxes place to i t e turn.here turn.term in let after = rise_after ts boxes place to i e in let l = fall.0 in
     let floor_is : ((t.0 *ℤ to) -ℤ pos 0) +ℤ pos left ≡ t.0 *ℤ to = omega (arith, ints) in
@@ -248,7 +245,7 @@ turn_at_place ts domains boxes bound place to i out slack left t (Some set) turn
     let takes = literal_takes t.0 (t.0 *ℤ to) one.0 (box_of domains t.1) set (box_of boxes t.1) turn.box b one.1 one.2 in
     let lt = turn.here in
     turn_some ts domains boxes bound place to i out slack slack t (t.0 *ℤ to) (t.0 *ℤ to) one.0 set turn
-    (record { small = so.small; rises = omega (arith, ints); falls = omega (arith, ints) }) so b one.1 one.2
+    (record { rises = omega (arith, ints); falls = omega (arith, ints) }) so b one.1 one.2
     (acts_one boxes out (t.1, set) [] (so.missed (omega arith)) refl takes) (λ h. absurd (omega arith))
 
 -- ---- as the code has it: the domain and the box at hand, and the coefficient
@@ -279,8 +276,8 @@ at_most ts domains boxes i t d b at turn e f h =
     let part = high_end_within (box_of boxes t.1) (box_of domains t.1) turn.box turn.domain turn.some turn.within in
     let high = ap (λ (s : Ranges). high_of s) e in let box = ap (λ (s : Ranges). high_of s) f in omega (arith, ints)
 
-pub factor_fits : (t : ℤ × ℕ) (c : ℤ) (boxes : Boxes) (d : Ranges) → c ≡ t.0 → d ≡ box_of boxes t.1 → term_weight t boxes ≤ 2 ^ 64 → unsigned_abs c * reach_of d ≤ 2 ^ 64
-factor_fits t c boxes d e f h = rw (e, f, sym (weight_is t boxes)) h
+pub factor_fits : (t : ℤ × ℕ) (c : ℤ) (boxes : Boxes) (d : Ranges) → c ≡ t.0 → d ≡ box_of boxes t.1 → unsigned_abs t.0 * span_of (box_of boxes t.1) < 2 ^ 64 → unsigned_abs c * span_of d < 2 ^ 64
+factor_fits t c boxes d e f h = rw (e, f) h
 
 pub turn_elsewhere_done : (ts : List (ℤ × ℕ)) (domains boxes : Boxes) (bound : ℤ) (place : ℕ) (to : ℤ) (i : ℕ) (out after : Literals) (slack left : ℕ) (t : ℤ × ℕ) (c from : ℤ) (d b : Ranges) (literal : Option Ranges) →
     IsTurn ts domains boxes i t → IsSoFar ts domains boxes bound place to i out slack → (i ≡ place → ⊥) → c ≡ t.0 → d ≡ box_of domains t.1 → b ≡ box_of boxes t.1 → from ≡ least_at c b →

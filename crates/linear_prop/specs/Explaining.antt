@@ -2,13 +2,13 @@
 -- so far are those of different variables that the rest of the row doesn't have; and with what they
 -- leave of the domains for the terms before, and with the boxes for the rest, the sum is still
 -- above the bound, by what is left of the slack.
-use Rattle.std.specs.Prelude.{◌≡◌, ℕ, ◌<◌, ◌≤◌, ◌^◌, true, false, ◌&&◌, cond, List, ℤ, pos, ◌+ℤ◌, ◌-ℤ◌, ◌*ℤ◌, ◌≤ℤ◌, ◌<ℤ◌, slice_index_or, length, unsigned_abs, take, drop, nat_le, nat_lt}
+use Rattle.std.specs.Prelude.{◌≡◌, ℕ, ◌<◌, ◌≤◌, ◌^◌, true, false, ◌&&◌, cond, List, ℤ, pos, ◌+ℤ◌, ◌-ℤ◌, ◌*ℤ◌, ◌≤ℤ◌, ◌<ℤ◌, slice_index_or, length, unsigned_abs, ◌*◌, take, drop, nat_le, nat_lt}
 use Rattle.std.specs.List.{All}
-use Rattle.signed_clause.specs.Ranges.{is_nil, IsValid}
+use Rattle.signed_clause.specs.Ranges.{Ranges, is_nil, IsValid}
 use Rattle.signed_clause.specs.SetAlgebra.{is_within}
 use Rattle.signed_clause.specs.Clauses.{Boxes, Literals, box_of, false_in}
 use Rattle.ground_form.specs.Meaning.{clause_vars, term_vars}
-use Rattle.ground_form.specs.Bounds.{low_of, high_of, least_term, greatest_term, least_sum, weight_of}
+use Rattle.ground_form.specs.Bounds.{low_of, high_of, least_term, greatest_term, least_sum}
 use Rattle.box_view.specs.Views.{cut}
 use Rattle.box_rules.specs.Named.{AreTermsNamed}
 use Rattle.rule_law.specs.Answers.{AreBoxesWithin}
@@ -26,11 +26,14 @@ rise ts boxes place to i =
     cond (nat_le i place && nat_lt place (length ts)) (((term_at ts place).0 *ℤ to) -ℤ least_term
     (term_at ts place) boxes) (pos 0)
 
+-- how far the values of a set lie apart
+abbrev pub span_of : Ranges → ℕ
+span_of s = unsigned_abs (high_of s -ℤ low_of s)
+
 -- why a row has something to say: its sum is above the bound by more than the slack, and where
 -- there is a term at the place, its variable is `to` there, at which it isn't the least that it is
 -- in its box, and no more than the greatest
 pub record IsCause (ts : List (ℤ × ℕ)) (boxes : Boxes) (bound : ℤ) (place : ℕ) (to : ℤ) (slack : ℕ) : Type 0 where
-  pub small : slack ≤ 2 ^ 70
   pub owed : ((bound +ℤ pos 1) +ℤ pos slack) ≤ℤ (least_sum ts boxes +ℤ rise ts boxes place to 0)
   pub above : place < length ts → least_term (term_at ts place) boxes
       <ℤ ((term_at ts place).0 *ℤ to)
@@ -38,7 +41,6 @@ pub record IsCause (ts : List (ℤ × ℕ)) (boxes : Boxes) (bound : ℤ) (place
       boxes
   pub low : place < length ts → low_of (box_of boxes (term_at ts place).1) ≤ℤ to
   pub high : place < length ts → to ≤ℤ high_of (box_of boxes (term_at ts place).1)
-  pub fits : unsigned_abs to ≤ 2 ^ 64
 
 -- the literals are of different variables, have boxes, and their sets are sets and not empty
 pub record AreLiterals (boxes : Boxes) (out : Literals) : Type 0 where
@@ -54,7 +56,6 @@ pub record IsSoFar (ts : List (ℤ × ℕ)) (domains boxes : Boxes) (bound : ℤ
   pub acts : Acts boxes out
   pub missed : i ≤ place → false_in boxes out ≡ true
   pub only : (x : ℕ) → has_number x (term_vars ts) ≡ false → has_number x (clause_vars out) ≡ false
-  pub small : slack ≤ 2 ^ 70
   pub owed : ((bound +ℤ pos 1) +ℤ pos slack) ≤ℤ (least_sum (take i ts) (cut domains out)
       +ℤ (least_sum (drop i ts) boxes +ℤ rise ts boxes place to i))
 
@@ -71,11 +72,11 @@ pub record IsTurn (ts : List (ℤ × ℕ)) (domains boxes : Boxes) (i : ℕ) (t 
   pub within : is_within (box_of boxes t.1) (box_of domains t.1) ≡ true
 
 -- a row over domains and boxes: no variable has two terms, each has a box within its domain, and no
--- sum is too large
+-- term moves further than 64 bits can say
 pub record IsRowOver (ts : List (ℤ × ℕ)) (domains boxes : Boxes) : Type 0 where
   pub differ : no_repeat (term_vars ts) ≡ true
   pub named : AreTermsNamed ts boxes
-  pub fits : weight_of ts domains ≤ 2 ^ 64
+  pub spans : All (λ t. unsigned_abs t.0 * span_of (box_of domains t.1) < 2 ^ 64) ts
   pub domains_valid : All (λ d. IsValid d) domains
   pub boxes_within : AreBoxesWithin domains boxes
 

@@ -9,22 +9,20 @@
 //! has nothing to lose no other has. Other terms come with the next calls. The pruned variable's
 //! part of the slack is spent first, so every value that the row excludes is taken away at once.
 ghost use Rattle.std.specs.Prelude.{◌≡◌, ◌<◌, ◌≤◌, ◌^◌, ◌+ℤ◌, ◌≤ℤ◌, ◌<ℤ◌, pos, length, unsigned_abs, IfNone, IfSome};
-ghost use Rattle.ground_form.specs.Bounds.{least_sum};
+ghost use Rattle.ground_form.specs.Bounds.{least_sum, weight_of};
 ghost use Rattle.linear_prop.specs.Rows.{terms_of, greatest_spread, spread_of};
 ghost use Rattle.linear_prop.specs.Surveys.{IsWidest};
 ghost use Rattle.linear_prop.specs.Explaining.{term_at, IsCause, IsTight, IsRowOver};
 
 use crate::explain::{Cause, set_at};
-use crate::fall::{back_off, high_end, highest, low_end};
+use crate::fall::{back_off, highest, lowest};
+use crate::number::Number;
 use crate::row::{Row, factor_of};
 use crate::survey::{Survey, walk};
-use crate::wide::Wide;
 use signed_clause::IntSet;
 
 /// The cause of a row whose least sum is above its bound.
-fn refuted(row: &Row, boxes: &[IntSet], least: Wide) -> Cause
-    requires bound { unsigned_abs row.now.bound.value ≤ 2 ^ 64 }
-    requires fits { unsigned_abs least.value ≤ 2 ^ 64 }
+fn refuted(row: &Row, boxes: &[IntSet], least: Number) -> Cause
     requires least { least.value ≡ least_sum (terms_of row.now) boxes.now }
     requires above { row.now.bound.value <ℤ least.value }
     ensures cause { IsCause (terms_of row.now) boxes.now row.now.bound.value result.place
@@ -33,7 +31,7 @@ fn refuted(row: &Row, boxes: &[IntSet], least: Wide) -> Cause
 {
     Cause {
         place: row.len(),
-        to: Wide::of(0),
+        to: Number::of(0),
         slack: least.above(row.bound) - 1,
     }
 }
@@ -41,16 +39,15 @@ fn refuted(row: &Row, boxes: &[IntSet], least: Wide) -> Cause
 /// The cause of a row that isn't refuted, but would be with the variable of the widest term at the
 /// far end of its box.
 fn pruned(row: &Row, boxes: &[IntSet], domains: &[IntSet], found: Survey) -> Cause
-    requires bound { unsigned_abs row.now.bound.value ≤ 2 ^ 64 }
     requires over { IsRowOver (terms_of row.now) domains.now boxes.now }
-    requires fits { unsigned_abs found.least.value ≤ 2 ^ 64 }
+    requires fits { unsigned_abs found.least.value ≤ 2 ^ 61 }
     requires least { found.least.value ≡ least_sum (terms_of row.now) boxes.now }
     requires within { found.least.value ≤ℤ row.now.bound.value }
     requires above { row.now.bound.value <ℤ (found.least.value +ℤ found.spread.value) }
     requires place { found.place < length (terms_of row.now) }
     requires spread { spread_of (term_at (terms_of row.now) found.place) boxes.now
         ≡ found.spread.value }
-    requires spread_fits { unsigned_abs found.spread.value ≤ 2 ^ 65 }
+    requires spread_fits { unsigned_abs found.spread.value ≤ 2 ^ 62 }
     ensures { IsCause (terms_of row.now) boxes.now row.now.bound.value result.place result.to.value
         result.slack }
 {
@@ -58,10 +55,10 @@ fn pruned(row: &Row, boxes: &[IntSet], domains: &[IntSet], found: Survey) -> Cau
     let c = factor_of(t);
     let of_term = set_at(boxes, t.1);
     of_term.ranges();
-    let _low = low_end(of_term);
-    let _high = high_end(of_term);
     let at = highest(c, of_term);
-    let (to, slack) = back_off(c, at, found.least.plus(found.spread).above(row.bound) - 1);
+    let end = lowest(c, of_term);
+    let full = found.least.plus(found.spread).above(row.bound) - 1;
+    let (to, slack) = back_off(c, at, end, full);
     Cause {
         place: found.place,
         to,
@@ -71,8 +68,8 @@ fn pruned(row: &Row, boxes: &[IntSet], domains: &[IntSet], found: Survey) -> Cau
 
 /// What the row has to say; None where it has nothing to say.
 pub fn cause_of(row: &Row, domains: &[IntSet], boxes: &[IntSet]) -> Option<Cause>
-    requires bound { unsigned_abs row.now.bound.value ≤ 2 ^ 64 }
     requires over { IsRowOver (terms_of row.now) domains.now boxes.now }
+    requires fits { weight_of (terms_of row.now) boxes.now ≤ 2 ^ 61 }
     ensures none { IfNone result (IsTight (terms_of row.now) boxes.now row.now.bound.value) }
     ensures some { IfSome result (λ cause. IsCause (terms_of row.now) boxes.now row.now.bound.value
         cause.place cause.to.value cause.slack) }
@@ -90,8 +87,8 @@ pub fn cause_of(row: &Row, domains: &[IntSet], boxes: &[IntSet]) -> Option<Cause
 
 /// What the row has to say where it is refuted; None where it isn't.
 pub fn refuted_cause(row: &Row, domains: &[IntSet], boxes: &[IntSet]) -> Option<Cause>
-    requires bound { unsigned_abs row.now.bound.value ≤ 2 ^ 64 }
     requires over { IsRowOver (terms_of row.now) domains.now boxes.now }
+    requires fits { weight_of (terms_of row.now) boxes.now ≤ 2 ^ 61 }
     ensures none { IfNone result (least_sum (terms_of row.now) boxes.now ≤ℤ row.now.bound.value) }
     ensures some { IfSome result (λ cause. IsCause (terms_of row.now) boxes.now row.now.bound.value
         cause.place cause.to.value cause.slack) }

@@ -6,16 +6,16 @@
 //!
 //! After the pruned variable's part the terms spend the slack in their order. A term that its
 //! domain keeps high enough has no literal, and what a step leaves over is spent by the next.
-ghost use Rattle.std.specs.Prelude.{◌≡◌, ◌<◌, ◌≤◌, ◌^◌, ◌+◌, ◌*ℤ◌, ◌≤ℤ◌, ◌≢◌, ℕ, pos, length, IfOk, OnOk};
+ghost use Rattle.std.specs.Prelude.{◌≡◌, ◌<◌, ◌≤◌, ◌^◌, ◌+◌, ◌*◌, ◌*ℤ◌, ◌≤ℤ◌, ◌≢◌, ℕ, pos, length, unsigned_abs, IfOk, OnOk};
 ghost use Rattle.signed_clause.specs.Clauses.{box_of};
 ghost use Rattle.ground_form.specs.Bounds.{greatest_term, term_weight, low_of, high_of};
 ghost use Rattle.linear_prop.specs.Rows.{terms_of};
 ghost use Rattle.linear_prop.specs.Turns.{with_literal};
-ghost use Rattle.linear_prop.specs.Explaining.{IsCause, IsSoFar, IsTurn, IsRowOver};
+ghost use Rattle.linear_prop.specs.Explaining.{span_of, IsCause, IsSoFar, IsTurn, IsRowOver};
 
 use crate::fall::{Fall, fall_of, lowest};
+use crate::number::Number;
 use crate::row::{Row, factor_of};
-use crate::wide::Wide;
 use signed_clause::IntSet;
 use std::alloc::{AllocError, Global};
 
@@ -25,9 +25,9 @@ pub struct Cause {
     /// The place of the term whose variable is pruned; the row's length where the row is refuted.
     pub place: usize,
     /// The first value of that variable that is taken away.
-    pub to: Wide,
+    pub to: Number,
     /// By how much more the sum is above the bound than it has to be.
-    pub slack: u128,
+    pub slack: u64,
 }
 
 /// The set of the variable.
@@ -56,14 +56,15 @@ fn turn_elsewhere(
     cause: Cause,
     i: usize,
     t: (i128, u32),
-    slack: u128,
+    slack: u64,
     domains: &[IntSet],
     boxes: &[IntSet],
     out: &mut Vec<(u32, IntSet)>,
-) -> Result<u128, AllocError>
+) -> Result<u64, AllocError>
     requires turn { IsTurn (terms_of row.now) domains.now boxes.now i t }
     requires domain { t.1 < length domains.now }
-    requires fits { term_weight t domains.now ≤ 2 ^ 64 }
+    requires fits { unsigned_abs t.0 * span_of (box_of domains.now t.1) < 2 ^ 64 }
+    requires small { unsigned_abs t.0 ≤ 2 ^ 63 }
     requires so_far { IsSoFar (terms_of row.now) domains.now boxes.now row.now.bound.value
         cause.place cause.to.value i out.old.items slack }
     requires other { i ≢ cause.place }
@@ -87,14 +88,15 @@ fn turn_at_place(
     cause: Cause,
     i: usize,
     t: (i128, u32),
-    slack: u128,
+    slack: u64,
     domains: &[IntSet],
     boxes: &[IntSet],
     out: &mut Vec<(u32, IntSet)>,
-) -> Result<u128, AllocError>
+) -> Result<u64, AllocError>
     requires turn { IsTurn (terms_of row.now) domains.now boxes.now i t }
     requires domain { t.1 < length domains.now }
-    requires fits { term_weight t domains.now ≤ 2 ^ 64 }
+    requires fits { unsigned_abs t.0 * span_of (box_of domains.now t.1) < 2 ^ 64 }
+    requires small { unsigned_abs t.0 ≤ 2 ^ 63 }
     requires cause { IsCause (terms_of row.now) boxes.now row.now.bound.value cause.place
         cause.to.value cause.slack }
     requires so_far { IsSoFar (terms_of row.now) domains.now boxes.now row.now.bound.value
@@ -117,14 +119,15 @@ fn turn(
     cause: Cause,
     i: usize,
     t: (i128, u32),
-    slack: u128,
+    slack: u64,
     domains: &[IntSet],
     boxes: &[IntSet],
     out: &mut Vec<(u32, IntSet)>,
-) -> Result<u128, AllocError>
+) -> Result<u64, AllocError>
     requires turn { IsTurn (terms_of row.now) domains.now boxes.now i t }
     requires domain { t.1 < length domains.now }
-    requires fits { term_weight t domains.now ≤ 2 ^ 64 }
+    requires fits { unsigned_abs t.0 * span_of (box_of domains.now t.1) < 2 ^ 64 }
+    requires small { unsigned_abs t.0 ≤ 2 ^ 63 }
     requires cause { IsCause (terms_of row.now) boxes.now row.now.bound.value cause.place
         cause.to.value cause.slack }
     requires so_far { IsSoFar (terms_of row.now) domains.now boxes.now row.now.bound.value
@@ -149,7 +152,7 @@ pub fn explain(
     domains: &[IntSet],
     boxes: &[IntSet],
     out: &mut Vec<(u32, IntSet)>,
-) -> Result<u128, AllocError>
+) -> Result<u64, AllocError>
     requires over { IsRowOver (terms_of row.now) domains.now boxes.now }
     requires cause { IsCause (terms_of row.now) boxes.now row.now.bound.value cause.place
         cause.to.value cause.slack }

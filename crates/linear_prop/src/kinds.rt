@@ -8,6 +8,7 @@ ghost use Rattle.std.specs.Prelude.{◌≡◌, ◌<◌, true, false, length, ℤ
 ghost use Rattle.std.specs.List.{All};
 ghost use Rattle.ground_form.specs.declared.con.Con.TheVariants as con_kind;
 ghost use Rattle.ground_form.specs.Meaning.{term_vars, vars_of};
+ghost use Rattle.ground_form.specs.Bounds.{reach_of};
 ghost use Rattle.ground_form.specs.WellMade.{IsWellMadeCon};
 ghost use Rattle.rule_law.specs.Reasons.{no_repeat};
 ghost use Rattle.rule_law.specs.Answers.{AreBoxesWithin, IsAnswer};
@@ -16,10 +17,12 @@ ghost use Rattle.signed_clause.specs.Clauses.{box_of};
 ghost use Rattle.linear_prop.specs.Rows.{negated};
 ghost use Rattle.linear_prop.specs.RowAnswers.{IsRowAnswer, IsSumAnswer};
 
+use crate::explain::set_at;
+use crate::far::{far_clause, is_near};
+use crate::number::Number;
 use crate::row::Row;
 use crate::row_clauses::{fixed_answer, open_answer, row_answer};
-use crate::wide::Wide;
-use ground_form::{Con, Number};
+use ground_form::Con;
 use rule_law::probe;
 use signed_clause::{Clause, IntSet};
 use std::alloc::{AllocError, Global};
@@ -44,26 +47,25 @@ fn at_most_answer(
         head: None,
         terms,
         turned: false,
-        bound: Wide::of(bound),
+        bound: Number::of(bound),
     };
     let answer = row_answer(alloc, con, &row, domains, boxes)?;
     Ok(answer)
 }
 
 /// The bound of the row 'the sum less the variable'.
-fn less_offset(offset: i64) -> Wide
-    ensures value { result.value ≡ pos 0 -ℤ offset }
-    ensures fits { unsigned_abs result.value ≤ 2 ^ 64 }
+fn less_offset(offset: i64) -> Number
+    requires { unsigned_abs offset ≤ 2 ^ 60 }
+    ensures { result.value ≡ pos 0 -ℤ offset }
 {
-    Wide::of(0).minus(Wide::of(offset))
+    Number { value: 0 - offset }
 }
 
 /// The bound of a row with turned signs that says that the sum is above the bound.
-fn turned_bound(bound: i64) -> Wide
-    ensures value { result.value ≡ negsuc 0 -ℤ bound }
-    ensures fits { unsigned_abs result.value ≤ 2 ^ 64 }
+fn turned_bound(bound: i64) -> Number
+    ensures { result.value ≡ negsuc 0 -ℤ bound }
 {
-    Wide::of(-1).minus(Wide::of(bound))
+    Number { value: -1 - bound }
 }
 
 /// The answer of the row 'the sum less the variable'.
@@ -81,6 +83,7 @@ fn up_answer(
     requires sets { All (λ d. IsValid d) domains.now }
     requires boxes { AreBoxesWithin domains.now boxes.now }
     requires differ { no_repeat (out ∷ term_vars terms.now) ≡ true }
+    requires near { reach_of (box_of boxes.now out) ≤ 2 ^ 60 }
     ensures { IfOk result (λ answer. IsRowAnswer con.now ((negsuc 0, out) ∷ terms.now)
         (pos 0 -ℤ offset) domains.now boxes.now answer) }
 {
@@ -109,6 +112,7 @@ fn down_answer(
     requires sets { All (λ d. IsValid d) domains.now }
     requires boxes { AreBoxesWithin domains.now boxes.now }
     requires differ { no_repeat (out ∷ term_vars terms.now) ≡ true }
+    requires near { reach_of (box_of boxes.now out) ≤ 2 ^ 60 }
     ensures { IfOk result (λ answer. IsRowAnswer con.now ((pos 1, out) ∷ negated terms.now) offset
         domains.now boxes.now answer) }
 {
@@ -116,7 +120,7 @@ fn down_answer(
         head: Some((1, out)),
         terms,
         turned: true,
-        bound: Wide::of(offset),
+        bound: Number::of(offset),
     };
     let answer = row_answer(alloc, con, &row, domains, boxes)?;
     Ok(answer)
@@ -137,6 +141,7 @@ fn sum_answer(
     requires sets { All (λ d. IsValid d) domains.now }
     requires boxes { AreBoxesWithin domains.now boxes.now }
     requires differ { no_repeat (out ∷ term_vars terms.now) ≡ true }
+    requires near { reach_of (box_of boxes.now out) ≤ 2 ^ 60 }
     ensures { IfOk result (λ answer. IsAnswer con.now domains.now boxes.now answer) }
 {
     let up = up_answer(alloc, con, out, terms, offset, domains, boxes)?;
@@ -146,6 +151,33 @@ fn sum_answer(
             let down = down_answer(alloc, con, out, terms, offset, domains, boxes)?;
             Ok(down)
         }
+    }
+}
+
+/// The answer of a sum that defines a variable, in which no variable stands twice: first the
+/// variable's values that no sum reaches go.
+fn definition_answer(
+    alloc: Global,
+    con: &Con,
+    out: u32,
+    terms: &[(i64, u32)],
+    offset: i64,
+    domains: &[IntSet],
+    boxes: &[IntSet],
+) -> Result<Option<Clause>, AllocError>
+    requires con { con.now ≡ con_kind.LinDef out terms.now offset }
+    requires well_made { IsWellMadeCon domains.now (con_kind.LinDef out terms.now offset) }
+    requires sets { All (λ d. IsValid d) domains.now }
+    requires boxes { AreBoxesWithin domains.now boxes.now }
+    requires differ { no_repeat (out ∷ term_vars terms.now) ≡ true }
+    ensures { IfOk result (λ answer. IsAnswer con.now domains.now boxes.now answer) }
+{
+    if is_near(set_at(boxes, out)) {
+        let answer = sum_answer(alloc, con, out, terms, offset, domains, boxes)?;
+        Ok(answer)
+    } else {
+        let clause = far_clause(alloc, con, out, terms, offset, domains, boxes)?;
+        Ok(Some(clause))
     }
 }
 
@@ -172,7 +204,7 @@ fn one_answer(
         head: None,
         terms,
         turned: false,
-        bound: Wide::of(bound),
+        bound: Number::of(bound),
     };
     let answer = fixed_answer(alloc, con, &row, flag, Number { value: 0 }, domains, boxes)?;
     Ok(answer)
@@ -229,7 +261,7 @@ fn open_one_answer(
         head: None,
         terms,
         turned: false,
-        bound: Wide::of(bound),
+        bound: Number::of(bound),
     };
     let answer = open_answer(alloc, con, &row, flag, Number { value: 0 }, domains, boxes)?;
     Ok(answer)
@@ -350,7 +382,15 @@ pub fn linear_answer(
             Ok(answer)
         }
         Con::LinDef { out, terms, offset } => {
-            let answer = sum_answer(alloc, con, *out, terms.items(), *offset, domains, boxes)?;
+            let answer = definition_answer(
+                alloc,
+                con,
+                *out,
+                terms.items(),
+                *offset,
+                domains,
+                boxes,
+            )?;
             Ok(answer)
         }
         Con::ReifLe { flag, terms, bound } => {

@@ -5,13 +5,14 @@
 //! sum and finds the term that can rise the most above its least; these two numbers tell whether
 //! the row has something to say.
 //!
-//! - `wide`: numbers in which no sum or product of such a walk wraps.
+//! - `number`: numbers in which no sum or product of such a walk wraps.
 //! - `row`: an inequality, read from a constraint's terms without a copy.
 //! - `survey`: the walk.
 //! - `fall`: how far an explanation lets a term fall.
 //! - `explain`: the walk that makes an explanation.
 //! - `cause`: whether a row has something to say.
 //! - `row_clauses`: the clause that it gives.
+//! - `far`: a variable that a sum defines, where it may be what no sum is.
 //! - `kinds`: the rows of each kind.
 //! - `propagator`: `LinearProp` itself.
 #![tactic(auto)]
@@ -19,11 +20,12 @@
 mod cause;
 mod explain;
 mod fall;
+mod far;
 mod kinds;
+mod number;
 mod propagator;
 mod row;
 mod row_clauses;
 mod survey;
-mod wide;
 
 pub use propagator::LinearProp;

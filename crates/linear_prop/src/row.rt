@@ -2,27 +2,28 @@
 //!
 //! A row says that a sum is at most a bound. Its terms are those of a list, or these with their
 //! signs turned, and before them there may be one term more.
-ghost use Rattle.std.specs.Prelude.{◌≡◌, ◌<◌, pos, length, slice_index_or};
+ghost use Rattle.std.specs.Prelude.{◌≡◌, ◌<◌, ◌≤◌, ◌^◌, pos, length, slice_index_or, unsigned_abs};
 ghost use Rattle.linear_prop.specs.Rows.{turned, terms_of};
 
-use crate::wide::Wide;
+use crate::number::{Factor, Number};
 
 /// The sum of terms is at most a bound.
 #[derive(Clone, Copy)]
 pub struct Row<'a> {
     /// The term before the others: a coefficient and a variable.
-    pub head: Option<(i128, u32)>,
+    pub head: Option<(i64, u32)>,
     /// The other terms.
     pub terms: &'a [(i64, u32)],
     /// Whether the signs of the other terms are turned.
     pub turned: bool,
     /// The bound.
-    pub bound: Wide,
+    pub bound: Number,
 }
 
 /// The term, or it with its sign turned.
 fn turn(is_turned: bool, t: (i64, u32)) -> (i128, u32)
-    ensures { result ≡ turned is_turned t }
+    ensures term { result ≡ turned is_turned t }
+    ensures small { unsigned_abs result.0 ≤ 2 ^ 63 }
 {
     if is_turned {
         (0 - t.0 as i128, t.1)
@@ -53,13 +54,14 @@ impl<'a> Row<'a> {
     /// The term at the place.
     pub fn term(&self, i: usize) -> (i128, u32)
         requires { i < length (terms_of self.now) }
-        ensures { (d : _) → result ≡ slice_index_or (terms_of self.now) i d }
+        ensures term { (d : _) → result ≡ slice_index_or (terms_of self.now) i d }
+        ensures small { unsigned_abs result.0 ≤ 2 ^ 63 }
     {
         match self.head {
             None => turn(self.turned, listed(self.terms, i)),
             Some(t) => {
                 if i == 0 {
-                    t
+                    (t.0 as i128, t.1)
                 } else {
                     turn(self.turned, listed(self.terms, i - 1))
                 }
@@ -69,8 +71,8 @@ impl<'a> Row<'a> {
 }
 
 /// The coefficient of a term.
-pub fn factor_of(t: (i128, u32)) -> Wide
+pub fn factor_of(t: (i128, u32)) -> Factor
     ensures { result.value ≡ t.0 }
 {
-    Wide { value: t.0 }
+    Factor { value: t.0 }
 }

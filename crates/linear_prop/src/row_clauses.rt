@@ -1,10 +1,11 @@
 //! The answer of one row, and the clause that it gives.
 ghost use Rattle.std.specs.Prelude.{◌≡◌, ◌<◌, ◌≤◌, ◌^◌, ◌≤ℤ◌, ◌<ℤ◌, false, true, ℤ, ℕ, List, [], ◌∷◌, length, unsigned_abs, IfOk, OnOk};
+ghost use Rattle.std.specs.List.{All};
 ghost use Rattle.signed_clause.specs.Ranges.{has, IsValid};
 ghost use Rattle.signed_clause.specs.SetAlgebra.{is_within};
 ghost use Rattle.signed_clause.specs.Clauses.{Literals, box_of};
 ghost use Rattle.ground_form.specs.Meaning.{term_vars};
-ghost use Rattle.ground_form.specs.Bounds.{least_sum};
+ghost use Rattle.ground_form.specs.Bounds.{least_sum, weight_of};
 ghost use Rattle.box_view.specs.Views.{cut};
 ghost use Rattle.box_rules.specs.Justified.{justified};
 ghost use Rattle.rule_law.specs.Reasons.{has_number};
@@ -16,14 +17,15 @@ ghost use Rattle.linear_prop.specs.RowAnswers.{IsRowAnswer, IsSumAnswer};
 
 use crate::cause::{cause_of, refuted_cause};
 use crate::explain::{Cause, explain, set_at};
+use crate::number::Number;
 use crate::row::Row;
-use ground_form::{Con, Number};
+use ground_form::Con;
 use rule_law::pruning;
 use signed_clause::{Clause, IntSet};
 use std::alloc::{AllocError, Global};
 
 /// The clause of a row of the constraint that has something to say.
-fn clause_of(
+pub fn clause_of(
     alloc: Global,
     con: &Con,
     row: &Row,
@@ -34,7 +36,7 @@ fn clause_of(
     requires over { IsRowOver (terms_of row.now) domains.now boxes.now }
     requires cause { IsCause (terms_of row.now) boxes.now row.now.bound.value cause.place
         cause.to.value cause.slack }
-    requires follows { (out : Literals) → row.now.bound.value <ℤ least_sum (terms_of row.now)
+    requires follows { (out : Literals) → All (λ l. IsValid l.1) out → row.now.bound.value <ℤ least_sum (terms_of row.now)
         (cut domains.now out) → justified con.now domains.now out ≡ true }
     ensures { IfOk result (λ c. IsPruning con.now domains.now boxes.now c) }
 {
@@ -51,8 +53,8 @@ pub fn row_answer(
     domains: &[IntSet],
     boxes: &[IntSet],
 ) -> Result<Option<Clause>, AllocError>
-    requires bound { unsigned_abs row.now.bound.value ≤ 2 ^ 64 }
     requires over { IsRowOver (terms_of row.now) domains.now boxes.now }
+    requires fits { weight_of (terms_of row.now) boxes.now ≤ 2 ^ 61 }
     requires follows { (out : Literals) → row.now.bound.value <ℤ least_sum (terms_of row.now)
         (cut domains.now out) → justified con.now domains.now out ≡ true }
     ensures { IfOk result (λ answer. IsRowAnswer con.now (terms_of row.now) row.now.bound.value
@@ -122,8 +124,8 @@ pub fn fixed_answer(
     domains: &[IntSet],
     boxes: &[IntSet],
 ) -> Result<Option<Clause>, AllocError>
-    requires bound { unsigned_abs row.now.bound.value ≤ 2 ^ 64 }
     requires over { IsRowOver (terms_of row.now) domains.now boxes.now }
+    requires fits { weight_of (terms_of row.now) boxes.now ≤ 2 ^ 61 }
     requires flag { flag < length boxes.now }
     requires apart { has_number flag (term_vars (terms_of row.now)) ≡ false }
     requires fixed { has (box_of boxes.now flag) v.value ≡ false }
@@ -153,8 +155,8 @@ pub fn open_answer(
     domains: &[IntSet],
     boxes: &[IntSet],
 ) -> Result<Option<Clause>, AllocError>
-    requires bound { unsigned_abs row.now.bound.value ≤ 2 ^ 64 }
     requires over { IsRowOver (terms_of row.now) domains.now boxes.now }
+    requires fits { weight_of (terms_of row.now) boxes.now ≤ 2 ^ 61 }
     requires flag { flag < length boxes.now }
     requires apart { has_number flag (term_vars (terms_of row.now)) ≡ false }
     requires open { is_within (box_of boxes.now flag) ((v.value, v.value) ∷ []) ≡ false }

@@ -8,8 +8,8 @@ ghost use Rattle.linear_prop.specs.Rows.{terms_of, spread_of, greatest_spread};
 ghost use Rattle.linear_prop.specs.Surveys.{IsWidest};
 ghost use Rattle.linear_prop.specs.Falls.{least_at, greatest_at};
 
+use crate::number::{Factor, Number};
 use crate::row::{Row, factor_of};
-use crate::wide::Wide;
 use ground_form::ends_of;
 use signed_clause::IntSet;
 
@@ -17,31 +17,31 @@ use signed_clause::IntSet;
 #[derive(Clone, Copy)]
 pub struct Survey {
     /// The least sum.
-    pub least: Wide,
+    pub least: Number,
     /// How far the term that can rise the most rises above its least, 0 where none rises.
-    pub spread: Wide,
+    pub spread: Number,
     /// Its place, where some term rises.
     pub place: usize,
 }
 
 /// The products of a coefficient with the ends of a set: the smaller and the greater.
 #[tactic(auto, using(crate::proofs::Spreads::end_fits))]
-pub fn products(c: Wide, set: &IntSet) -> (Wide, Wide)
-    requires { unsigned_abs c.value * reach_of set.now ≤ 2 ^ 64 }
+pub fn products(c: Factor, set: &IntSet) -> (Number, Number)
+    requires { unsigned_abs c.value * reach_of set.now ≤ 2 ^ 61 }
     ensures least { result.0.value ≡ least_at c.value set.now }
     ensures greatest { result.1.value ≡ greatest_at c.value set.now }
 {
     let ends = ends_of(set);
-    let first = c.times(Wide::of(ends.0));
-    let last = c.times(Wide::of(ends.1));
+    let first = c.times(Number::of(ends.0));
+    let last = c.times(Number::of(ends.1));
     (first.smaller(last), first.greater(last))
 }
 
 /// The least and the greatest that a term is.
 #[tactic(auto, using(crate::proofs::Spreads::least_is, crate::proofs::Spreads::greatest_is, crate::proofs::Spreads::weight_is))]
-pub fn term_ends(t: (i128, u32), boxes: &[IntSet]) -> (Wide, Wide)
+pub fn term_ends(t: (i128, u32), boxes: &[IntSet]) -> (Number, Number)
     requires var { t.1 < length boxes.now }
-    requires fits { term_weight t boxes.now ≤ 2 ^ 64 }
+    requires fits { term_weight t boxes.now ≤ 2 ^ 61 }
     ensures least { result.0.value ≡ least_term t boxes.now }
     ensures greatest { result.1.value ≡ greatest_term t boxes.now }
 {
@@ -50,10 +50,10 @@ pub fn term_ends(t: (i128, u32), boxes: &[IntSet]) -> (Wide, Wide)
 
 impl Survey {
     /// What is found with one term more, which stands at the place `i`.
-    fn with(self, i: usize, ends: (Wide, Wide)) -> Survey
-        requires fits { unsigned_abs self.least.value ≤ 2 ^ 64 }
-        requires low { unsigned_abs ends.0.value ≤ 2 ^ 64 }
-        requires high { unsigned_abs ends.1.value ≤ 2 ^ 64 }
+    fn with(self, i: usize, ends: (Number, Number)) -> Survey
+        requires fits { unsigned_abs self.least.value ≤ 2 ^ 61 }
+        requires low { unsigned_abs ends.0.value ≤ 2 ^ 61 }
+        requires high { unsigned_abs ends.1.value ≤ 2 ^ 61 }
         ensures least { result.least.value ≡ self.least.value +ℤ ends.0.value }
         ensures spread { result.spread.value ≡ int_max self.spread.value
             (ends.1.value -ℤ ends.0.value) }
@@ -81,15 +81,15 @@ impl Survey {
 /// The walk over a row's terms.
 pub fn walk(row: &Row, boxes: &[IntSet]) -> Survey
     requires terms { AreTermsNamed (terms_of row.now) boxes.now }
-    requires fits { weight_of (terms_of row.now) boxes.now ≤ 2 ^ 64 }
+    requires fits { weight_of (terms_of row.now) boxes.now ≤ 2 ^ 61 }
     ensures least { result.least.value ≡ least_sum (terms_of row.now) boxes.now }
-    ensures fits { unsigned_abs result.least.value ≤ 2 ^ 64 }
+    ensures fits { unsigned_abs result.least.value ≤ 2 ^ 61 }
     ensures spread { result.spread.value ≡ greatest_spread (terms_of row.now) boxes.now }
     ensures place { IsWidest (terms_of row.now) boxes.now result.place result.spread.value }
 {
     let mut found = Survey {
-        least: Wide::of(0),
-        spread: Wide::of(0),
+        least: Number::of(0),
+        spread: Number::of(0),
         place: 0,
     };
     for i in 0..row.len() {

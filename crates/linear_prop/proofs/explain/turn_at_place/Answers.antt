@@ -16,9 +16,6 @@ fall_of-requires-clause-high c =
 pub fall_of-requires-clause-fits : goal.fall_of-requires-clause-fits
 fall_of-requires-clause-fits c = factor_fits c.args.t c.factor_of-c.result.value c.args.domains.now c.set_at-domain.result.now c.factor_of-c.ensures c.set_at-domain.ensures c.requires.fits
 
-pub fall_of-requires-clause-at_fits : goal.fall_of-requires-clause-at_fits
-fall_of-requires-clause-at_fits c = c.requires.cause.fits
-
 pub returns : goal.returns
 returns c =
     turn_at_place_done (terms_of c.args.row.now) c.args.domains.now c.args.boxes.now c.args.row.now.bound.value c.args.cause.place c.args.cause.to.value c.args.i c.args.out.now.items c.put.new.out.items

@@ -1,28 +1,27 @@
-use Rattle.std.proofs.Common.{◌≡◌, pos, ◌-ℤ◌, ◌*ℤ◌, arith}
+use Rattle.std.proofs.Common.{◌<◌, ◌*◌, ◌^◌, ℕ, unsigned_abs, subst, sym, arith, refl}
 use Rattle.std.proofs.lemmas.Int.{ints}
-use Rattle.ground_form.specs.Bounds.{low_of, high_of}
-use Rattle.ground_form.proofs.Products.{mul_least}
 use Rattle.box_view.proofs.EndLaws.{ends_in_order}
-use Rattle.linear_prop.specs.Falls.{least_at}
-use Rattle.linear_prop.proofs.Products.{some_factor}
-use Rattle.linear_prop.proofs.Falling.{product_fits, least_fits}
+use Rattle.linear_prop.proofs.Falling.{apart_fits, gap_is, kept_high}
 use Rattle.linear_prop.proofs.fall.fall_of.Goals as goal
 
-pub above-gap-requires-clause-order : goal.above-gap-requires-clause-order
-above-gap-requires-clause-order c =
-    let m = mul_least c.args.c.value (low_of c.args.domain.now) (high_of c.args.domain.now) c.args.at.value c.requires.low c.requires.high in
-    rw (c.products.ensures.least, c.times.ensures) m
+pub lowest-end-requires : goal.lowest-end-requires
+lowest-end-requires c = record { order = ends_in_order c.args.domain.now c.ranges-2.ensures.valid }
 
-pub above-gap-requires-clause-fits : goal.above-gap-requires-clause-fits
-above-gap-requires-clause-fits c =
-    let a = product_fits c.args.c.value c.args.at.value c.args.domain.now _ c.requires.low c.requires.high c.requires.fits in
-    let b = least_fits c.args.c.value c.args.domain.now _ (ends_in_order c.args.domain.now c.ranges-2.ensures.valid) c.requires.fits in
-    rw (c.products.ensures.least, c.times.ensures) (omega (arith, a, b))
+pub moves-gap-requires-clause-fits : goal.moves-gap-requires-clause-fits
+moves-gap-requires-clause-fits c =
+    subst (λ (n : ℕ). unsigned_abs c.args.c.value * n < 2 ^ 64) (sym c.apart.ensures)
+    (apart_fits c.args.c.value c.args.at.value c.lowest-end.result.value c.args.domain.now c.requires.low c.requires.high c.lowest-end.ensures.low c.lowest-end.ensures.high c.requires.fits)
 
-pub back_off-left-requires-clause-factor : goal.back_off-left-requires-clause-factor
-back_off-left-requires-clause-factor c =
-    let g : pos c.above-gap.result ≡ c.times.result.value -ℤ c.products.result.0.value = c.above-gap.ensures in
-    let t : c.times.result.value ≡ c.args.c.value *ℤ c.args.at.value = c.times.ensures in
-    let p : c.products.result.0.value ≡ least_at c.args.c.value c.args.domain.now = c.products.ensures.least in
-    let n = c.if-gap-slack.false in
-    some_factor c.args.c.value (low_of c.args.domain.now) (high_of c.args.domain.now) c.args.at.value (grind (arith, ints))
+pub returns-then-gap-slack : goal.returns-then-gap-slack
+returns-then-gap-slack c =
+    let g = gap_is c.args.c.value c.args.at.value c.lowest-end.result.value c.args.domain.now c.apart.result c.moves-gap.result c.moves-gap.ensures c.apart.ensures c.requires.low c.requires.high
+    c.lowest-end.ensures.up c.lowest-end.ensures.down c.lowest-end.ensures.value in
+    let t = c.if-gap-slack.true in
+    kept_high c.args.c.value _ _ c.args.domain.now c.moves-gap.result c.args.slack _ refl g (grind arith) refl
+
+pub values_under-requires-clause-least : goal.values_under-requires-clause-least
+values_under-requires-clause-least c =
+    let g = gap_is c.args.c.value c.args.at.value c.lowest-end.result.value c.args.domain.now c.apart.result c.moves-gap.result c.moves-gap.ensures c.apart.ensures c.requires.low c.requires.high
+    c.lowest-end.ensures.up c.lowest-end.ensures.down c.lowest-end.ensures.value in
+    let p = c.back_off-left.ensures.paid in let n = c.if-gap-slack.false in
+    let less : c.args.slack < c.moves-gap.result = grind arith in omega (arith, ints)

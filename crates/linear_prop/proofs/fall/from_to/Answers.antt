@@ -5,5 +5,4 @@ use Rattle.linear_prop.proofs.fall.from_to.Goals as goal
 
 pub returns-clause-values : goal.returns-clause-values
 returns-clause-values c v =
-    let o = c.requires.order in let f = c.requires.from in let u = c.requires.upto in
     c.range.ensures.values v ∙ same_span _ _ c.args.low.value c.args.high.value v (omega (arith, ints)) (omega (arith, ints))

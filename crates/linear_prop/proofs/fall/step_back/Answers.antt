@@ -6,11 +6,9 @@ use Rattle.linear_prop.proofs.fall.step_back.Goals as goal
 pub returns-then-c-lt0-clause-paid : goal.returns-then-c-lt0-clause-paid
 returns-then-c-lt0-clause-paid c =
     let below : c.args.c.value <ℤ pos 0 = grind (arith, ints) in
-    let h = c.requires.at in let k = c.requires.steps in
-    ap (λ (z : ℤ). c.args.c.value *ℤ z) (omega (arith, ints)) ∙ falls_up c.args.c.value c.args.at.value c.args.steps below
+    ap (λ (z : ℤ). c.args.c.value *ℤ z) c.raised.ensures ∙ falls_up c.args.c.value c.args.at.value c.args.steps below
 
 pub returns-else-c-lt0-clause-paid : goal.returns-else-c-lt0-clause-paid
 returns-else-c-lt0-clause-paid c =
     let least : pos 0 ≤ℤ c.args.c.value = grind (arith, ints) in
-    let h = c.requires.at in let k = c.requires.steps in
-    ap (λ (z : ℤ). c.args.c.value *ℤ z) (omega (arith, ints)) ∙ falls_down c.args.c.value c.args.at.value c.args.steps least
+    ap (λ (z : ℤ). c.args.c.value *ℤ z) c.lowered.ensures ∙ falls_down c.args.c.value c.args.at.value c.args.steps least

@@ -5,6 +5,6 @@ use Rattle.linear_prop.proofs.fall.values_below.Goals as goal
 
 pub returns-clause-values : goal.returns-clause-values
 returns-clause-values c v =
-    let one = c.of.ensures.value in let less = c.minus.ensures in
-    part_below c.args.set.now c.in_ok-s.s c.from_to-part.result c.low_end.result.value c.minus.result.value c.args.to.value v c.ranges-2.ensures.valid
-    c.low_end.ensures.value (omega (arith, ints)) (c.in_ok-s.ensures.values v) (c.from_to-part.ensures.values v)
+    let less = c.previous.ensures in
+    part_below c.args.set.now c.in_ok-s.s c.from_to-part.result c.low_end-low.result.value c.previous.result.value c.args.to.value v c.ranges-2.ensures.valid
+    c.low_end-low.ensures.value (omega (arith, ints)) (c.in_ok-s.ensures.values v) (c.from_to-part.ensures.values v)

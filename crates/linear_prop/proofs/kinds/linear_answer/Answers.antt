@@ -4,8 +4,8 @@ use Rattle.ground_form.specs.declared.con.Con.TheVariants.{LinDef, ReifLe}
 use Rattle.ground_form.specs.WellMade.{IsWellMadeCon}
 use Rattle.linear_prop.proofs.kinds.linear_answer.Goals as goal
 
-pub sum_answer-requires-clause-well_made : goal.sum_answer-requires-clause-well_made
-sum_answer-requires-clause-well_made c =
+pub definition_answer-requires-clause-well_made : goal.definition_answer-requires-clause-well_made
+definition_answer-requires-clause-well_made c =
     let e : c.args.con.now ≡ LinDef c.in-LinDef.out c.items-in-LinDef.result.now (to_z w64 (of_z w64 c.in-LinDef.offset)) = search rules in
     subst (λ (k : Con). IsWellMadeCon c.args.domains.now k) e c.requires.well_made
 

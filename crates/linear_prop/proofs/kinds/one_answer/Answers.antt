@@ -1,6 +1,6 @@
 use Rattle.std.proofs.Common.{arith}
 use Rattle.std.proofs.lemmas.Int.{ints}
-use Rattle.linear_prop.proofs.KindLaws.{over_one, flag_apart}
+use Rattle.linear_prop.proofs.KindLaws.{fits_one, over_one, flag_apart}
 use Rattle.linear_prop.proofs.KindAnswers.{follows_one_con, one_answer_done}
 use Rattle.linear_prop.proofs.kinds.one_answer.Goals as goal
 
@@ -20,3 +20,6 @@ returns c =
     let v = c.of.ensures.value in let r = c.ranges.bound in
     one_answer_done c.args.con.now c.args.flag c.args.terms.now c.args.bound c.of.result.value c.args.domains.now c.args.boxes.now c.in_ok-answer.answer c.requires.con (omega (arith, ints)) c.requires.well_made
     c.requires.sets c.requires.boxes c.requires.differ c.requires.fixed c.in_ok-answer.ensures
+
+pub fixed_answer-requires-clause-fits : goal.fixed_answer-requires-clause-fits
+fixed_answer-requires-clause-fits c = fits_one c.args.flag c.args.terms.now c.args.bound c.args.domains.now c.args.boxes.now c.requires.well_made c.requires.sets c.requires.boxes

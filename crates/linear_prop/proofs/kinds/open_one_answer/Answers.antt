@@ -1,7 +1,7 @@
 use Rattle.std.proofs.Common.{arith}
 use Rattle.std.proofs.lemmas.Int.{ints}
 use Rattle.box_view.proofs.EndLaws.{are_sets}
-use Rattle.linear_prop.proofs.KindLaws.{over_one, flag_apart}
+use Rattle.linear_prop.proofs.KindLaws.{fits_one, over_one, flag_apart}
 use Rattle.linear_prop.proofs.KindAnswers.{follows_one_con, open_one}
 use Rattle.linear_prop.proofs.kinds.open_one_answer.Goals as goal
 
@@ -18,3 +18,6 @@ pub open_answer-requires-clause-follows : goal.open_answer-requires-clause-follo
 open_answer-requires-clause-follows c o h n =
     let v = c.of.ensures.value in let r = c.ranges.bound in
     follows_one_con c.args.con.now c.args.flag c.args.terms.now c.args.bound c.of.result.value c.args.domains.now o c.requires.con (omega (arith, ints)) h n
+
+pub open_answer-requires-clause-fits : goal.open_answer-requires-clause-fits
+open_answer-requires-clause-fits c = fits_one c.args.flag c.args.terms.now c.args.bound c.args.domains.now c.args.boxes.now c.requires.well_made c.requires.sets c.requires.boxes

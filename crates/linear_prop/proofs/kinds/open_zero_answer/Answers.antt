@@ -1,7 +1,7 @@
 use Rattle.std.proofs.Common.{arith}
 use Rattle.std.proofs.lemmas.Int.{ints}
 use Rattle.box_view.proofs.EndLaws.{are_sets}
-use Rattle.linear_prop.proofs.KindLaws.{over_zero, flag_apart_turned}
+use Rattle.linear_prop.proofs.KindLaws.{fits_zero, over_zero, flag_apart_turned}
 use Rattle.linear_prop.proofs.KindAnswers.{follows_zero_con, open_zero}
 use Rattle.linear_prop.proofs.kinds.open_zero_answer.Goals as goal
 
@@ -16,5 +16,8 @@ open_answer-requires-clause-open c = open_zero c.args.flag c.args.boxes.now (are
 
 pub open_answer-requires-clause-follows : goal.open_answer-requires-clause-follows
 open_answer-requires-clause-follows c o h n =
-    let v = c.turned_bound.ensures.value in let r = c.ranges.bound in
+    let v = c.turned_bound.ensures in let r = c.ranges.bound in
     follows_zero_con c.args.con.now c.args.flag c.args.terms.now c.args.bound c.turned_bound.result.value c.args.domains.now o c.requires.con (omega (arith, ints)) h n
+
+pub open_answer-requires-clause-fits : goal.open_answer-requires-clause-fits
+open_answer-requires-clause-fits c = fits_zero c.args.flag c.args.terms.now c.args.bound c.args.domains.now c.args.boxes.now c.requires.well_made c.requires.sets c.requires.boxes

@@ -21,21 +21,21 @@ pub term_ends-requires-clause-fits : goal.term_ends-requires-clause-fits
 term_ends-requires-clause-fits c =
     let n = c.len-i-end.ensures in let t = c.loop-i-test.true in
     let lt : c.loop-i.i < length (terms_of c.args.row.now) = omega arith in
-    let w = term_fits (terms_of c.args.row.now) c.args.boxes.now c.loop-i.i c.term.result c.loop-i.found.least.value _ lt (c.term.ensures (pos 0, 0)) c.loop-i.invariant.fits in
+    let w = term_fits (terms_of c.args.row.now) c.args.boxes.now c.loop-i.i c.term.result c.loop-i.found.least.value _ lt (c.term.ensures.term (pos 0, 0)) c.loop-i.invariant.fits in
     let h = c.requires.fits in omega arith
 
 pub with-found-requires-clause-low : goal.with-found-requires-clause-low
 with-found-requires-clause-low c =
     let n = c.len-i-end.ensures in let t = c.loop-i-test.true in
     let lt : c.loop-i.i < length (terms_of c.args.row.now) = omega arith in
-    let w = term_fits (terms_of c.args.row.now) c.args.boxes.now c.loop-i.i c.term.result c.loop-i.found.least.value _ lt (c.term.ensures (pos 0, 0)) c.loop-i.invariant.fits in
+    let w = term_fits (terms_of c.args.row.now) c.args.boxes.now c.loop-i.i c.term.result c.loop-i.found.least.value _ lt (c.term.ensures.term (pos 0, 0)) c.loop-i.invariant.fits in
     let h = c.requires.fits in low_fits c.term.result c.args.boxes.now _ _ c.term_ends.ensures.least (omega arith)
 
 pub with-found-requires-clause-high : goal.with-found-requires-clause-high
 with-found-requires-clause-high c =
     let n = c.len-i-end.ensures in let t = c.loop-i-test.true in
     let lt : c.loop-i.i < length (terms_of c.args.row.now) = omega arith in
-    let w = term_fits (terms_of c.args.row.now) c.args.boxes.now c.loop-i.i c.term.result c.loop-i.found.least.value _ lt (c.term.ensures (pos 0, 0)) c.loop-i.invariant.fits in
+    let w = term_fits (terms_of c.args.row.now) c.args.boxes.now c.loop-i.i c.term.result c.loop-i.found.least.value _ lt (c.term.ensures.term (pos 0, 0)) c.loop-i.invariant.fits in
     let h = c.requires.fits in high_fits c.term.result c.args.boxes.now _ _ c.term_ends.ensures.greatest (omega arith)
 
 pub loop-i-preserved : goal.loop-i-preserved
@@ -43,7 +43,7 @@ loop-i-preserved c =
     let ts = terms_of c.args.row.now in let boxes = c.args.boxes.now in let i = c.loop-i.i in
     let n = c.len-i-end.ensures in let t = c.loop-i-test.true in
     let lt : i < length ts = omega arith in
-    let e : c.term.result ≡ get_or ts i (pos 0, 0) = c.term.ensures (pos 0, 0) in
+    let e : c.term.result ≡ get_or ts i (pos 0, 0) = c.term.ensures.term (pos 0, 0) in
     let x = c.term_ends.result.1.value -ℤ c.term_ends.result.0.value in
     let is : x ≡ spread_of c.term.result boxes = rise_is c.term.result boxes _ _ c.term_ends.ensures.least c.term_ends.ensures.greatest in
     let at : spread_of (get_or ts i (pos 0, 0)) boxes ≡ x = sym (is ∙ ap (λ (z : ℤ × ℕ). spread_of z boxes) e) in

@@ -3,15 +3,15 @@ use Rattle.linear_prop.specs.Rows.{turned}
 use Rattle.linear_prop.proofs.RowTerms.{none_length, some_length, none_at, some_later}
 use Rattle.linear_prop.proofs.row.Row.term.Goals as goal
 
-pub returns-in-None : goal.returns-in-None
-returns-in-None c d =
+pub returns-in-None-clause-term : goal.returns-in-None-clause-term
+returns-in-None-clause-term c d =
     let e = none_length c.args.self.now c.in-None.is in let h = c.requires in
-    c.turn.ensures ∙ ap (λ (t : ℤ × ℕ). turned c.args.self.now.turned t) c.listed.ensures ∙ none_at c.args.self.now c.args.i (pos 0, 0) d c.in-None.is (omega arith)
+    c.turn.ensures.term ∙ ap (λ (t : ℤ × ℕ). turned c.args.self.now.turned t) c.listed.ensures ∙ none_at c.args.self.now c.args.i (pos 0, 0) d c.in-None.is (omega arith)
 
-pub returns-else-i-eq0 : goal.returns-else-i-eq0
-returns-else-i-eq0 c d =
+pub returns-else-i-eq0-clause-term : goal.returns-else-i-eq0-clause-term
+returns-else-i-eq0-clause-term c d =
     let e = some_length c.args.self.now _ c.in-Some.is in let h = c.requires in let n = c.if-i-eq0.false in
-    c.turn-else-i-eq0.ensures ∙ ap (λ (t : ℤ × ℕ). turned c.args.self.now.turned t) c.listed-else-i-eq0.ensures
+    c.turn-else-i-eq0.ensures.term ∙ ap (λ (t : ℤ × ℕ). turned c.args.self.now.turned t) c.listed-else-i-eq0.ensures
     ∙ some_later c.args.self.now c.in-Some.t c.args.i (pos 0, 0) d c.in-Some.is (grind arith) (omega arith)
 
 pub listed-requires : goal.listed-requires

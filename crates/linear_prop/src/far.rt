@@ -1,0 +1,163 @@
+//! A variable that a sum defines, where it may be what no sum is.
+//!
+//! A well made problem bounds the sums by 2^60, but not the domain of the variable that they define.
+//! Where its box reaches further, the first clauses take away what lies beyond: first the values
+//! above 2^60, and then those below -2^60. So the rows over the box stay within 64 bits.
+ghost use Rattle.std.specs.Prelude.{◌≡◌, ◌<◌, ◌≤◌, ◌^◌, ◌∷◌, [], true, false, ℤ, pos, negsuc, ◌<ℤ◌, ◌≤ℤ◌, length, nat_le, unsigned_abs, IfOk};
+ghost use Rattle.std.specs.List.{All};
+ghost use Rattle.signed_clause.specs.Ranges.{IsValid};
+ghost use Rattle.signed_clause.specs.Clauses.{box_of};
+ghost use Rattle.ground_form.specs.declared.con.Con.TheVariants as con_kind;
+ghost use Rattle.ground_form.specs.Meaning.{term_vars};
+ghost use Rattle.ground_form.specs.Bounds.{low_of, high_of, reach_of};
+ghost use Rattle.ground_form.specs.WellMade.{IsWellMadeCon};
+ghost use Rattle.rule_law.specs.Reasons.{no_repeat};
+ghost use Rattle.rule_law.specs.Answers.{AreBoxesWithin, IsPruning};
+ghost use Rattle.linear_prop.specs.Explaining.{IsCause};
+
+use crate::explain::{Cause, set_at};
+use crate::fall::{high_end, low_end};
+use crate::number::Number;
+use crate::row::Row;
+use crate::row_clauses::clause_of;
+use ground_form::Con;
+use signed_clause::{Clause, IntSet};
+use std::alloc::{AllocError, Global};
+
+/// Whether all values of the set lie from -2^60 to 2^60.
+pub fn is_near(set: &IntSet) -> bool
+    ensures { result ≡ nat_le (reach_of set.now) (2 ^ 60) }
+{
+    let least = low_end(set).value.unsigned_abs();
+    let greatest = high_end(set).value.unsigned_abs();
+    least.max(greatest) <= 1152921504606846976
+}
+
+/// Why the row 'the variable is at most 2^60' has something to say.
+fn high_cause(out: u32, boxes: &[IntSet]) -> Cause
+    requires var { out < length boxes.now }
+    requires order { low_of (box_of boxes.now out) ≤ℤ high_of (box_of boxes.now out) }
+    requires far { pos (2 ^ 60) <ℤ high_of (box_of boxes.now out) }
+    ensures { IsCause ((pos 1, out) ∷ []) boxes.now (pos (2 ^ 60)) result.place result.to.value
+        result.slack }
+{
+    if low_end(set_at(boxes, out)).value > 1152921504606846976 {
+        Cause {
+            place: 1,
+            to: Number::of(0),
+            slack: 0,
+        }
+    } else {
+        Cause {
+            place: 0,
+            to: Number::of(1152921504606846977),
+            slack: 0,
+        }
+    }
+}
+
+/// Why the row 'the opposite of the variable is at most 2^60' has something to say.
+fn low_cause(out: u32, boxes: &[IntSet]) -> Cause
+    requires var { out < length boxes.now }
+    requires order { low_of (box_of boxes.now out) ≤ℤ high_of (box_of boxes.now out) }
+    requires far { low_of (box_of boxes.now out) <ℤ negsuc 1152921504606846975 }
+    ensures { IsCause ((negsuc 0, out) ∷ []) boxes.now (pos (2 ^ 60)) result.place result.to.value
+        result.slack }
+{
+    if high_end(set_at(boxes, out)).value < -1152921504606846976 {
+        Cause {
+            place: 1,
+            to: Number::of(0),
+            slack: 0,
+        }
+    } else {
+        Cause {
+            place: 0,
+            to: Number::of(-1152921504606846977),
+            slack: 0,
+        }
+    }
+}
+
+/// The clause that takes the values above 2^60 away.
+fn above_clause(
+    alloc: Global,
+    con: &Con,
+    out: u32,
+    terms: &[(i64, u32)],
+    offset: i64,
+    domains: &[IntSet],
+    boxes: &[IntSet],
+) -> Result<Clause, AllocError>
+    requires con { con.now ≡ con_kind.LinDef out terms.now offset }
+    requires well_made { IsWellMadeCon domains.now (con_kind.LinDef out terms.now offset) }
+    requires sets { All (λ d. IsValid d) domains.now }
+    requires boxes { AreBoxesWithin domains.now boxes.now }
+    requires far { pos (2 ^ 60) <ℤ high_of (box_of boxes.now out) }
+    ensures { IfOk result (λ c. IsPruning con.now domains.now boxes.now c) }
+{
+    let row = Row {
+        head: Some((1, out)),
+        terms: &[],
+        turned: false,
+        bound: Number::of(1152921504606846976),
+    };
+    let cause = high_cause(out, boxes);
+    let clause = clause_of(alloc, con, &row, cause, domains, boxes)?;
+    Ok(clause)
+}
+
+/// The clause that takes the values below -2^60 away.
+fn below_clause(
+    alloc: Global,
+    con: &Con,
+    out: u32,
+    terms: &[(i64, u32)],
+    offset: i64,
+    domains: &[IntSet],
+    boxes: &[IntSet],
+) -> Result<Clause, AllocError>
+    requires con { con.now ≡ con_kind.LinDef out terms.now offset }
+    requires well_made { IsWellMadeCon domains.now (con_kind.LinDef out terms.now offset) }
+    requires sets { All (λ d. IsValid d) domains.now }
+    requires boxes { AreBoxesWithin domains.now boxes.now }
+    requires far { low_of (box_of boxes.now out) <ℤ negsuc 1152921504606846975 }
+    ensures { IfOk result (λ c. IsPruning con.now domains.now boxes.now c) }
+{
+    let row = Row {
+        head: Some((-1, out)),
+        terms: &[],
+        turned: false,
+        bound: Number::of(1152921504606846976),
+    };
+    let cause = low_cause(out, boxes);
+    let clause = clause_of(alloc, con, &row, cause, domains, boxes)?;
+    Ok(clause)
+}
+
+/// The clause that takes values away that no sum is.
+pub fn far_clause(
+    alloc: Global,
+    con: &Con,
+    out: u32,
+    terms: &[(i64, u32)],
+    offset: i64,
+    domains: &[IntSet],
+    boxes: &[IntSet],
+) -> Result<Clause, AllocError>
+    requires con { con.now ≡ con_kind.LinDef out terms.now offset }
+    requires well_made { IsWellMadeCon domains.now (con_kind.LinDef out terms.now offset) }
+    requires sets { All (λ d. IsValid d) domains.now }
+    requires boxes { AreBoxesWithin domains.now boxes.now }
+    requires differ { no_repeat (out ∷ term_vars terms.now) ≡ true }
+    requires far { nat_le (reach_of (box_of boxes.now out)) (2 ^ 60) ≡ false }
+    ensures { IfOk result (λ c. IsPruning con.now domains.now boxes.now c) }
+{
+    if high_end(set_at(boxes, out)).value > 1152921504606846976 {
+        let clause = above_clause(alloc, con, out, terms, offset, domains, boxes)?;
+        Ok(clause)
+    } else {
+        let clause = below_clause(alloc, con, out, terms, offset, domains, boxes)?;
+        Ok(clause)
+    }
+}
