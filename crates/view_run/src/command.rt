@@ -34,6 +34,20 @@ fn plan_asked<D: Desk>(
     Ok(plan)
 }
 
+/// Prints a text.
+fn hand_out<D: Desk>(desk: &mut D, text: &[u8]) -> Status
+    ensures handed_out { IsHandedOut text.now (D.printed desk.old) (D.printed desk.new)
+        (D.write_faults desk.old) (D.write_faults desk.new) result }
+    ensures files { D.files desk.new ≡ D.files desk.old }
+    ensures read_faults { D.read_faults desk.new ≡ D.read_faults desk.old }
+{
+    match print_all(desk, text) {
+        Ok(()) => Status::Shown,
+        Err(WriteError::WriteFault) => Status::WriteFault,
+        Err(WriteError::Memory) => Status::Memory,
+    }
+}
+
 /// Prints a plan.
 fn deliver<D: Desk>(desk: &mut D, plan: &Plan) -> Status
     ensures delivered { IsDelivered plan.now.text.items plan.now.differs (D.printed desk.old)
@@ -41,16 +55,15 @@ fn deliver<D: Desk>(desk: &mut D, plan: &Plan) -> Status
     ensures files { D.files desk.new ≡ D.files desk.old }
     ensures read_faults { D.read_faults desk.new ≡ D.read_faults desk.old }
 {
-    match print_all(desk, &plan.text) {
-        Ok(()) => {
+    match hand_out(desk, &plan.text) {
+        Status::Shown => {
             if plan.differs {
                 Status::Differs
             } else {
                 Status::Same
             }
         }
-        Err(WriteError::WriteFault) => Status::WriteFault,
-        Err(WriteError::Memory) => Status::Memory,
+        other => other,
     }
 }
 
@@ -91,20 +104,6 @@ fn picture_asked<D: Desk>(
     let whole = source_json(alloc, desk, request.config, Source::Config)?;
     let text = picture_of(alloc, &whole, request)?;
     Ok(text)
-}
-
-/// Prints a picture.
-fn hand_out<D: Desk>(desk: &mut D, text: &[u8]) -> Status
-    ensures handed_out { IsHandedOut text.now (D.printed desk.old) (D.printed desk.new)
-        (D.write_faults desk.old) (D.write_faults desk.new) result }
-    ensures files { D.files desk.new ≡ D.files desk.old }
-    ensures read_faults { D.read_faults desk.new ≡ D.read_faults desk.old }
-{
-    match print_all(desk, text) {
-        Ok(()) => Status::Shown,
-        Err(WriteError::WriteFault) => Status::WriteFault,
-        Err(WriteError::Memory) => Status::Memory,
-    }
 }
 
 /// Prints the picture that is asked for.
