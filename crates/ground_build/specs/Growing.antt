@@ -50,14 +50,14 @@ AreDefined g a = All (λ con. IsDefinition g.search con → con_true con a ≡ t
 abbrev pub Means : Ground → ℕ → (List ℤ → ℤ) → Type 0
 Means g x e = (a : List ℤ) → AreDefined g a → value_of a x ≡ e a
 
--- wherever all constraints are true, x has the value of the variable of the item whose value the
+-- wherever the definitions are true, x has the value of the variable of the item whose value the
 -- index has
 abbrev pub IsPicked : Ground → ℕ → ℕ → List (ℤ × ℕ) → Type 0
 IsPicked g x index items =
     (a : List ℤ) → AreDefined g a → All (λ t. value_of a index ≡ t.0 → value_of a x
     ≡ value_of a t.1) items
 
--- wherever all constraints are true, x has the item's value where the flag is 1, and is 0 where
+-- wherever the definitions are true, x has the item's value where the flag is 1, and is 0 where
 -- that is 0
 abbrev pub IsItemOrNought : Ground → ℕ → ℕ → ℕ → Type 0
 IsItemOrNought g x flag item =
