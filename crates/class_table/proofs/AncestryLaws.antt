@@ -1,73 +1,22 @@
 -- Derivation and attributes where each class has a rank above its parent's.
-use Rattle.std.proofs.Common.{◌≡◌, ℕ, zero, suc, ◌+◌, ◌≤◌, Bool, true, false, ◌||◌, cond, List, [], ◌++◌, Option, None, Some, nat_eq, refl, ap, sym, ◌∙◌, subst, arith, ◌⊎◌, inl, inr, true≢false, eq-eqb}
+use Rattle.std.proofs.Common.{◌≡◌, ℕ, zero, suc, ◌≤◌, cond, List, [], ◌++◌, Option, None, Some, refl, ap, sym, ◌∙◌, subst, arith, ◌⊎◌, inl, inr}
 use Rattle.std.specs.Prelude.{Contains}
 use Rattle.std.specs.Option.{option_map_or}
-use Rattle.std.proofs.lemmas.Bool.{eqb-true}
 use Rattle.std.proofs.lemmas.List.Elements.{Contains-append_left, Contains-append_right, Contains-append_cases}
-use Rattle.class_table.specs.Ancestry.{derives, derives_from_itself, attributes_within}
-pub use Rattle.class_table.specs.Scopes.{Falls}
-use Rattle.class_table.specs.Steps.{StepsBy}
-
-abbrev pub IsUp : (ℕ → Option ℕ) → ℕ → ℕ → Type 0
-IsUp up c d = up c ≡ Some d
+use Rattle.graph_walk.specs.Steps.{StepsBy}
+pub use Rattle.graph_walk.proofs.AncestorLaws.{Falls, IsUp, steps_from_derives, falls_steps, derives_from_steps, not_itself, derives_step}
+use Rattle.class_table.specs.Ancestry.{attributes_within}
 
 module _ (up : ℕ → Option ℕ) where
-  pub steps_from_derives : (n c d : ℕ) → derives up n c d ≡ true → (k : ℕ) × StepsBy (IsUp up) k c d
-  steps_from_derives zero c d h = (0, eqb-true c d h)
-  steps_from_derives (suc n) c d h = by (λ q g. steps_from_derives n q d g) (nat_eq c d) refl h
-    where
-      further : ((q : ℕ) → derives up n q d ≡ true → (k : ℕ) × StepsBy (IsUp up) k q d) → (o : Option ℕ) → up c ≡ o → option_map_or (λ parent. derives up n parent d) o false ≡ true → (k : ℕ) × StepsBy (IsUp up) k c d
-      further more None e g = absurd (true≢false (sym g))
-      further more (Some q) e g = let rest = more q g in (suc rest.0, (q, e, rest.1))
-
-      by : ((q : ℕ) → derives up n q d ≡ true → (k : ℕ) × StepsBy (IsUp up) k q d) → (b : Bool) → nat_eq c d ≡ b → (b || option_map_or (λ parent. derives up n parent d) (up c) false) ≡ true → (k : ℕ) × StepsBy (IsUp up) k c d
-      by more true e g = (0, eqb-true c d e)
-      by more false e g = further more (up c) refl g
-
   module _ (r : ℕ → ℕ) (falls : Falls up r) where
-    pub falls_steps : (k c d : ℕ) → StepsBy (IsUp up) k c d → r d + k ≤ r c
-    falls_steps zero c d s = let e = ap r s in omega arith
-    falls_steps (suc k) c d s = let a = falls c s.0 s.1 in let b = falls_steps k s.0 d s.2 in omega arith
-
-    itself : (n c : ℕ) → derives up n c c ≡ true
-    itself zero c = eq-eqb c c refl
-    itself (suc n) c = ap (λ b. b || option_map_or (λ parent. derives up n parent c) (up c) false) (eq-eqb c c refl)
-
-    pub derives_from_steps : (k n c d : ℕ) → StepsBy (IsUp up) k c d → r c ≤ n → derives up n c d ≡ true
-    derives_from_steps zero n c d s h = subst (λ x. derives up n c x ≡ true) s (itself n c)
-    derives_from_steps (suc k) zero c d s h = let a = falls c s.0 s.1 in absurd (omega arith)
-    derives_from_steps (suc k) (suc n) c d s h =
-        let a = falls c s.0 s.1 in
-        let rest = derives_from_steps k n s.0 d s.2 (omega arith) in
-        ap (λ o. nat_eq c d || option_map_or (λ parent. derives up n parent d) o false) s.1 ∙ ap (λ b. nat_eq c d || b) rest ∙ or_true (nat_eq c d)
-      where
-        or_true : (b : Bool) → (b || true) ≡ true
-        or_true true = refl
-        or_true false = refl
-
-    pub not_itself : (n c : ℕ) → derives_from_itself up n c ≡ false
-    not_itself n c = by (up c) refl
-      where
-        here : (q : ℕ) → up c ≡ Some q → (b : Bool) → derives up n q c ≡ b → b ≡ false
-        here q e true h =
-            let s = steps_from_derives n q c h in
-            let a = falls c q e in
-            let b = falls_steps s.0 q c s.1 in
-            absurd (omega arith)
-        here q e false h = refl
-
-        by : (o : Option ℕ) → up c ≡ o → option_map_or (λ parent. derives up n parent c) o false ≡ false
-        by None e = refl
-        by (Some q) e = here q e (derives up n q c) refl
-
     module _ {X : Type 0} (own : ℕ → List X) (n : ℕ) where
       -- one parent further up
       pub one_more : (k c q : ℕ) → up c ≡ Some q → attributes_within up own n (suc k) c ≡ attributes_within up own n k q ++ own c
-      one_more k c q e = ap (λ b. cond b [] (option_map_or (attributes_within up own n k) (up c) []) ++ own c) (not_itself n c) ∙ ap (λ o. option_map_or (attributes_within up own n k) o [] ++ own c) e
+      one_more k c q e = ap (λ b. cond b [] (option_map_or (attributes_within up own n k) (up c) []) ++ own c) (not_itself up r falls n c) ∙ ap (λ o. option_map_or (attributes_within up own n k) o [] ++ own c) e
 
       pub at_top : (k c : ℕ) → up c ≡ None → attributes_within up own n k c ≡ own c
       at_top zero c e = refl
-      at_top (suc k) c e = ap (λ b. cond b [] (option_map_or (attributes_within up own n k) (up c) []) ++ own c) (not_itself n c) ∙ ap (λ o. option_map_or (attributes_within up own n k) o [] ++ own c) e
+      at_top (suc k) c e = ap (λ b. cond b [] (option_map_or (attributes_within up own n k) (up c) []) ++ own c) (not_itself up r falls n c) ∙ ap (λ o. option_map_or (attributes_within up own n k) o [] ++ own c) e
 
       -- as many ancestors as the rank are enough
       pub enough : (k m c : ℕ) → r c ≤ k → r c ≤ m → attributes_within up own n k c ≡ attributes_within up own n m c
@@ -116,12 +65,3 @@ module _ (up : ℕ → Option ℕ) where
       is_attribute (suc j) (suc k) c b v s h le =
           let l = falls c s.0 s.1 in
           subst (λ xs. Contains xs v) (sym (one_more k c s.0 s.1)) (Contains-append_left (attributes_within up own n k s.0) (own c) v (is_attribute j k s.0 b v s.2 h (omega arith)))
-
--- one parent further up
-pub derives_step : (up : ℕ → Option ℕ) (n m c d q : ℕ) → m ≡ suc n → (c ≡ d → ⊥) → up c ≡ Some q → derives up n q d ≡ derives up m c d
-derives_step up n m c d q m_is ne e =
-    sym (ap (λ k. derives up k c d) m_is ∙ ap (λ o. nat_eq c d || option_map_or (λ parent. derives up n parent d) o false) e ∙ ap (λ b. b || derives up n q d) (by (nat_eq c d) refl))
-  where
-    by : (b : Bool) → nat_eq c d ≡ b → nat_eq c d ≡ false
-    by true h = absurd (ne (eqb-true c d h))
-    by false h = h

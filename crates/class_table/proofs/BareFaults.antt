@@ -25,7 +25,7 @@ use Rattle.class_table.specs.Ancestry.{attributes_within}
 use Rattle.class_table.specs.Faults.{repeated, taken, is_abstract, abstract_object, named_faults, many_faults, shape_faults, parent_faults, member_faults, item_faults, parent_of, own_of, class_count, attributes_of, variable_ident, Holds, ContainsOne, IsParent, Stands, name_repeated, within_item, attribute_repeated, derives_itself, contains_itself}
 use Rattle.class_table.specs.Names.{Space, space, means, classes, declared, own}
 use Rattle.class_table.specs.Outline.{Outline, outline, parent_in, class_meant}
-use Rattle.class_table.specs.Steps.{StepsBy}
+use Rattle.graph_walk.specs.Steps.{StepsBy}
 use Rattle.class_table.proofs.BareItems.{bare, bare_members, agree, space_bare, declared_bare, classes_bare, own_of_bare, same_outline}
 
 -- Lists by number

@@ -16,9 +16,9 @@ use Rattle.class_table.specs.declared.names.Meaning.TheVariants as meaning
 use Rattle.class_table.specs.declared.table.Class.{Class}
 use Rattle.class_table.specs.declared.table.Enumeration.{Enumeration}
 use Rattle.class_table.specs.declared.table.Variable.{Variable}
-use Rattle.class_table.specs.declared.walk.State.{State}
+use Rattle.graph_walk.specs.declared.walk.State.{State}
 use Rattle.class_table.specs.Ancestry.{derives_from_itself, attributes_within}
-use Rattle.class_table.specs.Cycles.{IsOnCycle, IsPlainCycle, IsOrdered, rank}
+use Rattle.graph_walk.specs.Cycles.{IsOnCycle, IsPlainCycle, IsOrdered, rank}
 use Rattle.class_table.specs.Faults.{Stands, name_repeated, within_item, attribute_repeated, derives_itself, contains_itself, HaveNoFault, IsSmall, IsNumbered, OnFault, item_faults, pointed, repeated, variable_ident, parent_of, attributes_of, class_count}
 use Rattle.class_table.specs.Graphs.{derivation, containment}
 use Rattle.class_table.specs.Names.{Space, space, space_from, means, same_name, classes, enumerations, roots, declared, own}

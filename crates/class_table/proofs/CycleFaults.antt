@@ -1,22 +1,21 @@
 -- What the search for a cycle in the graphs of derivation and containment says of the model's faults.
-use Rattle.std.proofs.Common.{◌≡◌, ℕ, zero, suc, ◌+◌, ◌<◌, ◌≤◌, List, [], ◌∷◌, None, Some, length, map, refl, ap, sym, ◌∙◌, subst, arith, ◌⊎◌, inl, inr, true}
+use Rattle.std.proofs.Common.{◌≡◌, ℕ, zero, suc, ◌+◌, ◌<◌, ◌≤◌, List, [], ◌∷◌, None, Some, length, map, refl, ap, sym, ◌∙◌, subst, arith, ◌⊎◌, inl, inr}
 use Rattle.std.specs.Prelude.{Contains}
 use Rattle.conf_syntax.specs.declared.tree.ClassDecl.{ClassDecl}
 use Rattle.conf_syntax.specs.declared.tree.Item.{Item}
 use Rattle.conf_syntax.specs.declared.tree.VarDecl.{VarDecl}
 use Rattle.class_table.specs.declared.fault.TableFault.TheVariants.{InheritCycle, ContainCycle}
-use Rattle.class_table.specs.declared.walk.Edge.{Edge}
-use Rattle.class_table.specs.declared.walk.State.{State}
-use Rattle.class_table.specs.Ancestry.{derives}
-use Rattle.class_table.specs.Cycles.{Leads, PlainLeads, IsOnCycle, IsPlainCycle, IsOrdered, rank}
+use Rattle.graph_walk.specs.declared.walk.Edge.{Edge}
+use Rattle.graph_walk.specs.declared.walk.State.{State}
+use Rattle.graph_walk.specs.Cycles.{Leads, PlainLeads, IsOnCycle, IsPlainCycle, IsOrdered, rank}
 use Rattle.class_table.specs.Faults.{Stands, derives_itself, contains_itself, parent_of, own_of, attributes_of, Holds, IsParent, ContainsOne, class_count}
 use Rattle.class_table.specs.Graphs.{derivation, containment, parent_edges, class_edges}
 use Rattle.class_table.specs.Names.{space, classes}
 use Rattle.class_table.specs.Outline.{parent_named}
-use Rattle.class_table.specs.Steps.{StepsBy}
-use Rattle.class_table.specs.Walk.{Graph, edges_at, edge_at}
-use Rattle.class_table.proofs.AncestryLaws.{Falls, falls_steps, steps_from_derives, derives_from_steps, declared_by, is_attribute}
-use Rattle.class_table.proofs.CycleLaws.{steps_append}
+use Rattle.graph_walk.specs.Steps.{StepsBy}
+use Rattle.graph_walk.specs.Walk.{Graph, edges_at, edge_at}
+use Rattle.class_table.proofs.AncestryLaws.{Falls, falls_steps, declared_by, is_attribute}
+use Rattle.graph_walk.proofs.CycleLaws.{steps_append}
 use Rattle.class_table.proofs.GraphLaws.{within, parent_is, parent_found, own_found, derivation_edge, containment_edge, parent_leads, parent_contained, attribute_leads, IsHeld}
 
 steps_map : (R S : ℕ → ℕ → Type 0) → ((c d : ℕ) → R c d → S c d) → (n c d : ℕ) → StepsBy R n c d → StepsBy S n c d

@@ -11,13 +11,13 @@ use Rattle.conf_syntax.specs.declared.tree.Member.{Member}
 use Rattle.conf_syntax.specs.declared.tree.Member.TheVariants as member
 use Rattle.conf_syntax.specs.declared.tree.VarDecl.{VarDecl}
 use Rattle.class_table.specs.declared.table.Class.{Class}
-use Rattle.class_table.specs.declared.walk.Edge.{Edge}
-use Rattle.class_table.specs.Cycles.{Leads}
+use Rattle.graph_walk.specs.declared.walk.Edge.{Edge}
+use Rattle.graph_walk.specs.Cycles.{Leads}
 use Rattle.class_table.specs.Faults.{contained_name, parent_of, own_of, Holds}
 use Rattle.class_table.specs.Graphs.{to_class, named_edges, parent_edges, derivation, member_edges, class_edges, containment}
 use Rattle.class_table.specs.Names.{Space, space, means, classes, own, member_variable}
 use Rattle.class_table.specs.Outline.{class_meant, parent_named, class_of}
-use Rattle.class_table.specs.Walk.{Graph, edges_at, edge_at, no_edge}
+use Rattle.graph_walk.specs.Walk.{Graph, edges_at, edge_at, no_edge}
 use Rattle.class_table.proofs.ListLaws.{contains_flat, flat_contains, contains_one, contains_none}
 
 -- The declaration of a class, by its number

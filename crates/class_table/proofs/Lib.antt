@@ -2,8 +2,6 @@ pub mod FaultLaws
 pub mod ListLaws
 pub mod NameLaws
 pub mod ResolveLaws
-pub mod WalkLaws
-pub mod CycleLaws
 pub mod GraphLaws
 pub mod CycleFaults
 pub mod ScopeSteps

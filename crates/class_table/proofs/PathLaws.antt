@@ -8,7 +8,7 @@ use Rattle.class_table.specs.declared.paths.Spot.{Spot}
 use Rattle.class_table.specs.declared.table.Class.{Class}
 use Rattle.class_table.specs.declared.table.Resolved.TheVariants.{Truth}
 use Rattle.class_table.specs.declared.table.Variable.{Variable}
-use Rattle.class_table.specs.declared.walk.State.{State}
+use Rattle.graph_walk.specs.declared.walk.State.{State}
 use Rattle.class_table.specs.Outline.{parent_in, own_in, attributes}
 use Rattle.class_table.specs.Paths.{IsPath, IsOn, IsEnd, ArePaths, inherited, names_in, path_of, variable_at}
 use Rattle.class_table.specs.Same.{same_name}

@@ -9,12 +9,12 @@ use Rattle.conf_syntax.specs.declared.tree.Member.{Member}
 use Rattle.conf_syntax.specs.declared.tree.Member.TheVariants as member
 use Rattle.class_table.specs.declared.names.Meaning.{Meaning}
 use Rattle.class_table.specs.declared.names.Meaning.TheVariants as meaning
-use Rattle.class_table.specs.declared.walk.Edge.{Edge}
+use Rattle.graph_walk.specs.declared.walk.Edge.{Edge}
 use Rattle.class_table.specs.Faults.{contained_name, IsNumbered, pointed}
 use Rattle.class_table.specs.Graphs.{to_class, named_edges, parent_edges, derivation, member_edges, class_edges, containment}
 use Rattle.class_table.specs.Names.{Space, means}
 use Rattle.class_table.specs.Outline.{class_meant, parent_named}
-use Rattle.class_table.specs.Walk.{Graph, edges_at, edge_at, no_edge, InRange}
+use Rattle.graph_walk.specs.Walk.{Graph, edges_at, edge_at, no_edge, InRange}
 use Rattle.class_table.proofs.GraphLaws.{edges_found}
 use Rattle.class_table.proofs.ListLaws.{contains_flat, contains_one, contains_none}
 

@@ -11,16 +11,16 @@ use Rattle.conf_syntax.specs.declared.tree.VarDecl.{VarDecl}
 use Rattle.class_table.specs.declared.fault.TableFault.{TableFault}
 use Rattle.class_table.specs.declared.fault.TableFault.TheVariants.{Duplicate}
 use Rattle.class_table.specs.declared.table.Class.{Class}
-use Rattle.class_table.specs.declared.walk.State.{State}
-use Rattle.class_table.specs.declared.walk.State.TheVariants.{New, Open, Done}
+use Rattle.graph_walk.specs.declared.walk.State.{State}
+use Rattle.graph_walk.specs.declared.walk.State.TheVariants.{New, Open, Done}
 use Rattle.class_table.specs.Faults.{repeated, again, variable_ident}
 use Rattle.class_table.specs.Names.{own, same_name}
 use Rattle.class_table.specs.Outline.{parent_in, value_name}
 use Rattle.class_table.specs.Scopes.{IsFamily, IsScope, IsRepeated, RootsReached, Differ, attributes_at, own_at, names_of, open_own, open_weight}
-use Rattle.class_table.specs.Walk.{Graph, edges_at, edge_at, state_at, IsNew, IsOpen, IsDone, IsDoneBefore, IsWalk, IsRight, fresh, Enters, Passes, Leaves, StandsAt, Links, looked_at}
+use Rattle.graph_walk.specs.Walk.{Graph, edges_at, edge_at, state_at, IsNew, IsOpen, IsDone, IsDoneBefore, IsWalk, IsRight, fresh, Enters, Passes, Leaves, StandsAt, Links, looked_at}
 use Rattle.class_table.proofs.AncestryLaws.{attributes_next, at_top}
-use Rattle.class_table.proofs.WalkLaws.{state_other, path_front, path_last, new_no_open, top_open, top_on, fresh_at}
-use Rattle.class_table.proofs.CycleLaws.{looked}
+use Rattle.graph_walk.proofs.WalkLaws.{state_other, path_front, path_last, new_no_open, top_open, top_on, fresh_at}
+use Rattle.graph_walk.proofs.CycleLaws.{looked}
 
 -- Names that stand before
 

@@ -1,30 +1,26 @@
 -- The classes of a model without a fault have an order of containment.
-use Rattle.std.proofs.Common.{◌≡◌, ℕ, zero, suc, ◌+◌, ◌<◌, ◌≤◌, Bool, true, false, cond, List, [], ◌∷◌, Option, None, Some, length, map, refl, ap, sym, ◌∙◌, subst, arith}
+use Rattle.std.proofs.Common.{◌≡◌, ℕ, ◌<◌, List, Option, None, Some, length, map, refl, ap, sym, ◌∙◌, subst, arith}
 use Rattle.std.specs.Prelude.{Contains}
 use Rattle.conf_syntax.specs.declared.token.Ident.{Ident}
 use Rattle.conf_syntax.specs.declared.tree.Item.{Item}
-use Rattle.conf_syntax.specs.declared.tree.Item.TheVariants as item
 use Rattle.conf_syntax.specs.declared.tree.Shape.{Shape}
 use Rattle.conf_syntax.specs.declared.tree.Shape.TheVariants as shape
-use Rattle.conf_syntax.specs.declared.tree.VarDecl.{VarDecl}
 use Rattle.conf_syntax.specs.declared.tree.ClassDecl.{ClassDecl}
 use Rattle.class_table.specs.declared.names.Meaning.{Meaning}
 use Rattle.class_table.specs.declared.names.Meaning.TheVariants as meaning
 use Rattle.class_table.specs.declared.table.Class.{Class}
-use Rattle.class_table.specs.declared.table.Enumeration.{Enumeration}
-use Rattle.class_table.specs.declared.table.Resolved.{Resolved}
-use Rattle.class_table.specs.declared.table.Resolved.TheVariants.{Span, Truth, Choice, One, Many, Ref, RefSet}
+use Rattle.class_table.specs.declared.table.Resolved.TheVariants.{Many, Ref, RefSet}
 use Rattle.class_table.specs.declared.table.Variable.{Variable}
-use Rattle.class_table.specs.declared.walk.State.{State}
+use Rattle.graph_walk.specs.declared.walk.State.{State}
 use Rattle.class_table.specs.Ancestry.{attributes_within}
-use Rattle.class_table.specs.Cycles.{IsOrdered, rank}
-use Rattle.class_table.specs.Faults.{contained_name, parent_of, own_of, attributes_of, class_count, Holds, ContainsOne}
+use Rattle.graph_walk.specs.Cycles.{IsOrdered, rank}
+use Rattle.class_table.specs.Faults.{contained_name, parent_of, attributes_of, class_count}
 use Rattle.class_table.specs.Graphs.{derivation, containment}
-use Rattle.class_table.specs.Names.{Space, space, space_from, means, same_name, classes, enumerations, roots}
-use Rattle.class_table.specs.Outline.{Outline, class_of, enumeration_of, variable_of, parent_in, own_in, attributes, resolved, named, of_class, class_meant}
-use Rattle.class_table.specs.Scopes.{Falls, HasParents, HasRanks, own_at}
+use Rattle.class_table.specs.Names.{Space, space, means, classes}
+use Rattle.class_table.specs.Outline.{class_of, variable_of, parent_in, own_in, attributes, resolved, named, of_class, class_meant}
+use Rattle.class_table.specs.Scopes.{Falls, own_at}
 use Rattle.class_table.specs.Sound.{held_class, HasNesting}
-use Rattle.class_table.proofs.BuildLaws.{contains_map, attributes_map, own_row, length_rows, numbered_from}
+use Rattle.class_table.proofs.BuildLaws.{contains_map, attributes_map, own_row, length_rows}
 use Rattle.class_table.proofs.CycleFaults.{contained_falls, contained_below, inherit_falls, inherit_below}
 
 -- a shape that holds objects of class d names d

@@ -1,17 +1,16 @@
 -- Attributes by their numbers.
-use Rattle.std.proofs.Common.{◌≡◌, ℕ, zero, suc, ◌+◌, ◌-◌, ◌<◌, ◌≤◌, true, map, List, [], ◌∷◌, ◌++◌, Option, None, Some, length, get_or, refl, ap, sym, ◌∙◌, arith, length-append}
+use Rattle.std.proofs.Common.{◌≡◌, ℕ, zero, suc, ◌<◌, ◌≤◌, map, List, [], ◌∷◌, ◌++◌, Option, None, Some, length, get_or, refl, ap, sym, arith, length-append}
 use Rattle.std.specs.Prelude.{slice_index_or, position}
-use Rattle.std.proofs.lemmas.List.{get_or-append_right, get_or_append_left}
 use Rattle.class_table.specs.declared.table.Class.{Class}
 use Rattle.class_table.specs.declared.table.Variable.{Variable}
-use Rattle.class_table.specs.declared.walk.State.{State}
-use Rattle.class_table.specs.Cycles.{rank}
+use Rattle.graph_walk.specs.declared.walk.State.{State}
+use Rattle.graph_walk.specs.Cycles.{rank}
 use Rattle.class_table.specs.Outline.{parent_in, own_in, attributes}
 use Rattle.class_table.specs.Same.{same_name}
-use Rattle.class_table.specs.Tables.{IsTable, all_differ, variable_name}
+use Rattle.class_table.specs.Tables.{IsTable, variable_name}
 use Rattle.class_table.proofs.AncestryLaws.{attributes_next, at_top}
-use Rattle.class_table.proofs.DifferLaws.{apart, own_found, not_own, found_within}
-use Rattle.class_table.proofs.ScopeSteps.{map_append, length_map}
+use Rattle.class_table.proofs.DifferLaws.{found_within}
+use Rattle.class_table.proofs.ScopeSteps.{length_map}
 
 pub own_of_class : (cs : List Class) (c : ℕ) (k : Class) → c < length cs → k ≡ get_or cs c k → own_in cs c ≡ k.own
 own_of_class [] c k h e = absurd (omega (arith, h))

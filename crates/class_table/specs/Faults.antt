@@ -17,8 +17,8 @@ use Rattle.class_table.specs.declared.fault.TableFault.{TableFault}
 use Rattle.class_table.specs.declared.fault.TableFault.TheVariants.{Duplicate, Unknown, NotAClass, InheritCycle, ContainCycle, AbstractObject, EmptyRange, Memory}
 use Rattle.class_table.specs.declared.names.Meaning.{Meaning}
 use Rattle.class_table.specs.declared.names.Meaning.TheVariants as meaning
-use Rattle.class_table.specs.Ancestry.{derives, attributes_within}
-use Rattle.class_table.specs.Steps.{StepsBy}
+use Rattle.class_table.specs.Ancestry.{attributes_within}
+use Rattle.graph_walk.specs.Steps.{StepsBy}
 use Rattle.class_table.specs.Names.{Space, space, means, same_name, classes, enumerations, own, declared}
 use Rattle.class_table.specs.Outline.{bound_value, class_of, parent_in, class_meant}
 

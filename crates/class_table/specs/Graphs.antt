@@ -5,11 +5,11 @@ use Rattle.conf_syntax.specs.declared.token.Ident.{Ident}
 use Rattle.conf_syntax.specs.declared.tree.ClassDecl.{ClassDecl}
 use Rattle.conf_syntax.specs.declared.tree.Member.{Member}
 use Rattle.conf_syntax.specs.declared.tree.Member.TheVariants as member
-use Rattle.class_table.specs.declared.walk.Edge.{Edge}
+use Rattle.graph_walk.specs.declared.walk.Edge.{Edge}
 use Rattle.class_table.specs.Faults.{contained_name}
 use Rattle.class_table.specs.Names.{Space, means}
 use Rattle.class_table.specs.Outline.{class_meant, parent_named}
-use Rattle.class_table.specs.Walk.{Graph}
+use Rattle.graph_walk.specs.Walk.{Graph}
 
 abbrev pub to_class : Option ℕ → Option ℕ → List Edge
 to_class None place = []

@@ -3,9 +3,6 @@ pub mod Names
 pub mod Ancestry
 pub mod Outline
 pub mod Faults
-pub mod Walk
-pub mod Steps
-pub mod Cycles
 pub mod Graphs
 pub mod Scopes
 pub mod Tables
@@ -13,3 +10,4 @@ pub mod Paths
 pub mod Named
 pub mod Sound
 pub mod Worded
+pub use Rattle.graph_walk.specs.Steps

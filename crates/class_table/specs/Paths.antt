@@ -6,8 +6,8 @@ use Rattle.class_table.specs.declared.paths.Path.{Path}
 use Rattle.class_table.specs.declared.paths.Spot.{Spot}
 use Rattle.class_table.specs.declared.table.Class.{Class}
 use Rattle.class_table.specs.declared.table.Variable.{Variable}
-use Rattle.class_table.specs.declared.walk.State.{State}
-use Rattle.class_table.specs.Cycles.{rank}
+use Rattle.graph_walk.specs.declared.walk.State.{State}
+use Rattle.graph_walk.specs.Cycles.{rank}
 use Rattle.class_table.specs.Outline.{parent_in, own_in, attributes}
 use Rattle.class_table.specs.Tables.{all_differ, variable_name}
 

@@ -1,6 +1,6 @@
 -- A walk from classes down to those that derive from them, with the names of the attributes of the
 -- class where it stands.
-use Rattle.std.specs.Prelude.{◌≡◌, ℕ, ◌+◌, ◌^◌, ◌<◌, List, [], ◌∷◌, ◌++◌, Option, None, Some, length, map, slice_get, slice_index, Contains}
+use Rattle.std.specs.Prelude.{◌≡◌, ℕ, ◌+◌, ◌^◌, ◌<◌, List, [], ◌∷◌, ◌++◌, None, Some, length, map, slice_get, slice_index, Contains}
 use Rattle.std.specs.List.{flat_map}
 use Rattle.std.specs.Option.{option_map_or}
 use Rattle.conf_syntax.specs.declared.tree.ClassDecl.{ClassDecl}
@@ -8,19 +8,15 @@ use Rattle.conf_syntax.specs.declared.tree.VarDecl.{VarDecl}
 use Rattle.class_table.specs.declared.fault.TableFault.{TableFault}
 use Rattle.class_table.specs.declared.fault.TableFault.TheVariants.{Duplicate}
 use Rattle.class_table.specs.declared.table.Class.{Class}
-use Rattle.class_table.specs.declared.walk.Edge.{Edge}
-use Rattle.class_table.specs.declared.walk.State.{State}
-use Rattle.class_table.specs.declared.walk.State.TheVariants.{New, Open, Done}
+use Rattle.graph_walk.specs.declared.walk.State.{State}
+use Rattle.graph_walk.specs.declared.walk.State.TheVariants.{New, Open, Done}
 use Rattle.class_table.specs.Ancestry.{attributes_within}
-use Rattle.class_table.specs.Cycles.{Leads}
+pub use Rattle.graph_walk.specs.Children.{Falls}
+use Rattle.graph_walk.specs.Children.{IsChildren}
 use Rattle.class_table.specs.Faults.{repeated, variable_ident}
 use Rattle.class_table.specs.Names.{own}
 use Rattle.class_table.specs.Outline.{parent_in, value_name}
-use Rattle.class_table.specs.Walk.{Graph, edges_at, edge_at, state_at, IsNew}
-
--- each class's rank is above its parent's
-abbrev pub Falls : (ℕ → Option ℕ) → (ℕ → ℕ) → Type 0
-Falls up r = (c d : ℕ) → up c ≡ Some d → r d < r c
+use Rattle.graph_walk.specs.Walk.{Graph, state_at, IsNew}
 
 -- each parent is a class
 abbrev pub HasParents : List Class → Type 0
@@ -35,17 +31,6 @@ pub record HasRanks (cs : List Class) : Type 0 where
 -- each of the first n classes that has no parent was reached
 abbrev pub RootsReached : List Class → ℕ → List State → Type 0
 RootsReached cs n states = (c : ℕ) → c < n → parent_in cs c ≡ None → IsNew (state_at states c) → ⊥
-
--- the edges lead from each class to those of the first n classes whose parent it is
-pub record IsChildren (cs : List Class) (n : ℕ) (g : Graph) : Type 0 where
-  pub size : length g ≡ length cs
-  pub sound : (q k : ℕ) → k < length (edges_at g q) → ((edge_at g q k).to < length cs)
-      × (parent_in cs (edge_at g q k).to ≡ Some q)
-  pub complete : (c q : ℕ) → c < n → parent_in cs c ≡ Some q → Leads g q c
-
--- an edge to a class
-abbrev pub child : ℕ → Edge
-child c = record { to = c; place = None }
 
 abbrev pub own_at : List ClassDecl → ℕ → List VarDecl
 own_at ds c = option_map_or own (slice_get ds c) []
@@ -91,7 +76,7 @@ pub record IsScope (cs : List Class) (ds : List ClassDecl) (states : List State)
 -- from parents down
 pub record IsFamily (cs : List Class) (ds : List ClassDecl) (g : Graph) : Type 0 where
   pub size : length cs ≡ length ds
-  pub children : IsChildren cs (length cs) g
+  pub children : IsChildren (parent_in cs) (length cs) (length cs) g
   pub rank : ℕ → ℕ
   pub falls : Falls (parent_in cs) rank
   pub below : (c : ℕ) → c < length ds → rank c < length ds

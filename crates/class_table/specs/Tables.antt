@@ -8,8 +8,8 @@ use Rattle.class_table.specs.declared.table.Enumeration.{Enumeration}
 use Rattle.class_table.specs.declared.table.Resolved.{Resolved}
 use Rattle.class_table.specs.declared.table.Resolved.TheVariants.{Span, Truth, Choice, One, Many, Ref, RefSet}
 use Rattle.class_table.specs.declared.table.Variable.{Variable}
-use Rattle.class_table.specs.declared.walk.State.{State}
-use Rattle.class_table.specs.Cycles.{rank}
+use Rattle.graph_walk.specs.declared.walk.State.{State}
+use Rattle.graph_walk.specs.Cycles.{rank}
 use Rattle.class_table.specs.Names.{means}
 use Rattle.class_table.specs.Outline.{Outline, parent_in, attributes}
 use Rattle.class_table.specs.Same.{same_name}

@@ -3,19 +3,20 @@
 //! `count_attributes` is the entry. It walks from each class down to those that derive from it, and
 //! holds the names of the attributes of the class where it stands: a class's own names are added on
 //! the way down and taken away on the way up.
-ghost use Rattle.std.specs.Prelude.{◌≡◌, ℕ, ◌+◌, ◌<◌, ◌≤◌, ◌^◌, ◌++◌, ◌∷◌, [], List, None, Some, length, map, slice_set, slice_index, take, Contains, IfOk, IfErr, OnOk};
+ghost use Rattle.std.specs.Prelude.{◌≡◌, ℕ, ◌+◌, ◌<◌, ◌≤◌, ◌^◌, ◌++◌, ◌∷◌, [], List, None, length, map, slice_set, slice_index, take, Contains, IfOk, IfErr, OnOk};
 ghost use Rattle.std.specs.List.{flat_map};
 ghost use Rattle.class_table.specs.declared.fault.TableFault.TheVariants.{Duplicate};
 ghost use Rattle.class_table.specs.Names.{own, member_variable};
 ghost use Rattle.class_table.specs.Outline.{parent_in};
 ghost use Rattle.class_table.specs.Faults.{OnFault, pointed, repeated, variable_ident};
-ghost use Rattle.class_table.specs.Scopes.{Falls, HasParents, IsChildren, attributes_at, names_of, own_at, Differ, IsRepeated, IsScope, IsFamily, HasRanks, RootsReached, child};
-ghost use Rattle.class_table.specs.Cycles.{NewStays};
-ghost use Rattle.class_table.specs.Walk.{IsWalk, InRange, edges_at, state_at, IsNew, measure};
+ghost use Rattle.class_table.specs.Scopes.{Falls, HasParents, attributes_at, names_of, own_at, Differ, IsRepeated, IsScope, IsFamily, HasRanks, RootsReached};
+ghost use Rattle.graph_walk.specs.Cycles.{NewStays};
+ghost use Rattle.graph_walk.specs.Walk.{IsWalk, InRange, state_at, IsNew, measure};
 
-use crate::walk::{Edge, Edges, State, Step, Walk};
+use crate::parents::{ClassList, parent_of};
 use crate::{Class, TableFault, Values};
 use conf_syntax::{ClassDecl, Member, Name};
+use graph_walk::{Edges, State, Step, Walk, children, zeros};
 use std::alloc::{AllocError, Global};
 
 /// The names of the attributes of the class where the walk stands, and how many attributes each
@@ -32,66 +33,6 @@ struct Family<'a> {
     classes: &'a [Class],
     decls: &'a [&'a ClassDecl],
     graph: &'a [Edges],
-}
-
-/// A node without edges for each class.
-#[tactic(auto, using(crate::proofs::ScopeLaws::no_child))]
-fn no_children(alloc: Global, classes: &[Class]) -> Result<Vec<Edges>, AllocError>
-    ensures graph { IfOk result (λ graph. IsChildren classes.now 0 graph.items) }
-{
-    let mut graph = Vec::new(alloc);
-    for _class in classes {
-        graph.push(Edges::of(Vec::new(alloc)))?;
-    }
-    Ok(graph)
-}
-
-/// The parent of a class.
-#[tactic(auto, using(crate::proofs::ScopeLaws::parent_read))]
-pub(crate) fn parent_of(classes: &[Class], class: usize) -> Option<u32>
-    requires class { class < length classes.now }
-    ensures parent { result ≡ parent_in classes.now class }
-{
-    classes[class].parent
-}
-
-/// Adds an edge to a class.
-fn add_child(graph: &mut Vec<Edges>, parent: u32, class: u32) -> Result<(), AllocError>
-    requires parent { parent < length graph.old.items }
-    ensures graph { OnOk result (graph.new.items ≡ slice_set graph.old.items parent
-        (edges_at graph.old.items parent ++ child class ∷ [])) }
-{
-    graph[parent as usize].push(Edge {
-        to: class,
-        place: None,
-    })
-}
-
-/// Adds the edge from the parent of the next class.
-#[tactic(auto, using(crate::proofs::ScopeLaws::child_more, crate::proofs::ScopeLaws::child_none))]
-fn link(classes: &[Class], graph: &mut Vec<Edges>, class: u32) -> Result<(), AllocError>
-    requires parents { HasParents classes.now }
-    requires class { class < length classes.now }
-    requires graph { IsChildren classes.now class graph.old.items }
-    ensures graph { OnOk result (IsChildren classes.now (class + 1) graph.new.items) }
-{
-    match parent_of(classes, class as usize) {
-        Some(parent) => add_child(graph, parent, class),
-        None => Ok(()),
-    }
-}
-
-/// The graph that leads from each class to those whose parent it is.
-fn children(alloc: Global, classes: &[Class]) -> Result<Vec<Edges>, AllocError>
-    requires parents { HasParents classes.now }
-    requires few { length classes.now < 2 ^ 32 }
-    ensures graph { IfOk result (λ graph. IsChildren classes.now (length classes.now) graph.items) }
-{
-    let mut graph = no_children(alloc, classes)?;
-    for class in 0..classes.len() {
-        link(classes, &mut graph, class as u32)?;
-    }
-    Ok(graph)
 }
 
 /// Adds the name of a member's attribute.
@@ -309,17 +250,6 @@ fn visit_all(
     Ok(())
 }
 
-/// A zero for each class.
-pub(crate) fn zeros(alloc: Global, count: usize) -> Result<Vec<u32>, AllocError>
-    ensures zeros { IfOk result (λ counts. length counts.items ≡ count) }
-{
-    let mut counts = Vec::new(alloc);
-    for _class in 0..count {
-        counts.push(0)?;
-    }
-    Ok(counts)
-}
-
 /// How many attributes each class of a family has, where their names differ.
 fn count_along(alloc: Global, family: &Family<'_>) -> Result<Vec<u32>, TableFault>
     requires family { IsFamily family.now.classes.now (pointed family.now.decls.now)
@@ -364,7 +294,7 @@ pub(crate) fn count_attributes(
     ensures fault { IfErr result (λ fault. OnFault fault
         (IsRepeated classes.now (pointed decls.now))) }
 {
-    let graph = children(alloc, classes)?;
+    let graph = children(alloc, &ClassList { classes })?;
     let family = Family {
         classes,
         decls,

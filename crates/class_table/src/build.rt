@@ -9,9 +9,9 @@ ghost use Rattle.class_table.specs.Sound.{HasNesting};
 use crate::attributes::count_attributes;
 use crate::cycles::{check_containment, check_derivation};
 use crate::names::Space;
-use crate::walk::State;
 use crate::{Class, TableFault};
 use conf_syntax::{ClassDecl, Item};
+use graph_walk::State;
 use std::alloc::Global;
 
 /// An order of the classes and the number of each one's attributes, where neither derivation nor

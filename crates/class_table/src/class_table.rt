@@ -17,19 +17,18 @@ ghost use Rattle.class_table.specs.Names.{means, space, classes, declared};
 ghost use Rattle.class_table.specs.Outline.{outline, parent_in, own_in, is_a, attributes, class_meant};
 ghost use Rattle.class_table.specs.Paths.{ArePaths, HavePaths};
 ghost use Rattle.class_table.specs.Same.{same_name};
-ghost use Rattle.class_table.specs.Scopes.{HasParents};
 ghost use Rattle.class_table.specs.Sound.{IsSound};
 ghost use Rattle.class_table.specs.Tables.{enumeration_meant, root_meant, IsFew, IsTable, IsMeant, IsShapeOf, variable_name};
 
-use crate::attributes::parent_of;
 use crate::build::check_classes;
 use crate::name_text::NameText;
 use crate::names::{Meaning, Space, names_of};
+use crate::parents::{ClassList, parent_of};
 use crate::parts::{class_decls, resolve_items};
 use crate::paths::{Paths, number_on, path_at, paths_of, variable_at};
-use crate::walk::State;
 use crate::{Class, Enumeration, Resolved, TableFault, Values, Variable};
 use conf_syntax::{ClassDecl, Item, Name, Program};
+use graph_walk::{State, derives};
 use std::alloc::Global;
 use std::marker::Model;
 
@@ -217,7 +216,10 @@ impl ClassTable {
         requires class { c < length self.now.classes }
         ensures is_a { result ≡ is_a self.now.classes c d }
     {
-        derives(&self.classes, c, d)
+        let list = ClassList {
+            classes: &self.classes,
+        };
+        derives(&list, c, d)
     }
 
     /// The parent of a class.
@@ -417,23 +419,4 @@ fn number_of(
             None => return None,
         }
     }
-}
-
-/// Whether class `d` is class `c` or an ancestor of it.
-fn derives(classes: &[Class], c: u32, d: u32) -> bool
-    requires parents { HasParents classes.now }
-    requires class { c < length classes.now }
-    ensures is_a { result ≡ is_a classes.now c d }
-{
-    let mut at = c;
-    for _step in 0..classes.len() {
-        if at == d {
-            return true;
-        }
-        match parent_of(classes, at as usize) {
-            Some(parent) => at = parent,
-            None => return false,
-        }
-    }
-    at == d
 }

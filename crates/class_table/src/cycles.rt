@@ -1,17 +1,16 @@
 //! Classes that derive from themselves, and attributes that make an object contain one of its own
 //! class.
 ghost use Rattle.std.specs.Prelude.{◌≡◌, ◌<◌, ◌^◌, ℕ, List, length, IfOk, IfErr, OnOk};
-ghost use Rattle.class_table.specs.declared.walk.State.{State as AState};
-ghost use Rattle.class_table.specs.Cycles.{IsOrdered, IsOnCycle, IsPlainCycle};
+ghost use Rattle.graph_walk.specs.declared.walk.State.{State as AState};
+ghost use Rattle.graph_walk.specs.Cycles.{IsOrdered, IsOnCycle, IsPlainCycle};
 ghost use Rattle.class_table.specs.Faults.{OnFault, IsNumbered, pointed};
 ghost use Rattle.class_table.specs.Graphs.{derivation, containment};
 
 use crate::TableFault;
-use crate::cycle::{Outcome, find_cycle};
 use crate::graphs::{containment, derivation};
 use crate::names::Space;
-use crate::walk::State;
 use conf_syntax::ClassDecl;
+use graph_walk::{Outcome, State, find_cycle};
 use std::alloc::Global;
 
 /// Refuses a class that derives from itself. The states give an order in which each class stands

@@ -7,8 +7,8 @@ ghost use Rattle.class_table.specs.Faults.{pointed, contained_name};
 ghost use Rattle.class_table.specs.Graphs.{to_class, named_edges, parent_edges, derivation, member_edges, class_edges, containment};
 
 use crate::names::{Meaning, Space};
-use crate::walk::{Edge, Edges};
 use conf_syntax::{ClassDecl, Ident, Member, Name, Shape};
+use graph_walk::{Edge, Edges};
 use std::alloc::{AllocError, Global};
 
 /// The class that a name means.

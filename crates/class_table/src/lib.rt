@@ -10,18 +10,17 @@
 mod attributes;
 mod build;
 mod class_table;
-mod cycle;
 mod cycles;
 mod fault;
 mod graphs;
 mod law;
 mod name_text;
 mod names;
+mod parents;
 mod parts;
 mod paths;
 mod resolve;
 mod table;
-mod walk;
 
 pub use class_table::{Attribute, ClassTable};
 pub use fault::TableFault;

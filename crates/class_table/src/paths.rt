@@ -6,17 +6,16 @@
 //! answer rests on.
 ghost use Rattle.std.specs.Prelude.{◌≡◌, ◌++◌, ◌+◌, ◌-◌, ◌<◌, ◌≤◌, ◌^◌, [], true, None, Some, length, map, position, slice_index, slice_index_or, ℕ, IfOk, IfSome, IfNone, OnOk};
 ghost use Rattle.class_table.specs.declared.paths.Path.{Path as APath};
-ghost use Rattle.class_table.specs.Cycles.{rank};
+ghost use Rattle.graph_walk.specs.Cycles.{rank};
 ghost use Rattle.class_table.specs.Outline.{own_in, parent_in, attributes};
 ghost use Rattle.class_table.specs.Paths.{ArePaths, HavePaths, IsEnd, IsOn, names_in, path_of, variable_at};
 ghost use Rattle.class_table.specs.Same.{same_name};
-ghost use Rattle.class_table.specs.Scopes.{HasParents};
 ghost use Rattle.class_table.specs.Tables.{IsTable, all_differ, variable_name};
 
-use crate::attributes::{parent_of, zeros};
-use crate::walk::State;
+use crate::parents::{ClassList, parent_of};
 use crate::{Class, Values, Variable};
 use conf_syntax::Name;
+use graph_walk::{Descent, State, descents_of, in_order};
 use std::alloc::{AllocError, Global};
 
 /// Where an attribute is declared: a class, and its number among the class's own attributes.
@@ -43,77 +42,6 @@ pub(crate) struct Path {
 pub(crate) struct Paths {
     pub all: Vec<Path>,
     pub on: Vec<Option<usize>>,
-}
-
-/// How many classes derive from a class, itself too, and the child from which most of them do.
-#[derive(Clone, Copy, Debug)]
-struct Descent {
-    size: u32,
-    most: u32,
-    heir: u32,
-}
-
-/// So many classes, each behind its parent.
-fn in_order(alloc: Global, count: u32, order: &[State]) -> Result<Vec<u32>, AllocError> {
-    let mut classes = zeros(alloc, count as usize)?;
-    for class in 0..count {
-        if let Some(State::Done(rank)) = order.get(class as usize).copied() {
-            if rank < classes.len() {
-                classes[rank] = class;
-            }
-        }
-    }
-    Ok(classes)
-}
-
-/// Counts a class and those that derive from it for its parent.
-fn count_heir(classes: &[Class], descents: &mut [Descent], class: u32)
-    requires parents { HasParents classes.now }
-    requires size { length descents.old ≡ length classes.now }
-    ensures size { length descents.new ≡ length descents.old }
-{
-    if class as usize >= classes.len() {
-        return;
-    }
-    let Some(parent) = parent_of(classes, class as usize) else {
-        return;
-    };
-    let size = descents[class as usize].size;
-    let mut above = descents[parent as usize];
-    above.size = above.size.saturating_add(size);
-    if size > above.most {
-        above.most = size;
-        above.heir = class;
-    }
-    descents[parent as usize] = above;
-}
-
-/// A class without children, so many times.
-fn childless(alloc: Global, count: usize) -> Result<Vec<Descent>, AllocError>
-    ensures size { IfOk result (λ descents. length descents.items ≡ count) }
-{
-    let mut descents = Vec::new(alloc);
-    for _class in 0..count {
-        descents.push(Descent {
-            size: 1,
-            most: 0,
-            heir: 0,
-        })?;
-    }
-    Ok(descents)
-}
-
-/// For each class how many derive from it, and its heir. The classes are given each behind its
-/// parent.
-fn descents_of(alloc: Global, classes: &[Class], listed: &[u32]) -> Result<Vec<Descent>, AllocError>
-    requires parents { HasParents classes.now }
-    ensures size { IfOk result (λ descents. length descents.items ≡ length classes.now) }
-{
-    let mut descents = childless(alloc, classes.len())?;
-    for i in 0..listed.len() {
-        count_heir(classes, &mut descents, listed[listed.len() - 1 - i]);
-    }
-    Ok(descents)
 }
 
 /// The attributes that a class itself declares.
@@ -316,7 +244,7 @@ pub(crate) fn paths_of(
     ensures all { IfOk result (λ paths. HavePaths classes.now paths.on.items) }
 {
     let listed = in_order(alloc, classes.len() as u32, order)?;
-    let descents = descents_of(alloc, classes, &listed)?;
+    let descents = descents_of(alloc, &ClassList { classes }, &listed)?;
     let tree = Tree {
         classes,
         counts,

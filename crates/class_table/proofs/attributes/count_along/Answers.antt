@@ -7,7 +7,7 @@ use Rattle.class_table.proofs.attributes.count_along.Goals as goal
 pub visit_all-requires-clause-scope : goal.visit_all-requires-clause-scope
 visit_all-requires-clause-scope c =
     let ds = pointed c.args.family.now.decls.now in
-    let size : length c.in_ok-counts.counts.items ≡ length ds = c.in_ok-counts.ensures.zeros ∙ sym (length_pointed c.args.family.now.decls.now) in
+    let size : length c.in_ok-counts.counts.items ≡ length ds = c.in_ok-counts.ensures.size ∙ sym (length_pointed c.args.family.now.decls.now) in
     scope_begins c.args.family.now.classes.now ds c.args.family.now.graph.now c.requires.family
     c.in_ok-walk.walk.states.items c.in_ok-walk.walk.path.items c.new-names.result c.in_ok-counts.counts.items
     c.in_ok-walk.ensures.states c.in_ok-walk.ensures.path c.new-names.ensures.values size

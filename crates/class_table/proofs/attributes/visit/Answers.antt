@@ -1,7 +1,7 @@
 use Rattle.std.proofs.Common.{◌<◌, subst, sym, arith, length}
 use Rattle.class_table.specs.Faults.{pointed}
 use Rattle.class_table.specs.Scopes.{IsRepeated}
-use Rattle.class_table.specs.Walk.{Makes, IsNew}
+use Rattle.graph_walk.specs.Walk.{Makes, IsNew}
 use Rattle.class_table.proofs.ScopeSteps.{scope_room, scope_enter, scope_pass, scope_leave, scope_repeated, never_closed, stands_above}
 use Rattle.class_table.proofs.FaultLaws.{on_fault}
 use Rattle.class_table.proofs.attributes.visit.Goals as goal

@@ -1,7 +1,7 @@
 use Rattle.std.proofs.Common.{◌≡◌, []}
 use Rattle.class_table.specs.Faults.{pointed}
 use Rattle.class_table.specs.Scopes.{IsScope, RootsReached}
-use Rattle.class_table.specs.Walk.{IsWalk}
+use Rattle.graph_walk.specs.Walk.{IsWalk}
 use Rattle.class_table.proofs.attributes.visit_all.Given as goal
 
 abbrev pub invariant-loop-class : goal.invariant-loop-class

@@ -1,9 +1,9 @@
 use Rattle.std.proofs.Common.{◌≡◌, ◌<◌, subst, sym, arith, length, ◌∙◌}
 use Rattle.class_table.specs.Faults.{pointed}
 use Rattle.class_table.specs.Scopes.{IsRepeated}
-use Rattle.class_table.specs.Walk.{IsNew, state_at}
-use Rattle.class_table.specs.declared.walk.State.TheVariants.{New}
-use Rattle.class_table.proofs.CycleLaws.{enters_stays, enters_reached}
+use Rattle.graph_walk.specs.Walk.{IsNew, state_at}
+use Rattle.graph_walk.specs.declared.walk.State.TheVariants.{New}
+use Rattle.graph_walk.proofs.CycleLaws.{enters_stays, enters_reached}
 use Rattle.class_table.proofs.ScopeSteps.{alone, scope_room, scope_enter, scope_repeated}
 use Rattle.class_table.proofs.FaultLaws.{on_fault}
 use Rattle.class_table.proofs.attributes.visit_from.Goals as goal

@@ -1,7 +1,7 @@
-use Rattle.class_table.specs.Cycles.{NewStays}
+use Rattle.graph_walk.specs.Cycles.{NewStays}
 use Rattle.class_table.specs.Faults.{pointed}
 use Rattle.class_table.specs.Scopes.{IsScope}
-use Rattle.class_table.specs.Walk.{IsWalk, IsNew, state_at, measure}
+use Rattle.graph_walk.specs.Walk.{IsWalk, IsNew, state_at, measure}
 use Rattle.class_table.proofs.attributes.visit_from.Given as goal
 
 abbrev pub invariant-steps : goal.invariant-steps

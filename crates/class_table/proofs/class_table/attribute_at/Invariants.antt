@@ -1,7 +1,7 @@
 use Rattle.std.proofs.Common.{◌≡◌, ◌<◌, length}
 use Rattle.std.specs.Prelude.{slice_index_or}
 use Rattle.class_table.specs.declared.table.Variable.{Variable}
-use Rattle.class_table.specs.Cycles.{rank}
+use Rattle.graph_walk.specs.Cycles.{rank}
 use Rattle.class_table.specs.Outline.{attributes}
 use Rattle.class_table.proofs.class_table.attribute_at.Given as goal
 

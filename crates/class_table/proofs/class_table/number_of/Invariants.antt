@@ -1,6 +1,6 @@
 use Rattle.std.proofs.Common.{◌≡◌, ◌<◌, length, map}
 use Rattle.std.specs.Prelude.{position}
-use Rattle.class_table.specs.Cycles.{rank}
+use Rattle.graph_walk.specs.Cycles.{rank}
 use Rattle.class_table.specs.Outline.{attributes}
 use Rattle.class_table.specs.Same.{same_name}
 use Rattle.class_table.specs.Tables.{variable_name}

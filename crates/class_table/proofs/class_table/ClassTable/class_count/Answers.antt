@@ -1,5 +1,5 @@
 use Rattle.std.proofs.Common.{subst}
-use Rattle.class_table.specs.Cycles.{rank}
+use Rattle.graph_walk.specs.Cycles.{rank}
 use Rattle.class_table.specs.Sound.{IsSound}
 use Rattle.class_table.proofs.class_table.ClassTable.class_count.Goals as goal
 

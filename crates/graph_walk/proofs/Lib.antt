@@ -1,0 +1,4 @@
+pub mod WalkLaws
+pub mod CycleLaws
+pub mod AncestorLaws
+pub mod ChildLaws

@@ -1,0 +1,5 @@
+pub mod Walk
+pub mod Steps
+pub mod Cycles
+pub mod Ancestors
+pub mod Children
