@@ -1,5 +1,5 @@
 -- No value of a configuration holds a float.
-use Rattle.std.proofs.Common.{◌≡◌, ℕ, zero, suc, Bool, true, false, ◌||◌, List, [], ◌∷◌, length, Option, None, Some, ℤ, pos, negsuc, Ordering, Less, Equal, Greater, refl, sym, ap, ◌∙◌}
+use Rattle.std.proofs.Common.{◌≡◌, ℕ, zero, suc, Bool, true, false, ◌||◌, List, [], ◌∷◌, length, Option, None, Some, ℤ, pos, negsuc, Ordering, Less, Equal, Greater, refl}
 use Rattle.std.specs.Prelude.{filter_map}
 use Rattle.std.specs.Ordering.{match_ordering, nat_cmp}
 use Rattle.std.specs.Cmp.Lexicographic.{slice_cmp}
@@ -11,7 +11,7 @@ use Rattle.object_alloc.specs.Cells.{cells}
 use Rattle.object_alloc.specs.Groups.{parts_of, own_cells}
 use Rattle.object_alloc.specs.Laid.{variables_of}
 use Rattle.object_alloc.specs.Walk.{objects}
-use Rattle.serde_json.specs.Data.{Data, Items, item, Members, no_members, member, object, put}
+use Rattle.serde_json.specs.Data.{Data, Members, no_members, member, put}
 use Rattle.serde_json.specs.Find.{of_integer, is_float}
 use Rattle.serde_json.specs.Written.{has_float, items_have_float, members_have_float}
 use Rattle.config_json.specs.Keys.{text_of}

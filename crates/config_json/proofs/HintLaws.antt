@@ -1,6 +1,6 @@
 -- Hints for the cells of a leaf.
-use Rattle.std.proofs.Common.{◌≡◌, Vec, Global, ℕ, zero, suc, ◌+◌, ◌-◌, ◌<◌, List, [], ◌∷◌, ◌++◌, Option, None, Some, Bool, cond, ℤ, length, map, refl, sym, ap, ◌∙◌, subst, arith, drop, append_assoc, append-nil, ◌≤◌}
-use Rattle.std.specs.Prelude.{slice_get, slice_index_or, filter_map, replicate, is_some, option_map, option_and_then}
+use Rattle.std.proofs.Common.{◌≡◌, Vec, Global, ℕ, zero, suc, ◌+◌, ◌-◌, ◌<◌, List, [], ◌∷◌, ◌++◌, Option, None, Some, Bool, cond, ℤ, length, map, refl, sym, ap, ◌∙◌, arith, drop, append_assoc, append-nil, ◌≤◌, pos}
+use Rattle.std.specs.Prelude.{slice_get, slice_index_or, filter_map, replicate, is_some, option_map}
 use Rattle.std.specs.List.{flat_map}
 use Rattle.std.proofs.lemmas.List.{length-map}
 use Rattle.std.proofs.lemmas.Option.{slice_get-get_or}
@@ -86,6 +86,9 @@ module _ (o : Outline) (l : Leaf) (sound : IsSound o) (held : IsHeldLeaf o l) wh
 
 -- Leaves one by one
 
+abbrev pub some_leaf : Leaf
+some_leaf = record { owner = None; attribute = 0; shape = Span (pos 0) (pos 0) }
+
 drop_at : {X : Type 0} (xs : List X) (k : ℕ) (d : X) → k < length xs → drop k xs ≡ slice_index_or xs k d ∷ drop (k + 1) xs
 drop_at [] k d h = absurd (omega (arith, h))
 drop_at (x ∷ xs) zero d h = refl
@@ -112,10 +115,15 @@ pub leaf_at : (o : Outline) (ls : List Leaf) (k : ℕ) (d : Leaf) → ls ≡ lea
 leaf_at o ls k d is h = leaf_held o k (slice_index_or ls k d) (ap (λ xs. slice_get xs k) (sym is) ∙ slice_get-get_or ls k d h)
 
 -- the hints for the cells of a leaf are those of its former value
-pub hints_made : (o z : Outline) (d : Data) (l : Leaf) (found : Option FormerValue) (old new : List (Option ℤ)) → z ≡ o → option_map (numbers_of (member_extent o l.shape)) found ≡ former o d l → new ≡ old ++ option_map_or (map Some) (option_map (numbers_of (member_extent z l.shape)) found) (replicate (length (leaf_cells z l)) None) → new ≡ old ++ leaf_hints o d l
-hints_made o z d l found old new same is e =
-    e ∙ ap (λ y. old ++ option_map_or (map Some) (option_map (numbers_of (member_extent y l.shape)) found) (replicate (length (leaf_cells y l)) None)) same
-    ∙ ap (λ v. old ++ option_map_or (map Some) v (replicate (length (leaf_cells o l)) None)) is
+pub hints_made :
+    (o : Outline) (d : Data) (l : Leaf) (found : Option FormerValue) (old new : List (Option ℤ))
+    → option_map (numbers_of (member_extent o l.shape)) found ≡ former o d l
+    → new ≡ old
+    ++ option_map_or (map Some) (option_map (numbers_of (member_extent o l.shape)) found)
+    (replicate (length (leaf_cells o l)) None)
+    → new ≡ old ++ leaf_hints o d l
+hints_made o d l found old new is e =
+    e ∙ ap (λ v. old ++ option_map_or (map Some) v (replicate (length (leaf_cells o l)) None)) is
 
 -- the first leaf without a former value, among those that are left
 pub missing_here : (o : Outline) (d : Data) (ls : List Leaf) (k : ℕ) (e : Leaf) (found : Option FormerValue) (path : List ℕ) → k < length ls → found ≡ None → option_map (numbers_of (member_extent o (slice_index_or ls k e).shape)) found ≡ former o d (slice_index_or ls k e) → path ≡ leaf_path o (slice_index_or ls k e) → Some path ≡ first_missing o d (drop k ls)

@@ -1,5 +1,5 @@
 -- What is known of objects by their numbers.
-use Rattle.std.proofs.Common.{◌≡◌, ℕ, zero, suc, ◌+◌, ◌<◌, ◌≤◌, List, [], ◌∷◌, Option, None, Some, Bool, true, false, ◌||◌, cond, length, nat_eq, refl, sym, ap, ◌∙◌, subst, arith, eq-eqb}
+use Rattle.std.proofs.Common.{◌≡◌, ℕ, zero, suc, ◌+◌, ◌<◌, List, [], ◌∷◌, Option, None, Some, Bool, true, false, cond, length, nat_eq, refl, sym, ap, ◌∙◌, subst, arith, eq-eqb}
 use Rattle.std.specs.Prelude.{slice_get, slice_index_or, Contains, IfSome}
 use Rattle.std.specs.List.{list_any}
 use Rattle.std.specs.Option.{option_map}
@@ -109,8 +109,11 @@ pub in_extent : (o : Outline) (c n : ℕ) (x : Object) → slice_get (objects o)
 in_extent o c n x e = subst (λ k. list_any (nat_eq k) (extent o c) ≡ is_a o.classes x.class c) (omega arith) (among o.classes c 0 n (objects o) x e)
 
 -- the class of an object, as it is told
-pub class_told : (o z : Outline) (n k : ℕ) (x : Object) → z ≡ o → slice_get (objects o) n ≡ Some x → ((d : Object) → k ≡ (slice_index_or (objects z) n d).class) → k ≡ x.class
-class_told o z n k x same e told = told x ∙ ap (λ y. (slice_index_or (objects y) n x).class) same ∙ ap (λ (y : Object). y.class) (get_or_from_slice_get (objects o) n x x e)
+pub class_told :
+    (o : Outline) (n k : ℕ) (x : Object) → slice_get (objects o) n ≡ Some x
+    → ((d : Object) → k ≡ (slice_index_or (objects o) n d).class) → k ≡ x.class
+class_told o n k x e told =
+    told x ∙ ap (λ (y : Object). y.class) (get_or_from_slice_get (objects o) n x x e)
 
 -- Variables
 
@@ -130,17 +133,15 @@ variable_told (v ∷ vs) (suc k) name shape h n s = variable_told vs k name shap
 pub variables_are : (o : Outline) (n : ℕ) (x : Object) → slice_get (objects o) n ≡ Some x → variables_of o (Some n) ≡ attributes o.classes x.class
 variables_are o n x e = ap (λ y. variables o (option_map (λ (z : Object). z.class) y)) e
 
--- the class of an object that is given, as it is told
-pub record IsClassed (o : Outline) (n k : ℕ) : Type 0 where
-  pub known : k < length o.classes
-  pub variables : variables_of o (Some n) ≡ attributes o.classes k
-
-pub classed : (o z : Outline) (owner : Option ℕ) (n k : ℕ) → IsSound o → z ≡ o → owner ≡ Some n → IfSome owner (λ m. m < length (objects o)) → ((d : Object) → k ≡ (slice_index_or (objects z) n d).class) → IsClassed o n k
-classed o z owner n k sound same is there told =
+-- the variables of an object that is given are those of its class, as the table and it are told
+pub variables_told :
+    (o t : Outline) (owner : Option ℕ) (n k : ℕ) → t ≡ o → owner ≡ Some n
+    → IfSome owner (λ m. m < length (objects o))
+    → ((d : Object) → k ≡ (slice_index_or (objects o) n d).class)
+    → variables_of o owner ≡ attributes t.classes k
+variables_told o t owner n k same is there told =
     let on : n < length (objects o) = subst (λ p. IfSome p (λ m. m < length (objects o))) is there in
     let x = item_at (objects o) n on in
-    let class = class_told o z n k x.item same x.has told in
-    record {
-      known = subst (λ j. j < length o.classes) (sym class) (class_known o sound n x.item x.has);
-      variables = variables_are o n x.item x.has ∙ ap (attributes o.classes) (sym class);
-    }
+    ap (variables_of o) is ∙ variables_are o n x.item x.has
+    ∙ ap (attributes o.classes) (sym (class_told o n k x.item x.has told))
+    ∙ ap (λ (y : Outline). attributes y.classes k) (sym same)

@@ -1,6 +1,5 @@
 pub mod ValuesRead
 pub mod Known
-pub mod StringLaws
 pub mod PlaceLaws
 pub mod CountLaws
 pub mod DomainLaws

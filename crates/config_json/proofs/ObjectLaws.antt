@@ -13,7 +13,7 @@ use Rattle.object_alloc.specs.Laid.{variables_of}
 use Rattle.object_alloc.specs.Paths.{IsBefore}
 use Rattle.object_alloc.specs.Walk.{objects}
 use Rattle.object_alloc.proofs.HeldLaws.{object_held}
-use Rattle.serde_json.specs.Data.{Data, Items, item, Members, array, object, put}
+use Rattle.serde_json.specs.Data.{Data, item, Members, array, object, put}
 use Rattle.config_json.specs.Contained.{AreContained}
 use Rattle.config_json.specs.Keys.{text_of}
 use Rattle.config_json.specs.Tree.{all_data, attribute_data, class_member, first_data, leaf_data, object_within, object_data, with_variables}

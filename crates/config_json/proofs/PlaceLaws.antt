@@ -1,11 +1,10 @@
 -- The place of an object, from that of its owner.
-use Rattle.std.proofs.Common.{◌≡◌, ℕ, zero, suc, ◌+◌, ◌<◌, List, [], ◌∷◌, ◌++◌, Option, None, Some, length, refl, sym, ap, ◌∙◌, arith, subst}
+use Rattle.std.proofs.Common.{◌≡◌, ℕ, zero, suc, ◌<◌, List, Option, None, Some, length, refl, sym, ap, ◌∙◌, arith}
 use Rattle.std.specs.Prelude.{slice_get, slice_index_or, option_and_then, IfSome}
 use Rattle.std.specs.Borrow.{Bor}
-use Rattle.class_table.specs.declared.table.Variable.{Variable}
 use Rattle.class_table.specs.Outline.{Outline}
 use Rattle.object_alloc.specs.declared.object.Object.{Object}
-use Rattle.object_alloc.specs.Laid.{class_in, variables_of}
+use Rattle.object_alloc.specs.Laid.{variables_of}
 use Rattle.object_alloc.specs.Paths.{IsBefore}
 use Rattle.object_alloc.specs.Walk.{objects}
 use Rattle.object_alloc.proofs.HeldLaws.{object_held}
@@ -39,7 +38,8 @@ module _ (o : Outline) (d : Data) where
 
   pub place_made : (n : ℕ) (x : Object) (places : List (Option (Bor Value))) → slice_get (objects o) n ≡ Some x → ArePlaces o d n places → from_owner (λ m. seen (slice_index_or places m None)) x ≡ object_place o d n
   place_made n x places e are =
-      same_step (λ m. seen (slice_index_or places m None)) (place_within o d n) n x (λ q lt. are q lt ∙ place_same (suc q) n q (omega arith) lt) e
+      same_step (λ m. seen (slice_index_or places m None)) (place_within o d n) n x
+      (λ q lt. are.each q lt ∙ place_same (suc q) n q (omega arith) lt) e
       ∙ ap (option_and_then (from_owner (place_within o d n))) (sym e)
 
   owner_there : (p : Option ℕ) (n m : ℕ) → n < m → IsBefore p n → IfSome p (λ q. q < m)

@@ -1,5 +1,5 @@
 -- Arrays, names and leaves of a configuration's JSON value.
-use Rattle.std.proofs.Common.{◌≡◌, ℕ, zero, suc, ◌+◌, ◌<◌, ◌≤◌, List, [], ◌∷◌, ◌++◌, Option, None, Some, length, drop, refl, sym, ap, ◌∙◌, arith}
+use Rattle.std.proofs.Common.{◌≡◌, ℕ, zero, suc, ◌+◌, ◌<◌, ◌≤◌, List, [], ◌∷◌, ◌++◌, Some, length, drop, refl, sym, ap, ◌∙◌, arith}
 use Rattle.std.specs.Prelude.{slice_get, slice_index_or}
 use Rattle.std.specs.Option.{option_map, option_map_or}
 use Rattle.std.proofs.lemmas.Option.{get_or_from_slice_get}
@@ -69,10 +69,13 @@ module _ (of : ℕ → Data) where
   data_done ns k now all h i = sym (items_append_none (items_view now)) ∙ ap (items_append (items_view now)) (sym (none_left ns k h)) ∙ i
 
 -- the name of the class of an object
-pub class_name_read : (o z : Outline) (n k : ℕ) (name : List ℕ) → z ≡ o → n < length (objects o) → k < length o.classes → ((d : Object) → k ≡ (slice_index_or (objects z) n d).class) → ((d : Class) → name ≡ (slice_index_or o.classes k d).name) → name ≡ class_name o n
-class_name_read o z n k name same there known told named =
+pub class_name_read :
+    (o : Outline) (n k : ℕ) (name : List ℕ) → n < length (objects o) → k < length o.classes
+    → ((d : Object) → k ≡ (slice_index_or (objects o) n d).class)
+    → ((d : Class) → name ≡ (slice_index_or o.classes k d).name) → name ≡ class_name o n
+class_name_read o n k name there known told named =
     let x = item_at (objects o) n there in
     let y = item_at o.classes k known in
-    let class = class_told o z n k x.item same x.has told in
+    let class = class_told o n k x.item x.has told in
     named y.item ∙ ap (λ (q : Class). q.name) (y.is y.item)
     ∙ sym (ap (λ q. name_in o (option_map (λ (w : Object). w.class) q)) x.has ∙ ap (λ j. name_in o (Some j)) (sym class) ∙ ap (λ q. option_map_or (λ (w : Class). w.name) q []) y.has)

@@ -1,5 +1,5 @@
 -- Former values as they are kept.
-use Rattle.std.specs.Prelude.{ℕ, ◌<◌, Bool, false, List, [], ◌∷◌, ℤ, Option, map, slice_get, slice_index_or, option_and_then}
+use Rattle.std.specs.Prelude.{ℕ, Bool, false, List, [], ℤ, Option, map, slice_get, slice_index_or, option_and_then}
 use Rattle.class_table.specs.declared.table.Resolved.{Resolved}
 use Rattle.class_table.specs.declared.table.Resolved.TheVariants.{Span, Truth, Choice, One, Many, Ref, RefSet}
 use Rattle.class_table.specs.Outline.{Outline}

@@ -1,5 +1,5 @@
 -- The places of objects, as they are kept.
-use Rattle.std.specs.Prelude.{◌≡◌, ℕ, ◌<◌, List, Option, None, slice_index_or, option_map}
+use Rattle.std.specs.Prelude.{◌≡◌, ℕ, ◌<◌, List, Option, None, length, slice_index_or, option_map}
 use Rattle.std.specs.Borrow.{Bor}
 use Rattle.class_table.specs.Outline.{Outline}
 use Rattle.serde_json.specs.declared.value.Value.{Value}
@@ -10,7 +10,8 @@ use Rattle.config_json.specs.Former.{object_place}
 abbrev pub seen : Option (Bor Value) → Option Data
 seen found = option_map (λ (v : Bor Value). view v.now) found
 
--- the places of the first so many objects
-abbrev pub ArePlaces : Outline → Data → ℕ → List (Option (Bor Value)) → Type 0
-ArePlaces o d count places =
-    (n : ℕ) → n < count → seen (slice_index_or places n None) ≡ object_place o d n
+-- the places of the first so many objects, and no more
+pub record ArePlaces (o : Outline) (d : Data) (count : ℕ) (places : List (Option (Bor Value))) :
+    Type 0 where
+  pub size : length places ≡ count
+  pub each : (n : ℕ) → n < count → seen (slice_index_or places n None) ≡ object_place o d n

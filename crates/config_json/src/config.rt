@@ -1,6 +1,5 @@
 //! Configurations as JSON values and as texts.
 ghost use Rattle.std.specs.Prelude.{◌≡◌, ◌++◌, ◌<◌, [], Some, length, slice_get, slice_index_or, filter_map, IfOk, OnOk, IfSome};
-ghost use Rattle.class_table.specs.Sound.{IsSound};
 ghost use Rattle.class_table.specs.Tables.{IsShapeOf};
 ghost use Rattle.object_alloc.specs.Cells.{cells as all_cells};
 ghost use Rattle.object_alloc.specs.Configurations.{IsConfiguration};
@@ -44,11 +43,12 @@ fn path_value(alloc: Global, objects: &Objects<'_>, n: u64) -> Result<Value, All
 }
 
 /// The name of a value of an enumeration as a string; nothing where there is no such value.
-fn name_value(alloc: Global, table: &ClassTable, e: u32, k: u64) -> Result<Value, AllocError>
-    requires enumeration { e < length table.now.enumerations }
+fn name_value(alloc: Global, objects: &Objects<'_>, e: u32, k: u64) -> Result<Value, AllocError>
+    requires enumeration { e < length objects.now.enumerations }
     ensures value { IfOk result (λ value. view value
-        ≡ string (text_of (value_name table.now e k))) }
+        ≡ string (text_of (value_name objects.now e k))) }
 {
+    let table = objects.table();
     if k >= table.value_count(e) as u64 {
         let nothing = text_value(alloc, &[])?;
         return Ok(nothing);
@@ -128,22 +128,21 @@ fn path_values(
 /// A leaf of this shape with these cells.
 fn leaf_value(
     alloc: Global,
-    table: &ClassTable,
     objects: &Objects<'_>,
     values: &[i64],
     own: &[u32],
     shape: Resolved,
 ) -> Result<Value, AllocError>
-    requires same { objects.now ≡ table.now }
-    requires shape { IsShapeOf (length table.now.classes) (length table.now.enumerations) shape }
-    ensures value { IfOk result (λ value. view value ≡ leaf_data table.now values.now own.now
+    requires shape { IsShapeOf (length objects.now.classes) (length objects.now.enumerations)
+        shape }
+    ensures value { IfOk result (λ value. view value ≡ leaf_data objects.now values.now own.now
         shape) }
 {
     match shape {
         Resolved::Span(_, _) => Ok(Value::from(only_value(values, own))),
         Resolved::Truth => Ok(Value::Bool(only_value(values, own) == 1)),
         Resolved::Choice(e) => {
-            let value = name_value(alloc, table, e, only_value(values, own).unsigned_abs())?;
+            let value = name_value(alloc, objects, e, only_value(values, own).unsigned_abs())?;
             Ok(value)
         }
         Resolved::Ref(_) => {
@@ -177,16 +176,14 @@ fn put_value(
 /// The keys of an object before its attributes: the name of its class.
 fn class_members(
     alloc: Global,
-    table: &ClassTable,
     objects: &Objects<'_>,
     n: u32,
 ) -> Result<Map<String, Value>, AllocError>
-    requires same { objects.now ≡ table.now }
-    requires object { n < length (all_objects table.now) }
+    requires object { n < length (all_objects objects.now) }
     ensures members { IfOk result (λ members. members_view members.entries
-        ≡ class_member table.now n) }
+        ≡ class_member objects.now n) }
 {
-    let class = table.class_name(objects.class(n));
+    let class = objects.table().class_name(objects.class(n));
     let name = text_value(alloc, class.as_bytes())?;
     let mut members = Map::new(alloc);
     serde_json::put(&mut members, alloc, "class", name)?;
@@ -197,18 +194,15 @@ fn class_members(
 #[cycle(tree)]
 fn object_value(
     alloc: Global,
-    table: &ClassTable,
     objects: &Objects<'_>,
     values: &[i64],
     n: u32,
 ) -> Result<Value, AllocError>
-    requires sound { IsSound table.now }
-    requires same { objects.now ≡ table.now }
-    requires object { n < length (all_objects table.now) }
-    ensures value { IfOk result (λ value. view value ≡ object_data table.now values.now n) }
+    requires object { n < length (all_objects objects.now) }
+    ensures value { IfOk result (λ value. view value ≡ object_data objects.now values.now n) }
 {
-    let members = class_members(alloc, table, objects, n)?;
-    let members = with_variables(alloc, table, objects, values, Some(n), members)?;
+    let members = class_members(alloc, objects, n)?;
+    let members = with_variables(alloc, objects, values, Some(n), members)?;
     Ok(Value::Object(members))
 }
 
@@ -217,23 +211,20 @@ fn object_value(
 #[cycle(tree)]
 fn with_variables(
     alloc: Global,
-    table: &ClassTable,
     objects: &Objects<'_>,
     values: &[i64],
     owner: Option<u32>,
     found: Map<String, Value>,
 ) -> Result<Map<String, Value>, AllocError>
-    requires sound { IsSound table.now }
-    requires same { objects.now ≡ table.now }
-    requires owner { IfSome owner (λ n. n < length (all_objects table.now)) }
+    requires owner { IfSome owner (λ n. n < length (all_objects objects.now)) }
     ensures members { IfOk result (λ members. members_view members.entries
-        ≡ with_variables (object_data table.now values.now) table.now values.now owner 0
-        (variables_of table.now owner) (members_view found.entries)) }
+        ≡ with_variables (object_data objects.now values.now) objects.now values.now owner 0
+        (variables_of objects.now owner) (members_view found.entries)) }
 {
     let mut members = found;
     for k in 0..objects.shape_count(owner) {
-        let variable = variable_of(table, objects, owner, k);
-        let value = attribute_value(alloc, table, objects, values, owner, k, variable.shape)?;
+        let variable = variable_of(objects, owner, k);
+        let value = attribute_value(alloc, objects, values, owner, k, variable.shape)?;
         put_value(alloc, &mut members, variable.name, value)?;
     }
     Ok(members)
@@ -243,52 +234,30 @@ fn with_variables(
 #[cycle(tree)]
 fn attribute_value(
     alloc: Global,
-    table: &ClassTable,
     objects: &Objects<'_>,
     values: &[i64],
     owner: Option<u32>,
     k: u32,
     shape: Resolved,
 ) -> Result<Value, AllocError>
-    requires sound { IsSound table.now }
-    requires same { objects.now ≡ table.now }
-    requires owner { IfSome owner (λ n. n < length (all_objects table.now)) }
-    requires shape { IsShapeOf (length table.now.classes) (length table.now.enumerations) shape }
+    requires owner { IfSome owner (λ n. n < length (all_objects objects.now)) }
+    requires shape { IsShapeOf (length objects.now.classes) (length objects.now.enumerations)
+        shape }
     ensures value { IfOk result (λ value. view value
-        ≡ attribute_data (object_data table.now values.now) table.now values.now owner k shape) }
+        ≡ attribute_data (object_data objects.now values.now) objects.now values.now owner k
+        shape) }
 {
     match shape {
         Resolved::One(_) => {
-            let value = first_value(
-                alloc,
-                table,
-                objects,
-                values,
-                owner,
-                objects.parts(owner, k),
-            )?;
+            let value = first_value(alloc, objects, values, owner, objects.parts(owner, k))?;
             Ok(value)
         }
         Resolved::Many(_, _) => {
-            let items = object_values(
-                alloc,
-                table,
-                objects,
-                values,
-                owner,
-                objects.parts(owner, k),
-            )?;
+            let items = object_values(alloc, objects, values, owner, objects.parts(owner, k))?;
             Ok(Value::Array(items))
         }
         _ => {
-            let value = leaf_value(
-                alloc,
-                table,
-                objects,
-                values,
-                objects.own_cells(owner, k),
-                shape,
-            )?;
+            let value = leaf_value(alloc, objects, values, objects.own_cells(owner, k), shape)?;
             Ok(value)
         }
     }
@@ -298,22 +267,18 @@ fn attribute_value(
 #[cycle(tree)]
 fn first_value(
     alloc: Global,
-    table: &ClassTable,
     objects: &Objects<'_>,
     values: &[i64],
     owner: Option<u32>,
     parts: &[u32],
 ) -> Result<Value, AllocError>
-    requires sound { IsSound table.now }
-    requires same { objects.now ≡ table.now }
-    requires owner { IfSome owner (λ n. n < length (all_objects table.now)) }
-    requires parts { AreContained table.now owner parts.now }
-    ensures value { IfOk result (λ value. view value ≡ first_data (object_data table.now values.now)
-        parts.now) }
+    requires parts { AreContained objects.now owner parts.now }
+    ensures value { IfOk result (λ value. view value
+        ≡ first_data (object_data objects.now values.now) parts.now) }
 {
     match parts.first() {
         Some(n) => {
-            let value = object_value(alloc, table, objects, values, *n)?;
+            let value = object_value(alloc, objects, values, *n)?;
             Ok(value)
         }
         None => Ok(Value::Null),
@@ -324,22 +289,18 @@ fn first_value(
 #[cycle(tree)]
 fn object_values(
     alloc: Global,
-    table: &ClassTable,
     objects: &Objects<'_>,
     values: &[i64],
     owner: Option<u32>,
     parts: &[u32],
 ) -> Result<Vec<Value>, AllocError>
-    requires sound { IsSound table.now }
-    requires same { objects.now ≡ table.now }
-    requires owner { IfSome owner (λ n. n < length (all_objects table.now)) }
-    requires parts { AreContained table.now owner parts.now }
+    requires parts { AreContained objects.now owner parts.now }
     ensures items { IfOk result (λ items. items_view items.items
-        ≡ all_data (object_data table.now values.now) parts.now) }
+        ≡ all_data (object_data objects.now values.now) parts.now) }
 {
     let mut items = Vec::new(alloc);
     for n in parts {
-        let item = object_value(alloc, table, objects, values, *n)?;
+        let item = object_value(alloc, objects, values, *n)?;
         items.push(item)?;
     }
     Ok(items)
@@ -355,9 +316,8 @@ pub fn to_json(
     requires same { objects.now ≡ table.now }
     ensures value { IfOk result (λ value. view value ≡ config_data table.now config.now) }
 {
-    let _classes = table.class_count();
     let none = Map::new(alloc);
-    let members = with_variables(alloc, table, objects, config.items(), None, none)?;
+    let members = with_variables(alloc, objects, config.items(), None, none)?;
     Ok(Value::Object(members))
 }
 

@@ -26,24 +26,21 @@ use std::alloc::{AllocError, Global};
 /// The place of a leaf.
 fn leaf_place<'v>(
     alloc: Global,
-    table: &ClassTable,
     objects: &Objects<'_>,
     json: &'v Value,
     places: &[Option<&'v Value>],
     leaf: Leaf,
 ) -> Result<Option<&'v Value>, AllocError>
-    requires sound { IsSound table.now }
-    requires same { objects.now ≡ table.now }
-    requires leaf { IsHeldLeaf table.now leaf }
-    requires count { length places.now ≡ length (all_objects table.now) }
-    requires places { ArePlaces table.now (view json.now) (length (all_objects table.now))
+    requires leaf { IsHeldLeaf objects.now leaf }
+    requires places { ArePlaces objects.now (view json.now) (length (all_objects objects.now))
         places.now }
-    ensures place { IfOk result (λ found. seen found ≡ leaf_place table.now (view json.now) leaf) }
+    ensures place { IfOk result (λ found. seen found
+        ≡ leaf_place objects.now (view json.now) leaf) }
 {
     let Some(owner) = owner_place(json, places, leaf.owner) else {
         return Ok(None);
     };
-    let variable = variable_of(table, objects, leaf.owner, leaf.attribute);
+    let variable = variable_of(objects, leaf.owner, leaf.attribute);
     let found = named(alloc, owner, variable.name)?;
     Ok(found)
 }
@@ -51,25 +48,22 @@ fn leaf_place<'v>(
 /// The former value of a leaf.
 fn former_of(
     alloc: Global,
-    table: &ClassTable,
     objects: &Objects<'_>,
     json: &Value,
     places: &[Option<&Value>],
     leaf: Leaf,
 ) -> Result<Option<FormerValue>, AllocError>
-    requires sound { IsSound table.now }
-    requires same { objects.now ≡ table.now }
-    requires leaf { IsHeldLeaf table.now leaf }
-    requires count { length places.now ≡ length (all_objects table.now) }
-    requires places { ArePlaces table.now (view json.now) (length (all_objects table.now))
+    requires sound { IsSound objects.now }
+    requires leaf { IsHeldLeaf objects.now leaf }
+    requires places { ArePlaces objects.now (view json.now) (length (all_objects objects.now))
         places.now }
     ensures value { IfOk result (λ found. option_map
-        (numbers_of (member_extent table.now leaf.shape)) found ≡ former table.now (view json.now)
-        leaf) }
+        (numbers_of (member_extent objects.now leaf.shape)) found
+        ≡ former objects.now (view json.now) leaf) }
 {
-    match leaf_place(alloc, table, objects, json, places, leaf)? {
+    match leaf_place(alloc, objects, json, places, leaf)? {
         Some(value) => {
-            let found = value_in(alloc, table, objects, leaf.shape, value)?;
+            let found = value_in(alloc, objects, leaf.shape, value)?;
             Ok(found)
         }
         None => Ok(None),
@@ -163,12 +157,12 @@ pub fn hints_of(
     ensures whole { IfOk result (λ found. missing table.now (json_of former.now) ≡ None
         → IsWhole table.now found) }
 {
-    let _classes = table.class_count();
+    let _count = objects.count();
     let json = &former.value;
-    let places = places_of(alloc, table, objects, json)?;
+    let places = places_of(alloc, objects, json)?;
     let mut hints = Vec::new(alloc);
     for leaf in objects.leaves() {
-        let found = former_of(alloc, table, objects, json, &places, *leaf)?;
+        let found = former_of(alloc, objects, json, &places, *leaf)?;
         push_hints(&mut hints, objects, *leaf, found)?;
     }
     Ok(Hints::of(hints))
@@ -193,19 +187,12 @@ fn owner_text(
 }
 
 /// The path of a leaf.
-fn leaf_text(
-    alloc: Global,
-    table: &ClassTable,
-    objects: &Objects<'_>,
-    leaf: Leaf,
-) -> Result<PathText, AllocError>
-    requires sound { IsSound table.now }
-    requires same { objects.now ≡ table.now }
-    requires leaf { IsHeldLeaf table.now leaf }
-    ensures path { IfOk result (λ text. text ≡ leaf_path table.now leaf) }
+fn leaf_text(alloc: Global, objects: &Objects<'_>, leaf: Leaf) -> Result<PathText, AllocError>
+    requires leaf { IsHeldLeaf objects.now leaf }
+    ensures path { IfOk result (λ text. text ≡ leaf_path objects.now leaf) }
 {
     let mut text = owner_text(alloc, objects, leaf.owner)?;
-    let variable = variable_of(table, objects, leaf.owner, leaf.attribute);
+    let variable = variable_of(objects, leaf.owner, leaf.attribute);
     text.extend_from_slice(variable.name.as_bytes())?;
     PathText::of(alloc, &text)
 }
@@ -221,13 +208,13 @@ pub fn missing(
     requires same { objects.now ≡ table.now }
     ensures path { IfOk result (λ path. path ≡ missing table.now (json_of former.now)) }
 {
-    let _classes = table.class_count();
+    let _count = objects.count();
     let json = &former.value;
-    let places = places_of(alloc, table, objects, json)?;
+    let places = places_of(alloc, objects, json)?;
     for leaf in objects.leaves() {
-        let found = former_of(alloc, table, objects, json, &places, *leaf)?;
+        let found = former_of(alloc, objects, json, &places, *leaf)?;
         if found.is_none() {
-            let path = leaf_text(alloc, table, objects, *leaf)?;
+            let path = leaf_text(alloc, objects, *leaf)?;
             return Ok(Some(path));
         }
     }

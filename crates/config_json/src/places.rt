@@ -1,6 +1,5 @@
 //! The places of objects and leaves in a JSON value: keys for names, elements for indexes.
 ghost use Rattle.std.specs.Prelude.{◌≡◌, ◌<◌, None, Some, length, slice_get, slice_index_or, option_and_then, IfOk, IfSome};
-ghost use Rattle.class_table.specs.Sound.{IsSound};
 ghost use Rattle.class_table.specs.Tables.{IsShapeOf};
 ghost use Rattle.object_alloc.specs.Laid.{variables_of};
 ghost use Rattle.object_alloc.specs.Walk.{objects as all_objects};
@@ -10,28 +9,22 @@ ghost use Rattle.config_json.specs.Former.{element_of, step_to, under_name, owne
 ghost use Rattle.config_json.specs.Keys.{text_of};
 ghost use Rattle.config_json.specs.Places.{seen, ArePlaces};
 
-use class_table::{Attribute, ClassTable, Resolved};
+use class_table::{Attribute, Resolved};
 use conf_syntax::Name;
 use object_alloc::{Object, Objects};
 use serde_json::Value;
 use std::alloc::{AllocError, Global};
 
 /// An attribute of an object, or a variable of the top level.
-pub(crate) fn variable_of<'t>(
-    table: &'t ClassTable,
-    objects: &Objects<'_>,
-    owner: Option<u32>,
-    k: u32,
-) -> Attribute<'t>
-    requires sound { IsSound table.now }
-    requires same { objects.now ≡ table.now }
-    requires owner { IfSome owner (λ n. n < length (all_objects table.now)) }
-    requires attribute { k < length (variables_of table.now owner) }
-    ensures variable { slice_get (variables_of table.now owner) k
+pub(crate) fn variable_of<'t>(objects: &Objects<'t>, owner: Option<u32>, k: u32) -> Attribute<'t>
+    requires owner { IfSome owner (λ n. n < length (all_objects objects.now)) }
+    requires attribute { k < length (variables_of objects.now owner) }
+    ensures variable { slice_get (variables_of objects.now owner) k
         ≡ Some (record { name = result.name.now; shape = result.shape }) }
-    ensures exists { IsShapeOf (length table.now.classes) (length table.now.enumerations)
+    ensures exists { IsShapeOf (length objects.now.classes) (length objects.now.enumerations)
         result.shape }
 {
+    let table = objects.table();
     match owner {
         Some(n) => table.attribute(objects.class(n), k),
         None => table.root(k),
@@ -87,19 +80,16 @@ fn object_of(objects: &Objects<'_>, n: u32) -> Object
 /// Where an object stands, from where its owner stands.
 fn step_to<'v>(
     alloc: Global,
-    table: &ClassTable,
     objects: &Objects<'_>,
     object: Object,
     owner: &'v Value,
 ) -> Result<Option<&'v Value>, AllocError>
-    requires sound { IsSound table.now }
-    requires same { objects.now ≡ table.now }
-    requires owner { IfSome object.owner (λ n. n < length (all_objects table.now)) }
-    requires attribute { object.attribute < length (variables_of table.now object.owner) }
-    ensures place { IfOk result (λ found. seen found ≡ step_to (variables_of table.now object.owner)
-        object (view owner.now)) }
+    requires owner { IfSome object.owner (λ n. n < length (all_objects objects.now)) }
+    requires attribute { object.attribute < length (variables_of objects.now object.owner) }
+    ensures place { IfOk result (λ found. seen found
+        ≡ step_to (variables_of objects.now object.owner) object (view owner.now)) }
 {
-    let variable = variable_of(table, objects, object.owner, object.attribute);
+    let variable = variable_of(objects, object.owner, object.attribute);
     match named(alloc, owner, variable.name)? {
         Some(under) => Ok(element_of(under, variable.shape, object.element)),
         None => Ok(None),
@@ -110,23 +100,20 @@ fn step_to<'v>(
 /// lesser number.
 fn place_of<'v>(
     alloc: Global,
-    table: &ClassTable,
     objects: &Objects<'_>,
     former: &'v Value,
     places: &[Option<&'v Value>],
     n: u32,
 ) -> Result<Option<&'v Value>, AllocError>
-    requires sound { IsSound table.now }
-    requires same { objects.now ≡ table.now }
-    requires object { n < length (all_objects table.now) }
-    requires count { length places.now ≡ n }
-    requires places { ArePlaces table.now (view former.now) n places.now }
-    ensures place { IfOk result (λ found. seen found ≡ object_place table.now (view former.now) n) }
+    requires object { n < length (all_objects objects.now) }
+    requires places { ArePlaces objects.now (view former.now) n places.now }
+    ensures place { IfOk result (λ found. seen found
+        ≡ object_place objects.now (view former.now) n) }
 {
     let object = object_of(objects, n);
     match owner_place(former, places, object.owner) {
         Some(owner) => {
-            let found = step_to(alloc, table, objects, object, owner)?;
+            let found = step_to(alloc, objects, object, owner)?;
             Ok(found)
         }
         None => Ok(None),
@@ -136,19 +123,15 @@ fn place_of<'v>(
 /// The places of all objects.
 pub(crate) fn places_of<'v>(
     alloc: Global,
-    table: &ClassTable,
     objects: &Objects<'_>,
     former: &'v Value,
 ) -> Result<Vec<Option<&'v Value>>, AllocError>
-    requires sound { IsSound table.now }
-    requires same { objects.now ≡ table.now }
-    ensures count { IfOk result (λ places. length places.items ≡ length (all_objects table.now)) }
-    ensures places { IfOk result (λ places. ArePlaces table.now (view former.now)
-        (length (all_objects table.now)) places.items) }
+    ensures places { IfOk result (λ places. ArePlaces objects.now (view former.now)
+        (length (all_objects objects.now)) places.items) }
 {
     let mut places = Vec::new(alloc);
     for n in 0..objects.count() {
-        let place = place_of(alloc, table, objects, former, &places, n)?;
+        let place = place_of(alloc, objects, former, &places, n)?;
         places.push(place)?;
     }
     Ok(places)

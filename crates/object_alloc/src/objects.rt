@@ -263,8 +263,8 @@ impl<'t> Objects<'t> {
         shape_at(self.table, class_of(&self.objects, owner), k)
     }
 
-    /// The table of the model's classes.
-    pub(crate) fn table(&self) -> &'t ClassTable
+    /// The table of the model's classes, borrowed for as long as the objects borrow it.
+    pub fn table(&self) -> &'t ClassTable
         ensures table { result.now ≡ self.now }
     {
         self.table

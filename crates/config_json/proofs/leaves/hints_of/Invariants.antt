@@ -6,4 +6,6 @@ use Rattle.config_json.proofs.leaves.hints_of.Given as goal
 
 -- with the leaves that are left they are the hints for all
 abbrev pub invariant-loop-leaf : goal.invariant-loop-leaf
-invariant-loop-leaf l = l.hints.items ++ flat_map (leaf_hints l.table (view l.json)) (drop l.leaf-index l.leaf-items) ≡ flat_map (leaf_hints l.table (view l.json)) l.leaf-items
+invariant-loop-leaf l =
+    l.hints.items ++ flat_map (leaf_hints l.objects (view l.json)) (drop l.leaf-index l.leaf-items)
+    ≡ flat_map (leaf_hints l.objects (view l.json)) l.leaf-items

@@ -11,11 +11,14 @@ use Rattle.config_json.proofs.values.set_in.Goals as goal
 pub returns-then-len-count : goal.returns-then-len-count
 returns-then-len-count c =
     let array : as_array (view c.args.value.now) ≡ Some (items_view c.in-Some.items.now.items) = search rules in
-    record { set = sym (set_other c.args.table.now c.args.class c.args.count (as_array (view c.args.value.now)) c.in-Some.items.now.items array (search rules)) }
+    record {
+      set = sym (set_other c.args.objects.now c.args.class c.args.count
+          (as_array (view c.args.value.now)) c.in-Some.items.now.items array (search rules));
+    }
 
 pub returns-in-Some-2 : goal.returns-in-Some-2
 returns-in-Some-2 c =
-    let o = c.args.table.now in
+    let o = c.args.objects.now in
     let items = c.in-Some.items.now.items in
     let array : as_array (view c.args.value.now) ≡ Some (items_view items) = search rules in
     let same : length items ≡ c.args.count = search rules in
