@@ -1,6 +1,4 @@
-pub mod ClauseQuiet
 pub mod MemberLaws
 pub mod ConjunctionQuiet
 pub mod ConjunctionReasons
 pub mod Asked
-pub mod RestLaws

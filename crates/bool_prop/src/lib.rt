@@ -5,16 +5,12 @@
 //! test finds which of them has something to say in the boxes, and its literals are the
 //! explanation. Nothing is built where none has.
 //!
-//! - `conjunction`, `member`, `clause`: one module for each kind.
-//! - `resting`: why a clause needs no look. `rests`: what is kept of it.
+//! - `conjunction`, `member`: one module for each kind; of clauses `clause_rule` has it.
 //! - `propagator`: `BoolProp`, the face.
 #![tactic(auto)]
 
-mod clause;
 mod conjunction;
 mod member;
 mod propagator;
-mod resting;
-mod rests;
 
 pub use propagator::BoolProp;

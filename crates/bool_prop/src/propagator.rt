@@ -7,29 +7,21 @@ ghost use Rattle.ground_form.specs.WellMade.{IsWellMade, IsWellMadeCon};
 ghost use Rattle.rule_law.specs.Answers.{AreBoxesWithin, IsAnswer};
 ghost use Rattle.bool_prop.specs.Handled.{is_handled};
 
-use crate::clause::prune_clause;
 use crate::conjunction::prune_conjunction;
 use crate::member::prune_member;
-use crate::rests::Rests;
+use clause_rule::prune_clause;
 use ground_form::{Con, Ground, Kind};
 use rule_law::{Propagator, Repeats, probe};
 use signed_clause::{Clause, IntSet};
 use std::alloc::{AllocError, Global};
 
-/// What is kept between calls.
-#[derive(Drop)]
-pub(crate) struct Cache {
-    repeats: Repeats,
-    rests: Rests,
-}
-
 /// The propagator of conjunctions, memberships and clauses. The boxes of a flag and of the first
-/// parts tell at once that there is nothing to say, and so do mostly two literals of a clause; what
-/// is kept is which conjunctions have a variable that stands twice, and of clauses these literals.
+/// parts tell at once that there is nothing to say, and so do two literals of a clause; what is kept
+/// is which conjunctions have a variable that stands twice.
 #[derive(Drop)]
 pub struct BoolProp {
     alloc: Global,
-    cache: Cache,
+    repeats: Repeats,
 }
 
 impl BoolProp {
@@ -39,10 +31,7 @@ impl BoolProp {
     {
         BoolProp {
             alloc,
-            cache: Cache {
-                repeats: Repeats::new(alloc),
-                rests: Rests::new(alloc),
-            },
+            repeats: Repeats::new(alloc),
         }
     }
 }
@@ -57,7 +46,7 @@ fn is_handled(kind: Kind) -> bool
 /// What a constraint has to say in the boxes.
 pub(crate) fn prune_one(
     alloc: Global,
-    cache: &mut Cache,
+    repeats: &mut Repeats,
     k: u32,
     con: &Con,
     domains: &[IntSet],
@@ -70,27 +59,12 @@ pub(crate) fn prune_one(
 {
     match con {
         Con::AndDef { flag, parts } => {
-            prune_conjunction(
-                &mut cache.repeats,
-                k,
-                con,
-                *flag,
-                parts.items(),
-                domains,
-                boxes,
-                alloc,
-            )
+            prune_conjunction(repeats, k, con, *flag, parts.items(), domains, boxes, alloc)
         }
         Con::MemberDef { flag, var, set } => {
             prune_member(con, *flag, *var, set, domains, boxes, alloc)
         }
-        Con::ClauseCon { clause } => prune_clause(
-            &mut cache.rests,
-            k,
-            clause.clause(),
-            domains,
-            boxes,
-        ),
+        Con::ClauseCon { clause } => prune_clause(clause.clause(), domains, boxes),
         _ => probe(con, domains, boxes, alloc),
     }
 }
@@ -103,8 +77,7 @@ impl Propagator for BoolProp {
     }
 
     fn begin(&mut self) {
-        self.cache.repeats.forget();
-        self.cache.rests.forget();
+        self.repeats.forget();
     }
 
     fn prune(
@@ -116,7 +89,7 @@ impl Propagator for BoolProp {
         let con = &g.cons.items()[k as usize];
         prune_one(
             self.alloc,
-            &mut self.cache,
+            &mut self.repeats,
             k,
             con,
             g.domains.items(),

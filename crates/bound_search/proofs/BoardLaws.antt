@@ -8,14 +8,29 @@ use Rattle.signed_clause.specs.Clauses.{Boxes, Literals, box_of, false_in, unit_
 use Rattle.ground_form.specs.declared.ground.Ground.{Ground}
 use Rattle.fd_store.specs.declared.store.Applied.{Applied}
 use Rattle.fd_store.specs.declared.store.Applied.TheVariants.{Pruned, Conflict}
-use Rattle.fd_store.specs.Levels.{Level, Stack, moved, applied, applied_by, reacted, pruned_by, dropped_from, dropped}
+use Rattle.fd_store.specs.Levels.{Level, Stack, bottom, moved, applied, applied_by, reacted, pruned_by, dropped_from, dropped}
 use Rattle.prop_queue.specs.Work as queue
-use Rattle.prop_queue.specs.Work.{AreAllQuiet}
+use Rattle.prop_queue.specs.Work.{Work, IsOver, AreAllQuiet}
 use Rattle.clause_watches.specs.Watching as watches
 use Rattle.clause_watches.specs.declared.rest.Rest.{Rest}
-use Rattle.clause_watches.specs.Watching.{Watching, AreWider}
+use Rattle.clause_watches.specs.Watching.{Watching, AreWider, IsKnown, clause_of, rest_of}
 use Rattle.search_run.proofs.Units.{some_same, none_some, exists_from_meets, box-set_other}
-use Rattle.bound_search.specs.Boards.{IsBelow, AreLower}
+use Rattle.bound_search.specs.Boards.{IsBoard, IsBelow, AreLower}
+
+-- ---- the first board
+
+pub new_board : (g : Ground) (s : Stack) (w : Work) (v : Watching) → s ≡ bottom g.domains →
+    IsOver g w → ((boxes : Boxes) → queue.Fits g w boxes) → v.variables ≡ length g.domains →
+    v.added ≡ [] → v.rests ≡ [] → IsBoard g s w v
+new_board g s w v e over fits variables a r = record {
+  size = ap (λ (k : Stack). length k.top.now) e;
+  over = over;
+  listed = fits s.top.now;
+  variables = variables;
+  paired = ap length r ∙ sym (ap length a);
+  watched = λ i. subst (λ (rs : List Rest). IsKnown s.top.now (clause_of v.added i) (rest_of rs i))
+      (sym r) tt;
+}
 
 -- ---- one box changes
 

@@ -2,3 +2,4 @@ pub mod OrderLaws
 pub mod MarkLaws
 pub mod RowLaws
 pub mod FitLaws
+pub mod ClauseLaws

@@ -1,10 +1,10 @@
 -- Rows that grow, and the rows of constraints.
-use Rattle.std.proofs.Common.{◌≡◌, ℕ, suc, zero, ◌<◌, ◌==◌, Bool, true, false, List, [], ◌∷◌, ◌++◌, ◌||◌, ◌&&◌, length, arith, refl, sym, ap, ◌∙◌, inl, inr, subst, slice_set, slice_index_or, slice_get, Some, ◌+◌, ◌-◌, ◌⊎◌, All, map}
+use Rattle.std.proofs.Common.{◌≡◌, ℕ, suc, zero, cond, ◌<◌, ◌==◌, Bool, true, false, List, [], ◌∷◌, ◌++◌, ◌||◌, ◌&&◌, length, arith, refl, sym, ap, ◌∙◌, inl, inr, subst, slice_set, slice_index_or, slice_get, Some, ◌+◌, ◌-◌, ◌⊎◌, All, map}
 use Rattle.std.proofs.lemmas.Bool.{cases_eq, false_from_ne_true}
 use Rattle.ground_form.specs.declared.con.Con.{Con}
 use Rattle.ground_form.specs.Meaning.{vars_of}
 use Rattle.rule_law.specs.Reasons.{has_number}
-use Rattle.prop_queue.specs.Work.{row_of}
+use Rattle.prop_queue.specs.Work.{row_of, is_clause, listed_vars}
 use Rattle.prop_queue.specs.Lists.{IsFilled}
 
 -- ---- truth values
@@ -140,7 +140,7 @@ more_at false false c e f = refl
 
 pub filled_more : (cons : List Con) (rows news : List (List ℕ)) (n : ℕ) (vars : List ℕ) →
     IsFilled cons rows n →
-    ((con : Con) → slice_get cons n ≡ Some con → vars ≡ vars_of con) →
+    ((con : Con) → slice_get cons n ≡ Some con → vars ≡ listed_vars con) →
     ((y j : ℕ) →
     has_number j (row_of news y) ≡
     (has_number j (row_of rows y) || has_number y vars && n == j)) →
@@ -156,7 +156,7 @@ filled_more cons rows news n vars f v h = record {
         let yes : (n == k) ≡ true = grind arith in
         let none : has_number k (row_of rows x) ≡ false =
         false_from_ne_true _ (λ e. let no = f.below x k e in omega arith) in
-        let is : vars ≡ vars_of con =
+        let is : vars ≡ listed_vars con =
         v con (subst (λ (i : ℕ). slice_get cons i ≡ Some con) same at) in
         h x k ∙ more_at (has_number k (row_of rows x)) (has_number x vars) (n == k) none yes
         ∙ ap (λ (l : List ℕ). has_number x l) is
@@ -167,13 +167,18 @@ filled_more cons rows news n vars f v h = record {
   ];
 }
 
+few_below : (m : ℕ) (b : Bool) (xs : List ℕ) → All (λ x. x < m) xs → All (λ x. x < m) (cond b [] xs)
+few_below m true xs h = λ j d l. absurd (omega arith)
+few_below m false xs h = h
+
 -- the variables that were found are those of a constraint, so they have rows
 pub vars_below : (cons : List Con) (k m : ℕ) (vars : List ℕ) →
     All (λ con. All (λ x. x < m) (vars_of con)) cons →
-    k < length cons → ((con : Con) → slice_get cons k ≡ Some con → vars ≡ vars_of con) →
+    k < length cons → ((con : Con) → slice_get cons k ≡ Some con → vars ≡ listed_vars con) →
     All (λ x. x < m) vars
 vars_below [] k m vars h lt v = absurd (omega arith)
 vars_below (c ∷ cs) zero m vars h lt v =
-    subst (λ (l : List ℕ). All (λ x. x < m) l) (sym (v c refl)) (h 0 c (omega arith))
+    subst (λ (l : List ℕ). All (λ x. x < m) l) (sym (v c refl))
+    (few_below m (is_clause c) (vars_of c) (h 0 c (omega arith)))
 vars_below (c ∷ cs) (suc k) m vars h lt v =
     vars_below cs k m vars (λ j d l. h (suc j) d (omega arith)) (omega arith) v

@@ -3,9 +3,8 @@
 -- rows are filled one constraint after the other.
 use Rattle.std.specs.Prelude.{◌≡◌, ℕ, suc, ◌<◌, ◌==◌, Bool, true, cond, List, [], ◌∷◌, Some, length, slice_get}
 use Rattle.ground_form.specs.declared.con.Con.{Con}
-use Rattle.ground_form.specs.Meaning.{vars_of}
 use Rattle.rule_law.specs.Reasons.{has_number}
-use Rattle.prop_queue.specs.Work.{is_marked, row_of}
+use Rattle.prop_queue.specs.Work.{is_marked, row_of, listed_vars}
 
 -- ---- marks
 
@@ -38,8 +37,14 @@ pub record IsKept (marks : List Bool) (order : List ℕ) : Type 0 where
 abbrev pub AreBelow : ℕ → List (List ℕ) → Type 0
 AreBelow n rows = (x k : ℕ) → has_number k (row_of rows x) ≡ true → k < n
 
+-- rows and other constraints have numbers below n alone, and each row's variable is watched
+pub record HasRoom (n : ℕ) (rows : List (List ℕ)) (others : List ℕ) (variables : ℕ) : Type 0 where
+  pub listed : AreBelow n rows
+  pub whole : (k : ℕ) → has_number k others ≡ true → k < n
+  pub watched : variables ≡ length rows
+
 -- the rows are those of the first n constraints
 pub record IsFilled (cons : List Con) (rows : List (List ℕ)) (n : ℕ) : Type 0 where
   pub below : AreBelow n rows
   pub named : (x k : ℕ) (con : Con) → slice_get cons k ≡ Some con → k < n
-      → has_number k (row_of rows x) ≡ has_number x (vars_of con)
+      → has_number k (row_of rows x) ≡ has_number x (listed_vars con)

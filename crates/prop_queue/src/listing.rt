@@ -143,16 +143,6 @@ pub fn list_row(listing: &mut Listing, row: &[u32])
     }
 }
 
-/// Lists every number. It costs as many steps, and takes no memory.
-pub fn list_all(listing: &mut Listing)
-    ensures size { length listing.new.marks ≡ length listing.old.marks }
-    ensures marks { (k : ℕ) → k < length listing.new.marks → is_marked listing.new.marks k ≡ true }
-{
-    for k in 0..listing.len() {
-        listing.list(k as u32);
-    }
-}
-
 /// Takes every number off. It costs as many steps as there are listed ones.
 pub fn list_none(listing: &mut Listing)
     ensures size { length listing.new.marks ≡ length listing.old.marks }

@@ -1,72 +1,89 @@
 //! `Queue`, the constraints that a search still has to look at.
 //!
-//! A queue fits boxes in which every constraint that isn't listed is quiet. Its caller notes each
-//! change of a box, and the queue stays one that fits; so where nothing is listed any more, every
-//! constraint is quiet.
-ghost use Rattle.std.specs.Prelude.{◌≡◌, ◌<◌, ◌||◌, ◌↔◌, ℕ, true, false, length, slice_get, Some, IfOk, IfSome, IfNone};
+//! Constraints are listed when a variable of theirs has changed; clauses are watched. A queue fits
+//! boxes in which every constraint that isn't listed is quiet, and what the watches know of the
+//! clauses is true. Its caller notes each change of a box, and the queue stays one that fits; so
+//! where nothing is listed any more and no watched clause acts, every constraint is quiet.
+ghost use Rattle.std.specs.Prelude.{◌≡◌, ◌<◌, ◌||◌, ◌⊎◌, ℕ, true, false, length, map, slice_get, Some, IfOk, IfSome, IfNone};
 ghost use Rattle.signed_clause.specs.Clauses.{Boxes};
 ghost use Rattle.ground_form.specs.declared.ground.Ground.{Ground};
 ghost use Rattle.ground_form.specs.declared.con.Con.{Con};
 ghost use Rattle.ground_form.specs.WellMade.{IsWellMade};
 ghost use Rattle.rule_law.specs.Answers.{AreBoxesWithin, IsPruning};
 ghost use Rattle.rule_law.specs.Reasons.{has_number};
+ghost use Rattle.clause_watches.specs.declared.rest.Rest.TheVariants as rest;
+ghost use Rattle.clause_watches.specs.Watching.{rest_of, touched, widened, AreWider, IsActing};
 ghost use Rattle.prop_queue.specs.Work.{is_marked, row_of, IsOver, Fits, AreAllQuiet, DifferAt};
 
-use crate::listing::{Listing, list_all, list_none, list_row};
+use crate::clauses::{reason_of, watch_all};
+use crate::listing::{Listing, list_none, list_row};
+use crate::others::others_of;
 use crate::rows::{Rows, rows_of};
 use crate::search::find;
 use crate::urgency::urgencies_of;
+use clause_watches::Watches;
 use ground_form::Ground;
 use rule_law::Kit;
 use signed_clause::{Clause, IntSet};
 use std::alloc::{AllocError, Global};
 use std::marker::Model;
 
-/// The constraints that are still to be looked at. Those that cost little are looked at first.
+/// The constraints that are still to be looked at. Clauses come first, and then those that cost
+/// little.
 #[derive(Drop)]
 pub struct Queue {
     listing: Listing,
     rows: Rows,
+    others: Vec<u32>,
+    clauses: Watches,
 }
 
 impl Model for Queue {
     ghost use Rattle.std.specs.Prelude.{length};
     ghost use Rattle.prop_queue.specs.Work.{Work, work};
-    ghost use Rattle.prop_queue.specs.Lists.{AreBelow};
+    ghost use Rattle.prop_queue.specs.Lists.{HasRoom};
 
     ghost Value = { Work };
 
-    ghost view = { λ q. work q.listing.marks q.rows };
+    ghost view = { λ q. work q.listing.marks q.rows q.others.items q.clauses };
 
-    ghost invariant = { λ q. AreBelow (length q.listing.marks) q.rows };
+    ghost invariant = { λ q. HasRoom (length q.listing.marks) q.rows q.others.items
+        q.clauses.variables };
 }
 
 impl Queue {
-    /// The queue over the problem, with every constraint listed. It makes the room that it will
-    /// ever need: 14 bytes a constraint, and for each variable a list of the constraints that name
-    /// it.
+    /// The queue over the problem, with every constraint listed and every clause to be looked at.
+    /// It makes the room that listing will ever need, 18 bytes a constraint, for each variable a
+    /// list of the constraints that name it, and the watches of the clauses.
     ///
     /// # Errors
     /// Want of memory.
-    #[tactic(auto, using(crate::proofs::FitLaws::over_made, crate::proofs::FitLaws::fits_any))]
     pub fn new(alloc: Global, g: &Ground) -> Result<Queue, AllocError>
         requires { IsWellMade g.now }
         ensures over { IfOk result (λ q. IsOver g.now q) }
-        ensures marks { IfOk result (λ q. (k : ℕ) → k < length g.now.cons
+        ensures marks { IfOk result (λ q. (k : ℕ) → has_number k q.others ≡ true
             → is_marked q.marks k ≡ true) }
+        ensures clauses { IfOk result (λ q. (i : ℕ) → rest_of q.clauses.rests i ≡ rest.Listed) }
         ensures fits { IfOk result (λ q. (boxes : Boxes) → Fits g.now q boxes) }
     {
         let cons = g.cons.items();
-        let rows = rows_of(cons, g.domains.items().len(), alloc)?;
+        let domains = g.domains.items();
+        let rows = rows_of(cons, domains.len(), alloc)?;
+        let others = others_of(cons, alloc)?;
+        let clauses = watch_all(alloc, cons, domains)?;
         let urgencies = urgencies_of(cons, alloc)?;
         let mut listing = Listing::of(alloc, urgencies)?;
-        list_all(&mut listing);
-        Ok(Queue { listing, rows })
+        list_row(&mut listing, others.as_slice());
+        Ok(Queue {
+            listing,
+            rows,
+            others,
+            clauses,
+        })
     }
 
-    /// Lists the constraints of the variable, whose box has changed. It costs a look at each of
-    /// them, and takes no memory.
-    #[tactic(auto, using(crate::proofs::FitLaws::fits_changed))]
+    /// Lists the constraints of the variable, whose box has changed, and notes that to the watches.
+    /// It costs a look at each of the constraints, clauses aside, and takes no memory.
     pub fn note_change(&mut self, x: u32)
         requires { x < length self.old.rows }
         ensures size { length self.new.marks ≡ length self.old.marks }
@@ -74,44 +91,53 @@ impl Queue {
         ensures over { (g : Ground) → IsOver g self.old → IsOver g self.new }
         ensures marks { (k : ℕ) → is_marked self.new.marks k
             ≡ (is_marked self.old.marks k || has_number k (row_of self.old.rows x)) }
+        ensures clauses { self.new.clauses.rests ≡ map (touched x) self.old.clauses.rests }
         ensures fits { (g : Ground) (a b : Boxes) → IsWellMade g → IsOver g self.old
             → length a ≡ length g.domains → Fits g self.old a → DifferAt x a b → Fits g self.new b }
     {
         list_row(&mut self.listing, self.rows.row(x));
+        self.clauses.note_change(x);
     }
 
-    /// Lists every constraint, after boxes have become wider. It costs as many steps, and takes no
-    /// memory.
-    #[tactic(auto, using(crate::proofs::FitLaws::fits_any))]
+    /// Lists every constraint, after boxes have become wider; of a clause the watches know whether
+    /// it needs a look. It costs as many steps, and takes no memory.
     pub fn note_undo(&mut self)
         ensures size { length self.new.marks ≡ length self.old.marks }
         ensures rows { self.new.rows ≡ self.old.rows }
         ensures over { (g : Ground) → IsOver g self.old → IsOver g self.new }
-        ensures marks { (k : ℕ) → k < length self.new.marks → is_marked self.new.marks k ≡ true }
-        ensures fits { (g : Ground) (boxes : Boxes) → IsOver g self.old → Fits g self.new boxes }
+        ensures marks { (k : ℕ) → has_number k self.new.others ≡ true
+            → is_marked self.new.marks k ≡ true }
+        ensures clauses { self.new.clauses.rests ≡ map widened self.old.clauses.rests }
+        ensures fits { (g : Ground) (a b : Boxes) → IsOver g self.old → Fits g self.old a
+            → AreWider a b → Fits g self.new b }
     {
-        list_all(&mut self.listing);
+        list_row(&mut self.listing, self.others.as_slice());
+        self.clauses.note_undo();
     }
 
-    /// Takes every constraint off the list, after a return to boxes in which all were quiet. It
-    /// costs as many steps as there are listed ones, and takes no memory.
-    #[tactic(auto, using(crate::proofs::FitLaws::fits_quiet))]
+    /// Takes every constraint off the list, after a return to wider boxes in which all were quiet.
+    /// It costs as many steps as there are listed ones, and the clauses that rested by one literal
+    /// since the last; it takes no memory.
     pub fn note_return(&mut self)
         ensures size { length self.new.marks ≡ length self.old.marks }
         ensures rows { self.new.rows ≡ self.old.rows }
         ensures over { (g : Ground) → IsOver g self.old → IsOver g self.new }
         ensures marks { (k : ℕ) → is_marked self.new.marks k ≡ false }
-        ensures fits { (g : Ground) (boxes : Boxes) → Fits g self.new boxes ↔ AreAllQuiet g boxes }
+        ensures clauses { self.new.clauses.rests ≡ map widened self.old.clauses.rests }
+        ensures fits { (g : Ground) (a b : Boxes) → Fits g self.old a → AreWider a b
+            → AreAllQuiet g b → Fits g self.new b }
     {
         list_none(&mut self.listing);
+        self.clauses.note_undo();
     }
 
     /// A constraint that has something to say, by its number, and what it says: a clause that the
     /// constraint justifies and that is unit or false in the boxes. The constraint stays listed.
     /// None only where every constraint is quiet. Constraints that are found quiet go off the list,
-    /// also before want of memory, and none is added. It costs a call of `prune` for each
-    /// constraint that it looks at, and takes no memory but what they take; where nothing is
-    /// listed, it looks at nothing.
+    /// also before want of memory, and none is added. Clauses are asked first, by their watches. It
+    /// costs a call of `prune` for each other constraint that it looks at, and takes no memory but
+    /// what these and the watches take; where nothing is listed or watched anew, it looks at
+    /// nothing.
     ///
     /// # Errors
     /// Want of memory.
@@ -132,11 +158,18 @@ impl Queue {
             → is_marked self.old.marks k ≡ true }
         ensures fits { Fits g.now self.new boxes.now }
         ensures there { IfOk result (λ o. IfSome o (λ a. a.0 < length g.now.cons)) }
-        ensures listed { IfOk result (λ o. IfSome o (λ a. is_marked self.new.marks a.0 ≡ true)) }
+        ensures listed { IfOk result (λ o. IfSome o (λ a. (is_marked self.new.marks a.0 ≡ true)
+            ⊎ IsActing boxes.now self.new.clauses a.0)) }
         ensures pruning { IfOk result (λ o. IfSome o (λ a. (con : Con)
             → slice_get g.now.cons a.0 ≡ Some con → IsPruning con g.now.domains boxes.now a.1)) }
         ensures none { IfOk result (λ o. IfNone o (AreAllQuiet g.now boxes.now)) }
     {
-        find(&mut self.listing, g, boxes, kit)
+        match self.clauses.next(boxes)? {
+            Some(n) => {
+                let found = reason_of(g, n, boxes)?;
+                Ok(Some(found))
+            }
+            None => find(&mut self.listing, g, boxes, kit),
+        }
     }
 }

@@ -1,10 +1,10 @@
-//! Which constraints name each variable.
+//! Which constraints name each variable, clauses aside.
 ghost use Rattle.std.specs.Prelude.{◌≡◌, ◌<◌, ◌==◌, ◌||◌, ◌&&◌, ◌^◌, ◌+◌, ℕ, Some, true, false, length, map, slice_get, IfOk, OnOk};
 ghost use Rattle.std.specs.List.{All};
 ghost use Rattle.ground_form.specs.declared.con.Con.{Con};
 ghost use Rattle.ground_form.specs.Meaning.{vars_of};
 ghost use Rattle.rule_law.specs.Reasons.{has_number};
-ghost use Rattle.prop_queue.specs.Work.{row_of};
+ghost use Rattle.prop_queue.specs.Work.{row_of, is_clause, listed_vars};
 ghost use Rattle.prop_queue.specs.Lists.{IsFilled};
 
 use ground_form::Con;
@@ -12,7 +12,7 @@ use rule_law::all_vars;
 use std::alloc::{AllocError, Global};
 use std::marker::Model;
 
-/// For each variable the constraints that name it, each once and in order.
+/// For each variable the constraints that name it and aren't clauses, each once and in order.
 #[derive(Drop)]
 pub struct Rows {
     rows: Vec<Vec<u32>>,
@@ -96,13 +96,31 @@ fn push_all(rows: &mut Rows, vars: &[u32], k: u32) -> Result<(), AllocError>
     Ok(())
 }
 
-/// The variables of constraint `k`.
+/// Whether the constraint is a clause.
+pub fn is_clause(con: &Con) -> bool
+    ensures { result ≡ is_clause con.now }
+{
+    matches!(con, Con::ClauseCon { .. })
+}
+
+/// The variables by which a constraint is listed: none where it is a clause.
+fn listed_vars(con: &Con, alloc: Global) -> Result<Vec<u32>, AllocError>
+    ensures { IfOk result (λ vars. vars.items ≡ listed_vars con.now) }
+{
+    if is_clause(con) {
+        Ok(Vec::new(alloc))
+    } else {
+        all_vars(con, alloc)
+    }
+}
+
+/// The variables by which constraint `k` is listed.
 fn vars_at(cons: &[Con], k: u32, alloc: Global) -> Result<Vec<u32>, AllocError>
     requires { k < length cons.now }
     ensures { IfOk result (λ vars. (con : Con) → slice_get cons.now k ≡ Some con
-        → vars.items ≡ vars_of con) }
+        → vars.items ≡ listed_vars con) }
 {
-    all_vars(&cons[k as usize], alloc)
+    listed_vars(&cons[k as usize], alloc)
 }
 
 /// Adds constraint `k` to the rows of its variables.

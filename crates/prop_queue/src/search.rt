@@ -1,10 +1,10 @@
 //! The first listed constraint that has something to say.
-ghost use Rattle.std.specs.Prelude.{◌≡◌, ◌<◌, ℕ, suc, Some, true, length, slice_get, IfOk, IfSome, IfNone};
+ghost use Rattle.std.specs.Prelude.{◌≡◌, ◌<◌, ℕ, suc, Some, true, false, length, slice_get, IfOk, IfSome, IfNone};
 ghost use Rattle.ground_form.specs.declared.con.Con.{Con};
 ghost use Rattle.ground_form.specs.WellMade.{IsWellMade};
 ghost use Rattle.box_rules.specs.Quiet.{quiet};
 ghost use Rattle.rule_law.specs.Answers.{AreBoxesWithin, IsPruning};
-ghost use Rattle.prop_queue.specs.Work.{is_marked, FitsMarks, AreAllQuiet};
+ghost use Rattle.prop_queue.specs.Work.{is_clause, is_marked, FitsMarks};
 ghost use Rattle.prop_queue.specs.Urgencies.{first_of};
 
 use crate::listing::Listing;
@@ -66,7 +66,7 @@ fn look(
 ///
 /// # Errors
 /// Want of memory.
-#[tactic(auto, using(crate::proofs::FitLaws::all_quiet))]
+#[tactic(auto, using(crate::proofs::FitLaws::others_quiet))]
 pub fn find(
     listing: &mut Listing,
     g: &Ground,
@@ -85,7 +85,8 @@ pub fn find(
     ensures listed { IfOk result (λ o. IfSome o (λ a. is_marked listing.new.marks a.0 ≡ true)) }
     ensures pruning { IfOk result (λ o. IfSome o (λ a. (con : Con)
         → slice_get g.now.cons a.0 ≡ Some con → IsPruning con g.now.domains boxes.now a.1)) }
-    ensures none { IfOk result (λ o. IfNone o (AreAllQuiet g.now boxes.now)) }
+    ensures none { IfOk result (λ o. IfNone o ((k : ℕ) (con : Con)
+        → slice_get g.now.cons k ≡ Some con → is_clause con ≡ false → quiet con boxes.now ≡ true)) }
 {
     while let Some(k) = listing.first() {
         if let Some(clause) = look(listing, k, g, boxes, kit)? {

@@ -6,8 +6,8 @@ use Rattle.ground_form.specs.WellMade.{IsWellMade}
 use Rattle.rule_law.specs.Answers.{AreBoxesWithin}
 use Rattle.prop_queue.specs.Work.{Work, IsOver, Fits}
 
--- the problem is well made, the queue is its, the boxes lie within its domains, and each constraint
--- that isn't listed is quiet in them
+-- the problem is well made, the queue is its, the boxes lie within its domains, and the queue fits
+-- them
 pub record IsFitting (g : Ground) (boxes : Boxes) (w : Work) : Type 0 where
   pub made : IsWellMade g
   pub over : IsOver g w

@@ -10,6 +10,7 @@ use rule_law::{Kit, are_boxes_within};
 use signed_clause::{Clause, IntSet};
 use std::alloc::{AllocError, Global};
 use std::marker::Model;
+use watch_check::are_wider;
 
 /// A problem, boxes within its domains, and a queue that fits them.
 #[derive(Drop)]
@@ -89,10 +90,12 @@ impl Queued {
         }
     }
 
-    /// Goes over to other boxes, where they lie within the domains, and answers whether they do; if
-    /// not, nothing changes. The queue is told of an undo.
+    /// Goes over to wider boxes, where they lie within the domains, and answers whether that is so;
+    /// if not, nothing changes. The queue is told of an undo.
     pub fn undo(&mut self, boxes: Vec<IntSet>) -> bool {
-        if !are_boxes_within(self.ground.domains.items(), boxes.as_slice()) {
+        if !are_boxes_within(self.ground.domains.items(), boxes.as_slice())
+            || !are_wider(self.boxes.as_slice(), boxes.as_slice())
+        {
             return false;
         }
         self.boxes = boxes;
@@ -100,11 +103,12 @@ impl Queued {
         true
     }
 
-    /// Goes over to other boxes, where they lie within the domains and every constraint is quiet in
+    /// Goes over to wider boxes, where they lie within the domains and every constraint is quiet in
     /// them, and answers whether that is so; if not, nothing changes. The queue is told of a
     /// return.
     pub fn go_back(&mut self, boxes: Vec<IntSet>) -> bool {
         if !are_boxes_within(self.ground.domains.items(), boxes.as_slice())
+            || !are_wider(self.boxes.as_slice(), boxes.as_slice())
             || !are_all_quiet(&self.ground, boxes.as_slice())
         {
             return false;

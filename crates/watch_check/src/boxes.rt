@@ -31,7 +31,7 @@ fn are_sets(sets: &[IntSet]) -> bool
 
 /// Whether each of the large boxes has the values of the small one.
 #[tactic(auto, using(crate::proofs::WiderBoxes::wider_made))]
-pub(crate) fn are_wider(small: &[IntSet], large: &[IntSet]) -> bool
+pub fn are_wider(small: &[IntSet], large: &[IntSet]) -> bool
     ensures size { result ≡ true → length small.now ≡ length large.now }
     ensures wider { result ≡ true → AreWider small.now large.now }
 {

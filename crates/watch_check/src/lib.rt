@@ -8,4 +8,5 @@
 mod boxes;
 mod watched;
 
+pub use boxes::are_wider;
 pub use watched::Watched;

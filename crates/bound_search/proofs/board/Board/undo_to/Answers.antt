@@ -14,7 +14,8 @@ returns-clause-board c =
     record {
       size = lower.top.size ∙ board.size;
       over = c.note_return.ensures.over g board.over;
-      listed = (c.note_return.ensures.fits g new.top.now).1 lower.top.is_quiet;
+      listed = c.note_return.ensures.fits g old.top.now new.top.now board.listed lower.top.wider
+          lower.top.is_quiet;
       variables = c.note_undo.ensures.variables ∙ board.variables;
       paired = still_paired c.args.self.now.watches c.note_undo.new.self widened
           c.note_undo.ensures.rests c.note_undo.ensures.added board.paired;

@@ -1,12 +1,21 @@
-use Rattle.std.proofs.Common.{rules, []}
-use Rattle.prop_queue.specs.Work.{work}
-use Rattle.prop_queue.proofs.FitLaws.{fits_changed}
+use Rattle.std.proofs.Common.{◌≡◌, ◌||◌, ℕ, subst, sym}
+use Rattle.rule_law.specs.Reasons.{has_number}
+use Rattle.clause_watches.specs.Watching as watches
+use Rattle.prop_queue.specs.Work.{Work, is_marked, row_of}
+use Rattle.prop_queue.proofs.FitLaws.{fits_changed, marks_by}
 use Rattle.prop_queue.proofs.queue.Queue.note_change.Goals as goal
-
-pub returns-clause-marks : goal.returns-clause-marks
-returns-clause-marks c = search rules
 
 pub returns-clause-fits : goal.returns-clause-fits
 returns-clause-fits c g a b made over size fits d =
-    fits_changed g c.args.self.now (work c.list_row.new.listing.marks []) c.args.x a b
-    (λ k. returns-clause-marks c k) made over size fits d
+    let known = subst (λ (w : Work). watches.Fits a w.clauses) (sym c.self.view_is) fits.clauses in
+    let old = c.self.inside in
+    let x = c.args.x in
+    let marks = c.list_row.new.listing.marks in
+    let more = subst (λ (w : Work). (k : ℕ) → is_marked marks k ≡
+    (is_marked w.marks k || has_number k (row_of w.rows x))) c.self.view_is
+    (marks_by old.listing.marks marks c.row.result.now (row_of old.rows x) c.row.ensures
+    c.list_row.ensures.marks) in
+    record {
+      others = fits_changed g c.args.self.now marks x a b more made over size fits.others d;
+      clauses = c.note_change.ensures.fits a b known d.others;
+    }
