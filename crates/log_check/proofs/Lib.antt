@@ -12,3 +12,4 @@ pub mod TrimLaws
 pub mod LastLine
 pub mod Marking
 pub mod Renumbering
+pub mod Stored

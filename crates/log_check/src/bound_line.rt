@@ -24,18 +24,22 @@ pub fn push_bounds(
     ensures closed { OnOk result (derived.new.closed ≡ has_empty derived.new.clauses) }
 {
     let clauses = goal_bounds::bounds_of(alloc, domains, goals, values)?;
-    push_all(derived, clauses.as_slice())?;
+    push_all(alloc, derived, clauses.as_slice())?;
     Ok(())
 }
 
-/// Adds the clauses, each with one more owner.
-fn push_all(derived: &mut Derived, list: &[ClauseHandle]) -> Result<(), AllocError>
+/// Adds the clauses, each with one more owner. Where nothing was found since the last Bound line,
+/// they are those of that line.
+fn push_all(alloc: Global, derived: &mut Derived, list: &[ClauseHandle]) -> Result<(), AllocError>
     requires { derived.old.closed ≡ has_empty derived.old.clauses }
     ensures clauses { OnOk result (derived.new.clauses ≡ derived.old.clauses ++ list.now) }
     ensures closed { OnOk result (derived.new.closed ≡ has_empty derived.new.clauses) }
 {
-    for clause in list {
-        derived.push(clause.copy()?)?;
+    let former = derived.bound;
+    derived.bound = derived.clauses.packed_count();
+    for (k, clause) in list.iter().enumerate() {
+        let same = former.saturating_add(k as u64);
+        derived.push(alloc, clause.copy()?, Some(same))?;
     }
     Ok(())
 }

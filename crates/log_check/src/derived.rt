@@ -2,7 +2,7 @@
 ghost use Rattle.std.specs.Prelude.{◌≡◌, ◌++◌, [], ◌∷◌, false, OnOk};
 ghost use Rattle.log_form.specs.Acceptance.{has_empty};
 
-use numbered_clauses::Clauses;
+use crate::store::ClauseStore;
 use signed_clause::{Clause, ClauseHandle};
 use std::alloc::{AllocError, Global};
 
@@ -10,9 +10,11 @@ use std::alloc::{AllocError, Global};
 #[derive(Drop)]
 pub struct Derived {
     /// They, by number.
-    pub clauses: Clauses,
+    pub clauses: ClauseStore,
     /// Whether one of them is empty.
     pub closed: bool,
+    /// Of the last Bound line the first clause's number among those that are packed, if they are.
+    pub bound: u64,
 }
 
 impl Derived {
@@ -22,32 +24,52 @@ impl Derived {
         ensures closed { result.closed ≡ false }
     {
         Derived {
-            clauses: Clauses::new(alloc),
+            clauses: ClauseStore::new(alloc),
             closed: false,
+            bound: 0,
         }
     }
 
-    /// Adds a clause that others may own too.
+    /// Adds a clause that has other owners.
     #[tactic(auto, using(crate::proofs::BoundSteps::has_empty_more))]
-    pub fn push(&mut self, c: ClauseHandle) -> Result<(), AllocError>
+    pub fn push_shared(&mut self, alloc: Global, c: ClauseHandle) -> Result<(), AllocError>
         requires { self.old.closed ≡ has_empty self.old.clauses }
         ensures clauses { OnOk result (self.new.clauses ≡ self.old.clauses ++ c ∷ []) }
         ensures closed { OnOk result (self.new.closed ≡ has_empty self.new.clauses) }
     {
         let empty = c.clause().is_empty();
-        self.clauses.push(c)?;
+        self.clauses.push_shared(alloc, c)?;
         self.closed = self.closed || empty;
         Ok(())
     }
 
-    /// Adds a clause that nobody else owns.
+    /// Adds a clause that has no other owner. Among those that are packed the one of the number
+    /// `former` may be the same.
+    #[tactic(auto, using(crate::proofs::BoundSteps::has_empty_more))]
+    pub fn push(
+        &mut self,
+        alloc: Global,
+        c: ClauseHandle,
+        former: Option<u64>,
+    ) -> Result<(), AllocError>
+        requires { self.old.closed ≡ has_empty self.old.clauses }
+        ensures clauses { OnOk result (self.new.clauses ≡ self.old.clauses ++ c ∷ []) }
+        ensures closed { OnOk result (self.new.closed ≡ has_empty self.new.clauses) }
+    {
+        let empty = c.clause().is_empty();
+        self.clauses.push(alloc, c, former)?;
+        self.closed = self.closed || empty;
+        Ok(())
+    }
+
+    /// Adds a clause that has no handle yet.
     pub fn push_own(&mut self, alloc: Global, c: Clause) -> Result<(), AllocError>
         requires { self.old.closed ≡ has_empty self.old.clauses }
         ensures clauses { OnOk result (self.new.clauses ≡ self.old.clauses ++ c ∷ []) }
         ensures closed { OnOk result (self.new.closed ≡ has_empty self.new.clauses) }
     {
         match ClauseHandle::of(alloc, c) {
-            Ok(c) => self.push(c),
+            Ok(c) => self.push(alloc, c, None),
             Err(_) => Err(AllocError),
         }
     }

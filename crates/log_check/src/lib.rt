@@ -8,6 +8,7 @@
 //! - `checker`, `intake`: the checker of a text that comes in pieces, and what it keeps of it.
 //! - `verdict`: what accepted lines show.
 //! - `progress`, `derived`: what the lines so far leave, and one more line.
+//! - `store`: the clauses that lines made, by number.
 //! - `chains`, `solution`, `bound_line`: what Chain, Found and Bound lines have to meet, and what
 //!   they make.
 //! - `trimming`, `needed`, `closing`: the lines that are needed of accepted ones, which they are,
@@ -26,6 +27,7 @@ mod lines;
 mod needed;
 mod progress;
 mod solution;
+mod store;
 mod trimming;
 mod verdict;
 

@@ -127,7 +127,7 @@ impl Progress {
                 clause.clause(),
             ),
             Line::Bound(values) => Ok(states_bound(g, &self.found, values.items())),
-            Line::Use(i) => Ok(*i < self.derived.clauses.count()),
+            Line::Use(i) => Ok(self.derived.clauses.has(*i)),
             Line::Found(values) => Ok(is_improvement(g, &self.found, values.items())),
             Line::Decide(x, _) => Ok((*x as usize) < g.domains.items().len()),
             Line::Empty(x) => Ok(has_empty_domain(g, *x)),
@@ -146,7 +146,9 @@ impl Progress {
         ensures table { self.new.running ≡ self.old.running }
     {
         match line {
-            Line::Axiom(_, clause) | Line::Chain(_, clause) => self.derived.push(clause.copy()?),
+            Line::Axiom(_, clause) | Line::Chain(_, clause) => {
+                self.derived.push_shared(alloc, clause.copy()?)
+            }
             Line::Bound(_) => self.push_bound(alloc, g),
             Line::Found(values) => {
                 self.found = Some(values.copy()?);
@@ -170,8 +172,8 @@ impl Progress {
         ensures table { self.new.running ≡ self.old.running }
     {
         match line {
-            Line::Axiom(_, clause) => self.derived.push(clause),
-            Line::Chain(_chain, clause) => self.derived.push(clause),
+            Line::Axiom(_, clause) => self.derived.push(alloc, clause, None),
+            Line::Chain(_chain, clause) => self.derived.push(alloc, clause, None),
             Line::Bound(_values) => self.push_bound(alloc, g),
             Line::Found(values) => {
                 self.found = Some(values);

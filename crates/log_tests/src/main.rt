@@ -5,13 +5,14 @@
 //! - `problems`: the problems that logs are about.
 //! - `checked`: what the checker says. `cut`: that where a text is cut changes no answer. `file`: a
 //!   log in a file, up to a limit.
-//! - `spelling`: lines and their texts. `numbering`: clauses by number.
+//! - `spelling`: lines and their texts. `numbering`: clauses by number. `packing`: packed ones.
 #![tactic(auto)]
 
 mod checked;
 mod cut;
 mod file;
 mod numbering;
+mod packing;
 mod problems;
 mod spelling;
 

@@ -1,7 +1,8 @@
 //! What cases ask of the format of logs: `line TEXT` whether a text is read as a line that is
 //! written as it is, `record` the text and the count of a record of two lines, with that of one
-//! line alone; and of clauses by number what `numbering` says.
+//! line alone; and of clauses by number what `numbering` and `packing` say.
 use crate::numbering::{found, owned_twice};
+use crate::packing::read_back;
 use case_files::{Case, Subject};
 use log_form::{Line, Lines};
 use proof_log::{Record, line_text, lines_text, read_line};
@@ -46,6 +47,7 @@ impl Subject for Spelling {
             "line" => read_again(alloc, &case.text),
             "record" => record(alloc),
             "owned" => owned_twice(alloc),
+            "packed" => read_back(alloc, &case.text),
             _ => found(alloc),
         }
     }

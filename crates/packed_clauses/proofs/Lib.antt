@@ -1,0 +1,4 @@
+pub mod CodeLaws
+pub mod ReadSteps
+pub mod WriteSteps
+pub mod PackedLaws
