@@ -4,6 +4,7 @@
 //! that the constraint is quiet. What refutes, justifies and is quiet is told by the rules of the
 //! constraints (`box_rules`), which are handed on from here.
 //!
+//! - `subject`: what a propagator is asked about.
 //! - `propagator`, `kit`: the face of what prunes by constraints, and kits that have a member for
 //!   every kind.
 //! - `within`: the test that boxes are such as a propagator asks for.
@@ -21,6 +22,7 @@ mod plan;
 mod probing;
 mod propagator;
 mod repeats;
+mod subject;
 mod variables;
 mod within;
 
@@ -35,5 +37,6 @@ pub use plan::{planned_pruning, truth};
 pub use probing::probe;
 pub use propagator::Propagator;
 pub use repeats::{Repeats, has_var};
+pub use subject::Subject;
 pub use variables::all_vars;
 pub use within::are_boxes_within;
