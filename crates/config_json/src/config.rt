@@ -16,6 +16,7 @@ ghost use Rattle.config_json.specs.Tree.{all_data, attribute_data, first_data, c
 
 use crate::leaves::element_at;
 use crate::places::variable_of;
+use crate::size::check_size;
 use class_table::{ClassTable, Resolved};
 use conf_syntax::Name;
 use object_alloc::{Config, Objects};
@@ -69,7 +70,7 @@ fn value_at(values: &[i64], i: u32) -> i64
 }
 
 /// The value of a leaf that has one cell.
-fn only_value(values: &[i64], own: &[u32]) -> i64
+pub(crate) fn only_value(values: &[i64], own: &[u32]) -> i64
     ensures value { result ≡ only_value values.now own.now }
 {
     match own.first() {
@@ -79,7 +80,7 @@ fn only_value(values: &[i64], own: &[u32]) -> i64
 }
 
 /// The object that a cell of a reference set stands for, where it is in.
-fn member_at(objects: &Objects<'_>, values: &[i64], i: u32) -> Option<u32>
+pub(crate) fn member_at(objects: &Objects<'_>, values: &[i64], i: u32) -> Option<u32>
     ensures member { result ≡ member_at (all_cells objects.now) values.now i }
 {
     if value_at(values, i) == 1 {
@@ -307,6 +308,9 @@ fn object_values(
 }
 
 /// A configuration as a JSON value: an object with one key for each variable of the top level.
+///
+/// # Errors
+/// Want of memory, also where the text would have more than half a gigabyte.
 pub fn to_json(
     alloc: Global,
     table: &ClassTable,
@@ -316,6 +320,7 @@ pub fn to_json(
     requires same { objects.now ≡ table.now }
     ensures value { IfOk result (λ value. view value ≡ config_data table.now config.now) }
 {
+    check_size(alloc, objects, config.items())?;
     let none = Map::new(alloc);
     let members = with_variables(alloc, objects, config.items(), None, none)?;
     Ok(Value::Object(members))
@@ -323,6 +328,9 @@ pub fn to_json(
 
 /// A configuration as a text: no spaces, keys in byte order. It is read as the tree that `to_json`
 /// makes.
+///
+/// # Errors
+/// As `to_json`.
 pub fn config_text(
     alloc: Global,
     table: &ClassTable,

@@ -9,6 +9,7 @@ mod former;
 mod law;
 mod leaves;
 mod places;
+mod size;
 mod values;
 
 pub use config::{config_text, to_json};

@@ -16,6 +16,19 @@ use ground_form::{GroundGoal, Number};
 use signed_clause::{Clause, ClauseHandle, IntSet, push_copy, push_rest};
 use std::alloc::{AllocError, Global};
 
+/// How many literals and ranges the clauses of a line may have: they stand in memory at once, and
+/// many goals make many long ones.
+const MOST_PARTS: usize = 1 << 25;
+
+/// What is left of so many parts behind the literals of a clause and their ranges.
+fn behind(parts: usize, c: &Clause) -> Result<usize, AllocError> {
+    let mut left = parts;
+    for l in c.literals() {
+        left = left.saturating_sub(1).saturating_sub(l.1.ranges().len());
+    }
+    if left == 0 { Err(AllocError) } else { Ok(left) }
+}
+
 /// The clause that says what `c` says, or that the value of `x` is in the set.
 #[tactic(auto, using(crate::proofs::BoundSteps::with_nothing))]
 fn with_literal(alloc: Global, x: u32, set: IntSet, c: &Clause) -> Result<Clause, AllocError>
@@ -114,7 +127,7 @@ fn as_good_as(alloc: Global, max: bool, v: Number) -> IntSet
 /// where there is no goal. It costs a walk over the goals, and for each clause its literals.
 ///
 /// # Errors
-/// Want of memory.
+/// Want of memory, also where the clauses would have more than `MOST_PARTS` literals and ranges.
 pub fn bounds_of(
     alloc: Global,
     domains: &[IntSet],
@@ -132,6 +145,7 @@ pub fn bounds_of(
         push_own(alloc, &mut out, earlier)?;
         return Ok(out);
     }
+    let mut parts = MOST_PARTS;
     for (k, goal) in goals.iter().enumerate() {
         let better = or_better(alloc, domains, *goal, values, &earlier)?;
         if k + 1 == goals.len() {
@@ -139,6 +153,7 @@ pub fn bounds_of(
             return Ok(out);
         }
         let as_good = or_as_good(alloc, domains, *goal, values, &earlier)?;
+        parts = behind(parts, &as_good)?;
         push_own(alloc, &mut out, as_good)?;
         earlier = better;
     }

@@ -19,7 +19,7 @@ use crate::cells::{Laid, cells_of_leaves, extent_of};
 use crate::extents::extent_sizes;
 use crate::fault::AllocFault;
 use crate::groups::{Groups, Place, cells_by_place, group_of, parts_of_objects};
-use crate::layout::{Layout, lay_members};
+use crate::layout::{Extents, Layout, lay_members};
 use crate::object::{Cell, Inside, Leaf, Object, ObjectList};
 use crate::paths::push_path;
 use crate::queue::{has_deep, queue_all};
@@ -65,7 +65,8 @@ impl<'t> Model for Objects<'t> {
 /// # Errors
 ///
 /// The first limit, in the order of `AllocFault`, that the model breaks; `Memory` where there is
-/// none left. No limit is passed over: a model that breaks one has no `Objects`.
+/// none left, or where there would be more than 16,777,216 leaves. No limit is passed over: a model
+/// that breaks one has no `Objects`.
 pub fn allocate<'t>(alloc: Global, table: &'t ClassTable) -> Result<Objects<'t>, AllocFault>
     ensures objects { IfOk result (λ objects. objects ≡ table.now) }
     ensures limits { IfOk result (λ objects. IsWithinLimits table.now) }
@@ -89,7 +90,11 @@ pub fn allocate<'t>(alloc: Global, table: &'t ClassTable) -> Result<Objects<'t>,
         owner: None,
         depth: 0,
     };
-    if let Err(fault) = lay_members(&mut layout, table, &sizes, top, None) {
+    let extents = Extents {
+        table,
+        sizes: &sizes,
+    };
+    if let Err(fault) = lay_members(&mut layout, extents, top, None) {
         return Err(fault);
     }
     let laid = Laid {

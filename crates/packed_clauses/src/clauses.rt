@@ -14,6 +14,11 @@ use signed_clause::Clause;
 use std::alloc::{AllocError, Global};
 use std::marker::Model;
 
+/// How many bytes the clauses may have. Those that stand in a log of half a gigabyte have three
+/// quarters of that; only those that Bound lines make without saying them come to more, and then
+/// memory is said to lack before it does.
+const MOST_BYTES: usize = 1 << 30;
+
 /// Packed clauses.
 #[derive(Drop)]
 pub struct PackedClauses {
@@ -53,7 +58,7 @@ impl PackedClauses {
 
     /// Adds a clause behind the others. Where the one of the number `former` is the same, both have
     /// their bytes in common, and all that the new one takes is eight bytes. After want of memory
-    /// the clauses are as before.
+    /// the clauses are as before; it is said as well where all would have more than a gigabyte.
     #[tactic(auto, using(crate::proofs::PackedLaws::still_whole, crate::proofs::PackedLaws::still_same, crate::proofs::PackedLaws::one_more_whole))]
     pub fn push(&mut self, alloc: Global, c: &Clause, former: Option<u64>) -> Result<(), AllocError>
         ensures ok { OnOk result (self.new ≡ self.old ++ c.now ∷ []) }
@@ -100,6 +105,9 @@ fn place_for(
 {
     if let Some(place) = shared_place(bytes.as_slice(), places, former, text) {
         return Ok(place);
+    }
+    if text.len() > MOST_BYTES.saturating_sub(bytes.len()) {
+        return Err(AllocError);
     }
     let place = bytes.len() as u64;
     bytes.extend_from_slice(text)?;

@@ -18,8 +18,8 @@ decreases-lay_elements l = 4 * (61 - l.inside.depth)
 
 abbrev pub invariant-lay_members-loop-k : goal.invariant-lay_members-loop-k
 invariant-lay_members-loop-k l =
-    IsLaying l.table l.initial.layout l.layout (members (visit l.table) l.inside 0 (variables l.table l.class)) (members (visit l.table) l.inside l.k (drop l.k (variables l.table l.class)))
+    IsLaying l.extents.table.now l.initial.layout l.layout (members (visit l.extents.table.now) l.inside 0 (variables l.extents.table.now l.class)) (members (visit l.extents.table.now) l.inside l.k (drop l.k (variables l.extents.table.now l.class)))
 
 abbrev pub invariant-lay_elements-loop-i : goal.invariant-lay_elements-loop-i
 invariant-lay_elements-loop-i l =
-    IsLaying l.table l.initial.layout l.layout (elements (visit l.table) l.inside l.k l.class l.count 0) (elements (visit l.table) l.inside l.k l.class (l.count - l.i) l.i)
+    IsLaying l.extents.table.now l.initial.layout l.layout (elements (visit l.extents.table.now) l.inside l.k l.class l.count 0) (elements (visit l.extents.table.now) l.inside l.k l.class (l.count - l.i) l.i)
