@@ -1,7 +1,9 @@
 //! What cases ask of desks, and of runs over them.
 //!
-//! - `file NAME TEXT`, `spaces NAME COUNT` and `nested NAME COUNT`: adds a file to those of the
-//!   next desk, of the text, of so many spaces, or a model of classes that contain one another.
+//! - `file NAME TEXT`, `spaces NAME COUNT`, `nested NAME COUNT`, `letters NAME COUNT` and `sets NAME
+//!   COUNT`: adds a file to those of the next desk, of the text, of so many spaces, or a model: of
+//!   classes that contain one another; of 10,000 objects with an attribute of a name of so many
+//!   letters; of 10,000 objects with so many reference sets that have no cells.
 //! - `load NAME`: adds a file that lies where the program runs.
 //! - `steady`, `memory STEP CALL ..` and `real`: the next desk, with the files that were added; of
 //!   `memory` a call moves at most so many bytes, where they aren't 0, and the calls of these
@@ -61,6 +63,26 @@ fn nested(alloc: Global, count: u32) -> Result<String, AllocError> {
         text.push_str(format!(in alloc; "class K{k} {{ var k as K{next}; }} ")?.as_str())?;
     }
     text.push_str(format!(in alloc; "class K{count} {{ }} var k as K1;")?.as_str())?;
+    Ok(text)
+}
+
+/// 10,000 objects with an attribute whose name has so many letters.
+fn long_name(alloc: Global, count: u32) -> Result<String, AllocError> {
+    let mut text = String::from_str(alloc, "class C { var ")?;
+    for _letter in 0..count {
+        text.push_str("a")?;
+    }
+    text.push_str(" as bool; } var c as C[10000];")?;
+    Ok(text)
+}
+
+/// 10,000 objects with so many reference sets that have no cells.
+fn bare_sets(alloc: Global, count: u32) -> Result<String, AllocError> {
+    let mut text = String::from_str(alloc, "class E { } class C { ")?;
+    for k in 0..count {
+        text.push_str(format!(in alloc; "var s{k} as ref E[0]; ")?.as_str())?;
+    }
+    text.push_str("} var c as C[10000];")?;
     Ok(text)
 }
 
@@ -247,6 +269,8 @@ impl Desks {
         let bytes = match ask {
             "file" => text.as_bytes().to_vec(alloc)?,
             "spaces" => vec![in alloc; b' '; count as usize]?,
+            "letters" => long_name(alloc, count)?.into_bytes(),
+            "sets" => bare_sets(alloc, count)?.into_bytes(),
             _ => nested(alloc, count)?.into_bytes(),
         };
         self.add(alloc, name, bytes)
@@ -295,7 +319,7 @@ impl Subject for Desks {
     fn answer(&mut self, alloc: Global, case: &Case<'_>) -> Result<String, AllocError> {
         let text = str::from_utf8(&case.text).unwrap_or("");
         match case.ask {
-            "file" | "spaces" | "nested" => {
+            "file" | "spaces" | "nested" | "letters" | "sets" => {
                 let (name, behind) = text.split_once(' ').unwrap_or((text, ""));
                 self.add_as(alloc, case.ask, name, behind)
             }
