@@ -5,7 +5,7 @@
 ghost use Rattle.std.specs.Prelude.{◌≡◌, ◌<◌, ◌≤◌, ◌^◌, ◌+◌, ◌*◌, ◌*ℤ◌, length, unsigned_abs};
 ghost use Rattle.std.specs.Int.{int_min, int_max};
 ghost use Rattle.std.specs.List.{All};
-ghost use Rattle.ground_form.specs.Bounds.{term_weight, weight_of, least_term, greatest_term, least_sum, greatest_sum};
+ghost use Rattle.ground_form.specs.Bounds.{term_weight, weight_of, least_term, greatest_term, least_sum, greatest_sum, most_sum};
 
 use box_view::View;
 use ground_form::Number;
@@ -44,7 +44,7 @@ fn greatest_of(t: (i64, u32), at: (i64, i64)) -> Number
 #[tactic(auto, using(crate::proofs::SumSteps::least_term_is, crate::proofs::SumSteps::end_fits))]
 fn least_term<V: View>(t: (i64, u32), view: &V) -> Number
     requires var { t.1 < length (V.boxes view.now) }
-    requires fits { term_weight t (V.outer view.now) ≤ 2 ^ 60 }
+    requires fits { term_weight t (V.outer view.now) ≤ most_sum }
     ensures value { result.value ≡ least_term t (V.boxes view.now) }
     ensures fits { unsigned_abs result.value ≤ term_weight t (V.outer view.now) }
 {
@@ -55,7 +55,7 @@ fn least_term<V: View>(t: (i64, u32), view: &V) -> Number
 #[tactic(auto, using(crate::proofs::SumSteps::greatest_term_is, crate::proofs::SumSteps::end_fits))]
 fn greatest_term<V: View>(t: (i64, u32), view: &V) -> Number
     requires var { t.1 < length (V.boxes view.now) }
-    requires fits { term_weight t (V.outer view.now) ≤ 2 ^ 60 }
+    requires fits { term_weight t (V.outer view.now) ≤ most_sum }
     ensures value { result.value ≡ greatest_term t (V.boxes view.now) }
     ensures fits { unsigned_abs result.value ≤ term_weight t (V.outer view.now) }
 {
@@ -65,7 +65,7 @@ fn greatest_term<V: View>(t: (i64, u32), view: &V) -> Number
 /// The least sum of the terms.
 pub fn least_sum<V: View>(terms: &[(i64, u32)], view: &V) -> Number
     requires vars { All (λ t. t.1 < length (V.boxes view.now)) terms.now }
-    requires fits { weight_of terms.now (V.outer view.now) ≤ 2 ^ 60 }
+    requires fits { weight_of terms.now (V.outer view.now) ≤ most_sum }
     ensures value { result.value ≡ least_sum terms.now (V.boxes view.now) }
     ensures fits { unsigned_abs result.value ≤ weight_of terms.now (V.outer view.now) }
 {
@@ -79,7 +79,7 @@ pub fn least_sum<V: View>(terms: &[(i64, u32)], view: &V) -> Number
 /// The greatest sum of the terms.
 pub fn greatest_sum<V: View>(terms: &[(i64, u32)], view: &V) -> Number
     requires vars { All (λ t. t.1 < length (V.boxes view.now)) terms.now }
-    requires fits { weight_of terms.now (V.outer view.now) ≤ 2 ^ 60 }
+    requires fits { weight_of terms.now (V.outer view.now) ≤ most_sum }
     ensures value { result.value ≡ greatest_sum terms.now (V.boxes view.now) }
     ensures fits { unsigned_abs result.value ≤ weight_of terms.now (V.outer view.now) }
 {

@@ -3,6 +3,7 @@
 //! Each answers a sum in good order, whose numbers fit and whose values lie within what the
 //! operands' values give. Where numbers get too great one new variable stands for the sum.
 ghost use Rattle.std.specs.Prelude.{◌≡◌, ◌≤◌, ◌^◌, ◌+ℤ◌, ◌-ℤ◌, ◌≤ℤ◌, ℤ, pos, neg_ℤ, List, IfOk};
+ghost use Rattle.model_limits.specs.Limits.{most_width};
 ghost use Rattle.ground_build.specs.Growing.{HasRoom};
 ghost use Rattle.form_build.specs.Forms.{linear_at};
 ghost use Rattle.form_build.specs.Worlds.{IsWorld, Defines, IsFew};
@@ -18,10 +19,10 @@ pub fn plus(b: &mut Maker, f: &Linear, g: &Linear) -> Result<Linear, AllocError>
     requires room { HasRoom b.old }
     requires left { IsLinear (2 ^ 58) b.old.domains f.now }
     requires right { IsLinear (2 ^ 58) b.old.domains g.now }
-    requires low { neg_ℤ (pos (2 ^ 50))
+    requires low { neg_ℤ (pos most_width)
         ≤ℤ (least_linear f.now b.old.domains +ℤ least_linear g.now b.old.domains) }
     requires high { (greatest_linear f.now b.old.domains +ℤ greatest_linear g.now b.old.domains)
-        ≤ℤ pos (2 ^ 50) }
+        ≤ℤ pos most_width }
     ensures value { IfOk result (λ r. (a : List ℤ) → IsWorld b.new a
         → linear_at r a ≡ linear_at f.now a +ℤ linear_at g.now a) }
     ensures sum { IfOk result (λ r. IsSum b.new.domains
@@ -40,10 +41,10 @@ pub fn minus(b: &mut Maker, f: &Linear, g: &Linear) -> Result<Linear, AllocError
     requires room { HasRoom b.old }
     requires left { IsLinear (2 ^ 58) b.old.domains f.now }
     requires right { IsLinear (2 ^ 58) b.old.domains g.now }
-    requires low { neg_ℤ (pos (2 ^ 50))
+    requires low { neg_ℤ (pos most_width)
         ≤ℤ (least_linear f.now b.old.domains -ℤ greatest_linear g.now b.old.domains) }
     requires high { (greatest_linear f.now b.old.domains -ℤ least_linear g.now b.old.domains)
-        ≤ℤ pos (2 ^ 50) }
+        ≤ℤ pos most_width }
     ensures value { IfOk result (λ r. (a : List ℤ) → IsWorld b.new a
         → linear_at r a ≡ linear_at f.now a -ℤ linear_at g.now a) }
     ensures sum { IfOk result (λ r. IsSum b.new.domains

@@ -9,7 +9,7 @@ ghost use Rattle.std.specs.Ordering.{int_eq};
 ghost use Rattle.signed_clause.specs.Ranges.{has};
 ghost use Rattle.signed_clause.specs.Clauses.{clause_true};
 ghost use Rattle.ground_form.specs.Meaning.{value_of, sum_at, parts_true, all_differ, rooms_hold};
-ghost use Rattle.ground_form.specs.Bounds.{weight_of, IsPackBounded};
+ghost use Rattle.ground_form.specs.Bounds.{weight_of, IsPackBounded, most_sum};
 ghost use Rattle.ground_form.specs.WellMade.{distinct_values, IsWellMade};
 ghost use Rattle.ground_build.specs.Growing.{HasRoom, IsFlag, HoldsDomain, AreItemVariables};
 ghost use Rattle.ground_build.specs.NewDomains.{picked_domain, when_domain};
@@ -132,7 +132,7 @@ impl Maker {
     pub fn at_most(&mut self, terms: &[(i64, u32)], bound: i64) -> Result<u32, AllocError>
         requires room { HasRoom self.old }
         requires variables { All (λ t. t.1 < length self.old.domains) terms.now }
-        requires bounded { weight_of terms.now self.old.domains ≤ 2 ^ 60 }
+        requires bounded { weight_of terms.now self.old.domains ≤ most_sum }
         ensures flag { IfOk result (λ f. IsFlagOf self.new f
             (λ a. int_le (sum_at terms.now a) bound)) }
         ensures adds { IfOk result (λ f. Defines self.old self.new) }
@@ -183,7 +183,7 @@ impl Maker {
     /// A variable that is the sum, its box between the sum's ends.
     pub fn linear(&mut self, f: &Linear) -> Result<u32, AllocError>
         requires room { HasRoom self.old }
-        requires linear { IsLinear (2 ^ 60) self.old.domains f.now }
+        requires linear { IsLinear most_sum self.old.domains f.now }
         ensures variable { IfOk result (λ x. IsVariableOf self.new x
             (least_linear f.now self.old.domains) (greatest_linear f.now self.old.domains)
             (λ a. linear_at f.now a)) }
@@ -247,7 +247,7 @@ impl Maker {
     pub fn require_at_most(&mut self, terms: &[(i64, u32)], bound: i64) -> Result<(), AllocError>
         requires room { length self.old.cons < 2 ^ 32 - 1 }
         requires variables { All (λ t. t.1 < length self.old.domains) terms.now }
-        requires bounded { weight_of terms.now self.old.domains ≤ 2 ^ 60 }
+        requires bounded { weight_of terms.now self.old.domains ≤ most_sum }
         ensures says { OnOk result (Adds [] self.old self.new
             (λ a. int_le (sum_at terms.now a) bound)) }
         ensures few { OnOk result (IsFew 1 self.old self.new) }

@@ -4,9 +4,10 @@
 //! Numbers that get too great are cut short by a new variable, which stands for the whole sum.
 ghost use Rattle.std.specs.Prelude.{◌≡◌, ◌<◌, ◌≤◌, ◌+◌, ◌^◌, ◌*◌, ◌+ℤ◌, ◌*ℤ◌, ◌≤ℤ◌, ◌<ℤ◌, nat_le, ℕ, ℤ, pos, neg_ℤ, List, length, unsigned_abs, IfOk, IfSome};
 ghost use Rattle.std.specs.List.{All};
+ghost use Rattle.model_limits.specs.Limits.{most_width};
 ghost use Rattle.signed_clause.specs.Clauses.{Boxes, box_of};
 ghost use Rattle.ground_form.specs.Meaning.{value_of};
-ghost use Rattle.ground_form.specs.Bounds.{low_of, high_of, reach_of, term_weight, weight_of, LiesWithin};
+ghost use Rattle.ground_form.specs.Bounds.{low_of, high_of, reach_of, term_weight, weight_of, LiesWithin, most_sum};
 ghost use Rattle.ground_build.specs.Growing.{HasRoom};
 ghost use Rattle.form_build.specs.Forms.{linear_at};
 ghost use Rattle.form_build.specs.Worlds.{IsInBoxes, IsWorld, Defines, IsFew};
@@ -58,7 +59,7 @@ pub fn variable(b: &Maker, x: u32) -> Result<Linear, AllocError>
 #[tactic(auto, unfolding(ground_form::specs::Bounds::term_weight))]
 fn term_weight(boxes: &[IntSet], t: (i64, u32)) -> u64
     requires exists { t.1 < length boxes.now }
-    requires fits { term_weight t boxes.now ≤ 2 ^ 60 }
+    requires fits { term_weight t boxes.now ≤ most_sum }
     ensures { result ≡ term_weight t boxes.now }
 {
     let ends = ends_at(boxes, t.1);
@@ -68,7 +69,7 @@ fn term_weight(boxes: &[IntSet], t: (i64, u32)) -> u64
 /// Those of the terms, added up.
 fn weight(boxes: &[IntSet], terms: &[(i64, u32)]) -> u64
     requires exist { All (λ t. t.1 < length boxes.now) terms.now }
-    requires fits { weight_of terms.now boxes.now ≤ 2 ^ 60 }
+    requires fits { weight_of terms.now boxes.now ≤ most_sum }
     ensures { result ≡ weight_of terms.now boxes.now }
 {
     let mut sum = 0;
@@ -80,7 +81,7 @@ fn weight(boxes: &[IntSet], terms: &[(i64, u32)]) -> u64
 
 /// Whether the sum's numbers are small enough to take part in others.
 fn is_light(boxes: &[IntSet], f: &Linear) -> bool
-    requires { IsLinear (2 ^ 60) boxes.now f.now }
+    requires { IsLinear most_sum boxes.now f.now }
     ensures { result ≡ nat_le (linear_weight f.now boxes.now) (2 ^ 58) }
 {
     weight(boxes, f.terms.items()) + f.offset.unsigned_abs() <= 1 << 58
@@ -89,8 +90,8 @@ fn is_light(boxes: &[IntSet], f: &Linear) -> bool
 /// The same sum with numbers that fit: itself, or a new variable that it is.
 pub fn fit(b: &mut Maker, f: Linear) -> Result<Linear, AllocError>
     requires room { HasRoom b.old }
-    requires linear { IsLinear (2 ^ 60) b.old.domains f }
-    requires narrow { LiesFrom (neg_ℤ (pos (2 ^ 50))) (pos (2 ^ 50)) b.old.domains f }
+    requires linear { IsLinear most_sum b.old.domains f }
+    requires narrow { LiesFrom (neg_ℤ (pos most_width)) (pos most_width) b.old.domains f }
     ensures value { IfOk result (λ r. (a : List ℤ)
         → IsWorld b.new a → linear_at r a ≡ linear_at f a) }
     ensures sum { IfOk result (λ r. IsSum b.new.domains (least_linear f b.old.domains)
@@ -125,7 +126,7 @@ fn only_variable(f: &Linear) -> Option<u32>
 /// A variable that is the sum: its own, where it is one, or a new one.
 pub fn settled(b: &mut Maker, f: &Linear) -> Result<u32, AllocError>
     requires room { HasRoom b.old }
-    requires linear { IsLinear (2 ^ 60) b.old.domains f.now }
+    requires linear { IsLinear most_sum b.old.domains f.now }
     ensures exists { IfOk result (λ x. x < length b.new.domains) }
     ensures value { IfOk result (λ x. (a : List ℤ)
         → IsWorld b.new a → value_of a x ≡ linear_at f.now a) }

@@ -2,13 +2,13 @@
 //!
 //! Where a definition may stand is a hint that nobody trusts: it is compared with what stands
 //! there.
-ghost use Rattle.std.specs.Prelude.{◌≡◌, ◌↔◌, ◌<◌, ◌≤◌, ◌^◌, true, int_le, length, IfOk, OnErr, IfSome, IsTrue};
+ghost use Rattle.std.specs.Prelude.{◌≡◌, ◌↔◌, ◌<◌, ◌≤◌, true, int_le, length, IfOk, OnErr, IfSome, IsTrue};
 ghost use Rattle.std.specs.List.{All};
 ghost use Rattle.std.specs.Ordering.{int_eq};
 ghost use Rattle.signed_clause.specs.Ranges.{has};
 ghost use Rattle.ground_form.specs.declared.con.Con.TheVariants.{ReifLe, AndDef, MemberDef, EqDef};
 ghost use Rattle.ground_form.specs.Meaning.{value_of, sum_at, parts_true};
-ghost use Rattle.ground_form.specs.Bounds.{weight_of};
+ghost use Rattle.ground_form.specs.Bounds.{weight_of, most_sum};
 ghost use Rattle.ground_build.specs.Growing.{HasRoom, IsFlag};
 ghost use Rattle.form_build.specs.Worlds.{HasDefinition, Defines, IsFew, IsFlagOf, AreSome};
 
@@ -111,7 +111,7 @@ pub(crate) fn at_most(
 ) -> Result<u32, AllocError>
     requires room { HasRoom b.old }
     requires variables { All (λ t. t.1 < length b.old.domains) terms.now }
-    requires bounded { weight_of terms.now b.old.domains ≤ 2 ^ 60 }
+    requires bounded { weight_of terms.now b.old.domains ≤ most_sum }
     ensures flag { IfOk result (λ f. IsFlagOf b.new f (λ a. int_le (sum_at terms.now a) bound)) }
     ensures adds { IfOk result (λ f. Defines b.old b.new) }
     ensures few { IfOk result (λ f. IsFew 1 b.old b.new) }

@@ -3,7 +3,7 @@ ghost use Rattle.std.specs.Prelude.{◌<◌, ◌≤◌, ◌-◌, ◌^◌, [], in
 ghost use Rattle.std.specs.List.{All};
 ghost use Rattle.signed_clause.specs.Clauses.{clause_true};
 ghost use Rattle.ground_form.specs.Meaning.{sum_at, all_differ, rooms_hold};
-ghost use Rattle.ground_form.specs.Bounds.{weight_of, IsPackBounded};
+ghost use Rattle.ground_form.specs.Bounds.{weight_of, IsPackBounded, most_sum};
 ghost use Rattle.ground_build.specs.Growing.{AreItemVariables};
 ghost use Rattle.form_build.specs.Worlds.{Adds, IsFew, AreSome};
 
@@ -31,7 +31,7 @@ pub(crate) fn require_at_most(
 ) -> Result<(), AllocError>
     requires room { length b.old.cons < 2 ^ 32 - 1 }
     requires variables { All (λ t. t.1 < length b.old.domains) terms.now }
-    requires bounded { weight_of terms.now b.old.domains ≤ 2 ^ 60 }
+    requires bounded { weight_of terms.now b.old.domains ≤ most_sum }
     ensures says { OnOk result (Adds [] b.old b.new (λ a. int_le (sum_at terms.now a) bound)) }
     ensures few { OnOk result (IsFew 1 b.old b.new) }
     ensures some { AreSome b.old.domains → AreSome b.new.domains }

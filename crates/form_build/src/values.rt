@@ -2,13 +2,13 @@
 //!
 //! Where a definition may stand is a hint that nobody trusts: it is compared with what stands
 //! there, and its box with the one that a new variable would have.
-ghost use Rattle.std.specs.Prelude.{◌≡◌, ◌↔◌, ◌<◌, ◌≤◌, ◌+◌, ◌^◌, [], true, length, unsigned_abs, IfOk, IfSome, IsTrue};
+ghost use Rattle.std.specs.Prelude.{◌≡◌, ◌↔◌, ◌<◌, ◌≤◌, ◌+◌, [], true, length, unsigned_abs, IfOk, IfSome, IsTrue};
 ghost use Rattle.std.specs.List.{All};
 ghost use Rattle.signed_clause.specs.Ranges.{IsValid};
 ghost use Rattle.signed_clause.specs.SetAlgebra.{join};
 ghost use Rattle.signed_clause.specs.Clauses.{box_of};
 ghost use Rattle.ground_form.specs.declared.con.Con.TheVariants.{LinDef, ElementDef, CondDef};
-ghost use Rattle.ground_form.specs.Bounds.{low_of, high_of};
+ghost use Rattle.ground_form.specs.Bounds.{low_of, high_of, most_sum};
 ghost use Rattle.ground_form.specs.WellMade.{distinct_values};
 ghost use Rattle.ground_build.specs.Growing.{HasRoom, IsFlag, HoldsDomain};
 ghost use Rattle.ground_build.specs.NewDomains.{picked_domain, when_domain};
@@ -34,7 +34,7 @@ fn is_sum(terms: &Terms, offset: i64, f: &Linear) -> bool
 
 /// The ends that a variable has which is the sum.
 fn ends_of_sum(boxes: &[IntSet], f: &Linear) -> (i64, i64)
-    requires { IsLinear (2 ^ 60) boxes.now f.now }
+    requires { IsLinear most_sum boxes.now f.now }
     ensures { result ≡ (least_linear f.now boxes.now, greatest_linear f.now boxes.now) }
 {
     let offset = Number { value: f.offset };
@@ -46,7 +46,7 @@ fn ends_of_sum(boxes: &[IntSet], f: &Linear) -> (i64, i64)
 /// Whether the box of the variable has the ends of the sum.
 fn has_ends(boxes: &[IntSet], x: u32, f: &Linear) -> bool
     requires exists { x < length boxes.now }
-    requires linear { IsLinear (2 ^ 60) boxes.now f.now }
+    requires linear { IsLinear most_sum boxes.now f.now }
     ensures low { result ≡ true → low_of (box_of boxes.now x) ≡ least_linear f.now boxes.now }
     ensures high { result ≡ true → high_of (box_of boxes.now x) ≡ greatest_linear f.now boxes.now }
 {
@@ -75,7 +75,7 @@ fn found_linear(b: &Builder, hint: usize, f: &Linear) -> Option<u32>
 /// a new one.
 pub(crate) fn linear(b: &mut Builder, hint: usize, f: &Linear) -> Result<u32, AllocError>
     requires room { HasRoom b.old }
-    requires linear { IsLinear (2 ^ 60) b.old.domains f.now }
+    requires linear { IsLinear most_sum b.old.domains f.now }
     ensures variable { IfOk result (λ x. IsVariableOf b.new x (least_linear f.now b.old.domains)
         (greatest_linear f.now b.old.domains) (λ a. linear_at f.now a)) }
     ensures adds { IfOk result (λ x. Defines b.old b.new) }

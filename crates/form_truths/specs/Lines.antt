@@ -3,7 +3,7 @@
 use Rattle.std.specs.Prelude.{◌≡◌, [], ◌∷◌, Option, Some, None, Bool, false, ℕ, ◌*◌, ◌^◌, ◌<◌, ◌≤◌, ℤ, ◌+ℤ◌, ◌*ℤ◌, ◌≤ℤ◌, unsigned_abs}
 use Rattle.signed_clause.specs.Ranges.{in_range}
 use Rattle.signed_clause.specs.Clauses.{Boxes, box_of}
-use Rattle.ground_form.specs.Bounds.{low_of, high_of}
+use Rattle.ground_form.specs.Bounds.{low_of, high_of, most_sum}
 use Rattle.form_build.specs.declared.form.Linear.{Linear}
 use Rattle.form_truths.specs.declared.lines.Line.{Line}
 use Rattle.form_truths.specs.declared.lines.Span.{Span}
@@ -23,12 +23,12 @@ LiesIn s v = (s.low ≤ℤ v) × (v ≤ℤ s.high)
 -- the factor isn't 0, and the line's numbers over the span fit
 pub record IsLine (s : Span) (l : Line) : Type 0 where
   pub factor : 0 < unsigned_abs l.factor
-  pub size : unsigned_abs l.factor ≤ 2 ^ 60
-  pub offset : unsigned_abs l.offset ≤ 2 ^ 60
-  pub low : unsigned_abs s.low ≤ 2 ^ 60
-  pub high : unsigned_abs s.high ≤ 2 ^ 60
-  pub at_low : unsigned_abs l.factor * unsigned_abs s.low ≤ 2 ^ 60
-  pub at_high : unsigned_abs l.factor * unsigned_abs s.high ≤ 2 ^ 60
+  pub size : unsigned_abs l.factor ≤ most_sum
+  pub offset : unsigned_abs l.offset ≤ most_sum
+  pub low : unsigned_abs s.low ≤ most_sum
+  pub high : unsigned_abs s.high ≤ most_sum
+  pub at_low : unsigned_abs l.factor * unsigned_abs s.low ≤ most_sum
+  pub at_high : unsigned_abs l.factor * unsigned_abs s.high ≤ most_sum
 
 -- of the span's values exactly those of r pass the test; none where there is no r
 abbrev pub AreThose : Span → Option Span → (ℤ → Bool) → Type 0

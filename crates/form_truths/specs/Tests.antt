@@ -4,6 +4,7 @@ use Rattle.std.specs.Prelude.{◌^◌, ◌<◌, Bool, true, false, not, List, �
 use Rattle.std.specs.Ordering.{int_eq}
 use Rattle.signed_clause.specs.Clauses.{Boxes}
 use Rattle.ground_form.specs.Meaning.{value_of}
+use Rattle.ground_form.specs.Bounds.{most_sum}
 use Rattle.form_build.specs.Forms.{linear_at, truth_at, HasVariable}
 use Rattle.form_build.specs.Sums.{IsLinear}
 use Rattle.form_truths.specs.declared.tests.Test.{Test}
@@ -24,6 +25,6 @@ test_at (Same x y want) a = wanted want (int_eq (value_of a x) (value_of a y))
 -- the test's variables exist, and its sums are in good order
 abbrev pub IsTest : Boxes → Test → Type 0
 IsTest boxes (Holds t) = HasVariable (length boxes) t
-IsTest boxes (AtMost f) = IsLinear (2 ^ 60) boxes f
-IsTest boxes (Zero f want) = IsLinear (2 ^ 60) boxes f
+IsTest boxes (AtMost f) = IsLinear most_sum boxes f
+IsTest boxes (Zero f want) = IsLinear most_sum boxes f
 IsTest boxes (Same x y want) = (x < length boxes) × (y < length boxes)

@@ -2,12 +2,12 @@
 //!
 //! A sum of one variable asks whether its value lies in a set, which takes no new variable. A sum
 //! of none is fixed.
-ghost use Rattle.std.specs.Prelude.{◌≡◌, ◌<◌, ◌≤◌, ◌^◌, ◌-ℤ◌, ℕ, ℤ, Bool, List, [], true, not, int_le, length, unsigned_abs, pos, IfOk, IfSome};
+ghost use Rattle.std.specs.Prelude.{◌≡◌, ◌<◌, ◌≤◌, ◌-ℤ◌, ℕ, ℤ, Bool, List, [], true, not, int_le, length, unsigned_abs, pos, IfOk, IfSome};
 ghost use Rattle.std.specs.Ordering.{int_eq};
 ghost use Rattle.signed_clause.specs.Ranges.{has, in_range, IsValid};
 ghost use Rattle.signed_clause.specs.Clauses.{box_of};
 ghost use Rattle.ground_form.specs.Meaning.{value_of, bit};
-ghost use Rattle.ground_form.specs.Bounds.{low_of, high_of};
+ghost use Rattle.ground_form.specs.Bounds.{low_of, high_of, most_sum};
 ghost use Rattle.ground_build.specs.Growing.{HasRoom};
 ghost use Rattle.form_build.specs.Forms.{linear_at, truth_at, HasVariable};
 ghost use Rattle.form_build.specs.Worlds.{IsInBoxes, IsWorld, Defines, IsFew, IsFlagOf};
@@ -160,7 +160,7 @@ pub fn is_nought(alloc: Global, flag: u32) -> Truth
 
 /// The number with the other sign.
 pub(crate) fn minus(f: &Linear) -> i64
-    requires { unsigned_abs f.now.offset ≤ 2 ^ 60 }
+    requires { unsigned_abs f.now.offset ≤ most_sum }
     ensures { result ≡ pos 0 -ℤ f.now.offset }
 {
     -f.offset
@@ -190,7 +190,7 @@ fn offset_zero(f: &Linear) -> bool
 /// A flag that says whether the sum is at most 0.
 fn flag_below(m: &mut Maker, f: &Linear) -> Result<u32, AllocError>
     requires room { HasRoom m.old }
-    requires linear { IsLinear (2 ^ 60) m.old.domains f.now }
+    requires linear { IsLinear most_sum m.old.domains f.now }
     ensures flag { IfOk result (λ y. IsFlagOf m.new y (λ a. int_le (linear_at f.now a) (pos 0))) }
     ensures adds { IfOk result (λ y. Defines m.old m.new) }
     ensures few { IfOk result (λ y. IsFew 1 m.old m.new) }
@@ -202,7 +202,7 @@ fn flag_below(m: &mut Maker, f: &Linear) -> Result<u32, AllocError>
 /// Whether the sum is at most 0, as a truth.
 pub fn is_below(m: &mut Maker, f: &Linear) -> Result<Truth, AllocError>
     requires room { HasRoom m.old }
-    requires linear { IsLinear (2 ^ 60) m.old.domains f.now }
+    requires linear { IsLinear most_sum m.old.domains f.now }
     ensures variable { IfOk result (λ t. HasVariable (length m.new.domains) t) }
     ensures value { IfOk result (λ t. (a : List ℤ) → IsWorld m.new a
         → truth_at t a ≡ int_le (linear_at f.now a) (pos 0)) }
@@ -222,7 +222,7 @@ pub fn is_below(m: &mut Maker, f: &Linear) -> Result<Truth, AllocError>
 /// Whether the sum is 0, as a truth.
 pub fn is_zero(m: &mut Maker, f: &Linear) -> Result<Truth, AllocError>
     requires room { HasRoom m.old }
-    requires linear { IsLinear (2 ^ 60) m.old.domains f.now }
+    requires linear { IsLinear most_sum m.old.domains f.now }
     ensures variable { IfOk result (λ t. HasVariable (length m.new.domains) t) }
     ensures value { IfOk result (λ t. (a : List ℤ) → IsWorld m.new a
         → truth_at t a ≡ int_eq (linear_at f.now a) (pos 0)) }

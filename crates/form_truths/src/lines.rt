@@ -6,6 +6,7 @@ ghost use Rattle.std.specs.Prelude.{◌≡◌, ◌<◌, ◌≤◌, ◌+◌, ◌*
 ghost use Rattle.std.specs.Int.{int_max, int_min};
 ghost use Rattle.std.specs.Ordering.{int_eq};
 ghost use Rattle.signed_clause.specs.Ranges.{in_range};
+ghost use Rattle.ground_form.specs.Bounds.{most_sum};
 ghost use Rattle.form_truths.specs.Lines.{line_at, IsSpan, LiesIn, IsLine, AreThose};
 
 /// A factor times a value, and an offset.
@@ -39,7 +40,7 @@ fn steps(over: u64, size: u64) -> u64
 
 /// A product that fits.
 fn product(c: i64, v: i64) -> i64
-    requires { unsigned_abs c * unsigned_abs v ≤ 2 ^ 60 }
+    requires { unsigned_abs c * unsigned_abs v ≤ most_sum }
     ensures { result ≡ c *ℤ v }
 {
     c * v
@@ -47,8 +48,8 @@ fn product(c: i64, v: i64) -> i64
 
 /// The product with an offset.
 fn with_offset(product: i64, offset: i64) -> Height
-    requires product { unsigned_abs product ≤ 2 ^ 60 }
-    requires offset { unsigned_abs offset ≤ 2 ^ 60 }
+    requires product { unsigned_abs product ≤ most_sum }
+    requires offset { unsigned_abs offset ≤ most_sum }
     ensures value { result.value ≡ product +ℤ offset }
     ensures fits { unsigned_abs result.value ≤ 2 ^ 61 }
 {
@@ -59,8 +60,8 @@ fn with_offset(product: i64, offset: i64) -> Height
 
 /// The line at a value.
 fn at(l: Line, v: i64) -> Height
-    requires product { unsigned_abs l.factor * unsigned_abs v ≤ 2 ^ 60 }
-    requires offset { unsigned_abs l.offset ≤ 2 ^ 60 }
+    requires product { unsigned_abs l.factor * unsigned_abs v ≤ most_sum }
+    requires offset { unsigned_abs l.offset ≤ most_sum }
     ensures value { result.value ≡ line_at l v }
     ensures fits { unsigned_abs result.value ≤ 2 ^ 61 }
 {
@@ -94,7 +95,7 @@ fn size(l: Line) -> u64
 
 /// The number with the other sign.
 fn minus(v: i64) -> i64
-    requires { unsigned_abs v ≤ 2 ^ 60 }
+    requires { unsigned_abs v ≤ most_sum }
     ensures { result ≡ pos 0 -ℤ v }
 {
     -v
@@ -102,8 +103,8 @@ fn minus(v: i64) -> i64
 
 /// The line that is above 0 where this one is below.
 fn turned(l: Line) -> Line
-    requires factor { unsigned_abs l.factor ≤ 2 ^ 60 }
-    requires offset { unsigned_abs l.offset ≤ 2 ^ 60 }
+    requires factor { unsigned_abs l.factor ≤ most_sum }
+    requires offset { unsigned_abs l.offset ≤ most_sum }
     ensures factor { result.factor ≡ pos 0 -ℤ l.factor }
     ensures offset { result.offset ≡ pos 0 -ℤ l.offset }
 {
@@ -142,8 +143,8 @@ impl Height {
 /// How many steps there are from one end of a span to the other.
 fn width(s: Span) -> u64
     requires span { IsSpan s }
-    requires low { unsigned_abs s.low ≤ 2 ^ 60 }
-    requires high { unsigned_abs s.high ≤ 2 ^ 60 }
+    requires low { unsigned_abs s.low ≤ most_sum }
+    requires high { unsigned_abs s.high ≤ most_sum }
     ensures { pos result ≡ s.high -ℤ s.low }
 {
     (s.high - s.low) as u64
@@ -151,8 +152,8 @@ fn width(s: Span) -> u64
 
 /// The span without so many values at its upper end.
 fn lowered(s: Span, n: u64) -> Span
-    requires low { unsigned_abs s.low ≤ 2 ^ 60 }
-    requires high { unsigned_abs s.high ≤ 2 ^ 60 }
+    requires low { unsigned_abs s.low ≤ most_sum }
+    requires high { unsigned_abs s.high ≤ most_sum }
     requires steps { n ≤ 2 ^ 62 }
     ensures low { result.low ≡ s.low }
     ensures high { result.high ≡ s.high -ℤ pos n }
@@ -165,8 +166,8 @@ fn lowered(s: Span, n: u64) -> Span
 
 /// The span without so many values at its lower end.
 fn raised(s: Span, n: u64) -> Span
-    requires low { unsigned_abs s.low ≤ 2 ^ 60 }
-    requires high { unsigned_abs s.high ≤ 2 ^ 60 }
+    requires low { unsigned_abs s.low ≤ most_sum }
+    requires high { unsigned_abs s.high ≤ most_sum }
     requires steps { n ≤ 2 ^ 62 }
     ensures low { result.low ≡ s.low +ℤ pos n }
     ensures high { result.high ≡ s.high }

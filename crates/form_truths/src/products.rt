@@ -1,6 +1,7 @@
 //! Truths as numbers, and sums that count where a truth holds.
 ghost use Rattle.std.specs.Prelude.{◌≡◌, ◌<◌, ◌≤◌, ◌^◌, ◌≤ℤ◌, ℕ, ℤ, Bool, List, [], true, false, cond, length, pos, neg_ℤ, unsigned_abs, IfOk, IfSome};
 ghost use Rattle.std.specs.Int.{int_max, int_min};
+ghost use Rattle.model_limits.specs.Limits.{most_width};
 ghost use Rattle.signed_clause.specs.Ranges.{has};
 ghost use Rattle.signed_clause.specs.Clauses.{Boxes, box_of};
 ghost use Rattle.ground_form.specs.Meaning.{value_of, bit};
@@ -93,8 +94,8 @@ pub fn counted(m: &mut Maker, flag: u32, f: &Linear) -> Result<Linear, AllocErro
     requires exists { flag < length m.old.domains }
     requires flag { IsFlag m.old flag }
     requires linear { IsLinear (2 ^ 58) m.old.domains f.now }
-    requires low { neg_ℤ (pos (2 ^ 50)) ≤ℤ least_linear f.now m.old.domains }
-    requires high { greatest_linear f.now m.old.domains ≤ℤ pos (2 ^ 50) }
+    requires low { neg_ℤ (pos most_width) ≤ℤ least_linear f.now m.old.domains }
+    requires high { greatest_linear f.now m.old.domains ≤ℤ pos most_width }
     ensures value { IfOk result (λ r. (a : List ℤ) (b : Bool) → IsWorld m.new a
         → value_of a flag ≡ bit b → linear_at r a ≡ cond b (linear_at f.now a) (pos 0)) }
     ensures sum { IfOk result (λ r. IsSum m.new.domains
@@ -133,8 +134,8 @@ pub fn times_truth(m: &mut Maker, f: &Linear, t: &Truth) -> Result<Linear, Alloc
     requires room { HasRoomFor 3 m.old }
     requires variable { HasVariable (length m.old.domains) t.now }
     requires linear { IsLinear (2 ^ 58) m.old.domains f.now }
-    requires low { neg_ℤ (pos (2 ^ 50)) ≤ℤ least_linear f.now m.old.domains }
-    requires high { greatest_linear f.now m.old.domains ≤ℤ pos (2 ^ 50) }
+    requires low { neg_ℤ (pos most_width) ≤ℤ least_linear f.now m.old.domains }
+    requires high { greatest_linear f.now m.old.domains ≤ℤ pos most_width }
     ensures value { IfOk result (λ r. (a : List ℤ) → IsWorld m.new a
         → linear_at r a ≡ cond (truth_at t.now a) (linear_at f.now a) (pos 0)) }
     ensures sum { IfOk result (λ r. IsSum m.new.domains

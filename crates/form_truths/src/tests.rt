@@ -1,7 +1,8 @@
 //! Comparisons before they are stated, pushed into a disjunction, or made a truth.
-ghost use Rattle.std.specs.Prelude.{◌≡◌, ◌<◌, ◌≤◌, ◌^◌, ◌+ℤ◌, ◌+◌, ◌||◌, ℕ, ℤ, Bool, List, [], true, int_le, length, pos, IfOk, OnOk};
+ghost use Rattle.std.specs.Prelude.{◌≡◌, ◌<◌, ◌≤◌, ◌+ℤ◌, ◌+◌, ◌||◌, ℕ, ℤ, Bool, List, [], true, int_le, length, pos, IfOk, OnOk};
 ghost use Rattle.std.specs.Ordering.{int_eq};
 ghost use Rattle.ground_form.specs.Meaning.{value_of};
+ghost use Rattle.ground_form.specs.Bounds.{most_sum};
 ghost use Rattle.ground_build.specs.Growing.{HasRoom};
 ghost use Rattle.form_build.specs.Forms.{linear_at, truth_at, HasVariable};
 ghost use Rattle.form_build.specs.Worlds.{IsWorld, Adds, Defines, IsFew, HasRoomFor};
@@ -55,7 +56,7 @@ pub fn copy_truth(t: &Truth) -> Result<Truth, AllocError>
 /// Whether the sum is 0, or isn't, as a truth.
 fn zero_truth(m: &mut Maker, f: &Linear, want: bool) -> Result<Truth, AllocError>
     requires room { HasRoom m.old }
-    requires linear { IsLinear (2 ^ 60) m.old.domains f.now }
+    requires linear { IsLinear most_sum m.old.domains f.now }
     ensures variable { IfOk result (λ t. HasVariable (length m.new.domains) t) }
     ensures value { IfOk result (λ t. (a : List ℤ) → IsWorld m.new a
         → truth_at t a ≡ wanted want (int_eq (linear_at f.now a) (pos 0))) }
@@ -154,7 +155,7 @@ fn is_wide(f: &Linear) -> bool {
 /// States that the sum is at most 0, as a row.
 fn state_row(m: &mut Maker, f: &Linear) -> Result<(), AllocError>
     requires room { HasRoom m.old }
-    requires linear { IsLinear (2 ^ 60) m.old.domains f.now }
+    requires linear { IsLinear most_sum m.old.domains f.now }
     ensures says { OnOk result (Adds [] m.old m.new (λ a. int_le (linear_at f.now a) (pos 0))) }
     ensures few { OnOk result (IsFew 1 m.old m.new) }
 {
@@ -165,7 +166,7 @@ fn state_row(m: &mut Maker, f: &Linear) -> Result<(), AllocError>
 /// States that the sum is at most 0.
 pub fn state_below(m: &mut Maker, f: &Linear) -> Result<(), AllocError>
     requires room { HasRoomFor 2 m.old }
-    requires linear { IsLinear (2 ^ 60) m.old.domains f.now }
+    requires linear { IsLinear most_sum m.old.domains f.now }
     ensures says { OnOk result (Adds [] m.old m.new (λ a. int_le (linear_at f.now a) (pos 0))) }
     ensures few { OnOk result (IsFew 2 m.old m.new) }
 {
@@ -181,7 +182,7 @@ pub fn state_below(m: &mut Maker, f: &Linear) -> Result<(), AllocError>
 /// States that the sum is at most 0, and at least 0.
 fn state_rows(m: &mut Maker, f: &Linear) -> Result<(), AllocError>
     requires room { HasRoomFor 2 m.old }
-    requires linear { IsLinear (2 ^ 60) m.old.domains f.now }
+    requires linear { IsLinear most_sum m.old.domains f.now }
     ensures says { OnOk result (Adds [] m.old m.new (λ a. int_eq (linear_at f.now a) (pos 0))) }
     ensures few { OnOk result (IsFew 2 m.old m.new) }
 {

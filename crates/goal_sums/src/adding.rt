@@ -2,7 +2,7 @@
 ghost use Rattle.std.specs.Prelude.{◌≡◌, ◌<◌, ◌≤◌, ◌^◌, ℤ, List, true, length, IfOk, OnOk};
 ghost use Rattle.signed_clause.specs.Clauses.{box_of};
 ghost use Rattle.ground_form.specs.Meaning.{value_of};
-ghost use Rattle.ground_form.specs.Bounds.{reach_of};
+ghost use Rattle.ground_form.specs.Bounds.{reach_of, most_sum};
 ghost use Rattle.form_build.specs.Forms.{linear_at};
 ghost use Rattle.form_build.specs.Worlds.{IsWorld, Defines};
 ghost use Rattle.form_build.specs.Sums.{IsLinear};
@@ -22,7 +22,7 @@ use std::alloc::AllocError;
 /// Whether the numbers of a goal's sum and of the goal are small.
 fn are_small(maker: &Maker, number: &Linear, goal: u32) -> bool
     requires goal { goal < length maker.now.domains }
-    requires number { IsLinear (2 ^ 60) maker.now.domains number.now }
+    requires number { IsLinear most_sum maker.now.domains number.now }
     ensures number { result ≡ true → IsLinear (2 ^ 19) maker.now.domains number.now }
     ensures goal { result ≡ true → reach_of (box_of maker.now.domains goal) ≤ 2 ^ 19 }
 {
@@ -141,7 +141,7 @@ fn has_packing(maker: &Maker) -> bool {
 /// alone give what the linear relaxation gives. Nothing new is said.
 pub fn add_goal_sums(maker: &mut Maker, number: &Linear, goal: u32) -> Result<(), AllocError>
     requires goal { goal < length maker.old.domains }
-    requires number { IsLinear (2 ^ 60) maker.old.domains number.now }
+    requires number { IsLinear most_sum maker.old.domains number.now }
     requires value { (a : List ℤ) → IsWorld maker.old a
         → value_of a goal ≡ linear_at number.now a }
     ensures adds { OnOk result (Defines maker.old maker.new) }

@@ -2,7 +2,7 @@
 ghost use Rattle.std.specs.Prelude.{◌≡◌, ◌<◌, ◌≤◌, ◌+◌, ◌^◌, ◌*◌, true, length, pos, ℕ, IfSome};
 ghost use Rattle.std.specs.List.{All};
 ghost use Rattle.signed_clause.specs.Clauses.{box_of};
-ghost use Rattle.ground_form.specs.Bounds.{low_of, high_of, reach_of, term_weight, weight_of};
+ghost use Rattle.ground_form.specs.Bounds.{low_of, high_of, reach_of, term_weight, weight_of, most_sum};
 ghost use Rattle.form_build.specs.Sums.{linear_weight, IsLinear};
 
 use form_build::{Linear, Maker};
@@ -30,7 +30,7 @@ pub(crate) fn is_near(boxes: &[IntSet], x: u32, most: u64) -> bool
 #[tactic(auto, unfolding(ground_form::specs::Bounds::term_weight))]
 fn term_weight(boxes: &[IntSet], t: (i64, u32)) -> u64
     requires exists { t.1 < length boxes.now }
-    requires fits { term_weight t boxes.now ≤ 2 ^ 60 }
+    requires fits { term_weight t boxes.now ≤ most_sum }
     ensures { result ≡ term_weight t boxes.now }
 {
     t.0.unsigned_abs() * reach(boxes, t.1)
@@ -39,7 +39,7 @@ fn term_weight(boxes: &[IntSet], t: (i64, u32)) -> u64
 /// Those of the terms, added up.
 fn weight(boxes: &[IntSet], terms: &[(i64, u32)]) -> u64
     requires exist { All (λ t. t.1 < length boxes.now) terms.now }
-    requires fits { weight_of terms.now boxes.now ≤ 2 ^ 60 }
+    requires fits { weight_of terms.now boxes.now ≤ most_sum }
     ensures { result ≡ weight_of terms.now boxes.now }
 {
     let mut sum = 0;
@@ -51,7 +51,7 @@ fn weight(boxes: &[IntSet], terms: &[(i64, u32)]) -> u64
 
 /// Whether a sum's numbers add up to at most so much.
 pub(crate) fn weighs_within(boxes: &[IntSet], f: &Linear, most: u64) -> bool
-    requires { IsLinear (2 ^ 60) boxes.now f.now }
+    requires { IsLinear most_sum boxes.now f.now }
     ensures { result ≡ true → IsLinear most boxes.now f.now }
 {
     weight(boxes, f.terms.items()) + f.offset.unsigned_abs() <= most
@@ -59,7 +59,7 @@ pub(crate) fn weighs_within(boxes: &[IntSet], f: &Linear, most: u64) -> bool
 
 /// Whether the numbers of a sum are small enough for a row.
 pub(crate) fn is_light(maker: &Maker, f: &Linear) -> bool
-    requires { IsLinear (2 ^ 60) maker.now.domains f.now }
+    requires { IsLinear most_sum maker.now.domains f.now }
     ensures { result ≡ true → IsLinear (2 ^ 39) maker.now.domains f.now }
 {
     weighs_within(maker.domains(), f, 1 << 39)

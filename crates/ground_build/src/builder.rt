@@ -14,7 +14,7 @@ ghost use Rattle.std.specs.Ordering.{int_eq};
 ghost use Rattle.signed_clause.specs.Ranges.{has};
 ghost use Rattle.ground_form.specs.declared.con.Con.TheVariants.{LinLe, LinDef, ReifLe, AndDef, MemberDef, EqDef, ElementDef, CondDef, ClauseCon, AllDiff, Pack};
 ghost use Rattle.ground_form.specs.Meaning.{value_of, bit, sum_at, parts_true};
-ghost use Rattle.ground_form.specs.Bounds.{weight_of, IsPackBounded};
+ghost use Rattle.ground_form.specs.Bounds.{weight_of, IsPackBounded, most_sum};
 ghost use Rattle.ground_form.specs.WellMade.{distinct_values, IsWellMade};
 ghost use Rattle.ground_build.specs.Growing.{over_cells, with_goals, HasRoom, IsFlag, HoldsDomain, AreItemVariables, Means, IsPicked, IsItemOrNought, IsDefined, IsRequired};
 ghost use Rattle.ground_build.specs.Defining.{IsNewDefinition, IsNewStatement, Determines};
@@ -120,7 +120,7 @@ impl Builder {
     pub fn linear(&mut self, terms: &[(i64, u32)], offset: i64) -> Result<u32, AllocError>
         requires room { HasRoom self.old }
         requires variables { All (λ t. t.1 < length self.old.domains) terms.now }
-        requires bounded { weight_of terms.now self.old.domains + unsigned_abs offset ≤ 2 ^ 60 }
+        requires bounded { weight_of terms.now self.old.domains + unsigned_abs offset ≤ most_sum }
         ensures ok { IfOk result (λ x. IsDefined self.old self.new x
             (linear_domain terms.now offset self.old.domains) (LinDef x terms.now offset)) }
         ensures means { IfOk result (λ x. Means self.new x (λ a. sum_at terms.now a +ℤ offset)) }
@@ -136,7 +136,7 @@ impl Builder {
     pub fn at_most(&mut self, terms: &[(i64, u32)], bound: i64) -> Result<u32, AllocError>
         requires room { HasRoom self.old }
         requires variables { All (λ t. t.1 < length self.old.domains) terms.now }
-        requires bounded { weight_of terms.now self.old.domains ≤ 2 ^ 60 }
+        requires bounded { weight_of terms.now self.old.domains ≤ most_sum }
         ensures ok { IfOk result (λ x. IsDefined self.old self.new x truth_values
             (ReifLe x terms.now bound)) }
         ensures means { IfOk result (λ x. Means self.new x
@@ -247,7 +247,7 @@ impl Builder {
     pub fn require_at_most(&mut self, terms: &[(i64, u32)], bound: i64) -> Result<(), AllocError>
         requires room { length self.old.cons < 2 ^ 32 - 1 }
         requires variables { All (λ t. t.1 < length self.old.domains) terms.now }
-        requires bounded { weight_of terms.now self.old.domains ≤ 2 ^ 60 }
+        requires bounded { weight_of terms.now self.old.domains ≤ most_sum }
         ensures ok { OnOk result (IsRequired self.old self.new (LinLe terms.now bound)) }
         ensures err { OnErr result (self.new ≡ self.old) }
     {

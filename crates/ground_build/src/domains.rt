@@ -2,12 +2,12 @@
 //!
 //! Each is as small as the boxes of what it stands on say, so that a search never leaves a range
 //! that no values can reach.
-ghost use Rattle.std.specs.Prelude.{◌≡◌, ◌<◌, ◌≤◌, ◌+◌, ◌^◌, [], length, unsigned_abs, IfOk};
+ghost use Rattle.std.specs.Prelude.{◌≡◌, ◌<◌, ◌≤◌, ◌+◌, [], length, unsigned_abs, IfOk};
 ghost use Rattle.std.specs.List.{All};
 ghost use Rattle.signed_clause.specs.Ranges.{IsValid, is_nil};
 ghost use Rattle.signed_clause.specs.SetAlgebra.{join};
 ghost use Rattle.signed_clause.specs.Clauses.{box_of};
-ghost use Rattle.ground_form.specs.Bounds.{weight_of};
+ghost use Rattle.ground_form.specs.Bounds.{weight_of, most_sum};
 ghost use Rattle.ground_build.specs.NewDomains.{truth_values, some_empty, linear_domain, picked_domain, when_domain};
 
 use ground_form::{Number, greatest_sum, least_sum};
@@ -47,7 +47,7 @@ fn has_empty(boxes: &[IntSet], terms: &[(i64, u32)]) -> bool
 #[tactic(auto, using(crate::proofs::Sums::sums_ordered))]
 pub fn sums(alloc: Global, boxes: &[IntSet], terms: &[(i64, u32)], offset: i64) -> IntSet
     requires variables { All (λ t. t.1 < length boxes.now) terms.now }
-    requires bounded { weight_of terms.now boxes.now + unsigned_abs offset ≤ 2 ^ 60 }
+    requires bounded { weight_of terms.now boxes.now + unsigned_abs offset ≤ most_sum }
     ensures list { result ≡ linear_domain terms.now offset boxes.now }
     ensures valid { IsValid result }
 {

@@ -8,6 +8,10 @@ use Rattle.signed_clause.specs.Clauses.{Boxes, box_of}
 use Rattle.ground_form.specs.declared.con.Con.{Con}
 use Rattle.ground_form.specs.declared.con.Con.TheVariants.{LinLe, LinDef, ReifLe, AndDef, MemberDef, EqDef, ElementDef, CondDef, ClauseCon, AllDiff, Pack}
 
+-- how great a sum that a constraint speaks of may be
+abbrev pub most_sum : ℕ
+most_sum = 2 ^ 60
+
 -- the least and the greatest value of a set, 0 of the empty one
 abbrev pub low_of : Ranges → ℤ
 low_of [] = pos 0
@@ -60,13 +64,13 @@ size_sum (i ∷ rest) boxes = high_of (box_of boxes i.1) +ℤ size_sum rest boxe
 pub record IsPackBounded (items : List (ℕ × ℕ × ℕ)) (boxes : Boxes) : Type 0 where
   pub places : All (λ i. LiesWithin (pos 0) (pos 9999) (box_of boxes i.0)) items
   pub sizes : All (λ i. pos 0 ≤ℤ low_of (box_of boxes i.1)) items
-  pub total : size_sum items boxes ≤ℤ pos (2 ^ 60)
+  pub total : size_sum items boxes ≤ℤ pos most_sum
 
 -- the constraint's numbers are bounded over the boxes
 abbrev pub IsBounded : Con → Boxes → Type 0
-IsBounded (LinLe terms bound) boxes = weight_of terms boxes ≤ 2 ^ 60
-IsBounded (LinDef out terms offset) boxes = weight_of terms boxes + unsigned_abs offset ≤ 2 ^ 60
-IsBounded (ReifLe flag terms bound) boxes = weight_of terms boxes ≤ 2 ^ 60
+IsBounded (LinLe terms bound) boxes = weight_of terms boxes ≤ most_sum
+IsBounded (LinDef out terms offset) boxes = weight_of terms boxes + unsigned_abs offset ≤ most_sum
+IsBounded (ReifLe flag terms bound) boxes = weight_of terms boxes ≤ most_sum
 IsBounded (AndDef flag parts) boxes = Unit {0}
 IsBounded (MemberDef flag var set) boxes = Unit {0}
 IsBounded (EqDef flag left right) boxes = Unit {0}

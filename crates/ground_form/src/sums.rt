@@ -6,7 +6,7 @@
 ghost use Rattle.std.specs.Prelude.{◌≡◌, ◌<◌, ◌≤◌, ◌^◌, ◌+◌, ◌*◌, ◌+ℤ◌, ◌*ℤ◌, ◌≤ℤ◌, length, unsigned_abs};
 ghost use Rattle.std.specs.List.{All};
 ghost use Rattle.signed_clause.specs.Clauses.{box_of};
-ghost use Rattle.ground_form.specs.Bounds.{low_of, high_of, term_weight, weight_of, least_term, greatest_term, least_sum, greatest_sum};
+ghost use Rattle.ground_form.specs.Bounds.{low_of, high_of, term_weight, weight_of, least_term, greatest_term, least_sum, greatest_sum, most_sum};
 
 use signed_clause::IntSet;
 
@@ -56,7 +56,7 @@ fn times(c: i64, v: i64) -> i64
 #[tactic(auto, unfolding(crate::specs::Bounds::least_term, crate::specs::Bounds::term_weight))]
 fn least_term(t: (i64, u32), boxes: &[IntSet]) -> Number
     requires var { t.1 < length boxes.now }
-    requires fits { term_weight t boxes.now ≤ 2 ^ 60 }
+    requires fits { term_weight t boxes.now ≤ most_sum }
     ensures { result.value ≡ least_term t boxes.now }
 {
     let at = box_ends(boxes, t.1);
@@ -69,7 +69,7 @@ fn least_term(t: (i64, u32), boxes: &[IntSet]) -> Number
 #[tactic(auto, unfolding(crate::specs::Bounds::greatest_term, crate::specs::Bounds::term_weight))]
 fn greatest_term(t: (i64, u32), boxes: &[IntSet]) -> Number
     requires var { t.1 < length boxes.now }
-    requires fits { term_weight t boxes.now ≤ 2 ^ 60 }
+    requires fits { term_weight t boxes.now ≤ most_sum }
     ensures { result.value ≡ greatest_term t boxes.now }
 {
     let at = box_ends(boxes, t.1);
@@ -82,7 +82,7 @@ fn greatest_term(t: (i64, u32), boxes: &[IntSet]) -> Number
 #[tactic(auto, using(crate::proofs::Weights::least_step))]
 pub fn least_sum(terms: &[(i64, u32)], boxes: &[IntSet]) -> Number
     requires vars { All (λ t. t.1 < length boxes.now) terms.now }
-    requires fits { weight_of terms.now boxes.now ≤ 2 ^ 60 }
+    requires fits { weight_of terms.now boxes.now ≤ most_sum }
     ensures value { result.value ≡ least_sum terms.now boxes.now }
     ensures fits { unsigned_abs result.value ≤ weight_of terms.now boxes.now }
 {
@@ -97,7 +97,7 @@ pub fn least_sum(terms: &[(i64, u32)], boxes: &[IntSet]) -> Number
 #[tactic(auto, using(crate::proofs::Weights::greatest_step))]
 pub fn greatest_sum(terms: &[(i64, u32)], boxes: &[IntSet]) -> Number
     requires vars { All (λ t. t.1 < length boxes.now) terms.now }
-    requires fits { weight_of terms.now boxes.now ≤ 2 ^ 60 }
+    requires fits { weight_of terms.now boxes.now ≤ most_sum }
     ensures value { result.value ≡ greatest_sum terms.now boxes.now }
     ensures fits { unsigned_abs result.value ≤ weight_of terms.now boxes.now }
 {

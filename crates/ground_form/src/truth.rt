@@ -9,7 +9,7 @@ ghost use Rattle.std.specs.Ordering.{int_eq};
 ghost use Rattle.signed_clause.specs.Ranges.{has};
 ghost use Rattle.signed_clause.specs.Clauses.{clause_true};
 ghost use Rattle.ground_form.specs.Meaning.{value_of, bit, sum_at, parts_true, picks, lacks, all_differ, load_at, rooms_hold, con_true, vars_of};
-ghost use Rattle.ground_form.specs.Bounds.{weight_of, IsBounded, IsPackBounded, singles};
+ghost use Rattle.ground_form.specs.Bounds.{weight_of, IsBounded, IsPackBounded, singles, most_sum};
 
 use crate::con::Con;
 use crate::sums::Number;
@@ -181,7 +181,7 @@ fn none_equals(vars: &[u32], values: &[i64], of: u32) -> bool
 /// What a term is at the values.
 fn term_at(t: (i64, u32), values: &[i64]) -> Number
     requires variable { t.1 < length values.now }
-    requires fits { unsigned_abs t.0 * unsigned_abs (value_of values.now t.1) ≤ 2 ^ 60 }
+    requires fits { unsigned_abs t.0 * unsigned_abs (value_of values.now t.1) ≤ most_sum }
     ensures { result.value ≡ t.0 *ℤ value_of values.now t.1 }
 {
     Number {
@@ -192,7 +192,7 @@ fn term_at(t: (i64, u32), values: &[i64]) -> Number
 /// What the terms add up to.
 fn sum_of(terms: &[(i64, u32)], values: &[i64]) -> Number
     requires variables { All (λ t. t.1 < length values.now) terms.now }
-    requires fits { weight_of terms.now (singles values.now) ≤ 2 ^ 60 }
+    requires fits { weight_of terms.now (singles values.now) ≤ most_sum }
     ensures value { result.value ≡ sum_at terms.now values.now }
     ensures fits { unsigned_abs result.value ≤ weight_of terms.now (singles values.now) }
 {
@@ -206,7 +206,7 @@ fn sum_of(terms: &[(i64, u32)], values: &[i64]) -> Number
 /// Whether the terms add up to at most the bound.
 fn sum_is_at_most(terms: &[(i64, u32)], values: &[i64], bound: i64) -> bool
     requires variables { All (λ t. t.1 < length values.now) terms.now }
-    requires fits { weight_of terms.now (singles values.now) ≤ 2 ^ 60 }
+    requires fits { weight_of terms.now (singles values.now) ≤ most_sum }
     ensures { result ≡ int_le (sum_at terms.now values.now) bound }
 {
     sum_of(terms, values).value <= bound
@@ -216,7 +216,7 @@ fn sum_is_at_most(terms: &[(i64, u32)], values: &[i64], bound: i64) -> bool
 fn is_sum(values: &[i64], out: u32, terms: &[(i64, u32)], offset: i64) -> bool
     requires variables { All (λ t. t.1 < length values.now) terms.now }
     requires out { out < length values.now }
-    requires fits { weight_of terms.now (singles values.now) + unsigned_abs offset ≤ 2 ^ 60 }
+    requires fits { weight_of terms.now (singles values.now) + unsigned_abs offset ≤ most_sum }
     ensures { result ≡ int_eq (value_of values.now out) (sum_at terms.now values.now +ℤ offset) }
 {
     value(values, out).value == sum_of(terms, values).plus(Number { value: offset }).value

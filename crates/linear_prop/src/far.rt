@@ -9,7 +9,7 @@ ghost use Rattle.signed_clause.specs.Ranges.{IsValid};
 ghost use Rattle.signed_clause.specs.Clauses.{box_of};
 ghost use Rattle.ground_form.specs.declared.con.Con.TheVariants as con_kind;
 ghost use Rattle.ground_form.specs.Meaning.{term_vars};
-ghost use Rattle.ground_form.specs.Bounds.{low_of, high_of, reach_of};
+ghost use Rattle.ground_form.specs.Bounds.{low_of, high_of, reach_of, most_sum};
 ghost use Rattle.ground_form.specs.WellMade.{IsWellMadeCon};
 ghost use Rattle.rule_law.specs.Reasons.{no_repeat};
 ghost use Rattle.rule_law.specs.Answers.{AreBoxesWithin, IsPruning};
@@ -26,7 +26,7 @@ use std::alloc::{AllocError, Global};
 
 /// Whether all values of the set lie from -2^60 to 2^60.
 pub fn is_near(set: &IntSet) -> bool
-    ensures { result ≡ nat_le (reach_of set.now) (2 ^ 60) }
+    ensures { result ≡ nat_le (reach_of set.now) most_sum }
 {
     let least = low_end(set).value.unsigned_abs();
     let greatest = high_end(set).value.unsigned_abs();
@@ -37,8 +37,8 @@ pub fn is_near(set: &IntSet) -> bool
 fn high_cause(out: u32, boxes: &[IntSet]) -> Cause
     requires var { out < length boxes.now }
     requires order { low_of (box_of boxes.now out) ≤ℤ high_of (box_of boxes.now out) }
-    requires far { pos (2 ^ 60) <ℤ high_of (box_of boxes.now out) }
-    ensures { IsCause ((pos 1, out) ∷ []) boxes.now (pos (2 ^ 60)) result.place result.to.value
+    requires far { pos most_sum <ℤ high_of (box_of boxes.now out) }
+    ensures { IsCause ((pos 1, out) ∷ []) boxes.now (pos most_sum) result.place result.to.value
         result.slack }
 {
     if low_end(set_at(boxes, out)).value > 1152921504606846976 {
@@ -61,7 +61,7 @@ fn low_cause(out: u32, boxes: &[IntSet]) -> Cause
     requires var { out < length boxes.now }
     requires order { low_of (box_of boxes.now out) ≤ℤ high_of (box_of boxes.now out) }
     requires far { low_of (box_of boxes.now out) <ℤ negsuc 1152921504606846975 }
-    ensures { IsCause ((negsuc 0, out) ∷ []) boxes.now (pos (2 ^ 60)) result.place result.to.value
+    ensures { IsCause ((negsuc 0, out) ∷ []) boxes.now (pos most_sum) result.place result.to.value
         result.slack }
 {
     if high_end(set_at(boxes, out)).value < -1152921504606846976 {
@@ -93,7 +93,7 @@ fn above_clause(
     requires well_made { IsWellMadeCon domains.now (con_kind.LinDef out terms.now offset) }
     requires sets { All (λ d. IsValid d) domains.now }
     requires boxes { AreBoxesWithin domains.now boxes.now }
-    requires far { pos (2 ^ 60) <ℤ high_of (box_of boxes.now out) }
+    requires far { pos most_sum <ℤ high_of (box_of boxes.now out) }
     ensures { IfOk result (λ c. IsPruning con.now domains.now boxes.now c) }
 {
     let row = Row {
@@ -150,7 +150,7 @@ pub fn far_clause(
     requires sets { All (λ d. IsValid d) domains.now }
     requires boxes { AreBoxesWithin domains.now boxes.now }
     requires differ { no_repeat (out ∷ term_vars terms.now) ≡ true }
-    requires far { nat_le (reach_of (box_of boxes.now out)) (2 ^ 60) ≡ false }
+    requires far { nat_le (reach_of (box_of boxes.now out)) most_sum ≡ false }
     ensures { IfOk result (λ c. IsPruning con.now domains.now boxes.now c) }
 {
     if high_end(set_at(boxes, out)).value > 1152921504606846976 {

@@ -4,11 +4,11 @@
 //! and the variable less the sum. Of a flag that says whether a sum keeps a bound, the one row
 //! holds where the flag is 1, and the other, with turned signs, where it is 0; where the flag is
 //! open each only tells the flag.
-ghost use Rattle.std.specs.Prelude.{◌≡◌, ◌<◌, true, false, length, ℤ, pos, negsuc, ◌-ℤ◌, ◌∷◌, ◌≤◌, ◌^◌, unsigned_abs, IfOk};
+ghost use Rattle.std.specs.Prelude.{◌≡◌, ◌<◌, true, false, length, ℤ, pos, negsuc, ◌-ℤ◌, ◌∷◌, ◌≤◌, unsigned_abs, IfOk};
 ghost use Rattle.std.specs.List.{All};
 ghost use Rattle.ground_form.specs.declared.con.Con.TheVariants as con_kind;
 ghost use Rattle.ground_form.specs.Meaning.{term_vars, vars_of};
-ghost use Rattle.ground_form.specs.Bounds.{reach_of};
+ghost use Rattle.ground_form.specs.Bounds.{reach_of, most_sum};
 ghost use Rattle.ground_form.specs.WellMade.{IsWellMadeCon};
 ghost use Rattle.rule_law.specs.Reasons.{no_repeat};
 ghost use Rattle.rule_law.specs.Answers.{AreBoxesWithin, IsAnswer};
@@ -55,7 +55,7 @@ fn at_most_answer(
 
 /// The bound of the row 'the sum less the variable'.
 fn less_offset(offset: i64) -> Number
-    requires { unsigned_abs offset ≤ 2 ^ 60 }
+    requires { unsigned_abs offset ≤ most_sum }
     ensures { result.value ≡ pos 0 -ℤ offset }
 {
     Number { value: 0 - offset }
@@ -83,7 +83,7 @@ fn up_answer(
     requires sets { All (λ d. IsValid d) domains.now }
     requires boxes { AreBoxesWithin domains.now boxes.now }
     requires differ { no_repeat (out ∷ term_vars terms.now) ≡ true }
-    requires near { reach_of (box_of boxes.now out) ≤ 2 ^ 60 }
+    requires near { reach_of (box_of boxes.now out) ≤ most_sum }
     ensures { IfOk result (λ answer. IsRowAnswer con.now ((negsuc 0, out) ∷ terms.now)
         (pos 0 -ℤ offset) domains.now boxes.now answer) }
 {
@@ -112,7 +112,7 @@ fn down_answer(
     requires sets { All (λ d. IsValid d) domains.now }
     requires boxes { AreBoxesWithin domains.now boxes.now }
     requires differ { no_repeat (out ∷ term_vars terms.now) ≡ true }
-    requires near { reach_of (box_of boxes.now out) ≤ 2 ^ 60 }
+    requires near { reach_of (box_of boxes.now out) ≤ most_sum }
     ensures { IfOk result (λ answer. IsRowAnswer con.now ((pos 1, out) ∷ negated terms.now) offset
         domains.now boxes.now answer) }
 {
@@ -141,7 +141,7 @@ fn sum_answer(
     requires sets { All (λ d. IsValid d) domains.now }
     requires boxes { AreBoxesWithin domains.now boxes.now }
     requires differ { no_repeat (out ∷ term_vars terms.now) ≡ true }
-    requires near { reach_of (box_of boxes.now out) ≤ 2 ^ 60 }
+    requires near { reach_of (box_of boxes.now out) ≤ most_sum }
     ensures { IfOk result (λ answer. IsAnswer con.now domains.now boxes.now answer) }
 {
     let up = up_answer(alloc, con, out, terms, offset, domains, boxes)?;

@@ -1,5 +1,6 @@
 //! Comparisons of numbers, as tests of the difference of two sums. Nothing is made for them.
 ghost use Rattle.std.specs.Prelude.{◌≡◌, ◌^◌, ◌+ℤ◌, ◌-ℤ◌, true, ℤ, pos, List, int_le, int_lt, length, IfOk};
+ghost use Rattle.ground_form.specs.Bounds.{most_sum};
 ghost use Rattle.conf_eval.specs.Meaning.{int_same, operate, truth_of};
 ghost use Rattle.form_build.specs.Forms.{linear_at, truth_at, HasVariable};
 ghost use Rattle.form_build.specs.Sums.{IsLinear};
@@ -34,7 +35,7 @@ fn difference(maker: &Maker, f: &Linear, g: &Linear) -> Result<Linear, AllocErro
 fn and_one(maker: &Maker, f: &Linear) -> Result<Linear, AllocError>
     requires { IsLinear (2 ^ 59) maker.now.domains f.now }
     ensures value { IfOk result (λ r. (a : List ℤ) → linear_at r a ≡ linear_at f.now a +ℤ pos 1) }
-    ensures linear { IfOk result (λ r. IsLinear (2 ^ 60) maker.now.domains r) }
+    ensures linear { IfOk result (λ r. IsLinear most_sum maker.now.domains r) }
 {
     let _search = maker.search();
     let one = Linear::number(maker.alloc(), 1);

@@ -5,7 +5,7 @@ ghost use Rattle.std.specs.Prelude.{◌≡◌, ◌<◌, ◌≤◌, ◌+◌, ◌^
 ghost use Rattle.std.specs.List.{All};
 ghost use Rattle.std.specs.Int.{int_max, int_min};
 ghost use Rattle.signed_clause.specs.Clauses.{box_of};
-ghost use Rattle.ground_form.specs.Bounds.{low_of, high_of, term_weight, weight_of};
+ghost use Rattle.ground_form.specs.Bounds.{low_of, high_of, term_weight, weight_of, most_sum};
 ghost use Rattle.ground_build.specs.Growing.{HasRoom};
 ghost use Rattle.form_build.specs.Forms.{linear_at};
 ghost use Rattle.form_build.specs.Worlds.{IsWorld, Defines, IsFew};
@@ -29,7 +29,7 @@ fn ends_at(boxes: &[IntSet], x: u32) -> (i64, i64)
 #[tactic(auto, unfolding(ground_form::specs::Bounds::term_weight))]
 fn term_weight(boxes: &[IntSet], t: (i64, u32)) -> u64
     requires exists { t.1 < length boxes.now }
-    requires fits { term_weight t boxes.now ≤ 2 ^ 60 }
+    requires fits { term_weight t boxes.now ≤ most_sum }
     ensures { result ≡ term_weight t boxes.now }
 {
     let ends = ends_at(boxes, t.1);
@@ -39,7 +39,7 @@ fn term_weight(boxes: &[IntSet], t: (i64, u32)) -> u64
 /// Those of the terms, added up.
 fn weight(boxes: &[IntSet], terms: &[(i64, u32)]) -> u64
     requires exist { All (λ t. t.1 < length boxes.now) terms.now }
-    requires fits { weight_of terms.now boxes.now ≤ 2 ^ 60 }
+    requires fits { weight_of terms.now boxes.now ≤ most_sum }
     ensures { result ≡ weight_of terms.now boxes.now }
 {
     let mut sum = 0;
@@ -51,7 +51,7 @@ fn weight(boxes: &[IntSet], terms: &[(i64, u32)]) -> u64
 
 /// The greatest absolute value of a sum over the boxes.
 fn linear_weight(boxes: &[IntSet], f: &Linear) -> u64
-    requires { IsLinear (2 ^ 60) boxes.now f.now }
+    requires { IsLinear most_sum boxes.now f.now }
     ensures { result ≡ linear_weight f.now boxes.now }
 {
     weight(boxes, f.terms.items()) + f.offset.unsigned_abs()
@@ -59,7 +59,7 @@ fn linear_weight(boxes: &[IntSet], f: &Linear) -> u64
 
 /// Whether the number times the sum has numbers that are small enough to take part in others.
 fn is_light(boxes: &[IntSet], c: i64, f: &Linear) -> bool
-    requires { IsLinear (2 ^ 60) boxes.now f.now }
+    requires { IsLinear most_sum boxes.now f.now }
     ensures { result ≡ true → unsigned_abs c * linear_weight f.now boxes.now ≤ 2 ^ 58 }
 {
     match c.unsigned_abs().checked_mul(linear_weight(boxes, f)) {

@@ -3,6 +3,7 @@
 use Rattle.std.specs.Prelude.{◌≡◌, ℕ, ◌<◌, ◌^◌, ◌≤◌, Bool, true, cond, List, [], ◌∷◌, ℤ, pos, negsuc, ◌+ℤ◌, ◌-ℤ◌, ◌≤ℤ◌, ◌<ℤ◌, length, unsigned_abs}
 use Rattle.std.specs.List.{All, list_any}
 use Rattle.std.specs.Ordering.{int_eq}
+use Rattle.model_limits.specs.Limits.{most_width}
 use Rattle.signed_clause.specs.Ranges.{has}
 use Rattle.signed_clause.specs.Clauses.{Boxes, box_of}
 use Rattle.ground_form.specs.declared.ground.Ground.{Ground}
@@ -18,7 +19,7 @@ is_bin rows v = list_any (λ r. int_eq r.bin v) rows
 
 -- a number that can be a constant
 abbrev pub IsSmall : ℤ → Type 0
-IsSmall v = unsigned_abs v ≤ 2 ^ 50
+IsSmall v = unsigned_abs v ≤ most_width
 
 -- the items count in the bin of the row as its own loads do, and its room is small and at most
 -- the greatest

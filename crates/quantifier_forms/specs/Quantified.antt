@@ -4,6 +4,7 @@
 use Rattle.std.specs.Prelude.{◌≡◌, ℕ, ◌^◌, ◌≤◌, Bool, true, false, List, [], ◌∷◌, ℤ, pos, neg_ℤ, length}
 use Rattle.std.specs.List.{All}
 use Rattle.std.specs.Int.{int_max, int_min}
+use Rattle.model_limits.specs.Limits.{most_width}
 use Rattle.class_table.specs.Outline.{Outline}
 use Rattle.conf_syntax.specs.declared.tree.QuantKind.{QuantKind}
 use Rattle.conf_syntax.specs.declared.tree.QuantKind.TheVariants as kind
@@ -42,7 +43,7 @@ pub record IsPart (boxes : Boxes) (first : Interval) (p : Part) : Type 0 where
 
 -- a sum whose values over the boxes lie within 2^50
 abbrev pub IsNarrow : Boxes → Linear → Type 0
-IsNarrow boxes f = IsSum boxes (neg_ℤ (pos (2 ^ 50))) (pos (2 ^ 50)) f
+IsNarrow boxes f = IsSum boxes (neg_ℤ (pos most_width)) (pos most_width) f
 
 -- the intervals of the first two bodies make one of the quantifier that is narrow
 pub record AreParts (boxes : Boxes) (kind : QuantKind) (ps : List Part) : Type 0 where
