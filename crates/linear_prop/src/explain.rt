@@ -30,6 +30,15 @@ pub struct Cause {
     pub slack: u64,
 }
 
+/// What the walk goes over: a row, why it has something to say, the domains, and the boxes.
+#[derive(Clone, Copy)]
+struct Scene<'a> {
+    row: &'a Row<'a>,
+    cause: Cause,
+    domains: &'a [IntSet],
+    boxes: &'a [IntSet],
+}
+
 /// The set of the variable.
 pub fn set_at<'a>(sets: &'a [IntSet], x: u32) -> &'a IntSet
     requires { x < length sets.now }
@@ -52,28 +61,26 @@ fn put(out: &mut Vec<(u32, IntSet)>, x: u32, literal: Option<IntSet>) -> Result<
 /// box.
 fn turn_elsewhere(
     alloc: Global,
-    row: &Row,
-    cause: Cause,
+    scene: Scene<'_>,
     i: usize,
     t: (i128, u32),
     slack: u64,
-    domains: &[IntSet],
-    boxes: &[IntSet],
     out: &mut Vec<(u32, IntSet)>,
 ) -> Result<u64, AllocError>
-    requires turn { IsTurn (terms_of row.now) domains.now boxes.now i t }
-    requires domain { t.1 < length domains.now }
-    requires fits { unsigned_abs t.0 * span_of (box_of domains.now t.1) < 2 ^ 64 }
+    requires turn { IsTurn (terms_of scene.row.now) scene.domains.now scene.boxes.now i t }
+    requires domain { t.1 < length scene.domains.now }
+    requires fits { unsigned_abs t.0 * span_of (box_of scene.domains.now t.1) < 2 ^ 64 }
     requires small { unsigned_abs t.0 ≤ 2 ^ 63 }
-    requires so_far { IsSoFar (terms_of row.now) domains.now boxes.now row.now.bound.value
-        cause.place cause.to.value i out.old.items slack }
-    requires other { i ≢ cause.place }
-    ensures { IfOk result (λ left. IsSoFar (terms_of row.now) domains.now boxes.now
-        row.now.bound.value cause.place cause.to.value (i + 1) out.new.items left) }
+    requires so_far { IsSoFar (terms_of scene.row.now) scene.domains.now scene.boxes.now
+        scene.row.now.bound.value scene.cause.place scene.cause.to.value i out.old.items slack }
+    requires other { i ≢ scene.cause.place }
+    ensures { IfOk result (λ left. IsSoFar (terms_of scene.entry.row.now) scene.entry.domains.now
+        scene.entry.boxes.now scene.entry.row.now.bound.value scene.entry.cause.place
+        scene.entry.cause.to.value (i + 1) out.new.items left) }
 {
     let c = factor_of(t);
-    let domain = set_at(domains, t.1);
-    let at = lowest(c, set_at(boxes, t.1));
+    let domain = set_at(scene.domains, t.1);
+    let at = lowest(c, set_at(scene.boxes, t.1));
     let f = fall_of(alloc, c, at, slack, domain)?;
     let left = f.left;
     put(out, t.1, f.literal)?;
@@ -84,30 +91,28 @@ fn turn_elsewhere(
 /// value that is taken away.
 fn turn_at_place(
     alloc: Global,
-    row: &Row,
-    cause: Cause,
+    scene: Scene<'_>,
     i: usize,
     t: (i128, u32),
     slack: u64,
-    domains: &[IntSet],
-    boxes: &[IntSet],
     out: &mut Vec<(u32, IntSet)>,
 ) -> Result<u64, AllocError>
-    requires turn { IsTurn (terms_of row.now) domains.now boxes.now i t }
-    requires domain { t.1 < length domains.now }
-    requires fits { unsigned_abs t.0 * span_of (box_of domains.now t.1) < 2 ^ 64 }
+    requires turn { IsTurn (terms_of scene.row.now) scene.domains.now scene.boxes.now i t }
+    requires domain { t.1 < length scene.domains.now }
+    requires fits { unsigned_abs t.0 * span_of (box_of scene.domains.now t.1) < 2 ^ 64 }
     requires small { unsigned_abs t.0 ≤ 2 ^ 63 }
-    requires cause { IsCause (terms_of row.now) boxes.now row.now.bound.value cause.place
-        cause.to.value cause.slack }
-    requires so_far { IsSoFar (terms_of row.now) domains.now boxes.now row.now.bound.value
-        cause.place cause.to.value i out.old.items slack }
-    requires place { i ≡ cause.place }
-    ensures { IfOk result (λ left. IsSoFar (terms_of row.now) domains.now boxes.now
-        row.now.bound.value cause.place cause.to.value (i + 1) out.new.items left) }
+    requires cause { IsCause (terms_of scene.row.now) scene.boxes.now scene.row.now.bound.value
+        scene.cause.place scene.cause.to.value scene.cause.slack }
+    requires so_far { IsSoFar (terms_of scene.row.now) scene.domains.now scene.boxes.now
+        scene.row.now.bound.value scene.cause.place scene.cause.to.value i out.old.items slack }
+    requires place { i ≡ scene.cause.place }
+    ensures { IfOk result (λ left. IsSoFar (terms_of scene.entry.row.now) scene.entry.domains.now
+        scene.entry.boxes.now scene.entry.row.now.bound.value scene.entry.cause.place
+        scene.entry.cause.to.value (i + 1) out.new.items left) }
 {
     let c = factor_of(t);
-    let domain = set_at(domains, t.1);
-    let f = fall_of(alloc, c, cause.to, 0, domain)?;
+    let domain = set_at(scene.domains, t.1);
+    let f = fall_of(alloc, c, scene.cause.to, 0, domain)?;
     put(out, t.1, f.literal)?;
     Ok(slack)
 }
@@ -115,31 +120,29 @@ fn turn_at_place(
 /// The turn at term `i`.
 fn turn(
     alloc: Global,
-    row: &Row,
-    cause: Cause,
+    scene: Scene<'_>,
     i: usize,
     t: (i128, u32),
     slack: u64,
-    domains: &[IntSet],
-    boxes: &[IntSet],
     out: &mut Vec<(u32, IntSet)>,
 ) -> Result<u64, AllocError>
-    requires turn { IsTurn (terms_of row.now) domains.now boxes.now i t }
-    requires domain { t.1 < length domains.now }
-    requires fits { unsigned_abs t.0 * span_of (box_of domains.now t.1) < 2 ^ 64 }
+    requires turn { IsTurn (terms_of scene.row.now) scene.domains.now scene.boxes.now i t }
+    requires domain { t.1 < length scene.domains.now }
+    requires fits { unsigned_abs t.0 * span_of (box_of scene.domains.now t.1) < 2 ^ 64 }
     requires small { unsigned_abs t.0 ≤ 2 ^ 63 }
-    requires cause { IsCause (terms_of row.now) boxes.now row.now.bound.value cause.place
-        cause.to.value cause.slack }
-    requires so_far { IsSoFar (terms_of row.now) domains.now boxes.now row.now.bound.value
-        cause.place cause.to.value i out.old.items slack }
-    ensures { IfOk result (λ left. IsSoFar (terms_of row.now) domains.now boxes.now
-        row.now.bound.value cause.place cause.to.value (i + 1) out.new.items left) }
+    requires cause { IsCause (terms_of scene.row.now) scene.boxes.now scene.row.now.bound.value
+        scene.cause.place scene.cause.to.value scene.cause.slack }
+    requires so_far { IsSoFar (terms_of scene.row.now) scene.domains.now scene.boxes.now
+        scene.row.now.bound.value scene.cause.place scene.cause.to.value i out.old.items slack }
+    ensures { IfOk result (λ left. IsSoFar (terms_of scene.entry.row.now) scene.entry.domains.now
+        scene.entry.boxes.now scene.entry.row.now.bound.value scene.entry.cause.place
+        scene.entry.cause.to.value (i + 1) out.new.items left) }
 {
-    if i == cause.place {
-        let left = turn_at_place(alloc, row, cause, i, t, slack, domains, boxes, out)?;
+    if i == scene.cause.place {
+        let left = turn_at_place(alloc, scene, i, t, slack, out)?;
         Ok(left)
     } else {
-        let left = turn_elsewhere(alloc, row, cause, i, t, slack, domains, boxes, out)?;
+        let left = turn_elsewhere(alloc, scene, i, t, slack, out)?;
         Ok(left)
     }
 }
@@ -162,19 +165,15 @@ pub fn explain(
         row.now.bound.value cause.place cause.to.value (length (terms_of row.now)) out.new.items
         left) }
 {
+    let scene = Scene {
+        row,
+        cause,
+        domains,
+        boxes,
+    };
     let mut slack = cause.slack;
     for i in 0..row.len() {
-        slack = turn(
-            alloc,
-            row,
-            cause,
-            i,
-            row.term(i),
-            slack,
-            domains,
-            boxes,
-            out,
-        )?;
+        slack = turn(alloc, scene, i, row.term(i), slack, out)?;
     }
     Ok(slack)
 }

@@ -9,7 +9,7 @@ ghost use Rattle.signed_clause.specs.Ranges.{IsValid};
 ghost use Rattle.signed_clause.specs.Clauses.{box_of};
 ghost use Rattle.ground_form.specs.declared.con.Con.TheVariants as con_kind;
 ghost use Rattle.ground_form.specs.Meaning.{term_vars};
-ghost use Rattle.ground_form.specs.Bounds.{low_of, high_of, reach_of, most_sum};
+ghost use Rattle.ground_form.specs.Bounds.{low_of, high_of, reach_of};
 ghost use Rattle.ground_form.specs.WellMade.{IsWellMadeCon};
 ghost use Rattle.rule_law.specs.Reasons.{no_repeat};
 ghost use Rattle.rule_law.specs.Answers.{AreBoxesWithin, IsPruning};
@@ -20,13 +20,13 @@ use crate::fall::{high_end, low_end};
 use crate::number::Number;
 use crate::row::Row;
 use crate::row_clauses::clause_of;
-use ground_form::Con;
+use rule_law::Subject;
 use signed_clause::{Clause, IntSet};
 use std::alloc::{AllocError, Global};
 
 /// Whether all values of the set lie from -2^60 to 2^60.
 pub fn is_near(set: &IntSet) -> bool
-    ensures { result ≡ nat_le (reach_of set.now) most_sum }
+    ensures { result ≡ nat_le (reach_of set.now) (2 ^ 60) }
 {
     let least = low_end(set).value.unsigned_abs();
     let greatest = high_end(set).value.unsigned_abs();
@@ -37,8 +37,8 @@ pub fn is_near(set: &IntSet) -> bool
 fn high_cause(out: u32, boxes: &[IntSet]) -> Cause
     requires var { out < length boxes.now }
     requires order { low_of (box_of boxes.now out) ≤ℤ high_of (box_of boxes.now out) }
-    requires far { pos most_sum <ℤ high_of (box_of boxes.now out) }
-    ensures { IsCause ((pos 1, out) ∷ []) boxes.now (pos most_sum) result.place result.to.value
+    requires far { pos (2 ^ 60) <ℤ high_of (box_of boxes.now out) }
+    ensures { IsCause ((pos 1, out) ∷ []) boxes.now (pos (2 ^ 60)) result.place result.to.value
         result.slack }
 {
     if low_end(set_at(boxes, out)).value > 1152921504606846976 {
@@ -61,7 +61,7 @@ fn low_cause(out: u32, boxes: &[IntSet]) -> Cause
     requires var { out < length boxes.now }
     requires order { low_of (box_of boxes.now out) ≤ℤ high_of (box_of boxes.now out) }
     requires far { low_of (box_of boxes.now out) <ℤ negsuc 1152921504606846975 }
-    ensures { IsCause ((negsuc 0, out) ∷ []) boxes.now (pos most_sum) result.place result.to.value
+    ensures { IsCause ((negsuc 0, out) ∷ []) boxes.now (pos (2 ^ 60)) result.place result.to.value
         result.slack }
 {
     if high_end(set_at(boxes, out)).value < -1152921504606846976 {
@@ -82,19 +82,18 @@ fn low_cause(out: u32, boxes: &[IntSet]) -> Cause
 /// The clause that takes the values above 2^60 away.
 fn above_clause(
     alloc: Global,
-    con: &Con,
+    subject: Subject<'_>,
     out: u32,
     terms: &[(i64, u32)],
     offset: i64,
-    domains: &[IntSet],
-    boxes: &[IntSet],
 ) -> Result<Clause, AllocError>
-    requires con { con.now ≡ con_kind.LinDef out terms.now offset }
-    requires well_made { IsWellMadeCon domains.now (con_kind.LinDef out terms.now offset) }
-    requires sets { All (λ d. IsValid d) domains.now }
-    requires boxes { AreBoxesWithin domains.now boxes.now }
-    requires far { pos most_sum <ℤ high_of (box_of boxes.now out) }
-    ensures { IfOk result (λ c. IsPruning con.now domains.now boxes.now c) }
+    requires con { subject.con.now ≡ con_kind.LinDef out terms.now offset }
+    requires well_made { IsWellMadeCon subject.domains.now (con_kind.LinDef out terms.now offset) }
+    requires sets { All (λ d. IsValid d) subject.domains.now }
+    requires boxes { AreBoxesWithin subject.domains.now subject.boxes.now }
+    requires far { pos (2 ^ 60) <ℤ high_of (box_of subject.boxes.now out) }
+    ensures { IfOk result (λ c. IsPruning subject.entry.con.now subject.entry.domains.now
+        subject.entry.boxes.now c) }
 {
     let row = Row {
         head: Some((1, out)),
@@ -102,27 +101,26 @@ fn above_clause(
         turned: false,
         bound: Number::of(1152921504606846976),
     };
-    let cause = high_cause(out, boxes);
-    let clause = clause_of(alloc, con, &row, cause, domains, boxes)?;
+    let cause = high_cause(out, subject.boxes);
+    let clause = clause_of(alloc, subject, &row, cause)?;
     Ok(clause)
 }
 
 /// The clause that takes the values below -2^60 away.
 fn below_clause(
     alloc: Global,
-    con: &Con,
+    subject: Subject<'_>,
     out: u32,
     terms: &[(i64, u32)],
     offset: i64,
-    domains: &[IntSet],
-    boxes: &[IntSet],
 ) -> Result<Clause, AllocError>
-    requires con { con.now ≡ con_kind.LinDef out terms.now offset }
-    requires well_made { IsWellMadeCon domains.now (con_kind.LinDef out terms.now offset) }
-    requires sets { All (λ d. IsValid d) domains.now }
-    requires boxes { AreBoxesWithin domains.now boxes.now }
-    requires far { low_of (box_of boxes.now out) <ℤ negsuc 1152921504606846975 }
-    ensures { IfOk result (λ c. IsPruning con.now domains.now boxes.now c) }
+    requires con { subject.con.now ≡ con_kind.LinDef out terms.now offset }
+    requires well_made { IsWellMadeCon subject.domains.now (con_kind.LinDef out terms.now offset) }
+    requires sets { All (λ d. IsValid d) subject.domains.now }
+    requires boxes { AreBoxesWithin subject.domains.now subject.boxes.now }
+    requires far { low_of (box_of subject.boxes.now out) <ℤ negsuc 1152921504606846975 }
+    ensures { IfOk result (λ c. IsPruning subject.entry.con.now subject.entry.domains.now
+        subject.entry.boxes.now c) }
 {
     let row = Row {
         head: Some((-1, out)),
@@ -130,34 +128,33 @@ fn below_clause(
         turned: false,
         bound: Number::of(1152921504606846976),
     };
-    let cause = low_cause(out, boxes);
-    let clause = clause_of(alloc, con, &row, cause, domains, boxes)?;
+    let cause = low_cause(out, subject.boxes);
+    let clause = clause_of(alloc, subject, &row, cause)?;
     Ok(clause)
 }
 
 /// The clause that takes values away that no sum is.
 pub fn far_clause(
     alloc: Global,
-    con: &Con,
+    subject: Subject<'_>,
     out: u32,
     terms: &[(i64, u32)],
     offset: i64,
-    domains: &[IntSet],
-    boxes: &[IntSet],
 ) -> Result<Clause, AllocError>
-    requires con { con.now ≡ con_kind.LinDef out terms.now offset }
-    requires well_made { IsWellMadeCon domains.now (con_kind.LinDef out terms.now offset) }
-    requires sets { All (λ d. IsValid d) domains.now }
-    requires boxes { AreBoxesWithin domains.now boxes.now }
+    requires con { subject.con.now ≡ con_kind.LinDef out terms.now offset }
+    requires well_made { IsWellMadeCon subject.domains.now (con_kind.LinDef out terms.now offset) }
+    requires sets { All (λ d. IsValid d) subject.domains.now }
+    requires boxes { AreBoxesWithin subject.domains.now subject.boxes.now }
     requires differ { no_repeat (out ∷ term_vars terms.now) ≡ true }
-    requires far { nat_le (reach_of (box_of boxes.now out)) most_sum ≡ false }
-    ensures { IfOk result (λ c. IsPruning con.now domains.now boxes.now c) }
+    requires far { nat_le (reach_of (box_of subject.boxes.now out)) (2 ^ 60) ≡ false }
+    ensures { IfOk result (λ c. IsPruning subject.entry.con.now subject.entry.domains.now
+        subject.entry.boxes.now c) }
 {
-    if high_end(set_at(boxes, out)).value > 1152921504606846976 {
-        let clause = above_clause(alloc, con, out, terms, offset, domains, boxes)?;
+    if high_end(set_at(subject.boxes, out)).value > 1152921504606846976 {
+        let clause = above_clause(alloc, subject, out, terms, offset)?;
         Ok(clause)
     } else {
-        let clause = below_clause(alloc, con, out, terms, offset, domains, boxes)?;
+        let clause = below_clause(alloc, subject, out, terms, offset)?;
         Ok(clause)
     }
 }

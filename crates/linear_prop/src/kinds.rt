@@ -4,11 +4,11 @@
 //! and the variable less the sum. Of a flag that says whether a sum keeps a bound, the one row
 //! holds where the flag is 1, and the other, with turned signs, where it is 0; where the flag is
 //! open each only tells the flag.
-ghost use Rattle.std.specs.Prelude.{◌≡◌, ◌<◌, true, false, length, ℤ, pos, negsuc, ◌-ℤ◌, ◌∷◌, ◌≤◌, unsigned_abs, IfOk};
+ghost use Rattle.std.specs.Prelude.{◌≡◌, ◌<◌, true, false, length, ℤ, pos, negsuc, ◌-ℤ◌, ◌∷◌, ◌≤◌, ◌^◌, unsigned_abs, IfOk};
 ghost use Rattle.std.specs.List.{All};
 ghost use Rattle.ground_form.specs.declared.con.Con.TheVariants as con_kind;
 ghost use Rattle.ground_form.specs.Meaning.{term_vars, vars_of};
-ghost use Rattle.ground_form.specs.Bounds.{reach_of, most_sum};
+ghost use Rattle.ground_form.specs.Bounds.{reach_of};
 ghost use Rattle.ground_form.specs.WellMade.{IsWellMadeCon};
 ghost use Rattle.rule_law.specs.Reasons.{no_repeat};
 ghost use Rattle.rule_law.specs.Answers.{AreBoxesWithin, IsAnswer};
@@ -23,25 +23,24 @@ use crate::number::Number;
 use crate::row::Row;
 use crate::row_clauses::{fixed_answer, open_answer, row_answer};
 use ground_form::Con;
-use rule_law::probe;
+use rule_law::{Subject, probe};
 use signed_clause::{Clause, IntSet};
 use std::alloc::{AllocError, Global};
 
 /// The answer of a sum with a bound, in which no variable stands twice.
 fn at_most_answer(
     alloc: Global,
-    con: &Con,
+    subject: Subject<'_>,
     terms: &[(i64, u32)],
     bound: i64,
-    domains: &[IntSet],
-    boxes: &[IntSet],
 ) -> Result<Option<Clause>, AllocError>
-    requires con { con.now ≡ con_kind.LinLe terms.now bound }
-    requires well_made { IsWellMadeCon domains.now (con_kind.LinLe terms.now bound) }
-    requires sets { All (λ d. IsValid d) domains.now }
-    requires boxes { AreBoxesWithin domains.now boxes.now }
+    requires con { subject.con.now ≡ con_kind.LinLe terms.now bound }
+    requires well_made { IsWellMadeCon subject.domains.now (con_kind.LinLe terms.now bound) }
+    requires sets { All (λ d. IsValid d) subject.domains.now }
+    requires boxes { AreBoxesWithin subject.domains.now subject.boxes.now }
     requires differ { no_repeat (term_vars terms.now) ≡ true }
-    ensures { IfOk result (λ answer. IsAnswer con.now domains.now boxes.now answer) }
+    ensures { IfOk result (λ answer. IsAnswer subject.entry.con.now subject.entry.domains.now
+        subject.entry.boxes.now answer) }
 {
     let row = Row {
         head: None,
@@ -49,13 +48,13 @@ fn at_most_answer(
         turned: false,
         bound: Number::of(bound),
     };
-    let answer = row_answer(alloc, con, &row, domains, boxes)?;
+    let answer = row_answer(alloc, subject, &row)?;
     Ok(answer)
 }
 
 /// The bound of the row 'the sum less the variable'.
 fn less_offset(offset: i64) -> Number
-    requires { unsigned_abs offset ≤ most_sum }
+    requires { unsigned_abs offset ≤ 2 ^ 60 }
     ensures { result.value ≡ pos 0 -ℤ offset }
 {
     Number { value: 0 - offset }
@@ -71,21 +70,19 @@ fn turned_bound(bound: i64) -> Number
 /// The answer of the row 'the sum less the variable'.
 fn up_answer(
     alloc: Global,
-    con: &Con,
+    subject: Subject<'_>,
     out: u32,
     terms: &[(i64, u32)],
     offset: i64,
-    domains: &[IntSet],
-    boxes: &[IntSet],
 ) -> Result<Option<Clause>, AllocError>
-    requires con { con.now ≡ con_kind.LinDef out terms.now offset }
-    requires well_made { IsWellMadeCon domains.now (con_kind.LinDef out terms.now offset) }
-    requires sets { All (λ d. IsValid d) domains.now }
-    requires boxes { AreBoxesWithin domains.now boxes.now }
+    requires con { subject.con.now ≡ con_kind.LinDef out terms.now offset }
+    requires well_made { IsWellMadeCon subject.domains.now (con_kind.LinDef out terms.now offset) }
+    requires sets { All (λ d. IsValid d) subject.domains.now }
+    requires boxes { AreBoxesWithin subject.domains.now subject.boxes.now }
     requires differ { no_repeat (out ∷ term_vars terms.now) ≡ true }
-    requires near { reach_of (box_of boxes.now out) ≤ most_sum }
-    ensures { IfOk result (λ answer. IsRowAnswer con.now ((negsuc 0, out) ∷ terms.now)
-        (pos 0 -ℤ offset) domains.now boxes.now answer) }
+    requires near { reach_of (box_of subject.boxes.now out) ≤ 2 ^ 60 }
+    ensures { IfOk result (λ answer. IsRowAnswer subject.entry.con.now ((negsuc 0, out) ∷ terms.now)
+        (pos 0 -ℤ offset) subject.entry.domains.now subject.entry.boxes.now answer) }
 {
     let row = Row {
         head: Some((-1, out)),
@@ -93,28 +90,27 @@ fn up_answer(
         turned: false,
         bound: less_offset(offset),
     };
-    let answer = row_answer(alloc, con, &row, domains, boxes)?;
+    let answer = row_answer(alloc, subject, &row)?;
     Ok(answer)
 }
 
 /// The answer of the row 'the variable less the sum'.
 fn down_answer(
     alloc: Global,
-    con: &Con,
+    subject: Subject<'_>,
     out: u32,
     terms: &[(i64, u32)],
     offset: i64,
-    domains: &[IntSet],
-    boxes: &[IntSet],
 ) -> Result<Option<Clause>, AllocError>
-    requires con { con.now ≡ con_kind.LinDef out terms.now offset }
-    requires well_made { IsWellMadeCon domains.now (con_kind.LinDef out terms.now offset) }
-    requires sets { All (λ d. IsValid d) domains.now }
-    requires boxes { AreBoxesWithin domains.now boxes.now }
+    requires con { subject.con.now ≡ con_kind.LinDef out terms.now offset }
+    requires well_made { IsWellMadeCon subject.domains.now (con_kind.LinDef out terms.now offset) }
+    requires sets { All (λ d. IsValid d) subject.domains.now }
+    requires boxes { AreBoxesWithin subject.domains.now subject.boxes.now }
     requires differ { no_repeat (out ∷ term_vars terms.now) ≡ true }
-    requires near { reach_of (box_of boxes.now out) ≤ most_sum }
-    ensures { IfOk result (λ answer. IsRowAnswer con.now ((pos 1, out) ∷ negated terms.now) offset
-        domains.now boxes.now answer) }
+    requires near { reach_of (box_of subject.boxes.now out) ≤ 2 ^ 60 }
+    ensures { IfOk result (λ answer. IsRowAnswer subject.entry.con.now
+        ((pos 1, out) ∷ negated terms.now) offset subject.entry.domains.now
+        subject.entry.boxes.now answer) }
 {
     let row = Row {
         head: Some((1, out)),
@@ -122,33 +118,32 @@ fn down_answer(
         turned: true,
         bound: Number::of(offset),
     };
-    let answer = row_answer(alloc, con, &row, domains, boxes)?;
+    let answer = row_answer(alloc, subject, &row)?;
     Ok(answer)
 }
 
 /// The answer of a sum that defines a variable, in which no variable stands twice.
 fn sum_answer(
     alloc: Global,
-    con: &Con,
+    subject: Subject<'_>,
     out: u32,
     terms: &[(i64, u32)],
     offset: i64,
-    domains: &[IntSet],
-    boxes: &[IntSet],
 ) -> Result<Option<Clause>, AllocError>
-    requires con { con.now ≡ con_kind.LinDef out terms.now offset }
-    requires well_made { IsWellMadeCon domains.now (con_kind.LinDef out terms.now offset) }
-    requires sets { All (λ d. IsValid d) domains.now }
-    requires boxes { AreBoxesWithin domains.now boxes.now }
+    requires con { subject.con.now ≡ con_kind.LinDef out terms.now offset }
+    requires well_made { IsWellMadeCon subject.domains.now (con_kind.LinDef out terms.now offset) }
+    requires sets { All (λ d. IsValid d) subject.domains.now }
+    requires boxes { AreBoxesWithin subject.domains.now subject.boxes.now }
     requires differ { no_repeat (out ∷ term_vars terms.now) ≡ true }
-    requires near { reach_of (box_of boxes.now out) ≤ most_sum }
-    ensures { IfOk result (λ answer. IsAnswer con.now domains.now boxes.now answer) }
+    requires near { reach_of (box_of subject.boxes.now out) ≤ 2 ^ 60 }
+    ensures { IfOk result (λ answer. IsAnswer subject.entry.con.now subject.entry.domains.now
+        subject.entry.boxes.now answer) }
 {
-    let up = up_answer(alloc, con, out, terms, offset, domains, boxes)?;
+    let up = up_answer(alloc, subject, out, terms, offset)?;
     match up {
         Some(clause) => Ok(Some(clause)),
         None => {
-            let down = down_answer(alloc, con, out, terms, offset, domains, boxes)?;
+            let down = down_answer(alloc, subject, out, terms, offset)?;
             Ok(down)
         }
     }
@@ -158,25 +153,24 @@ fn sum_answer(
 /// variable's values that no sum reaches go.
 fn definition_answer(
     alloc: Global,
-    con: &Con,
+    subject: Subject<'_>,
     out: u32,
     terms: &[(i64, u32)],
     offset: i64,
-    domains: &[IntSet],
-    boxes: &[IntSet],
 ) -> Result<Option<Clause>, AllocError>
-    requires con { con.now ≡ con_kind.LinDef out terms.now offset }
-    requires well_made { IsWellMadeCon domains.now (con_kind.LinDef out terms.now offset) }
-    requires sets { All (λ d. IsValid d) domains.now }
-    requires boxes { AreBoxesWithin domains.now boxes.now }
+    requires con { subject.con.now ≡ con_kind.LinDef out terms.now offset }
+    requires well_made { IsWellMadeCon subject.domains.now (con_kind.LinDef out terms.now offset) }
+    requires sets { All (λ d. IsValid d) subject.domains.now }
+    requires boxes { AreBoxesWithin subject.domains.now subject.boxes.now }
     requires differ { no_repeat (out ∷ term_vars terms.now) ≡ true }
-    ensures { IfOk result (λ answer. IsAnswer con.now domains.now boxes.now answer) }
+    ensures { IfOk result (λ answer. IsAnswer subject.entry.con.now subject.entry.domains.now
+        subject.entry.boxes.now answer) }
 {
-    if is_near(set_at(boxes, out)) {
-        let answer = sum_answer(alloc, con, out, terms, offset, domains, boxes)?;
+    if is_near(set_at(subject.boxes, out)) {
+        let answer = sum_answer(alloc, subject, out, terms, offset)?;
         Ok(answer)
     } else {
-        let clause = far_clause(alloc, con, out, terms, offset, domains, boxes)?;
+        let clause = far_clause(alloc, subject, out, terms, offset)?;
         Ok(Some(clause))
     }
 }
@@ -185,20 +179,19 @@ fn definition_answer(
 /// where the flag is 1.
 fn one_answer(
     alloc: Global,
-    con: &Con,
+    subject: Subject<'_>,
     flag: u32,
     terms: &[(i64, u32)],
     bound: i64,
-    domains: &[IntSet],
-    boxes: &[IntSet],
 ) -> Result<Option<Clause>, AllocError>
-    requires con { con.now ≡ con_kind.ReifLe flag terms.now bound }
-    requires well_made { IsWellMadeCon domains.now (con_kind.ReifLe flag terms.now bound) }
-    requires sets { All (λ d. IsValid d) domains.now }
-    requires boxes { AreBoxesWithin domains.now boxes.now }
+    requires con { subject.con.now ≡ con_kind.ReifLe flag terms.now bound }
+    requires well_made { IsWellMadeCon subject.domains.now (con_kind.ReifLe flag terms.now bound) }
+    requires sets { All (λ d. IsValid d) subject.domains.now }
+    requires boxes { AreBoxesWithin subject.domains.now subject.boxes.now }
     requires differ { no_repeat (flag ∷ term_vars terms.now) ≡ true }
-    requires fixed { has (box_of boxes.now flag) (pos 0) ≡ false }
-    ensures { IfOk result (λ answer. IsAnswer con.now domains.now boxes.now answer) }
+    requires fixed { has (box_of subject.boxes.now flag) (pos 0) ≡ false }
+    ensures { IfOk result (λ answer. IsAnswer subject.entry.con.now subject.entry.domains.now
+        subject.entry.boxes.now answer) }
 {
     let row = Row {
         head: None,
@@ -206,27 +199,26 @@ fn one_answer(
         turned: false,
         bound: Number::of(bound),
     };
-    let answer = fixed_answer(alloc, con, &row, flag, Number { value: 0 }, domains, boxes)?;
+    let answer = fixed_answer(alloc, subject, &row, flag, Number { value: 0 })?;
     Ok(answer)
 }
 
 /// The same where the flag is 0.
 fn zero_answer(
     alloc: Global,
-    con: &Con,
+    subject: Subject<'_>,
     flag: u32,
     terms: &[(i64, u32)],
     bound: i64,
-    domains: &[IntSet],
-    boxes: &[IntSet],
 ) -> Result<Option<Clause>, AllocError>
-    requires con { con.now ≡ con_kind.ReifLe flag terms.now bound }
-    requires well_made { IsWellMadeCon domains.now (con_kind.ReifLe flag terms.now bound) }
-    requires sets { All (λ d. IsValid d) domains.now }
-    requires boxes { AreBoxesWithin domains.now boxes.now }
+    requires con { subject.con.now ≡ con_kind.ReifLe flag terms.now bound }
+    requires well_made { IsWellMadeCon subject.domains.now (con_kind.ReifLe flag terms.now bound) }
+    requires sets { All (λ d. IsValid d) subject.domains.now }
+    requires boxes { AreBoxesWithin subject.domains.now subject.boxes.now }
     requires differ { no_repeat (flag ∷ term_vars terms.now) ≡ true }
-    requires fixed { has (box_of boxes.now flag) (pos 1) ≡ false }
-    ensures { IfOk result (λ answer. IsAnswer con.now domains.now boxes.now answer) }
+    requires fixed { has (box_of subject.boxes.now flag) (pos 1) ≡ false }
+    ensures { IfOk result (λ answer. IsAnswer subject.entry.con.now subject.entry.domains.now
+        subject.entry.boxes.now answer) }
 {
     let row = Row {
         head: None,
@@ -234,28 +226,26 @@ fn zero_answer(
         turned: true,
         bound: turned_bound(bound),
     };
-    let answer = fixed_answer(alloc, con, &row, flag, Number { value: 1 }, domains, boxes)?;
+    let answer = fixed_answer(alloc, subject, &row, flag, Number { value: 1 })?;
     Ok(answer)
 }
 
 /// The answer of an open flag by the row that holds where it is 1.
 fn open_one_answer(
     alloc: Global,
-    con: &Con,
+    subject: Subject<'_>,
     flag: u32,
     terms: &[(i64, u32)],
     bound: i64,
-    domains: &[IntSet],
-    boxes: &[IntSet],
 ) -> Result<Option<Clause>, AllocError>
-    requires con { con.now ≡ con_kind.ReifLe flag terms.now bound }
-    requires well_made { IsWellMadeCon domains.now (con_kind.ReifLe flag terms.now bound) }
-    requires sets { All (λ d. IsValid d) domains.now }
-    requires boxes { AreBoxesWithin domains.now boxes.now }
+    requires con { subject.con.now ≡ con_kind.ReifLe flag terms.now bound }
+    requires well_made { IsWellMadeCon subject.domains.now (con_kind.ReifLe flag terms.now bound) }
+    requires sets { All (λ d. IsValid d) subject.domains.now }
+    requires boxes { AreBoxesWithin subject.domains.now subject.boxes.now }
     requires differ { no_repeat (flag ∷ term_vars terms.now) ≡ true }
-    requires open { has (box_of boxes.now flag) (pos 1) ≡ true }
-    ensures { IfOk result (λ answer. IsSumAnswer con.now terms.now bound domains.now boxes.now
-        answer) }
+    requires open { has (box_of subject.boxes.now flag) (pos 1) ≡ true }
+    ensures { IfOk result (λ answer. IsSumAnswer subject.entry.con.now terms.now bound
+        subject.entry.domains.now subject.entry.boxes.now answer) }
 {
     let row = Row {
         head: None,
@@ -263,28 +253,26 @@ fn open_one_answer(
         turned: false,
         bound: Number::of(bound),
     };
-    let answer = open_answer(alloc, con, &row, flag, Number { value: 0 }, domains, boxes)?;
+    let answer = open_answer(alloc, subject, &row, flag, Number { value: 0 })?;
     Ok(answer)
 }
 
 /// The answer of an open flag by the row that holds where it is 0.
 fn open_zero_answer(
     alloc: Global,
-    con: &Con,
+    subject: Subject<'_>,
     flag: u32,
     terms: &[(i64, u32)],
     bound: i64,
-    domains: &[IntSet],
-    boxes: &[IntSet],
 ) -> Result<Option<Clause>, AllocError>
-    requires con { con.now ≡ con_kind.ReifLe flag terms.now bound }
-    requires well_made { IsWellMadeCon domains.now (con_kind.ReifLe flag terms.now bound) }
-    requires sets { All (λ d. IsValid d) domains.now }
-    requires boxes { AreBoxesWithin domains.now boxes.now }
+    requires con { subject.con.now ≡ con_kind.ReifLe flag terms.now bound }
+    requires well_made { IsWellMadeCon subject.domains.now (con_kind.ReifLe flag terms.now bound) }
+    requires sets { All (λ d. IsValid d) subject.domains.now }
+    requires boxes { AreBoxesWithin subject.domains.now subject.boxes.now }
     requires differ { no_repeat (flag ∷ term_vars terms.now) ≡ true }
-    requires open { has (box_of boxes.now flag) (pos 0) ≡ true }
-    ensures { IfOk result (λ answer. IsSumAnswer con.now (negated terms.now) (negsuc 0 -ℤ bound)
-        domains.now boxes.now answer) }
+    requires open { has (box_of subject.boxes.now flag) (pos 0) ≡ true }
+    ensures { IfOk result (λ answer. IsSumAnswer subject.entry.con.now (negated terms.now)
+        (negsuc 0 -ℤ bound) subject.entry.domains.now subject.entry.boxes.now answer) }
 {
     let row = Row {
         head: None,
@@ -292,34 +280,33 @@ fn open_zero_answer(
         turned: true,
         bound: turned_bound(bound),
     };
-    let answer = open_answer(alloc, con, &row, flag, Number { value: 1 }, domains, boxes)?;
+    let answer = open_answer(alloc, subject, &row, flag, Number { value: 1 })?;
     Ok(answer)
 }
 
 /// The answer of an open flag.
 fn flag_answer(
     alloc: Global,
-    con: &Con,
+    subject: Subject<'_>,
     flag: u32,
     terms: &[(i64, u32)],
     bound: i64,
-    domains: &[IntSet],
-    boxes: &[IntSet],
 ) -> Result<Option<Clause>, AllocError>
-    requires con { con.now ≡ con_kind.ReifLe flag terms.now bound }
-    requires well_made { IsWellMadeCon domains.now (con_kind.ReifLe flag terms.now bound) }
-    requires sets { All (λ d. IsValid d) domains.now }
-    requires boxes { AreBoxesWithin domains.now boxes.now }
+    requires con { subject.con.now ≡ con_kind.ReifLe flag terms.now bound }
+    requires well_made { IsWellMadeCon subject.domains.now (con_kind.ReifLe flag terms.now bound) }
+    requires sets { All (λ d. IsValid d) subject.domains.now }
+    requires boxes { AreBoxesWithin subject.domains.now subject.boxes.now }
     requires differ { no_repeat (flag ∷ term_vars terms.now) ≡ true }
-    requires open_one { has (box_of boxes.now flag) (pos 1) ≡ true }
-    requires open_zero { has (box_of boxes.now flag) (pos 0) ≡ true }
-    ensures { IfOk result (λ answer. IsAnswer con.now domains.now boxes.now answer) }
+    requires open_one { has (box_of subject.boxes.now flag) (pos 1) ≡ true }
+    requires open_zero { has (box_of subject.boxes.now flag) (pos 0) ≡ true }
+    ensures { IfOk result (λ answer. IsAnswer subject.entry.con.now subject.entry.domains.now
+        subject.entry.boxes.now answer) }
 {
-    let one = open_one_answer(alloc, con, flag, terms, bound, domains, boxes)?;
+    let one = open_one_answer(alloc, subject, flag, terms, bound)?;
     match one {
         Some(clause) => Ok(Some(clause)),
         None => {
-            let other = open_zero_answer(alloc, con, flag, terms, bound, domains, boxes)?;
+            let other = open_zero_answer(alloc, subject, flag, terms, bound)?;
             Ok(other)
         }
     }
@@ -328,29 +315,28 @@ fn flag_answer(
 /// The answer of a flag that says whether a sum keeps a bound, in which no variable stands twice.
 fn reified_answer(
     alloc: Global,
-    con: &Con,
+    subject: Subject<'_>,
     flag: u32,
     terms: &[(i64, u32)],
     bound: i64,
-    domains: &[IntSet],
-    boxes: &[IntSet],
 ) -> Result<Option<Clause>, AllocError>
-    requires con { con.now ≡ con_kind.ReifLe flag terms.now bound }
-    requires well_made { IsWellMadeCon domains.now (con_kind.ReifLe flag terms.now bound) }
-    requires sets { All (λ d. IsValid d) domains.now }
-    requires boxes { AreBoxesWithin domains.now boxes.now }
+    requires con { subject.con.now ≡ con_kind.ReifLe flag terms.now bound }
+    requires well_made { IsWellMadeCon subject.domains.now (con_kind.ReifLe flag terms.now bound) }
+    requires sets { All (λ d. IsValid d) subject.domains.now }
+    requires boxes { AreBoxesWithin subject.domains.now subject.boxes.now }
     requires differ { no_repeat (flag ∷ term_vars terms.now) ≡ true }
-    ensures { IfOk result (λ answer. IsAnswer con.now domains.now boxes.now answer) }
+    ensures { IfOk result (λ answer. IsAnswer subject.entry.con.now subject.entry.domains.now
+        subject.entry.boxes.now answer) }
 {
-    if !has_value(boxes, flag, 0) {
-        let answer = one_answer(alloc, con, flag, terms, bound, domains, boxes)?;
+    if !has_value(subject.boxes, flag, 0) {
+        let answer = one_answer(alloc, subject, flag, terms, bound)?;
         return Ok(answer);
     }
-    if !has_value(boxes, flag, 1) {
-        let answer = zero_answer(alloc, con, flag, terms, bound, domains, boxes)?;
+    if !has_value(subject.boxes, flag, 1) {
+        let answer = zero_answer(alloc, subject, flag, terms, bound)?;
         return Ok(answer);
     }
-    let answer = flag_answer(alloc, con, flag, terms, bound, domains, boxes)?;
+    let answer = flag_answer(alloc, subject, flag, terms, bound)?;
     Ok(answer)
 }
 
@@ -364,41 +350,29 @@ fn has_value(boxes: &[IntSet], x: u32, v: i64) -> bool
 
 /// The answer of a constraint of one of the three kinds in which no variable stands twice; of
 /// another kind by probing.
-pub fn linear_answer(
-    alloc: Global,
-    con: &Con,
-    domains: &[IntSet],
-    boxes: &[IntSet],
-) -> Result<Option<Clause>, AllocError>
-    requires well_made { IsWellMadeCon domains.now con.now }
-    requires sets { All (λ d. IsValid d) domains.now }
-    requires boxes { AreBoxesWithin domains.now boxes.now }
-    requires differ { no_repeat (vars_of con.now) ≡ true }
-    ensures { IfOk result (λ answer. IsAnswer con.now domains.now boxes.now answer) }
+pub fn linear_answer(alloc: Global, subject: Subject<'_>) -> Result<Option<Clause>, AllocError>
+    requires well_made { IsWellMadeCon subject.domains.now subject.con.now }
+    requires sets { All (λ d. IsValid d) subject.domains.now }
+    requires boxes { AreBoxesWithin subject.domains.now subject.boxes.now }
+    requires differ { no_repeat (vars_of subject.con.now) ≡ true }
+    ensures { IfOk result (λ answer. IsAnswer subject.entry.con.now subject.entry.domains.now
+        subject.entry.boxes.now answer) }
 {
-    match con {
+    match subject.con {
         Con::LinLe { terms, bound } => {
-            let answer = at_most_answer(alloc, con, terms.items(), *bound, domains, boxes)?;
+            let answer = at_most_answer(alloc, subject, terms.items(), *bound)?;
             Ok(answer)
         }
         Con::LinDef { out, terms, offset } => {
-            let answer = definition_answer(
-                alloc,
-                con,
-                *out,
-                terms.items(),
-                *offset,
-                domains,
-                boxes,
-            )?;
+            let answer = definition_answer(alloc, subject, *out, terms.items(), *offset)?;
             Ok(answer)
         }
         Con::ReifLe { flag, terms, bound } => {
-            let answer = reified_answer(alloc, con, *flag, terms.items(), *bound, domains, boxes)?;
+            let answer = reified_answer(alloc, subject, *flag, terms.items(), *bound)?;
             Ok(answer)
         }
         _ => {
-            let answer = probe(con, domains, boxes, alloc)?;
+            let answer = probe(subject.con, subject.domains, subject.boxes, alloc)?;
             Ok(answer)
         }
     }

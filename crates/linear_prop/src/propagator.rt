@@ -11,8 +11,8 @@ ghost use Rattle.rule_law.specs.Answers.{AreBoxesWithin, IsAnswer};
 ghost use Rattle.linear_prop.specs.Handled.{is_handled};
 
 use crate::kinds::linear_answer;
-use ground_form::{Con, Ground, Kind};
-use rule_law::{Propagator, Repeats, probe};
+use ground_form::{Ground, Kind};
+use rule_law::{Propagator, Repeats, Subject, probe};
 use signed_clause::{Clause, IntSet};
 use std::alloc::{AllocError, Global};
 
@@ -45,21 +45,20 @@ pub(crate) fn answer_of(
     alloc: Global,
     repeats: &mut Repeats,
     k: u32,
-    con: &Con,
-    domains: &[IntSet],
-    boxes: &[IntSet],
+    subject: Subject<'_>,
 ) -> Result<Option<Clause>, AllocError>
-    requires well_made { IsWellMadeCon domains.now con.now }
-    requires sets { All (λ d. IsValid d) domains.now }
-    requires boxes { AreBoxesWithin domains.now boxes.now }
-    ensures { IfOk result (λ answer. IsAnswer con.now domains.now boxes.now answer) }
+    requires well_made { IsWellMadeCon subject.domains.now subject.con.now }
+    requires sets { All (λ d. IsValid d) subject.domains.now }
+    requires boxes { AreBoxesWithin subject.domains.now subject.boxes.now }
+    ensures { IfOk result (λ answer. IsAnswer subject.entry.con.now subject.entry.domains.now
+        subject.entry.boxes.now answer) }
 {
-    let differ = repeats.has_no_repeat(k, con)?;
+    let differ = repeats.has_no_repeat(k, subject.con)?;
     if differ {
-        let answer = linear_answer(alloc, con, domains, boxes)?;
+        let answer = linear_answer(alloc, subject)?;
         Ok(answer)
     } else {
-        let answer = probe(con, domains, boxes, alloc)?;
+        let answer = probe(subject.con, subject.domains, subject.boxes, alloc)?;
         Ok(answer)
     }
 }
@@ -81,15 +80,12 @@ impl Propagator for LinearProp {
         k: u32,
         boxes: &[IntSet],
     ) -> Result<Option<Clause>, AllocError> {
-        let con = &g.cons.items()[k as usize];
-        let answer = answer_of(
-            self.alloc,
-            &mut self.repeats,
-            k,
-            con,
-            g.domains.items(),
+        let subject = Subject {
+            con: &g.cons.items()[k as usize],
+            domains: g.domains.items(),
             boxes,
-        )?;
+        };
+        let answer = answer_of(self.alloc, &mut self.repeats, k, subject)?;
         Ok(answer)
     }
 }

@@ -19,50 +19,47 @@ use crate::cause::{cause_of, refuted_cause};
 use crate::explain::{Cause, explain, set_at};
 use crate::number::Number;
 use crate::row::Row;
-use ground_form::Con;
-use rule_law::pruning;
+use rule_law::{Subject, pruning};
 use signed_clause::{Clause, IntSet};
 use std::alloc::{AllocError, Global};
 
 /// The clause of a row of the constraint that has something to say.
 pub fn clause_of(
     alloc: Global,
-    con: &Con,
+    subject: Subject<'_>,
     row: &Row,
     cause: Cause,
-    domains: &[IntSet],
-    boxes: &[IntSet],
 ) -> Result<Clause, AllocError>
-    requires over { IsRowOver (terms_of row.now) domains.now boxes.now }
-    requires cause { IsCause (terms_of row.now) boxes.now row.now.bound.value cause.place
+    requires over { IsRowOver (terms_of row.now) subject.domains.now subject.boxes.now }
+    requires cause { IsCause (terms_of row.now) subject.boxes.now row.now.bound.value cause.place
         cause.to.value cause.slack }
-    requires follows { (out : Literals) → All (λ l. IsValid l.1) out → row.now.bound.value <ℤ least_sum (terms_of row.now)
-        (cut domains.now out) → justified con.now domains.now out ≡ true }
-    ensures { IfOk result (λ c. IsPruning con.now domains.now boxes.now c) }
+    requires follows { (out : Literals) → All (λ l. IsValid l.1) out
+        → row.now.bound.value <ℤ least_sum (terms_of row.now) (cut subject.domains.now out)
+        → justified subject.con.now subject.domains.now out ≡ true }
+    ensures { IfOk result (λ c. IsPruning subject.entry.con.now subject.entry.domains.now
+        subject.entry.boxes.now c) }
 {
     let mut out = Vec::new(alloc);
-    let _left = explain(alloc, row, cause, domains, boxes, &mut out)?;
-    Ok(pruning(con, domains, boxes, out))
+    let _left = explain(alloc, row, cause, subject.domains, subject.boxes, &mut out)?;
+    Ok(pruning(subject.con, subject.domains, subject.boxes, out))
 }
 
 /// The answer of a row from which the constraint follows.
 pub fn row_answer(
     alloc: Global,
-    con: &Con,
+    subject: Subject<'_>,
     row: &Row,
-    domains: &[IntSet],
-    boxes: &[IntSet],
 ) -> Result<Option<Clause>, AllocError>
-    requires over { IsRowOver (terms_of row.now) domains.now boxes.now }
-    requires fits { weight_of (terms_of row.now) boxes.now ≤ 2 ^ 61 }
+    requires over { IsRowOver (terms_of row.now) subject.domains.now subject.boxes.now }
+    requires fits { weight_of (terms_of row.now) subject.boxes.now ≤ 2 ^ 61 }
     requires follows { (out : Literals) → row.now.bound.value <ℤ least_sum (terms_of row.now)
-        (cut domains.now out) → justified con.now domains.now out ≡ true }
-    ensures { IfOk result (λ answer. IsRowAnswer con.now (terms_of row.now) row.now.bound.value
-        domains.now boxes.now answer) }
+        (cut subject.domains.now out) → justified subject.con.now subject.domains.now out ≡ true }
+    ensures { IfOk result (λ answer. IsRowAnswer subject.entry.con.now (terms_of row.now)
+        row.now.bound.value subject.entry.domains.now subject.entry.boxes.now answer) }
 {
-    match cause_of(row, domains, boxes) {
+    match cause_of(row, subject.domains, subject.boxes) {
         Some(cause) => {
-            let clause = clause_of(alloc, con, row, cause, domains, boxes)?;
+            let clause = clause_of(alloc, subject, row, cause)?;
             Ok(Some(clause))
         }
         None => Ok(None),
@@ -89,55 +86,54 @@ fn put_flag(
 /// The clause of a row that has something to say and that holds unless the flag is `v`.
 fn flag_clause(
     alloc: Global,
-    con: &Con,
+    subject: Subject<'_>,
     row: &Row,
     cause: Cause,
     flag: u32,
     v: Number,
-    domains: &[IntSet],
-    boxes: &[IntSet],
 ) -> Result<Clause, AllocError>
-    requires over { IsRowOver (terms_of row.now) domains.now boxes.now }
-    requires cause { IsCause (terms_of row.now) boxes.now row.now.bound.value cause.place
+    requires over { IsRowOver (terms_of row.now) subject.domains.now subject.boxes.now }
+    requires cause { IsCause (terms_of row.now) subject.boxes.now row.now.bound.value cause.place
         cause.to.value cause.slack }
-    requires flag { flag < length boxes.now }
+    requires flag { flag < length subject.boxes.now }
     requires apart { has_number flag (term_vars (terms_of row.now)) ≡ false }
-    requires opposed { IsOpposed boxes.now flag v.value cause.place (terms_of row.now) }
+    requires opposed { IsOpposed subject.boxes.now flag v.value cause.place (terms_of row.now) }
     requires follows { (out : Literals) → row.now.bound.value <ℤ least_sum (terms_of row.now)
-        (cut domains.now out) → has (box_of (cut domains.now out) flag) v.value ≡ false
-        → justified con.now domains.now out ≡ true }
-    ensures { IfOk result (λ c. IsPruning con.now domains.now boxes.now c) }
+        (cut subject.domains.now out)
+        → has (box_of (cut subject.domains.now out) flag) v.value ≡ false
+        → justified subject.con.now subject.domains.now out ≡ true }
+    ensures { IfOk result (λ c. IsPruning subject.entry.con.now subject.entry.domains.now
+        subject.entry.boxes.now c) }
 {
     let mut out = Vec::new(alloc);
-    let _left = explain(alloc, row, cause, domains, boxes, &mut out)?;
-    put_flag(alloc, &mut out, flag, v, set_at(domains, flag))?;
-    Ok(pruning(con, domains, boxes, out))
+    let _left = explain(alloc, row, cause, subject.domains, subject.boxes, &mut out)?;
+    put_flag(alloc, &mut out, flag, v, set_at(subject.domains, flag))?;
+    Ok(pruning(subject.con, subject.domains, subject.boxes, out))
 }
 
 /// The answer of a row that holds since the flag isn't `v`.
 pub fn fixed_answer(
     alloc: Global,
-    con: &Con,
+    subject: Subject<'_>,
     row: &Row,
     flag: u32,
     v: Number,
-    domains: &[IntSet],
-    boxes: &[IntSet],
 ) -> Result<Option<Clause>, AllocError>
-    requires over { IsRowOver (terms_of row.now) domains.now boxes.now }
-    requires fits { weight_of (terms_of row.now) boxes.now ≤ 2 ^ 61 }
-    requires flag { flag < length boxes.now }
+    requires over { IsRowOver (terms_of row.now) subject.domains.now subject.boxes.now }
+    requires fits { weight_of (terms_of row.now) subject.boxes.now ≤ 2 ^ 61 }
+    requires flag { flag < length subject.boxes.now }
     requires apart { has_number flag (term_vars (terms_of row.now)) ≡ false }
-    requires fixed { has (box_of boxes.now flag) v.value ≡ false }
+    requires fixed { has (box_of subject.boxes.now flag) v.value ≡ false }
     requires follows { (out : Literals) → row.now.bound.value <ℤ least_sum (terms_of row.now)
-        (cut domains.now out) → has (box_of (cut domains.now out) flag) v.value ≡ false
-        → justified con.now domains.now out ≡ true }
-    ensures { IfOk result (λ answer. IsRowAnswer con.now (terms_of row.now) row.now.bound.value
-        domains.now boxes.now answer) }
+        (cut subject.domains.now out)
+        → has (box_of (cut subject.domains.now out) flag) v.value ≡ false
+        → justified subject.con.now subject.domains.now out ≡ true }
+    ensures { IfOk result (λ answer. IsRowAnswer subject.entry.con.now (terms_of row.now)
+        row.now.bound.value subject.entry.domains.now subject.entry.boxes.now answer) }
 {
-    match cause_of(row, domains, boxes) {
+    match cause_of(row, subject.domains, subject.boxes) {
         Some(cause) => {
-            let clause = flag_clause(alloc, con, row, cause, flag, v, domains, boxes)?;
+            let clause = flag_clause(alloc, subject, row, cause, flag, v)?;
             Ok(Some(clause))
         }
         None => Ok(None),
@@ -148,27 +144,26 @@ pub fn fixed_answer(
 /// flag is `v` where the row is refuted.
 pub fn open_answer(
     alloc: Global,
-    con: &Con,
+    subject: Subject<'_>,
     row: &Row,
     flag: u32,
     v: Number,
-    domains: &[IntSet],
-    boxes: &[IntSet],
 ) -> Result<Option<Clause>, AllocError>
-    requires over { IsRowOver (terms_of row.now) domains.now boxes.now }
-    requires fits { weight_of (terms_of row.now) boxes.now ≤ 2 ^ 61 }
-    requires flag { flag < length boxes.now }
+    requires over { IsRowOver (terms_of row.now) subject.domains.now subject.boxes.now }
+    requires fits { weight_of (terms_of row.now) subject.boxes.now ≤ 2 ^ 61 }
+    requires flag { flag < length subject.boxes.now }
     requires apart { has_number flag (term_vars (terms_of row.now)) ≡ false }
-    requires open { is_within (box_of boxes.now flag) ((v.value, v.value) ∷ []) ≡ false }
+    requires open { is_within (box_of subject.boxes.now flag) ((v.value, v.value) ∷ []) ≡ false }
     requires follows { (out : Literals) → row.now.bound.value <ℤ least_sum (terms_of row.now)
-        (cut domains.now out) → has (box_of (cut domains.now out) flag) v.value ≡ false
-        → justified con.now domains.now out ≡ true }
-    ensures { IfOk result (λ answer. IsSumAnswer con.now (terms_of row.now) row.now.bound.value
-        domains.now boxes.now answer) }
+        (cut subject.domains.now out)
+        → has (box_of (cut subject.domains.now out) flag) v.value ≡ false
+        → justified subject.con.now subject.domains.now out ≡ true }
+    ensures { IfOk result (λ answer. IsSumAnswer subject.entry.con.now (terms_of row.now)
+        row.now.bound.value subject.entry.domains.now subject.entry.boxes.now answer) }
 {
-    match refuted_cause(row, domains, boxes) {
+    match refuted_cause(row, subject.domains, subject.boxes) {
         Some(cause) => {
-            let clause = flag_clause(alloc, con, row, cause, flag, v, domains, boxes)?;
+            let clause = flag_clause(alloc, subject, row, cause, flag, v)?;
             Ok(Some(clause))
         }
         None => Ok(None),

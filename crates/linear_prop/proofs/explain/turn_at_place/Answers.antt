@@ -3,21 +3,21 @@ use Rattle.linear_prop.proofs.Turning.{domain_some, factor_fits, place_low, plac
 use Rattle.linear_prop.proofs.explain.turn_at_place.Goals as goal
 
 pub fall_of-requires-clause-some : goal.fall_of-requires-clause-some
-fall_of-requires-clause-some c = domain_some (terms_of c.args.row.now) c.args.domains.now c.args.boxes.now c.args.i c.args.t c.set_at-domain.result.now c.requires.turn c.set_at-domain.ensures
+fall_of-requires-clause-some c = domain_some (terms_of c.args.scene.row.now) c.args.scene.domains.now c.args.scene.boxes.now c.args.i c.args.t c.set_at-domain.result.now c.requires.turn c.set_at-domain.ensures
 
 pub fall_of-requires-clause-low : goal.fall_of-requires-clause-low
 fall_of-requires-clause-low c =
-    place_low (terms_of c.args.row.now) c.args.domains.now c.args.boxes.now _ c.args.cause.place c.args.cause.to.value c.args.i _ c.args.t _ c.requires.turn c.requires.cause c.requires.place c.set_at-domain.ensures
+    place_low (terms_of c.args.scene.row.now) c.args.scene.domains.now c.args.scene.boxes.now _ c.args.scene.cause.place c.args.scene.cause.to.value c.args.i _ c.args.t _ c.requires.turn c.requires.cause c.requires.place c.set_at-domain.ensures
 
 pub fall_of-requires-clause-high : goal.fall_of-requires-clause-high
 fall_of-requires-clause-high c =
-    place_high (terms_of c.args.row.now) c.args.domains.now c.args.boxes.now _ c.args.cause.place c.args.cause.to.value c.args.i _ c.args.t _ c.requires.turn c.requires.cause c.requires.place c.set_at-domain.ensures
+    place_high (terms_of c.args.scene.row.now) c.args.scene.domains.now c.args.scene.boxes.now _ c.args.scene.cause.place c.args.scene.cause.to.value c.args.i _ c.args.t _ c.requires.turn c.requires.cause c.requires.place c.set_at-domain.ensures
 
 pub fall_of-requires-clause-fits : goal.fall_of-requires-clause-fits
-fall_of-requires-clause-fits c = factor_fits c.args.t c.factor_of-c.result.value c.args.domains.now c.set_at-domain.result.now c.factor_of-c.ensures c.set_at-domain.ensures c.requires.fits
+fall_of-requires-clause-fits c = factor_fits c.args.t c.factor_of-c.result.value c.args.scene.domains.now c.set_at-domain.result.now c.factor_of-c.ensures c.set_at-domain.ensures c.requires.fits
 
 pub returns : goal.returns
 returns c =
-    turn_at_place_done (terms_of c.args.row.now) c.args.domains.now c.args.boxes.now c.args.row.now.bound.value c.args.cause.place c.args.cause.to.value c.args.i c.args.out.now.items c.put.new.out.items
-    c.args.slack c.in_ok-f.f.left c.args.cause.slack c.args.t c.factor_of-c.result.value c.set_at-domain.result.now c.in_ok-f.f.literal c.requires.turn c.requires.cause c.requires.so_far c.requires.place
+    turn_at_place_done (terms_of c.args.scene.row.now) c.args.scene.domains.now c.args.scene.boxes.now c.args.scene.row.now.bound.value c.args.scene.cause.place c.args.scene.cause.to.value c.args.i c.args.out.now.items c.put.new.out.items
+    c.args.slack c.in_ok-f.f.left c.args.scene.cause.slack c.args.t c.factor_of-c.result.value c.set_at-domain.result.now c.in_ok-f.f.literal c.requires.turn c.requires.cause c.requires.so_far c.requires.place
     c.factor_of-c.ensures c.set_at-domain.ensures c.in_ok-f.ensures c.in_ok-put.ensures

@@ -6,5 +6,5 @@ use Rattle.linear_prop.proofs.kinds.flag_answer.Goals as goal
 pub returns-in_ok-other-in-None : goal.returns-in_ok-other-in-None
 returns-in_ok-other-in-None c =
     let r = c.ranges.bound in
-    flag_answer_done c.args.con.now c.args.flag c.args.terms.now c.args.bound _ _ c.args.domains.now c.args.boxes.now c.in_ok-one.one c.in_ok-other-in-None.other c.requires.con (omega (arith, ints)) (omega (arith, ints))
+    flag_answer_done c.args.subject.con.now c.args.flag c.args.terms.now c.args.bound _ _ c.args.subject.domains.now c.args.subject.boxes.now c.in_ok-one.one c.in_ok-other-in-None.other c.requires.con (omega (arith, ints)) (omega (arith, ints))
     c.requires.well_made c.requires.sets c.requires.boxes c.requires.differ c.requires.open_zero c.requires.open_one c.in-None.is c.in_ok-one.ensures c.in_ok-other-in-None.ensures

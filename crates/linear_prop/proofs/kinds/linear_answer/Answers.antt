@@ -6,10 +6,10 @@ use Rattle.linear_prop.proofs.kinds.linear_answer.Goals as goal
 
 pub definition_answer-requires-clause-well_made : goal.definition_answer-requires-clause-well_made
 definition_answer-requires-clause-well_made c =
-    let e : c.args.con.now ≡ LinDef c.in-LinDef.out c.items-in-LinDef.result.now (to_z w64 (of_z w64 c.in-LinDef.offset)) = search rules in
-    subst (λ (k : Con). IsWellMadeCon c.args.domains.now k) e c.requires.well_made
+    let e : c.args.subject.con.now ≡ LinDef c.in-LinDef.out c.items-in-LinDef.result.now (to_z w64 (of_z w64 c.in-LinDef.offset)) = search rules in
+    subst (λ (k : Con). IsWellMadeCon c.args.subject.domains.now k) e c.requires.well_made
 
 pub reified_answer-requires-clause-well_made : goal.reified_answer-requires-clause-well_made
 reified_answer-requires-clause-well_made c =
-    let e : c.args.con.now ≡ ReifLe c.in-ReifLe.flag c.items-in-ReifLe.result.now (to_z w64 (of_z w64 c.in-ReifLe.bound)) = search rules in
-    subst (λ (k : Con). IsWellMadeCon c.args.domains.now k) e c.requires.well_made
+    let e : c.args.subject.con.now ≡ ReifLe c.in-ReifLe.flag c.items-in-ReifLe.result.now (to_z w64 (of_z w64 c.in-ReifLe.bound)) = search rules in
+    subst (λ (k : Con). IsWellMadeCon c.args.subject.domains.now k) e c.requires.well_made

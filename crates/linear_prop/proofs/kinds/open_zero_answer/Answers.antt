@@ -6,18 +6,18 @@ use Rattle.linear_prop.proofs.KindAnswers.{follows_zero_con, open_zero}
 use Rattle.linear_prop.proofs.kinds.open_zero_answer.Goals as goal
 
 pub open_answer-requires-clause-over : goal.open_answer-requires-clause-over
-open_answer-requires-clause-over c = over_zero c.args.flag c.args.terms.now c.args.bound c.args.domains.now c.args.boxes.now c.requires.well_made c.requires.sets c.requires.boxes c.requires.differ
+open_answer-requires-clause-over c = over_zero c.args.flag c.args.terms.now c.args.bound c.args.subject.domains.now c.args.subject.boxes.now c.requires.well_made c.requires.sets c.requires.boxes c.requires.differ
 
 pub open_answer-requires-clause-apart : goal.open_answer-requires-clause-apart
 open_answer-requires-clause-apart c = flag_apart_turned c.args.flag c.args.terms.now c.requires.differ
 
 pub open_answer-requires-clause-open : goal.open_answer-requires-clause-open
-open_answer-requires-clause-open c = open_zero c.args.flag c.args.boxes.now (are_sets c.args.boxes.now c.requires.boxes.sets c.args.flag) c.requires.open
+open_answer-requires-clause-open c = open_zero c.args.flag c.args.subject.boxes.now (are_sets c.args.subject.boxes.now c.requires.boxes.sets c.args.flag) c.requires.open
 
 pub open_answer-requires-clause-follows : goal.open_answer-requires-clause-follows
 open_answer-requires-clause-follows c o h n =
     let v = c.turned_bound.ensures in let r = c.ranges.bound in
-    follows_zero_con c.args.con.now c.args.flag c.args.terms.now c.args.bound c.turned_bound.result.value c.args.domains.now o c.requires.con (omega (arith, ints)) h n
+    follows_zero_con c.args.subject.con.now c.args.flag c.args.terms.now c.args.bound c.turned_bound.result.value c.args.subject.domains.now o c.requires.con (omega (arith, ints)) h n
 
 pub open_answer-requires-clause-fits : goal.open_answer-requires-clause-fits
-open_answer-requires-clause-fits c = fits_zero c.args.flag c.args.terms.now c.args.bound c.args.domains.now c.args.boxes.now c.requires.well_made c.requires.sets c.requires.boxes
+open_answer-requires-clause-fits c = fits_zero c.args.flag c.args.terms.now c.args.bound c.args.subject.domains.now c.args.subject.boxes.now c.requires.well_made c.requires.sets c.requires.boxes
