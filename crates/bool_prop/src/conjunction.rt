@@ -21,8 +21,8 @@ ghost use Rattle.rule_law.specs.Reasons.{IsReason, kept_one};
 ghost use Rattle.rule_law.specs.Plans.{literals_of};
 ghost use Rattle.bool_prop.specs.Findings.{IsScene, part_fixed, open_rest, whole_plan, IsWholeOpen, Says};
 
-use ground_form::{Con, Number, ends_of};
-use rule_law::{Repeats, keep_out, planned_pruning, probe, pruning, truth};
+use ground_form::{Number, ends_of};
+use rule_law::{Repeats, Subject, keep_out, planned_pruning, probe, pruning, truth};
 use signed_clause::{Clause, IntSet};
 use std::alloc::{AllocError, Global};
 
@@ -193,24 +193,24 @@ fn find(flag: u32, parts: &[(u32, bool)], boxes: &[IntSet]) -> Finding
 
 /// The clause that the flag is 0, or the part as it wants.
 fn explain_part(
-    con: &Con,
+    subject: Subject<'_>,
     flag: u32,
     p: (u32, bool),
-    domains: &[IntSet],
-    boxes: &[IntSet],
     alloc: Global,
 ) -> Result<Clause, AllocError>
-    requires flag { flag < length domains.now }
-    requires var { p.0 < length domains.now }
-    requires reason { IsReason con.now domains.now boxes.now
-        (literals_of domains.now ((flag, (pos 1, pos 1) ∷ []) ∷ (p.0, less (box_of domains.now p.0) ((bit p.1, bit p.1) ∷ [])) ∷ [])) }
-    ensures pruning { IfOk result (λ c. IsPruning con.now domains.now boxes.now c) }
+    requires flag { flag < length subject.domains.now }
+    requires var { p.0 < length subject.domains.now }
+    requires reason { IsReason subject.con.now subject.domains.now subject.boxes.now
+        (literals_of subject.domains.now ((flag, (pos 1, pos 1) ∷ [])
+        ∷ (p.0, less (box_of subject.domains.now p.0) ((bit p.1, bit p.1) ∷ [])) ∷ [])) }
+    ensures pruning { IfOk result (λ c. IsPruning subject.entry.con.now subject.entry.domains.now
+        subject.entry.boxes.now c) }
 {
-    let other = domains[p.0 as usize].less(&truth(alloc, p.1))?;
+    let other = subject.domains[p.0 as usize].less(&truth(alloc, p.1))?;
     let clause = planned_pruning(
-        con,
-        domains,
-        boxes,
+        subject.con,
+        subject.domains,
+        subject.boxes,
         &[(flag, truth(alloc, true)), (p.0, other)],
         alloc,
     )?;
@@ -234,52 +234,50 @@ fn keep_part(
 
 /// The clause that the flag is 1, or some part isn't as it wants.
 fn explain_whole(
-    con: &Con,
+    subject: Subject<'_>,
     flag: u32,
     parts: &[(u32, bool)],
-    domains: &[IntSet],
-    boxes: &[IntSet],
     alloc: Global,
 ) -> Result<Clause, AllocError>
-    requires flag { flag < length domains.now }
-    requires parts { All (λ p. p.0 < length domains.now) parts.now }
-    requires reason { IsReason con.now domains.now boxes.now
-        (literals_of domains.now ((flag, (pos 0, pos 0) ∷ []) ∷ whole_plan parts.now)) }
-    ensures pruning { IfOk result (λ c. IsPruning con.now domains.now boxes.now c) }
+    requires flag { flag < length subject.domains.now }
+    requires parts { All (λ p. p.0 < length subject.domains.now) parts.now }
+    requires reason { IsReason subject.con.now subject.domains.now subject.boxes.now
+        (literals_of subject.domains.now ((flag, (pos 0, pos 0) ∷ []) ∷ whole_plan parts.now)) }
+    ensures pruning { IfOk result (λ c. IsPruning subject.entry.con.now subject.entry.domains.now
+        subject.entry.boxes.now c) }
 {
     let mut literals = Vec::new(alloc);
-    keep_part(&mut literals, domains, (flag, false), alloc)?;
+    keep_part(&mut literals, subject.domains, (flag, false), alloc)?;
     for p in parts {
-        keep_part(&mut literals, domains, *p, alloc)?;
+        keep_part(&mut literals, subject.domains, *p, alloc)?;
     }
-    Ok(pruning(con, domains, boxes, literals))
+    Ok(pruning(subject.con, subject.domains, subject.boxes, literals))
 }
 
 /// What a conjunction says as a whole, which it has to in the boxes.
 fn prune_whole(
     repeats: &mut Repeats,
     k: u32,
-    con: &Con,
+    subject: Subject<'_>,
     flag: u32,
     parts: &[(u32, bool)],
-    domains: &[IntSet],
-    boxes: &[IntSet],
     alloc: Global,
 ) -> Result<Option<Clause>, AllocError>
-    requires is { con.now ≡ AndDef flag parts.now }
-    requires well_made { IsWellMadeCon domains.now con.now }
-    requires boxes { AreBoxesWithin domains.now boxes.now }
-    requires sets { All (λ d. IsValid d) domains.now }
-    requires flag { flag < length domains.now }
-    requires parts { All (λ p. p.0 < length domains.now) parts.now }
-    requires open { IsWholeOpen flag parts.now boxes.now }
-    ensures answer { IfOk result (λ a. IsAnswer con.now domains.now boxes.now a) }
+    requires is { subject.con.now ≡ AndDef flag parts.now }
+    requires well_made { IsWellMadeCon subject.domains.now subject.con.now }
+    requires boxes { AreBoxesWithin subject.domains.now subject.boxes.now }
+    requires sets { All (λ d. IsValid d) subject.domains.now }
+    requires flag { flag < length subject.domains.now }
+    requires parts { All (λ p. p.0 < length subject.domains.now) parts.now }
+    requires open { IsWholeOpen flag parts.now subject.boxes.now }
+    ensures answer { IfOk result (λ a. IsAnswer subject.entry.con.now subject.entry.domains.now
+        subject.entry.boxes.now a) }
 {
-    let differ = repeats.has_no_repeat(k, con)?;
+    let differ = repeats.has_no_repeat(k, subject.con)?;
     if !differ {
-        return probe(con, domains, boxes, alloc);
+        return probe(subject.con, subject.domains, subject.boxes, alloc);
     }
-    let clause = explain_whole(con, flag, parts, domains, boxes, alloc)?;
+    let clause = explain_whole(subject, flag, parts, alloc)?;
     Ok(Some(clause))
 }
 
@@ -290,28 +288,27 @@ fn prune_whole(
 pub fn prune_conjunction(
     repeats: &mut Repeats,
     k: u32,
-    con: &Con,
+    subject: Subject<'_>,
     flag: u32,
     parts: &[(u32, bool)],
-    domains: &[IntSet],
-    boxes: &[IntSet],
     alloc: Global,
 ) -> Result<Option<Clause>, AllocError>
-    requires is { con.now ≡ AndDef flag parts.now }
-    requires well_made { IsWellMadeCon domains.now con.now }
-    requires boxes { AreBoxesWithin domains.now boxes.now }
-    requires sets { All (λ d. IsValid d) domains.now }
-    requires flag { flag < length domains.now }
-    requires parts { All (λ p. p.0 < length domains.now) parts.now }
-    ensures answer { IfOk result (λ a. IsAnswer con.now domains.now boxes.now a) }
+    requires is { subject.con.now ≡ AndDef flag parts.now }
+    requires well_made { IsWellMadeCon subject.domains.now subject.con.now }
+    requires boxes { AreBoxesWithin subject.domains.now subject.boxes.now }
+    requires sets { All (λ d. IsValid d) subject.domains.now }
+    requires flag { flag < length subject.domains.now }
+    requires parts { All (λ p. p.0 < length subject.domains.now) parts.now }
+    ensures answer { IfOk result (λ a. IsAnswer subject.entry.con.now subject.entry.domains.now
+        subject.entry.boxes.now a) }
 {
-    match find(flag, parts, boxes) {
+    match find(flag, parts, subject.boxes) {
         Finding::Quiet => Ok(None),
         Finding::Part(i) => {
-            let clause = explain_part(con, flag, parts[i], domains, boxes, alloc)?;
+            let clause = explain_part(subject, flag, parts[i], alloc)?;
             Ok(Some(clause))
         }
-        Finding::Whole => prune_whole(repeats, k, con, flag, parts, domains, boxes, alloc),
-        Finding::Unclear => probe(con, domains, boxes, alloc),
+        Finding::Whole => prune_whole(repeats, k, subject, flag, parts, alloc),
+        Finding::Unclear => probe(subject.con, subject.domains, subject.boxes, alloc),
     }
 }

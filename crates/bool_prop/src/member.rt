@@ -15,8 +15,7 @@ ghost use Rattle.rule_law.specs.Reasons.{IsReason};
 ghost use Rattle.rule_law.specs.Plans.{literals_of};
 ghost use Rattle.bool_prop.specs.Findings.{member_finding};
 
-use ground_form::Con;
-use rule_law::{planned_pruning, probe, truth};
+use rule_law::{Subject, planned_pruning, probe, truth};
 use signed_clause::{Clause, IntSet};
 use std::alloc::{AllocError, Global};
 
@@ -38,25 +37,25 @@ fn find(flags: &IntSet, at: &IntSet, set: &IntSet) -> Option<bool>
 
 /// The clause that the flag is 0 or the value in the set.
 fn affirm(
-    con: &Con,
+    subject: Subject<'_>,
     flag: u32,
     var: u32,
     set: &IntSet,
-    domains: &[IntSet],
-    boxes: &[IntSet],
     alloc: Global,
 ) -> Result<Clause, AllocError>
-    requires flag { flag < length domains.now }
-    requires var { var < length domains.now }
-    requires reason { IsReason con.now domains.now boxes.now
-        (literals_of domains.now ((flag, (pos 1, pos 1) ∷ []) ∷ (var, less (box_of domains.now var) set.now) ∷ [])) }
-    ensures pruning { IfOk result (λ c. IsPruning con.now domains.now boxes.now c) }
+    requires flag { flag < length subject.domains.now }
+    requires var { var < length subject.domains.now }
+    requires reason { IsReason subject.con.now subject.domains.now subject.boxes.now
+        (literals_of subject.domains.now ((flag, (pos 1, pos 1) ∷ [])
+        ∷ (var, less (box_of subject.domains.now var) set.now) ∷ [])) }
+    ensures pruning { IfOk result (λ c. IsPruning subject.entry.con.now subject.entry.domains.now
+        subject.entry.boxes.now c) }
 {
-    let outside = domains[var as usize].less(set)?;
+    let outside = subject.domains[var as usize].less(set)?;
     let clause = planned_pruning(
-        con,
-        domains,
-        boxes,
+        subject.con,
+        subject.domains,
+        subject.boxes,
         &[(flag, truth(alloc, true)), (var, outside)],
         alloc,
     )?;
@@ -65,27 +64,31 @@ fn affirm(
 
 /// The clause that the flag is 1 or the value outside the set.
 fn deny(
-    con: &Con,
+    subject: Subject<'_>,
     flag: u32,
     var: u32,
     set: &IntSet,
-    domains: &[IntSet],
-    boxes: &[IntSet],
     alloc: Global,
 ) -> Result<Clause, AllocError>
-    requires flag { flag < length domains.now }
-    requires var { var < length domains.now }
-    requires reason { IsReason con.now domains.now boxes.now
-        (literals_of domains.now ((flag, (pos 0, pos 0) ∷ []) ∷ (var, less (box_of domains.now var) (less (box_of domains.now var) set.now)) ∷ [])) }
-    ensures pruning { IfOk result (λ c. IsPruning con.now domains.now boxes.now c) }
+    requires flag { flag < length subject.domains.now }
+    requires var { var < length subject.domains.now }
+    requires reason { IsReason subject.con.now subject.domains.now subject.boxes.now
+        (literals_of subject.domains.now ((flag, (pos 0, pos 0) ∷ [])
+        ∷ (
+          var,
+          less (box_of subject.domains.now var)
+              (less (box_of subject.domains.now var) set.now),
+        ) ∷ [])) }
+    ensures pruning { IfOk result (λ c. IsPruning subject.entry.con.now subject.entry.domains.now
+        subject.entry.boxes.now c) }
 {
-    let domain = &domains[var as usize];
+    let domain = &subject.domains[var as usize];
     let outside = domain.less(set)?;
     let within = domain.less(&outside)?;
     let clause = planned_pruning(
-        con,
-        domains,
-        boxes,
+        subject.con,
+        subject.domains,
+        subject.boxes,
         &[(flag, truth(alloc, false)), (var, within)],
         alloc,
     )?;
@@ -97,33 +100,36 @@ fn deny(
 /// # Errors
 /// Want of memory.
 pub fn prune_member(
-    con: &Con,
+    subject: Subject<'_>,
     flag: u32,
     var: u32,
     set: &IntSet,
-    domains: &[IntSet],
-    boxes: &[IntSet],
     alloc: Global,
 ) -> Result<Option<Clause>, AllocError>
-    requires is { con.now ≡ MemberDef flag var set.now }
-    requires well_made { IsWellMadeCon domains.now con.now }
-    requires boxes { AreBoxesWithin domains.now boxes.now }
-    requires sets { All (λ d. IsValid d) domains.now }
-    requires flag { flag < length domains.now }
-    requires var { var < length domains.now }
-    ensures answer { IfOk result (λ a. IsAnswer con.now domains.now boxes.now a) }
+    requires is { subject.con.now ≡ MemberDef flag var set.now }
+    requires well_made { IsWellMadeCon subject.domains.now subject.con.now }
+    requires boxes { AreBoxesWithin subject.domains.now subject.boxes.now }
+    requires sets { All (λ d. IsValid d) subject.domains.now }
+    requires flag { flag < length subject.domains.now }
+    requires var { var < length subject.domains.now }
+    ensures answer { IfOk result (λ a. IsAnswer subject.entry.con.now subject.entry.domains.now
+        subject.entry.boxes.now a) }
 {
     if var == flag {
-        return probe(con, domains, boxes, alloc);
+        return probe(subject.con, subject.domains, subject.boxes, alloc);
     }
-    match find(&boxes[flag as usize], &boxes[var as usize], set) {
+    match find(
+        &subject.boxes[flag as usize],
+        &subject.boxes[var as usize],
+        set,
+    ) {
         None => Ok(None),
         Some(true) => {
-            let clause = affirm(con, flag, var, set, domains, boxes, alloc)?;
+            let clause = affirm(subject, flag, var, set, alloc)?;
             Ok(Some(clause))
         }
         Some(false) => {
-            let clause = deny(con, flag, var, set, domains, boxes, alloc)?;
+            let clause = deny(subject, flag, var, set, alloc)?;
             Ok(Some(clause))
         }
     }

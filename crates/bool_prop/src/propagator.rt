@@ -11,7 +11,7 @@ use crate::conjunction::prune_conjunction;
 use crate::member::prune_member;
 use clause_rule::prune_clause;
 use ground_form::{Con, Ground, Kind};
-use rule_law::{Propagator, Repeats, probe};
+use rule_law::{Propagator, Repeats, Subject, probe};
 use signed_clause::{Clause, IntSet};
 use std::alloc::{AllocError, Global};
 
@@ -48,24 +48,21 @@ pub(crate) fn prune_one(
     alloc: Global,
     repeats: &mut Repeats,
     k: u32,
-    con: &Con,
-    domains: &[IntSet],
-    boxes: &[IntSet],
+    subject: Subject<'_>,
 ) -> Result<Option<Clause>, AllocError>
-    requires well_made { IsWellMadeCon domains.now con.now }
-    requires boxes { AreBoxesWithin domains.now boxes.now }
-    requires sets { All (λ d. IsValid d) domains.now }
-    ensures answer { IfOk result (λ a. IsAnswer con.now domains.now boxes.now a) }
+    requires well_made { IsWellMadeCon subject.domains.now subject.con.now }
+    requires boxes { AreBoxesWithin subject.domains.now subject.boxes.now }
+    requires sets { All (λ d. IsValid d) subject.domains.now }
+    ensures answer { IfOk result (λ a. IsAnswer subject.entry.con.now subject.entry.domains.now
+        subject.entry.boxes.now a) }
 {
-    match con {
+    match subject.con {
         Con::AndDef { flag, parts } => {
-            prune_conjunction(repeats, k, con, *flag, parts.items(), domains, boxes, alloc)
+            prune_conjunction(repeats, k, subject, *flag, parts.items(), alloc)
         }
-        Con::MemberDef { flag, var, set } => {
-            prune_member(con, *flag, *var, set, domains, boxes, alloc)
-        }
-        Con::ClauseCon { clause } => prune_clause(clause.clause(), domains, boxes),
-        _ => probe(con, domains, boxes, alloc),
+        Con::MemberDef { flag, var, set } => prune_member(subject, *flag, *var, set, alloc),
+        Con::ClauseCon { clause } => prune_clause(clause.clause(), subject.domains, subject.boxes),
+        _ => probe(subject.con, subject.domains, subject.boxes, alloc),
     }
 }
 
@@ -86,14 +83,11 @@ impl Propagator for BoolProp {
         k: u32,
         boxes: &[IntSet],
     ) -> Result<Option<Clause>, AllocError> {
-        let con = &g.cons.items()[k as usize];
-        prune_one(
-            self.alloc,
-            &mut self.repeats,
-            k,
-            con,
-            g.domains.items(),
+        let subject = Subject {
+            con: &g.cons.items()[k as usize],
+            domains: g.domains.items(),
             boxes,
-        )
+        };
+        prune_one(self.alloc, &mut self.repeats, k, subject)
     }
 }

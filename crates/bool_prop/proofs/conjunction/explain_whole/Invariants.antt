@@ -5,4 +5,4 @@ use Rattle.bool_prop.proofs.conjunction.explain_whole.Given as goal
 
 abbrev pub invariant-loop-p : goal.invariant-loop-p
 invariant-loop-p l =
-    l.literals.items ++ literals_of l.domains (whole_plan (drop l.p-index l.parts)) ≡ literals_of l.domains ((l.flag, (pos 0, pos 0) ∷ []) ∷ whole_plan l.parts)
+    l.literals.items ++ literals_of l.subject.domains.now (whole_plan (drop l.p-index l.parts)) ≡ literals_of l.subject.domains.now ((l.flag, (pos 0, pos 0) ∷ []) ∷ whole_plan l.parts)
