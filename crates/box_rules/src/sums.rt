@@ -1,7 +1,7 @@
 //! The least and the greatest sum of terms over a view of boxes.
 //!
 //! Both are one walk over the terms. They stay within 64 bits where the greatest absolute values of
-//! the terms over the outer boxes add up to at most 2^60.
+//! the terms over the outer boxes add up to at most `MOST_SUM`.
 ghost use Rattle.std.specs.Prelude.{◌≡◌, ◌<◌, ◌≤◌, ◌^◌, ◌+◌, ◌*◌, ◌*ℤ◌, length, unsigned_abs};
 ghost use Rattle.std.specs.Int.{int_min, int_max};
 ghost use Rattle.std.specs.List.{All};

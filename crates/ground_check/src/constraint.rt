@@ -11,7 +11,7 @@ ghost use Rattle.ground_form.specs.Meaning.{part_vars, vars_of};
 ghost use Rattle.ground_form.specs.WellMade.{IsWellMadeCon, distinct_values};
 
 use crate::terms::are_light;
-use ground_form::{Con, ends_of};
+use ground_form::{Con, LAST_BIN, MOST_SUM, ends_of};
 use rule_law::all_vars;
 use signed_clause::{Clause, IntSet};
 use std::alloc::{AllocError, Global};
@@ -85,9 +85,9 @@ fn are_flags(parts: &[(u32, bool)], domains: &[IntSet]) -> bool
 fn are_small(items: &[(u32, u32, u32)], domains: &[IntSet]) -> bool
     ensures { result ≡ true → IsPackBounded items.now domains.now }
 {
-    let mut left = 1152921504606846976u64;
+    let mut left = MOST_SUM as u64;
     for i in items {
-        if left < 1048576 || !is_upto(domains, i.0, 9999) || !is_upto(domains, i.1, 1048576) {
+        if left < 1048576 || !is_upto(domains, i.0, LAST_BIN) || !is_upto(domains, i.1, 1048576) {
             return false;
         }
         left -= 1048576;

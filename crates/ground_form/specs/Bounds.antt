@@ -12,6 +12,10 @@ use Rattle.ground_form.specs.declared.con.Con.TheVariants.{LinLe, LinDef, ReifLe
 abbrev pub most_sum : ℕ
 most_sum = 2 ^ 60
 
+-- the greatest value that the bin of an item of a packing may have
+abbrev pub last_bin : ℕ
+last_bin = 9999
+
 -- the least and the greatest value of a set, 0 of the empty one
 abbrev pub low_of : Ranges → ℤ
 low_of [] = pos 0
@@ -59,10 +63,10 @@ abbrev pub size_sum : List (ℕ × ℕ × ℕ) → Boxes → ℤ
 size_sum [] boxes = pos 0
 size_sum (i ∷ rest) boxes = high_of (box_of boxes i.1) +ℤ size_sum rest boxes
 
--- places lie within 0..9999, no size is below 0, and the greatest sizes add up to at most 2^60;
--- rooms may be what they are
+-- bins lie within 0 and the last one, no size is below 0, and the greatest sizes add up to at most
+-- `most_sum`; rooms may be what they are
 pub record IsPackBounded (items : List (ℕ × ℕ × ℕ)) (boxes : Boxes) : Type 0 where
-  pub places : All (λ i. LiesWithin (pos 0) (pos 9999) (box_of boxes i.0)) items
+  pub places : All (λ i. LiesWithin (pos 0) (pos last_bin) (box_of boxes i.0)) items
   pub sizes : All (λ i. pos 0 ≤ℤ low_of (box_of boxes i.1)) items
   pub total : size_sum items boxes ≤ℤ pos most_sum
 

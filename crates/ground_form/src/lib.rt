@@ -9,10 +9,12 @@
 //!   `same`: whether two constraints are the same.
 //! - `kind`: the kinds by name.
 //! - `ground`: the problem.
+//! - `bounds`: how large the numbers of a constraint may be.
 //! - `sums`: the least and the greatest sum of terms over boxes.
 //! - `truth`: whether a constraint is true at values, kind by kind.
 #![tactic(auto)]
 
+mod bounds;
 mod con;
 mod ground;
 mod kind;
@@ -22,6 +24,7 @@ mod sums;
 mod truth;
 mod variables;
 
+pub use bounds::{LAST_BIN, MOST_SUM};
 pub use con::Con;
 pub use ground::{Cons, Goals, Ground, GroundGoal};
 pub use kind::{Kind, kind_of};

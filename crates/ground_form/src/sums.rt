@@ -2,7 +2,7 @@
 //!
 //! A term's least and greatest value stand at the ends of its variable's box. Both sums are walks
 //! over the terms, without memory, and stay within 64 bits where the greatest absolute values of
-//! the terms add up to at most 2^60.
+//! the terms add up to at most `MOST_SUM`.
 ghost use Rattle.std.specs.Prelude.{◌≡◌, ◌<◌, ◌≤◌, ◌^◌, ◌+◌, ◌*◌, ◌+ℤ◌, ◌*ℤ◌, ◌≤ℤ◌, length, unsigned_abs};
 ghost use Rattle.std.specs.List.{All};
 ghost use Rattle.signed_clause.specs.Clauses.{box_of};

@@ -4,11 +4,11 @@
 //! and the variable less the sum. Of a flag that says whether a sum keeps a bound, the one row
 //! holds where the flag is 1, and the other, with turned signs, where it is 0; where the flag is
 //! open each only tells the flag.
-ghost use Rattle.std.specs.Prelude.{◌≡◌, ◌<◌, true, false, length, ℤ, pos, negsuc, ◌-ℤ◌, ◌∷◌, ◌≤◌, ◌^◌, unsigned_abs, IfOk};
+ghost use Rattle.std.specs.Prelude.{◌≡◌, ◌<◌, true, false, length, ℤ, pos, negsuc, ◌-ℤ◌, ◌∷◌, ◌≤◌, unsigned_abs, IfOk};
 ghost use Rattle.std.specs.List.{All};
 ghost use Rattle.ground_form.specs.declared.con.Con.TheVariants as con_kind;
 ghost use Rattle.ground_form.specs.Meaning.{term_vars, vars_of};
-ghost use Rattle.ground_form.specs.Bounds.{reach_of};
+ghost use Rattle.ground_form.specs.Bounds.{reach_of, most_sum};
 ghost use Rattle.ground_form.specs.WellMade.{IsWellMadeCon};
 ghost use Rattle.rule_law.specs.Reasons.{no_repeat};
 ghost use Rattle.rule_law.specs.Answers.{AreBoxesWithin, IsAnswer};
@@ -54,7 +54,7 @@ fn at_most_answer(
 
 /// The bound of the row 'the sum less the variable'.
 fn less_offset(offset: i64) -> Number
-    requires { unsigned_abs offset ≤ 2 ^ 60 }
+    requires { unsigned_abs offset ≤ most_sum }
     ensures { result.value ≡ pos 0 -ℤ offset }
 {
     Number { value: 0 - offset }
@@ -80,7 +80,7 @@ fn up_answer(
     requires sets { All (λ d. IsValid d) subject.domains.now }
     requires boxes { AreBoxesWithin subject.domains.now subject.boxes.now }
     requires differ { no_repeat (out ∷ term_vars terms.now) ≡ true }
-    requires near { reach_of (box_of subject.boxes.now out) ≤ 2 ^ 60 }
+    requires near { reach_of (box_of subject.boxes.now out) ≤ most_sum }
     ensures { IfOk result (λ answer. IsRowAnswer subject.entry.con.now ((negsuc 0, out) ∷ terms.now)
         (pos 0 -ℤ offset) subject.entry.domains.now subject.entry.boxes.now answer) }
 {
@@ -107,7 +107,7 @@ fn down_answer(
     requires sets { All (λ d. IsValid d) subject.domains.now }
     requires boxes { AreBoxesWithin subject.domains.now subject.boxes.now }
     requires differ { no_repeat (out ∷ term_vars terms.now) ≡ true }
-    requires near { reach_of (box_of subject.boxes.now out) ≤ 2 ^ 60 }
+    requires near { reach_of (box_of subject.boxes.now out) ≤ most_sum }
     ensures { IfOk result (λ answer. IsRowAnswer subject.entry.con.now
         ((pos 1, out) ∷ negated terms.now) offset subject.entry.domains.now
         subject.entry.boxes.now answer) }
@@ -135,7 +135,7 @@ fn sum_answer(
     requires sets { All (λ d. IsValid d) subject.domains.now }
     requires boxes { AreBoxesWithin subject.domains.now subject.boxes.now }
     requires differ { no_repeat (out ∷ term_vars terms.now) ≡ true }
-    requires near { reach_of (box_of subject.boxes.now out) ≤ 2 ^ 60 }
+    requires near { reach_of (box_of subject.boxes.now out) ≤ most_sum }
     ensures { IfOk result (λ answer. IsAnswer subject.entry.con.now subject.entry.domains.now
         subject.entry.boxes.now answer) }
 {

@@ -5,7 +5,7 @@ ghost use Rattle.signed_clause.specs.Clauses.{box_of};
 ghost use Rattle.ground_form.specs.Bounds.{low_of, high_of, IsPackBounded};
 ghost use Rattle.packed_rows.specs.SmallRows.{IsSmallRow};
 
-use ground_form::ends_of;
+use ground_form::{LAST_BIN, MOST_SUM, ends_of};
 use signed_clause::IntSet;
 
 /// The ends of a variable's box.
@@ -16,7 +16,7 @@ fn ends_at(boxes: &[IntSet], x: u32) -> (i64, i64)
     ends_of(&boxes[x as usize])
 }
 
-/// What is left of so much without the greatest size of a row, where its places lie within 0..9999,
+/// What is left of so much without the greatest size of a row, where its bins lie within 0 and the last,
 /// its sizes aren't below 0, and there is enough.
 fn left_without(boxes: &[IntSet], row: (u32, u32, u32), left: u64) -> Option<u64>
     requires place { row.0 < length boxes.now }
@@ -25,20 +25,20 @@ fn left_without(boxes: &[IntSet], row: (u32, u32, u32), left: u64) -> Option<u64
 {
     let place = ends_at(boxes, row.0);
     let size = ends_at(boxes, row.1);
-    if place.0 < 0 || place.1 > 9999 || size.0 < 0 || size.1 < 0 {
+    if place.0 < 0 || place.1 > LAST_BIN || size.0 < 0 || size.1 < 0 {
         return None;
     }
     left.checked_sub(size.1.unsigned_abs())
 }
 
-/// Whether the places lie within 0..9999, no size is below 0, and the greatest sizes add up to at
-/// most 2^60.
+/// Whether the bins lie within 0 and the last, no size is below 0, and the greatest sizes add up to
+/// at most `MOST_SUM`.
 pub fn are_bounded(boxes: &[IntSet], rows: &[(u32, u32, u32)]) -> bool
     requires exist { All (λ i. (i.0 < length boxes.now) × (i.1 < length boxes.now)
         × (i.2 < length boxes.now)) rows.now }
     ensures { result ≡ true → IsPackBounded rows.now boxes.now }
 {
-    let mut left = 1u64 << 60;
+    let mut left = MOST_SUM as u64;
     for row in rows {
         match left_without(boxes, *row, left) {
             Some(rest) => left = rest,

@@ -13,6 +13,7 @@ ghost use Rattle.packed_rows.specs.Plans.{is_bin, IsSmall, IsRowOf, AscendAbove,
 
 use crate::row::Row;
 use ground_form::Number;
+use model_limits::MOST_WIDTH;
 use signed_clause::IntSet;
 use std::alloc::{AllocError, Global};
 
@@ -83,7 +84,7 @@ fn greatest_room(rows: &[Row]) -> Number {
 fn is_small(v: i64) -> bool
     ensures { result ≡ true → IsSmall v }
 {
-    v.unsigned_abs() <= 1 << 50
+    v.unsigned_abs() <= MOST_WIDTH as u64
 }
 
 /// Whether the number can be the room of all items.
