@@ -146,10 +146,17 @@ number_within digits least most word =
     && nat_le least (number_of word) && nat_le (number_of word) most
     then Some (number_of word) else None
 
+-- how many decisions a search may take where no word says it, and how many a word may give
+abbrev pub usual_budget : ℕ
+usual_budget = 10000
+
+abbrev pub most_budget : ℕ
+most_budget = 1000000
+
 -- how many decisions a search may take
 abbrev pub budget_of : Option (List ℕ) → Option ℕ
-budget_of None = Some 10000
-budget_of (Some word) = number_within 7 0 1000000 word
+budget_of None = Some usual_budget
+budget_of (Some word) = number_within 7 0 most_budget word
 
 -- the number of an order: `first`, `small`, `former`
 abbrev pub order_named : List ℕ → Option ℕ
@@ -263,10 +270,10 @@ model_file (Core model budget order) = Some model
 
 -- what the numbers of any request are, and that nothing failed where no former file is named
 abbrev pub IsLawful : Request → Type 0
-IsLawful (Solve model budget log order) = (budget ≤ 1000000) × (order ≤ 2)
-IsLawful (Reconfigure model former failed budget log order) = (budget ≤ 1000000) × (order ≤ 2)
+IsLawful (Solve model budget log order) = (budget ≤ most_budget) × (order ≤ 2)
+IsLawful (Reconfigure model former failed budget log order) = (budget ≤ most_budget) × (order ≤ 2)
 IsLawful (Check model log former failed) = IfNone former (failed ≡ [])
 IsLawful (Verify model config) = Unit {0}
 IsLawful (Gen n) = (1 ≤ n) × (n ≤ 100)
-IsLawful (Session model former events budget order) = (budget ≤ 1000000) × (order ≤ 2)
-IsLawful (Core model budget order) = (budget ≤ 1000000) × (order ≤ 2)
+IsLawful (Session model former events budget order) = (budget ≤ most_budget) × (order ≤ 2)
+IsLawful (Core model budget order) = (budget ≤ most_budget) × (order ≤ 2)

@@ -6,6 +6,12 @@ ghost use Rattle.conf_request.specs.Views.{given};
 
 use crate::numbers::number_within;
 
+/// How many decisions a search may take where no word says it.
+const USUAL_BUDGET: u32 = 10_000;
+
+/// How many decisions a word may give to a search.
+const MOST_BUDGET: u32 = 1_000_000;
+
 /// An option.
 #[derive(Clone, Copy)]
 pub enum OptionName {
@@ -102,8 +108,8 @@ impl<'a> Given<'a> {
         ensures { result ≡ budget_of (given self.now).budget }
     {
         match self.budget {
-            Some(word) => number_within(7, 0, 1_000_000, word),
-            None => Some(10_000),
+            Some(word) => number_within(7, 0, MOST_BUDGET, word),
+            None => Some(USUAL_BUDGET),
         }
     }
 
