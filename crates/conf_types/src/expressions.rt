@@ -22,6 +22,14 @@ use class_table::ClassTable;
 use conf_syntax::{Expr, Ident, Node, Op, Quant, QuantKind};
 use std::alloc::Global;
 
+/// An operator, and the expressions to its left and to its right.
+#[derive(Clone, Copy)]
+struct Sides<'a> {
+    op: Op,
+    left: &'a Expr,
+    right: &'a Expr,
+}
+
 /// An expression.
 #[cycle(check)]
 pub(crate) fn check_expr<'a>(
@@ -46,7 +54,10 @@ pub(crate) fn check_expr<'a>(
         Node::Dot(inner, name) => check_dot(alloc, table, scope, expr.at, inner, name),
         Node::Minus(inner) => check_minus(alloc, table, scope, expr.at, inner),
         Node::Not(inner) => check_not(alloc, table, scope, expr.at, inner),
-        Node::Pair(op, left, right) => check_pair(alloc, table, scope, expr.at, *op, left, right),
+        Node::Pair(op, left, right) => {
+            let op = *op;
+            check_pair(alloc, table, scope, expr.at, Sides { op, left, right })
+        }
         Node::Quant(quant) => check_quant(alloc, table, scope, expr.at, quant),
     }
 }
@@ -270,32 +281,33 @@ fn check_pair<'a>(
     table: &ClassTable,
     scope: &Scope<'a>,
     at: u32,
-    op: Op,
-    left: &'a Expr,
-    right: &'a Expr,
+    sides: Sides<'a>,
 ) -> Result<Checked, TypeFault>
     requires scope { IsScope table.now scope.now }
-    requires left { length scope.now.locals.items + depth left.now.node ≤ most_nesting }
-    requires right { length scope.now.locals.items + depth right.now.node ≤ most_nesting }
+    requires left { length scope.now.locals.items + depth sides.left.now.node ≤ most_nesting }
+    requires right { length scope.now.locals.items + depth sides.right.now.node ≤ most_nesting }
     ensures read { IfOk result (λ x. IsRead x
-        (pair_reading at op (read table.now (scope_of scope.now) left.now)
-        (right_reading op right.now.at (alone table.now right.now.node (scope_of scope.now))
-        (read table.now (scope_of scope.now) right.now)))) }
+        (pair_reading at sides.entry.op (read table.now (scope_of scope.now) sides.entry.left.now)
+        (right_reading sides.entry.op sides.entry.right.now.at
+        (alone table.now sides.entry.right.now.node (scope_of scope.now))
+        (read table.now (scope_of scope.now) sides.entry.right.now)))) }
     ensures exists { IfOk result (λ x. IsTypeOf table.now x.kind) }
     ensures fault { IfErr result (λ f. OnFault f
-        (λ g. Contains (pair_reading at op (read table.now (scope_of scope.now) left.now)
-        (right_reading op right.now.at (alone table.now right.now.node (scope_of scope.now))
-        (read table.now (scope_of scope.now) right.now))).faults g)) }
+        (λ g. Contains (pair_reading at sides.entry.op
+        (read table.now (scope_of scope.now) sides.entry.left.now)
+        (right_reading sides.entry.op sides.entry.right.now.at
+        (alone table.now sides.entry.right.now.node (scope_of scope.now))
+        (read table.now (scope_of scope.now) sides.entry.right.now))).faults g)) }
 {
-    let x = match check_needed(alloc, table, scope, left, left_need(op)) {
+    let x = match check_needed(alloc, table, scope, sides.left, left_need(sides.op)) {
         Ok(x) => x,
         Err(fault) => return Err(fault),
     };
-    let y = match check_right(alloc, table, scope, op, right) {
+    let y = match check_right(alloc, table, scope, sides.op, sides.right) {
         Ok(y) => y,
         Err(fault) => return Err(fault),
     };
-    pair(alloc, at, op, x, y)
+    pair(alloc, at, sides.op, x, y)
 }
 
 /// A quantifier's filter.

@@ -30,12 +30,12 @@ check_over-returns-in-Class-clause-read t c =
 pub check_pair-returns-in-Err-clause-fault : goal.check_pair-returns-in-Err-clause-fault
 check_pair-returns-in-Err-clause-fault t c =
     let s = scope_of c.args.scope.now in
-    in_left c.in-Err.fault c.args.at c.args.op c.left_need.result (read c.args.table.now s c.args.left.now) (right_reading c.args.op c.args.right.now.at (alone c.args.table.now c.args.right.now.node s) (read c.args.table.now s c.args.right.now)) c.left_need.ensures c.in-Err.ensures.fault
+    in_left c.in-Err.fault c.args.at c.args.sides.op c.left_need.result (read c.args.table.now s c.args.sides.left.now) (right_reading c.args.sides.op c.args.sides.right.now.at (alone c.args.table.now c.args.sides.right.now.node s) (read c.args.table.now s c.args.sides.right.now)) c.left_need.ensures c.in-Err.ensures.fault
 
 pub check_pair-returns-in-Err-check_right-clause-fault : goal.check_pair-returns-in-Err-check_right-clause-fault
 check_pair-returns-in-Err-check_right-clause-fault t c =
     let s = scope_of c.args.scope.now in
-    in_right c.in-Err-check_right.fault c.args.at c.args.op (read c.args.table.now s c.args.left.now) (right_reading c.args.op c.args.right.now.at (alone c.args.table.now c.args.right.now.node s) (read c.args.table.now s c.args.right.now)) c.in-Err-check_right.ensures.fault
+    in_right c.in-Err-check_right.fault c.args.at c.args.sides.op (read c.args.table.now s c.args.sides.left.now) (right_reading c.args.sides.op c.args.sides.right.now.at (alone c.args.table.now c.args.sides.right.now.node s) (read c.args.table.now s c.args.sides.right.now)) c.in-Err-check_right.ensures.fault
 
 pub check_bodies-check_needed-requires : goal.check_bodies-check_needed-requires
 check_bodies-check_needed-requires t c =

@@ -33,7 +33,7 @@ abbrev pub decreases-check_dot : goal.decreases-check_dot
 decreases-check_dot l = 8 * depth l.inner.now.node + 5
 
 abbrev pub decreases-check_pair : goal.decreases-check_pair
-decreases-check_pair l = 8 * max (depth l.left.now.node) (depth l.right.now.node) + 4
+decreases-check_pair l = 8 * max (depth l.sides.left.now.node) (depth l.sides.right.now.node) + 4
 
 abbrev pub decreases-check_filter : goal.decreases-check_filter
 decreases-check_filter l = 8 * optional_depth l.filter.now + 2
