@@ -7,6 +7,14 @@ ghost use Rattle.conf_parse.specs.Cursor.{Splits, Takes, Names};
 
 use conf_syntax::{Key, Mark, Name, Placed, Token};
 
+/// Tokens that are read next: all of them, the first, and what is behind it.
+#[derive(Clone, Copy)]
+pub(crate) struct Next<'a> {
+    pub tokens: &'a [Placed],
+    pub token: &'a Placed,
+    pub after: &'a [Placed],
+}
+
 /// The first token and what is behind it.
 pub fn split(tokens: &[Placed]) -> Option<(&Placed, &[Placed])>
     ensures { MatchOption result (bare tokens.now ≡ []) (λ x. Splits tokens.now x.0.now x.1.now) }

@@ -17,7 +17,7 @@ ghost use Rattle.conf_parse.specs.Readers.{sign_of};
 ghost use Rattle.conf_parse.specs.Reads.{Reads, SignReads};
 ghost use Rattle.conf_parse.specs.Parts.{IsPart, Errs};
 
-use crate::cursor::{after_mark, first_at, split, word_at};
+use crate::cursor::{Next, after_mark, first_at, split, word_at};
 use crate::quantifier::quant;
 use crate::stop::Stop;
 use crate::table::{
@@ -34,31 +34,43 @@ pub struct Part {
     pub nest: u32,
 }
 
+/// What bounds an operand: its least level, and how deep it may be.
+#[derive(Clone, Copy)]
+pub(crate) struct Bounds {
+    pub least: u32,
+    pub room: u32,
+}
+
 /// Reads what stands before any operator.
 #[tactic(auto, using(crate::proofs::Parts::leaf_part, crate::proofs::Parts::leaf_wrong, crate::proofs::Parts::first_nothing, crate::proofs::Parts::first_wrong, crate::proofs::Parts::memory_error))]
 #[cycle(read)]
-fn first(alloc: Global, tokens: &[Placed], least: u32, room: u32) -> Result<(Part, &[Placed]), Stop>
-    requires room { 1 ≤ room }
-    requires most { room ≤ most_nesting }
-    ensures operand { IfOk result (λ x. IsPart room x.0) }
+fn first(alloc: Global, tokens: &[Placed], bounds: Bounds) -> Result<(Part, &[Placed]), Stop>
+    requires room { 1 ≤ bounds.room }
+    requires most { bounds.room ≤ most_nesting }
+    ensures operand { IfOk result (λ x. IsPart bounds.room x.0) }
     ensures places { IfOk result (λ x. Reads tokens.now x.0.tree x.1.now) }
-    ensures read { MatchResult result (λ x. Leads least room Need (bare tokens.now)
-        (at (tree_of x.0.tree.node)) (bare x.1.now)) (λ e. Errs least room Need (bare tokens.now)
-        e) }
+    ensures read { MatchResult result (λ x. Leads bounds.least bounds.room Need (bare tokens.now)
+        (at (tree_of x.0.tree.node)) (bare x.1.now))
+        (λ e. Errs bounds.least bounds.room Need (bare tokens.now) e) }
     ensures shorter { IfOk result (λ x. length x.1.now ≤ length tokens.now) }
 {
     let Some((token, after)) = split(tokens) else {
         return Err(Stop::Syntax(tokens.len()));
+    };
+    let next = Next {
+        tokens,
+        token,
+        after,
     };
     let begin = match beginning(alloc, &token.token) {
         Ok(begin) => begin,
         Err(e) => return Err(e),
     };
     match begin {
-        Begin::Leaf(node, level) => leaf(node, level, tokens, token, after, least, room),
-        Begin::Sign(sign) => signed(alloc, sign, tokens, token, after, least, room),
-        Begin::Paren => paren(alloc, tokens, token, after, least, room),
-        Begin::Quant(kind) => quant(alloc, kind, tokens, token, after, least, room),
+        Begin::Leaf(node, level) => leaf(node, level, next, bounds),
+        Begin::Sign(sign) => signed(alloc, sign, next, bounds),
+        Begin::Paren => paren(alloc, next, bounds),
+        Begin::Quant(kind) => quant(alloc, kind, next, bounds),
         Begin::Nothing => Err(Stop::Syntax(tokens.len())),
     }
 }
@@ -68,67 +80,60 @@ fn first(alloc: Global, tokens: &[Placed], least: u32, room: u32) -> Result<(Par
 fn leaf<'a>(
     node: Node,
     level: u32,
-    tokens: &'a [Placed],
-    token: &'a Placed,
-    after: &'a [Placed],
-    least: u32,
-    room: u32,
+    next: Next<'a>,
+    bounds: Bounds,
 ) -> Result<(Part, &'a [Placed]), Stop>
-    requires room { 1 ≤ room }
-    requires tokens { Splits tokens.now token.now after.now }
-    requires begin { begin_by token.now.token ≡ plain.ALeaf }
-    requires tree { tree_of node ≡ plain.Leaf token.now.token }
-    requires level { level ≡ plain.leaf_level token.now.token }
-    ensures operand { IfOk result (λ x. IsPart room x.0) }
-    ensures places { IfOk result (λ x. Reads tokens.now x.0.tree x.1.now) }
-    ensures read { MatchResult result (λ x. Leads least room Need (bare tokens.now)
-        (at (tree_of x.0.tree.node)) (bare x.1.now)) (λ e. Errs least room Need (bare tokens.now)
-        e) }
-    ensures shorter { IfOk result (λ x. length x.1.now ≤ length tokens.now) }
+    requires room { 1 ≤ bounds.room }
+    requires tokens { Splits next.tokens.now next.token.now next.after.now }
+    requires begin { begin_by next.token.now.token ≡ plain.ALeaf }
+    requires tree { tree_of node ≡ plain.Leaf next.token.now.token }
+    requires level { level ≡ plain.leaf_level next.token.now.token }
+    ensures operand { IfOk result (λ x. IsPart bounds.room x.0) }
+    ensures places { IfOk result (λ x. Reads next.entry.tokens.now x.0.tree x.1.now) }
+    ensures read { MatchResult result (λ x. Leads bounds.least bounds.room Need
+        (bare next.entry.tokens.now) (at (tree_of x.0.tree.node)) (bare x.1.now))
+        (λ e. Errs bounds.least bounds.room Need (bare next.entry.tokens.now) e) }
+    ensures shorter { IfOk result (λ x. length x.1.now ≤ length next.entry.tokens.now) }
 {
-    if least > level {
-        return Err(Stop::Syntax(tokens.len()));
+    if bounds.least > level {
+        return Err(Stop::Syntax(next.tokens.len()));
     }
-    let tree = Expr { at: token.at, node };
+    let tree = Expr {
+        at: next.token.at,
+        node,
+    };
     Ok((
         Part {
             tree,
             level,
             nest: 1,
         },
-        after,
+        next.after,
     ))
 }
 
 /// Reads an expression in parentheses.
 #[tactic(auto, using(crate::proofs::Parts::paren_part, crate::proofs::Parts::paren_error, crate::proofs::Parts::paren_wrong, crate::proofs::Parts::paren_deep, crate::proofs::Parts::paren_open, crate::proofs::Placing::paren_reads))]
 #[cycle(read)]
-fn paren<'a>(
-    alloc: Global,
-    tokens: &'a [Placed],
-    token: &'a Placed,
-    after: &'a [Placed],
-    least: u32,
-    room: u32,
-) -> Result<(Part, &'a [Placed]), Stop>
-    requires room { 1 ≤ room }
-    requires most { room ≤ most_nesting }
-    requires tokens { Splits tokens.now token.now after.now }
-    requires begin { begin_by token.now.token ≡ plain.AParen }
-    ensures operand { IfOk result (λ x. IsPart room x.0) }
-    ensures places { IfOk result (λ x. Reads tokens.now x.0.tree x.1.now) }
-    ensures read { MatchResult result (λ x. Leads least room Need (bare tokens.now)
-        (at (tree_of x.0.tree.node)) (bare x.1.now)) (λ e. Errs least room Need (bare tokens.now)
-        e) }
-    ensures shorter { IfOk result (λ x. length x.1.now ≤ length tokens.now) }
+fn paren<'a>(alloc: Global, next: Next<'a>, bounds: Bounds) -> Result<(Part, &'a [Placed]), Stop>
+    requires room { 1 ≤ bounds.room }
+    requires most { bounds.room ≤ most_nesting }
+    requires tokens { Splits next.tokens.now next.token.now next.after.now }
+    requires begin { begin_by next.token.now.token ≡ plain.AParen }
+    ensures operand { IfOk result (λ x. IsPart bounds.room x.0) }
+    ensures places { IfOk result (λ x. Reads next.entry.tokens.now x.0.tree x.1.now) }
+    ensures read { MatchResult result (λ x. Leads bounds.least bounds.room Need
+        (bare next.entry.tokens.now) (at (tree_of x.0.tree.node)) (bare x.1.now))
+        (λ e. Errs bounds.least bounds.room Need (bare next.entry.tokens.now) e) }
+    ensures shorter { IfOk result (λ x. length x.1.now ≤ length next.entry.tokens.now) }
 {
-    if least > 10 {
-        return Err(Stop::Syntax(tokens.len()));
+    if bounds.least > 10 {
+        return Err(Stop::Syntax(next.tokens.len()));
     }
-    if room < 2 {
-        return Err(Stop::TooDeep(tokens.len()));
+    if bounds.room < 2 {
+        return Err(Stop::TooDeep(next.tokens.len()));
     }
-    let (inner, rest) = match operand(alloc, after, 1, room - 1) {
+    let (inner, rest) = match operand(alloc, next.after, 1, bounds.room - 1) {
         Ok(found) => found,
         Err(e) => return Err(e),
     };
@@ -136,7 +141,7 @@ fn paren<'a>(
         return Err(Stop::Syntax(rest.len()));
     };
     let tree = Expr {
-        at: token.at,
+        at: next.token.at,
         node: Node::Paren(Box::new(alloc, inner.tree)?),
     };
     Ok((
@@ -170,35 +175,32 @@ fn under(alloc: Global, sign: Sign, place: u32, inner: Expr) -> Result<Expr, All
 fn signed<'a>(
     alloc: Global,
     sign: Sign,
-    tokens: &'a [Placed],
-    token: &'a Placed,
-    after: &'a [Placed],
-    least: u32,
-    room: u32,
+    next: Next<'a>,
+    bounds: Bounds,
 ) -> Result<(Part, &'a [Placed]), Stop>
-    requires room { 1 ≤ room }
-    requires most { room ≤ most_nesting }
-    requires tokens { Splits tokens.now token.now after.now }
-    requires begin { begin_by token.now.token ≡ plain.ASign (sign_of sign) }
-    ensures operand { IfOk result (λ x. IsPart room x.0) }
-    ensures places { IfOk result (λ x. Reads tokens.now x.0.tree x.1.now) }
-    ensures read { MatchResult result (λ x. Leads least room Need (bare tokens.now)
-        (at (tree_of x.0.tree.node)) (bare x.1.now)) (λ e. Errs least room Need (bare tokens.now)
-        e) }
-    ensures shorter { IfOk result (λ x. length x.1.now ≤ length tokens.now) }
+    requires room { 1 ≤ bounds.room }
+    requires most { bounds.room ≤ most_nesting }
+    requires tokens { Splits next.tokens.now next.token.now next.after.now }
+    requires begin { begin_by next.token.now.token ≡ plain.ASign (sign_of sign) }
+    ensures operand { IfOk result (λ x. IsPart bounds.room x.0) }
+    ensures places { IfOk result (λ x. Reads next.entry.tokens.now x.0.tree x.1.now) }
+    ensures read { MatchResult result (λ x. Leads bounds.least bounds.room Need
+        (bare next.entry.tokens.now) (at (tree_of x.0.tree.node)) (bare x.1.now))
+        (λ e. Errs bounds.least bounds.room Need (bare next.entry.tokens.now) e) }
+    ensures shorter { IfOk result (λ x. length x.1.now ≤ length next.entry.tokens.now) }
 {
     let level = sign_level(sign);
-    if least > level {
-        return Err(Stop::Syntax(tokens.len()));
+    if bounds.least > level {
+        return Err(Stop::Syntax(next.tokens.len()));
     }
-    if room < 2 {
-        return Err(Stop::TooDeep(tokens.len()));
+    if bounds.room < 2 {
+        return Err(Stop::TooDeep(next.tokens.len()));
     }
-    let (inner, rest) = match operand(alloc, after, level, room - 1) {
+    let (inner, rest) = match operand(alloc, next.after, level, bounds.room - 1) {
         Ok(found) => found,
         Err(e) => return Err(e),
     };
-    let tree = under(alloc, sign, token.at, inner.tree)?;
+    let tree = under(alloc, sign, next.token.at, inner.tree)?;
     Ok((
         Part {
             tree,
@@ -217,19 +219,18 @@ fn grow<'a>(
     left: Part,
     start: &'a [Placed],
     tokens: &'a [Placed],
-    least: u32,
-    room: u32,
+    bounds: Bounds,
 ) -> Result<(Part, &'a [Placed], bool), Stop>
-    requires room { 1 ≤ room }
-    requires most { room ≤ most_nesting }
-    requires left { IsPart room left }
+    requires room { 1 ≤ bounds.room }
+    requires most { bounds.room ≤ most_nesting }
+    requires left { IsPart bounds.room left }
     requires places { Reads start.now left.tree tokens.now }
-    ensures operand { IfOk result (λ x. IsPart room x.0) }
+    ensures operand { IfOk result (λ x. IsPart bounds.room x.0) }
     ensures places { IfOk result (λ x. Reads start.now x.0.tree x.1.now) }
-    ensures read { MatchResult result (λ x. Leads least room (at (tree_of left.tree.node))
-        (bare tokens.now) (at (tree_of x.0.tree.node)) (bare x.1.now))
-        (λ e. Errs least room (at (tree_of left.tree.node)) (bare tokens.now) e) }
-    ensures stops { IfOk result (λ x. x.2 ≡ false → goes_on least x.0.level (bare x.1.now)
+    ensures read { MatchResult result (λ x. Leads bounds.least bounds.room
+        (at (tree_of left.tree.node)) (bare tokens.now) (at (tree_of x.0.tree.node)) (bare x.1.now))
+        (λ e. Errs bounds.least bounds.room (at (tree_of left.tree.node)) (bare tokens.now) e) }
+    ensures stops { IfOk result (λ x. x.2 ≡ false → goes_on bounds.least x.0.level (bare x.1.now)
         ≡ false) }
     ensures shorter { IfOk result (λ x. x.2 ≡ true → length x.1.now < length tokens.now) }
     ensures no_longer { IfOk result (λ x. length x.1.now ≤ length tokens.now) }
@@ -238,18 +239,23 @@ fn grow<'a>(
         return Ok((left, tokens, false));
     };
     let way = way_on(&token.token);
-    if !goes(way, least, left.level) {
+    if !goes(way, bounds.least, left.level) {
         return Ok((left, tokens, false));
     }
-    if left.nest >= room {
+    if left.nest >= bounds.room {
         return Err(Stop::TooDeep(tokens.len()));
     }
+    let next = Next {
+        tokens,
+        token,
+        after,
+    };
     let (grown, rest) = match way {
-        Going::Dot => match named(alloc, left, start, tokens, token, after, least, room) {
+        Going::Dot => match named(alloc, left, start, next, bounds) {
             Ok(found) => found,
             Err(e) => return Err(e),
         },
-        Going::Pair(op) => match pair(alloc, left, start, tokens, token, op, after, least, room) {
+        Going::Pair(op) => match pair(alloc, left, start, next, op, bounds) {
             Ok(found) => found,
             Err(e) => return Err(e),
         },
@@ -264,28 +270,27 @@ fn named<'a>(
     alloc: Global,
     left: Part,
     start: &'a [Placed],
-    tokens: &'a [Placed],
-    token: &'a Placed,
-    after: &'a [Placed],
-    least: u32,
-    room: u32,
+    next: Next<'a>,
+    bounds: Bounds,
 ) -> Result<(Part, &'a [Placed]), Stop>
-    requires most { room ≤ most_nesting }
-    requires left { IsPart room left }
-    requires places { Reads start.now left.tree tokens.now }
-    requires tokens { Splits tokens.now token.now after.now }
-    requires goes { goes least left.level token.now.token ≡ true }
-    requires dot { going token.now.token ≡ ADot }
-    requires nest { left.nest < room }
-    ensures operand { IfOk result (λ x. IsPart room x.0) }
+    requires most { bounds.room ≤ most_nesting }
+    requires left { IsPart bounds.room left }
+    requires places { Reads start.now left.tree next.tokens.now }
+    requires tokens { Splits next.tokens.now next.token.now next.after.now }
+    requires goes { goes bounds.least left.level next.token.now.token ≡ true }
+    requires dot { going next.token.now.token ≡ ADot }
+    requires nest { left.nest < bounds.room }
+    ensures operand { IfOk result (λ x. IsPart bounds.room x.0) }
     ensures places { IfOk result (λ x. Reads start.now x.0.tree x.1.now) }
-    ensures read { MatchResult result (λ x. Leads least room (at (tree_of left.tree.node))
-        (bare tokens.now) (at (tree_of x.0.tree.node)) (bare x.1.now))
-        (λ e. Errs least room (at (tree_of left.tree.node)) (bare tokens.now) e) }
-    ensures shorter { IfOk result (λ x. length x.1.now < length tokens.now) }
+    ensures read { MatchResult result (λ x. Leads bounds.least bounds.room
+        (at (tree_of left.tree.node)) (bare next.entry.tokens.now) (at (tree_of x.0.tree.node))
+        (bare x.1.now))
+        (λ e. Errs bounds.least bounds.room (at (tree_of left.tree.node))
+        (bare next.entry.tokens.now) e) }
+    ensures shorter { IfOk result (λ x. length x.1.now < length next.entry.tokens.now) }
 {
-    let Some((name, at, rest)) = word_at(after) else {
-        return Err(Stop::Syntax(after.len()));
+    let Some((name, at, rest)) = word_at(next.after) else {
+        return Err(Stop::Syntax(next.after.len()));
     };
     let name = Name::of(alloc, name.as_bytes())?;
     let tree = Expr {
@@ -309,29 +314,28 @@ fn pair<'a>(
     alloc: Global,
     left: Part,
     start: &'a [Placed],
-    tokens: &'a [Placed],
-    token: &'a Placed,
+    next: Next<'a>,
     op: Op,
-    after: &'a [Placed],
-    least: u32,
-    room: u32,
+    bounds: Bounds,
 ) -> Result<(Part, &'a [Placed]), Stop>
-    requires most { room ≤ most_nesting }
-    requires left { IsPart room left }
-    requires places { Reads start.now left.tree tokens.now }
-    requires tokens { Splits tokens.now token.now after.now }
-    requires goes { goes least left.level token.now.token ≡ true }
-    requires op { going token.now.token ≡ AnOp op }
-    requires nest { left.nest < room }
-    ensures operand { IfOk result (λ x. IsPart room x.0) }
+    requires most { bounds.room ≤ most_nesting }
+    requires left { IsPart bounds.room left }
+    requires places { Reads start.now left.tree next.tokens.now }
+    requires tokens { Splits next.tokens.now next.token.now next.after.now }
+    requires goes { goes bounds.least left.level next.token.now.token ≡ true }
+    requires op { going next.token.now.token ≡ AnOp op }
+    requires nest { left.nest < bounds.room }
+    ensures operand { IfOk result (λ x. IsPart bounds.room x.0) }
     ensures places { IfOk result (λ x. Reads start.now x.0.tree x.1.now) }
-    ensures read { MatchResult result (λ x. Leads least room (at (tree_of left.tree.node))
-        (bare tokens.now) (at (tree_of x.0.tree.node)) (bare x.1.now))
-        (λ e. Errs least room (at (tree_of left.tree.node)) (bare tokens.now) e) }
-    ensures shorter { IfOk result (λ x. length x.1.now < length tokens.now) }
+    ensures read { MatchResult result (λ x. Leads bounds.least bounds.room
+        (at (tree_of left.tree.node)) (bare next.entry.tokens.now) (at (tree_of x.0.tree.node))
+        (bare x.1.now))
+        (λ e. Errs bounds.least bounds.room (at (tree_of left.tree.node))
+        (bare next.entry.tokens.now) e) }
+    ensures shorter { IfOk result (λ x. length x.1.now < length next.entry.tokens.now) }
 {
-    let place = token.at;
-    let (right, rest) = match operand(alloc, after, right_level(op), room - 1) {
+    let place = next.token.at;
+    let (right, rest) = match operand(alloc, next.after, right_level(op), bounds.room - 1) {
         Ok(found) => found,
         Err(e) => return Err(e),
     };
@@ -370,12 +374,13 @@ pub fn operand(
     ensures stops { IfOk result (λ x. goes_on least x.0.level (bare x.1.now) ≡ false) }
     ensures shorter { IfOk result (λ x. length x.1.now ≤ length tokens.now) }
 {
-    let (mut left, mut rest) = match first(alloc, tokens, least, room) {
+    let bounds = Bounds { least, room };
+    let (mut left, mut rest) = match first(alloc, tokens, bounds) {
         Ok(found) => found,
         Err(e) => return Err(e),
     };
     'rows: loop {
-        let (next, behind, more) = match grow(alloc, left, tokens, rest, least, room) {
+        let (next, behind, more) = match grow(alloc, left, tokens, rest, bounds) {
             Ok(found) => found,
             Err(e) => return Err(e),
         };

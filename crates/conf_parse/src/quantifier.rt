@@ -14,8 +14,8 @@ ghost use Rattle.conf_parse.specs.Cursor.{Splits};
 ghost use Rattle.conf_parse.specs.Reads.{Reads, HeadReads, OpeningReads, QuantReads, ItemReads};
 ghost use Rattle.conf_parse.specs.Parts.{IsPart, Errs, IsItem, ItemErrs, opening_tree};
 
-use crate::cursor::{after_key, after_mark, word_at};
-use crate::operand::{Part, operand};
+use crate::cursor::{Next, after_key, after_mark, word_at};
+use crate::operand::{Bounds, Part, operand};
 use crate::stop::Stop;
 use crate::table::{PATH, may_end, may_filter, may_more, semicolons};
 use conf_syntax::{Expr, Ident, Key, Mark, Name, Node, Placed, Quant, QuantKind};
@@ -37,38 +37,36 @@ struct Opening {
 fn head<'a>(
     alloc: Global,
     kind: QuantKind,
-    tokens: &'a [Placed],
-    token: &'a Placed,
-    after: &'a [Placed],
-    least: u32,
-    room: u32,
+    next: Next<'a>,
+    bounds: Bounds,
 ) -> Result<(Ident, Part, &'a [Placed]), Stop>
-    requires room { 1 ≤ room }
-    requires most { room ≤ most_nesting }
-    requires tokens { Splits tokens.now token.now after.now }
-    requires begin { begin_by token.now.token ≡ plain.AQuant kind }
-    ensures fits { IfOk result (λ x. (least ≤ 10) × (2 ≤ room)) }
-    ensures operand { IfOk result (λ x. IsPart (room - 1) x.1) }
-    ensures places { IfOk result (λ x. HeadReads tokens.now x.0 x.1.tree x.2.now) }
-    ensures read { MatchResult result (λ x. Leads least room Need (bare tokens.now)
-        (have_in (InOver kind x.0.name) (tree_of x.1.tree.node)) (bare x.2.now))
-        (λ e. Errs least room Need (bare tokens.now) e) }
+    requires room { 1 ≤ bounds.room }
+    requires most { bounds.room ≤ most_nesting }
+    requires tokens { Splits next.tokens.now next.token.now next.after.now }
+    requires begin { begin_by next.token.now.token ≡ plain.AQuant kind }
+    ensures fits { IfOk result (λ x. (bounds.least ≤ 10) × (2 ≤ bounds.room)) }
+    ensures operand { IfOk result (λ x. IsPart (bounds.room - 1) x.1) }
+    ensures places { IfOk result (λ x. HeadReads next.entry.tokens.now x.0 x.1.tree x.2.now) }
+    ensures read { MatchResult result (λ x. Leads bounds.least bounds.room Need
+        (bare next.entry.tokens.now) (have_in (InOver kind x.0.name) (tree_of x.1.tree.node))
+        (bare x.2.now))
+        (λ e. Errs bounds.least bounds.room Need (bare next.entry.tokens.now) e) }
     ensures stops { IfOk result (λ x. goes_on 11 x.1.level (bare x.2.now) ≡ false) }
-    ensures shorter { IfOk result (λ x. length x.2.now ≤ length tokens.now) }
+    ensures shorter { IfOk result (λ x. length x.2.now ≤ length next.entry.tokens.now) }
 {
-    if least > 10 {
-        return Err(Stop::Syntax(tokens.len()));
+    if bounds.least > 10 {
+        return Err(Stop::Syntax(next.tokens.len()));
     }
-    if room < 2 {
-        return Err(Stop::TooDeep(tokens.len()));
+    if bounds.room < 2 {
+        return Err(Stop::TooDeep(next.tokens.len()));
     }
-    let Some((name, at, behind)) = word_at(after) else {
-        return Err(Stop::Syntax(after.len()));
+    let Some((name, at, behind)) = word_at(next.after) else {
+        return Err(Stop::Syntax(next.after.len()));
     };
     let Some(path) = after_key(behind, Key::In) else {
         return Err(Stop::Syntax(behind.len()));
     };
-    let (over, rest) = match operand(alloc, path, PATH, room - 1) {
+    let (over, rest) = match operand(alloc, path, PATH, bounds.room - 1) {
         Ok(found) => found,
         Err(e) => return Err(e),
     };
@@ -82,26 +80,24 @@ fn head<'a>(
 fn before_body<'a>(
     alloc: Global,
     kind: QuantKind,
-    tokens: &'a [Placed],
-    token: &'a Placed,
-    after: &'a [Placed],
-    least: u32,
-    room: u32,
+    next: Next<'a>,
+    bounds: Bounds,
 ) -> Result<(Opening, &'a [Placed]), Stop>
-    requires room { 1 ≤ room }
-    requires most { room ≤ most_nesting }
-    requires tokens { Splits tokens.now token.now after.now }
-    requires begin { begin_by token.now.token ≡ plain.AQuant kind }
-    ensures fits { IfOk result (λ x. (least ≤ 10) × (2 ≤ room)) }
+    requires room { 1 ≤ bounds.room }
+    requires most { bounds.room ≤ most_nesting }
+    requires tokens { Splits next.tokens.now next.token.now next.after.now }
+    requires begin { begin_by next.token.now.token ≡ plain.AQuant kind }
+    ensures fits { IfOk result (λ x. (bounds.least ≤ 10) × (2 ≤ bounds.room)) }
     ensures kind { IfOk result (λ x. x.0.kind ≡ kind) }
-    ensures nest { IfOk result (λ x. (x.0.nest ≡ nest (opening_tree x.0)) × (x.0.nest < room)) }
-    ensures places { IfOk result (λ x. OpeningReads tokens.now x.0 x.1.now) }
-    ensures read { MatchResult result (λ x. Leads least room Need (bare tokens.now)
-        (need_in (body (opening_tree x.0))) (bare x.1.now))
-        (λ e. Errs least room Need (bare tokens.now) e) }
-    ensures shorter { IfOk result (λ x. length x.1.now ≤ length tokens.now) }
+    ensures nest { IfOk result (λ x. (x.0.nest ≡ nest (opening_tree x.0))
+        × (x.0.nest < bounds.room)) }
+    ensures places { IfOk result (λ x. OpeningReads next.entry.tokens.now x.0 x.1.now) }
+    ensures read { MatchResult result (λ x. Leads bounds.least bounds.room Need
+        (bare next.entry.tokens.now) (need_in (body (opening_tree x.0))) (bare x.1.now))
+        (λ e. Errs bounds.least bounds.room Need (bare next.entry.tokens.now) e) }
+    ensures shorter { IfOk result (λ x. length x.1.now ≤ length next.entry.tokens.now) }
 {
-    let (var, over, rest) = match head(alloc, kind, tokens, token, after, least, room) {
+    let (var, over, rest) = match head(alloc, kind, next, bounds) {
         Ok(found) => found,
         Err(e) => return Err(e),
     };
@@ -109,7 +105,7 @@ fn before_body<'a>(
         if !may_filter(kind) {
             return Err(Stop::Syntax(rest.len()));
         }
-        let (filter, behind) = match operand(alloc, inner, 1, room - 1) {
+        let (filter, behind) = match operand(alloc, inner, 1, bounds.room - 1) {
             Ok(found) => found,
             Err(e) => return Err(e),
         };
@@ -189,31 +185,28 @@ fn made(alloc: Global, place: u32, start: Opening, body: Vec<Expr>) -> Result<Ex
 pub(crate) fn quant<'a>(
     alloc: Global,
     kind: QuantKind,
-    tokens: &'a [Placed],
-    token: &'a Placed,
-    after: &'a [Placed],
-    least: u32,
-    room: u32,
+    next: Next<'a>,
+    bounds: Bounds,
 ) -> Result<(Part, &'a [Placed]), Stop>
-    requires room { 1 ≤ room }
-    requires most { room ≤ most_nesting }
-    requires tokens { Splits tokens.now token.now after.now }
-    requires begin { begin_by token.now.token ≡ plain.AQuant kind }
-    ensures operand { IfOk result (λ x. IsPart room x.0) }
-    ensures places { IfOk result (λ x. Reads tokens.now x.0.tree x.1.now) }
-    ensures read { MatchResult result (λ x. Leads least room Need (bare tokens.now)
-        (at (tree_of x.0.tree.node)) (bare x.1.now)) (λ e. Errs least room Need (bare tokens.now)
-        e) }
-    ensures shorter { IfOk result (λ x. length x.1.now ≤ length tokens.now) }
+    requires room { 1 ≤ bounds.room }
+    requires most { bounds.room ≤ most_nesting }
+    requires tokens { Splits next.tokens.now next.token.now next.after.now }
+    requires begin { begin_by next.token.now.token ≡ plain.AQuant kind }
+    ensures operand { IfOk result (λ x. IsPart bounds.room x.0) }
+    ensures places { IfOk result (λ x. Reads next.entry.tokens.now x.0.tree x.1.now) }
+    ensures read { MatchResult result (λ x. Leads bounds.least bounds.room Need
+        (bare next.entry.tokens.now) (at (tree_of x.0.tree.node)) (bare x.1.now))
+        (λ e. Errs bounds.least bounds.room Need (bare next.entry.tokens.now) e) }
+    ensures shorter { IfOk result (λ x. length x.1.now ≤ length next.entry.tokens.now) }
 {
-    let (start, inside) = match before_body(alloc, kind, tokens, token, after, least, room) {
+    let (start, inside) = match before_body(alloc, kind, next, bounds) {
         Ok(found) => found,
         Err(e) => return Err(e),
     };
     if semicolons(kind) {
-        many(alloc, start, token.at, tokens, inside, least, room)
+        many(alloc, start, next, inside, bounds)
     } else {
-        single(alloc, start, token.at, tokens, inside, least, room)
+        single(alloc, start, next, inside, bounds)
     }
 }
 
@@ -223,31 +216,29 @@ pub(crate) fn quant<'a>(
 fn single<'a>(
     alloc: Global,
     start: Opening,
-    place: u32,
-    tokens: &'a [Placed],
+    next: Next<'a>,
     inside: &'a [Placed],
-    least: u32,
-    room: u32,
+    bounds: Bounds,
 ) -> Result<(Part, &'a [Placed]), Stop>
     requires kind { plain.semicolons start.kind ≡ false }
-    requires fits { least ≤ 10 }
-    requires room { 2 ≤ room }
-    requires most { room ≤ most_nesting }
+    requires fits { bounds.least ≤ 10 }
+    requires room { 2 ≤ bounds.room }
+    requires most { bounds.room ≤ most_nesting }
     requires nest { start.nest ≡ nest (opening_tree start) }
-    requires nested { start.nest < room }
-    requires read { Leads least room Need (bare tokens.now) (need_in (body (opening_tree start)))
-        (bare inside.now) }
-    requires places { OpeningReads tokens.now start inside.now }
-    requires place { place ≡ first_at tokens.now }
-    requires shorter { length inside.now ≤ length tokens.now }
-    ensures operand { IfOk result (λ x. IsPart room x.0) }
-    ensures places { IfOk result (λ x. Reads tokens.now x.0.tree x.1.now) }
-    ensures read { MatchResult result (λ x. Leads least room Need (bare tokens.now)
-        (at (tree_of x.0.tree.node)) (bare x.1.now)) (λ e. Errs least room Need (bare tokens.now)
-        e) }
-    ensures shorter { IfOk result (λ x. length x.1.now ≤ length tokens.now) }
+    requires nested { start.nest < bounds.room }
+    requires read { Leads bounds.least bounds.room Need (bare next.tokens.now)
+        (need_in (body (opening_tree start))) (bare inside.now) }
+    requires places { OpeningReads next.tokens.now start inside.now }
+    requires place { next.token.now.at ≡ first_at next.tokens.now }
+    requires shorter { length inside.now ≤ length next.tokens.now }
+    ensures operand { IfOk result (λ x. IsPart bounds.room x.0) }
+    ensures places { IfOk result (λ x. Reads next.entry.tokens.now x.0.tree x.1.now) }
+    ensures read { MatchResult result (λ x. Leads bounds.least bounds.room Need
+        (bare next.entry.tokens.now) (at (tree_of x.0.tree.node)) (bare x.1.now))
+        (λ e. Errs bounds.least bounds.room Need (bare next.entry.tokens.now) e) }
+    ensures shorter { IfOk result (λ x. length x.1.now ≤ length next.entry.tokens.now) }
 {
-    let (only, rest) = match operand(alloc, inside, 1, room - 1) {
+    let (only, rest) = match operand(alloc, inside, 1, bounds.room - 1) {
         Ok(found) => found,
         Err(e) => return Err(e),
     };
@@ -257,7 +248,7 @@ fn single<'a>(
     let nest = start.nest.max(only.nest) + 1;
     let mut body = Vec::new(alloc);
     body.push(only.tree)?;
-    let tree = made(alloc, place, start, body)?;
+    let tree = made(alloc, next.token.at, start, body)?;
     Ok((
         Part {
             tree,
@@ -274,32 +265,30 @@ fn single<'a>(
 fn many<'a>(
     alloc: Global,
     start: Opening,
-    place: u32,
-    tokens: &'a [Placed],
+    next: Next<'a>,
     inside: &'a [Placed],
-    least: u32,
-    room: u32,
+    bounds: Bounds,
 ) -> Result<(Part, &'a [Placed]), Stop>
     requires kind { plain.semicolons start.kind ≡ true }
-    requires fits { least ≤ 10 }
-    requires room { 2 ≤ room }
-    requires most { room ≤ most_nesting }
+    requires fits { bounds.least ≤ 10 }
+    requires room { 2 ≤ bounds.room }
+    requires most { bounds.room ≤ most_nesting }
     requires nest { start.nest ≡ nest (opening_tree start) }
-    requires nested { start.nest < room }
-    requires read { Leads least room Need (bare tokens.now) (need_in (body (opening_tree start)))
-        (bare inside.now) }
-    requires places { OpeningReads tokens.now start inside.now }
-    requires place { place ≡ first_at tokens.now }
-    requires shorter { length inside.now ≤ length tokens.now }
-    ensures operand { IfOk result (λ x. IsPart room x.0) }
-    ensures places { IfOk result (λ x. Reads tokens.now x.0.tree x.1.now) }
-    ensures read { MatchResult result (λ x. Leads least room Need (bare tokens.now)
-        (at (tree_of x.0.tree.node)) (bare x.1.now)) (λ e. Errs least room Need (bare tokens.now)
-        e) }
-    ensures shorter { IfOk result (λ x. length x.1.now ≤ length tokens.now) }
+    requires nested { start.nest < bounds.room }
+    requires read { Leads bounds.least bounds.room Need (bare next.tokens.now)
+        (need_in (body (opening_tree start))) (bare inside.now) }
+    requires places { OpeningReads next.tokens.now start inside.now }
+    requires place { next.token.now.at ≡ first_at next.tokens.now }
+    requires shorter { length inside.now ≤ length next.tokens.now }
+    ensures operand { IfOk result (λ x. IsPart bounds.room x.0) }
+    ensures places { IfOk result (λ x. Reads next.entry.tokens.now x.0.tree x.1.now) }
+    ensures read { MatchResult result (λ x. Leads bounds.least bounds.room Need
+        (bare next.entry.tokens.now) (at (tree_of x.0.tree.node)) (bare x.1.now))
+        (λ e. Errs bounds.least bounds.room Need (bare next.entry.tokens.now) e) }
+    ensures shorter { IfOk result (λ x. length x.1.now ≤ length next.entry.tokens.now) }
 {
     let kind = start.kind;
-    let (first, behind) = match item(alloc, inside, room) {
+    let (first, behind) = match item(alloc, inside, bounds.room) {
         Ok(found) => found,
         Err(e) => return Err(e),
     };
@@ -312,7 +301,7 @@ fn many<'a>(
             if !may_end(kind, body.len()) {
                 return Err(Stop::Syntax(rest.len()));
             }
-            let tree = made(alloc, place, start, body)?;
+            let tree = made(alloc, next.token.at, start, body)?;
             return Ok((
                 Part {
                     tree,
@@ -325,12 +314,12 @@ fn many<'a>(
         if !may_more(kind, body.len()) {
             return Err(Stop::Syntax(rest.len()));
         }
-        let (next, behind) = match item(alloc, rest, room) {
+        let (another, behind) = match item(alloc, rest, bounds.room) {
             Ok(found) => found,
             Err(e) => return Err(e),
         };
-        nest = nest.max(next.nest);
-        body.push(next.tree)?;
+        nest = nest.max(another.nest);
+        body.push(another.tree)?;
         rest = behind;
     }
 }

@@ -10,68 +10,68 @@ use Rattle.conf_syntax.specs.declared.tree.QuantKind.{QuantKind}
 use Rattle.conf_parse.proofs.Parts.{sign_wrong, sign_deeper, sign_error, sign_part}
 use Rattle.conf_parse.proofs.+read.Goals as goal
 
-pub quantifier::head-returns-then-least-gt10-clause-read : goal.quantifier::head-returns-then-least-gt10-clause-read
-quantifier::head-returns-then-least-gt10-clause-read t c = head_wrong c.args.least c.args.room c.args.kind c.args.tokens.now c.args.token.now c.args.after.now c.requires.tokens c.requires.begin (omega arith)
+pub quantifier::head-returns-then-bounds-gt10-clause-read : goal.quantifier::head-returns-then-bounds-gt10-clause-read
+quantifier::head-returns-then-bounds-gt10-clause-read t c = head_wrong c.args.bounds.least c.args.bounds.room c.args.kind c.args.next.tokens.now c.args.next.token.now c.args.next.after.now c.requires.tokens c.requires.begin (omega arith)
 
-pub quantifier::head-returns-then-room-lt2-clause-read : goal.quantifier::head-returns-then-room-lt2-clause-read
-quantifier::head-returns-then-room-lt2-clause-read t c = head_deep c.args.least c.args.room c.args.kind c.args.tokens.now c.args.token.now c.args.after.now c.requires.tokens c.requires.begin (omega arith) (omega arith)
+pub quantifier::head-returns-then-bounds-lt2-clause-read : goal.quantifier::head-returns-then-bounds-lt2-clause-read
+quantifier::head-returns-then-bounds-lt2-clause-read t c = head_deep c.args.bounds.least c.args.bounds.room c.args.kind c.args.next.tokens.now c.args.next.token.now c.args.next.after.now c.requires.tokens c.requires.begin (omega arith) (omega arith)
 
 pub quantifier::head-returns-in_default-clause-read : goal.quantifier::head-returns-in_default-clause-read
-quantifier::head-returns-in_default-clause-read t c = head_unnamed c.args.least c.args.room c.args.kind c.args.tokens.now c.args.token.now c.args.after.now c.requires.tokens c.requires.begin c.in_default.ensures (omega arith) (omega arith)
+quantifier::head-returns-in_default-clause-read t c = head_unnamed c.args.bounds.least c.args.bounds.room c.args.kind c.args.next.tokens.now c.args.next.token.now c.args.next.after.now c.requires.tokens c.requires.begin c.in_default.ensures (omega arith) (omega arith)
 
 pub quantifier::head-returns-in_default-after_key-clause-read : goal.quantifier::head-returns-in_default-after_key-clause-read
-quantifier::head-returns-in_default-after_key-clause-read t c = head_bare c.args.least c.args.room c.args.kind c.args.tokens.now c.args.token.now c.args.after.now c.requires.tokens c.requires.begin c.in-Some.name.now c.in-Some.at c.in-Some.behind.now c.in-Some.ensures c.in_default-after_key.ensures (omega arith) (omega arith)
+quantifier::head-returns-in_default-after_key-clause-read t c = head_bare c.args.bounds.least c.args.bounds.room c.args.kind c.args.next.tokens.now c.args.next.token.now c.args.next.after.now c.requires.tokens c.requires.begin c.in-Some.name.now c.in-Some.at c.in-Some.behind.now c.in-Some.ensures c.in_default-after_key.ensures (omega arith) (omega arith)
 
 pub quantifier::head-returns-in-Err-clause-read : goal.quantifier::head-returns-in-Err-clause-read
-quantifier::head-returns-in-Err-clause-read t c = head_error c.args.least c.args.room c.args.kind c.args.tokens.now c.args.token.now c.args.after.now c.requires.tokens c.requires.begin c.in-Some.name.now c.in-Some.at c.in-Some.behind.now c.in-Some-after_key.path.now c.in-Err.e c.in-Some.ensures c.in-Some-after_key.ensures (omega arith) (omega arith) c.in-Err.ensures.read
+quantifier::head-returns-in-Err-clause-read t c = head_error c.args.bounds.least c.args.bounds.room c.args.kind c.args.next.tokens.now c.args.next.token.now c.args.next.after.now c.requires.tokens c.requires.begin c.in-Some.name.now c.in-Some.at c.in-Some.behind.now c.in-Some-after_key.path.now c.in-Err.e c.in-Some.ensures c.in-Some-after_key.ensures (omega arith) (omega arith) c.in-Err.ensures.read
 
 pub quantifier::head-returns-clause-read : goal.quantifier::head-returns-clause-read
 quantifier::head-returns-clause-read u c =
     let e : c.in_ok-name.name ≡ c.in-Some.name.now = search rules in
-    head_part c.args.least c.args.room c.args.kind c.args.tokens.now c.args.token.now c.args.after.now c.requires.tokens c.requires.begin c.in_ok-name.name c.in-Some.at c.in-Some.behind.now c.in-Some-after_key.path.now (tree_of c.in-Ok.found.0.tree.node) c.in-Ok.found.1.now
-    (subst (λ (x : List ℕ). Names c.args.after.now x c.in-Some.at c.in-Some.behind.now) (sym e) c.in-Some.ensures) c.in-Some-after_key.ensures (omega arith) (omega arith) c.in-Ok.ensures.read
+    head_part c.args.bounds.least c.args.bounds.room c.args.kind c.args.next.tokens.now c.args.next.token.now c.args.next.after.now c.requires.tokens c.requires.begin c.in_ok-name.name c.in-Some.at c.in-Some.behind.now c.in-Some-after_key.path.now (tree_of c.in-Ok.found.0.tree.node) c.in-Ok.found.1.now
+    (subst (λ (x : List ℕ). Names c.args.next.after.now x c.in-Some.at c.in-Some.behind.now) (sym e) c.in-Some.ensures) c.in-Some-after_key.ensures (omega arith) (omega arith) c.in-Ok.ensures.read
 
-pub operand::signed-returns-then-least-level-clause-read : goal.operand::signed-returns-then-least-level-clause-read
-operand::signed-returns-then-least-level-clause-read t c = sign_wrong c.args.least c.args.room (sign_of c.args.sign) c.sign_level-level.result c.args.tokens.now c.args.token.now c.args.after.now c.requires.tokens c.requires.begin c.sign_level-level.ensures (omega arith)
+pub operand::signed-returns-then-bounds-level-clause-read : goal.operand::signed-returns-then-bounds-level-clause-read
+operand::signed-returns-then-bounds-level-clause-read t c = sign_wrong c.args.bounds.least c.args.bounds.room (sign_of c.args.sign) c.sign_level-level.result c.args.next.tokens.now c.args.next.token.now c.args.next.after.now c.requires.tokens c.requires.begin c.sign_level-level.ensures (omega arith)
 
-pub operand::signed-returns-then-room-lt2-clause-read : goal.operand::signed-returns-then-room-lt2-clause-read
-operand::signed-returns-then-room-lt2-clause-read t c = sign_deeper c.args.least c.args.room (sign_of c.args.sign) c.sign_level-level.result c.args.tokens.now c.args.token.now c.args.after.now c.requires.tokens c.requires.begin c.sign_level-level.ensures (omega arith) (omega arith)
+pub operand::signed-returns-then-bounds-lt2-clause-read : goal.operand::signed-returns-then-bounds-lt2-clause-read
+operand::signed-returns-then-bounds-lt2-clause-read t c = sign_deeper c.args.bounds.least c.args.bounds.room (sign_of c.args.sign) c.sign_level-level.result c.args.next.tokens.now c.args.next.token.now c.args.next.after.now c.requires.tokens c.requires.begin c.sign_level-level.ensures (omega arith) (omega arith)
 
 pub operand::signed-returns-in-Err-clause-read : goal.operand::signed-returns-in-Err-clause-read
-operand::signed-returns-in-Err-clause-read t c = sign_error c.args.least c.args.room (sign_of c.args.sign) c.sign_level-level.result c.args.tokens.now c.args.token.now c.args.after.now c.in-Err.e c.requires.tokens c.requires.begin c.sign_level-level.ensures (omega arith) (omega arith) c.in-Err.ensures.read
+operand::signed-returns-in-Err-clause-read t c = sign_error c.args.bounds.least c.args.bounds.room (sign_of c.args.sign) c.sign_level-level.result c.args.next.tokens.now c.args.next.token.now c.args.next.after.now c.in-Err.e c.requires.tokens c.requires.begin c.sign_level-level.ensures (omega arith) (omega arith) c.in-Err.ensures.read
 
 pub operand::signed-returns-clause-read : goal.operand::signed-returns-clause-read
-operand::signed-returns-clause-read t c = sign_part c.args.least c.args.room (sign_of c.args.sign) c.sign_level-level.result c.args.tokens.now c.args.token.now c.args.after.now (tree_of c.in_ok-tree.tree.node) (tree_of c.in-Ok.found.0.tree.node) c.in-Ok.found.0.level c.in-Ok.found.1.now c.requires.tokens c.requires.begin c.sign_level-level.ensures (omega arith) (omega arith) c.in-Ok.ensures.read c.in-Ok.ensures.operand.level_is c.in-Ok.ensures.stops c.in_ok-tree.ensures.tree
+operand::signed-returns-clause-read t c = sign_part c.args.bounds.least c.args.bounds.room (sign_of c.args.sign) c.sign_level-level.result c.args.next.tokens.now c.args.next.token.now c.args.next.after.now (tree_of c.in_ok-tree.tree.node) (tree_of c.in-Ok.found.0.tree.node) c.in-Ok.found.0.level c.in-Ok.found.1.now c.requires.tokens c.requires.begin c.sign_level-level.ensures (omega arith) (omega arith) c.in-Ok.ensures.read c.in-Ok.ensures.operand.level_is c.in-Ok.ensures.stops c.in_ok-tree.ensures.tree
 
 pub quantifier::single-returns-in_default-clause-read : goal.quantifier::single-returns-in_default-clause-read
 quantifier::single-returns-in_default-clause-read t c =
     let o = opening_head c.args.start.filter c.args.start.kind c.args.start.var.name (tree_of c.args.start.over.node) in
-    let n : nest (opening_tree c.args.start) < c.args.room = omega (arith, c.requires.nest, c.requires.nested) in
-    single_open c.args.least c.args.room c.args.tokens.now c.args.inside.now (opening_tree c.args.start) c.requires.read n o.0 (tree_of c.in-Ok.found.0.tree.node) c.in-Ok.found.0.level c.in-Ok.found.1.now (ap semicolons o.1 ∙ c.requires.kind) c.in-Ok.ensures.read c.in-Ok.ensures.operand.level_is c.in-Ok.ensures.stops c.in_default.ensures
+    let n : nest (opening_tree c.args.start) < c.args.bounds.room = omega (arith, c.requires.nest, c.requires.nested) in
+    single_open c.args.bounds.least c.args.bounds.room c.args.next.tokens.now c.args.inside.now (opening_tree c.args.start) c.requires.read n o.0 (tree_of c.in-Ok.found.0.tree.node) c.in-Ok.found.0.level c.in-Ok.found.1.now (ap semicolons o.1 ∙ c.requires.kind) c.in-Ok.ensures.read c.in-Ok.ensures.operand.level_is c.in-Ok.ensures.stops c.in_default.ensures
 
 pub quantifier::single-returns-clause-read : goal.quantifier::single-returns-clause-read
 quantifier::single-returns-clause-read t c =
     let o = opening_head c.args.start.filter c.args.start.kind c.args.start.var.name (tree_of c.args.start.over.node) in
-    let n : nest (opening_tree c.args.start) < c.args.room = omega (arith, c.requires.nest, c.requires.nested) in
-    let m : nest (tree_of c.in-Ok.found.0.tree.node) < c.args.room = let p = c.in-Ok.ensures.operand in omega (arith, p.nest_is, p.nested) in
-    single_part c.args.least c.args.room c.args.tokens.now c.args.inside.now (opening_tree c.args.start) c.requires.read n o.0 (opening_tree c.args.start) (tree_of c.in_ok-tree.tree.node) c.new-body.result.items c.push.new.self.items c.in-Ok.found.0.tree c.in-Ok.found.1.now c.in-Some.behind.now (ap semicolons o.1 ∙ c.requires.kind) c.in-Ok.ensures.read m c.in-Some.ensures c.new-body.ensures.items c.in_ok-push.ensures.items
+    let n : nest (opening_tree c.args.start) < c.args.bounds.room = omega (arith, c.requires.nest, c.requires.nested) in
+    let m : nest (tree_of c.in-Ok.found.0.tree.node) < c.args.bounds.room = let p = c.in-Ok.ensures.operand in omega (arith, p.nest_is, p.nested) in
+    single_part c.args.bounds.least c.args.bounds.room c.args.next.tokens.now c.args.inside.now (opening_tree c.args.start) c.requires.read n o.0 (opening_tree c.args.start) (tree_of c.in_ok-tree.tree.node) c.new-body.result.items c.push.new.self.items c.in-Ok.found.0.tree c.in-Ok.found.1.now c.in-Some.behind.now (ap semicolons o.1 ∙ c.requires.kind) c.in-Ok.ensures.read m c.in-Some.ensures c.new-body.ensures.items c.in_ok-push.ensures.items
     (c.in_ok-tree.ensures.tree ∙ ap (λ (b : Bool). closed b (chain (opening_tree c.args.start) c.push.new.self.items)) c.requires.kind)
 
 pub quantifier::before_body-returns-in-Some-clause-places : goal.quantifier::before_body-returns-in-Some-clause-places
-quantifier::before_body-returns-in-Some-clause-places t c = filter_opens c.args.tokens.now c.in-Ok.found.0 c.in-Ok.found.1.tree c.in-Ok.found.2.now c.in-Ok.ensures.places c.args.kind c.in-Ok-operand.found.0.tree c.max-nest.result c.in-Some.inner.now c.in-Ok-operand.found.1.now c.in-Some-after_mark.inside.now c.in-Some.ensures c.in-Ok-operand.ensures.places c.in-Some-after_mark.ensures
+quantifier::before_body-returns-in-Some-clause-places t c = filter_opens c.args.next.tokens.now c.in-Ok.found.0 c.in-Ok.found.1.tree c.in-Ok.found.2.now c.in-Ok.ensures.places c.args.kind c.in-Ok-operand.found.0.tree c.max-nest.result c.in-Some.inner.now c.in-Ok-operand.found.1.now c.in-Some-after_mark.inside.now c.in-Some.ensures c.in-Ok-operand.ensures.places c.in-Some-after_mark.ensures
 
 pub operand::pair-returns-clause-places : goal.operand::pair-returns-clause-places
-operand::pair-returns-clause-places t c = pair_reads c.args.start.now c.args.tokens.now c.args.token.now c.args.after.now c.in-Ok.found.1.now c.args.op c.args.left.tree c.in-Ok.found.0.tree c.in_ok-left.left c.in_ok-right.right c.requires.tokens c.requires.places c.in-Ok.ensures.places c.in_ok-left.ensures.ok c.in_ok-right.ensures.ok
+operand::pair-returns-clause-places t c = pair_reads c.args.start.now c.args.next.tokens.now c.args.next.token.now c.args.next.after.now c.in-Ok.found.1.now c.args.op c.args.left.tree c.in-Ok.found.0.tree c.in_ok-left.left c.in_ok-right.right c.requires.tokens c.requires.places c.in-Ok.ensures.places c.in_ok-left.ensures.ok c.in_ok-right.ensures.ok
 
 pub operand::paren-returns-clause-places : goal.operand::paren-returns-clause-places
-operand::paren-returns-clause-places t c = paren_reads c.args.tokens.now c.args.token.now c.args.after.now c.in-Ok.found.1.now c.in-Some.behind.now c.in-Ok.found.0.tree c.in_ok-new.field-0 c.requires.tokens c.in-Ok.ensures.places c.in-Some.ensures c.in_ok-new.ensures.ok
+operand::paren-returns-clause-places t c = paren_reads c.args.next.tokens.now c.args.next.token.now c.args.next.after.now c.in-Ok.found.1.now c.in-Some.behind.now c.in-Ok.found.0.tree c.in_ok-new.field-0 c.requires.tokens c.in-Ok.ensures.places c.in-Some.ensures c.in_ok-new.ensures.ok
 
 pub operand::signed-returns-clause-places : goal.operand::signed-returns-clause-places
-operand::signed-returns-clause-places t c = sign_reads c.args.tokens.now c.args.token.now c.args.after.now c.in-Ok.found.1.now c.in-Ok.found.0.tree c.in_ok-tree.tree c.requires.tokens c.in-Ok.ensures.places c.in_ok-tree.ensures.places
+operand::signed-returns-clause-places t c = sign_reads c.args.next.tokens.now c.args.next.token.now c.args.next.after.now c.in-Ok.found.1.now c.in-Ok.found.0.tree c.in_ok-tree.tree c.requires.tokens c.in-Ok.ensures.places c.in_ok-tree.ensures.places
 
 pub quantifier::single-returns-clause-places : goal.quantifier::single-returns-clause-places
 quantifier::single-returns-clause-places t c =
-    quant_reads c.args.tokens.now c.args.inside.now c.in-Ok.found.1.now c.in-Some.behind.now c.args.place c.args.start c.push.new.self.items c.in_ok-tree.tree c.requires.place c.requires.places
+    quant_reads c.args.next.tokens.now c.args.inside.now c.in-Ok.found.1.now c.in-Some.behind.now c.args.next.token.now.at c.args.start c.push.new.self.items c.in_ok-tree.tree c.requires.place c.requires.places
     (one_body c.args.inside.now c.args.start.kind c.new-body.result.items c.push.new.self.items c.in-Ok.found.0.tree c.in-Ok.found.1.now c.in-Ok.ensures.places c.requires.kind c.new-body.ensures.items c.in_ok-push.ensures.items) c.in-Some.ensures c.in_ok-tree.ensures.places
 
 pub quantifier::many-body-preserved : goal.quantifier::many-body-preserved
@@ -84,10 +84,10 @@ quantifier::many-body-preserved t c =
     let f = c.in_ok-push-2.ensures.items in
     let e : chain (opening_tree c.args.start) c.push-in-body.new.self.items ≡ Then (chain (opening_tree c.args.start) c.body.body.items) (tree_of c.in-Ok-item.found.0.tree.node) = chain_then h xs ys x i.whole f in
     let m : may_more c.args.start.kind (length c.body.body.items) ≡ true = search rules in
-    let n : nest (chain (opening_tree c.args.start) c.body.body.items) < c.args.room = omega (arith, i.nest_is, i.nested) in
+    let n : nest (chain (opening_tree c.args.start) c.body.body.items) < c.args.bounds.room = omega (arith, i.nest_is, i.nested) in
     let o = c.in-Ok-item.ensures.operand in
     record {
-      leads = next_item c.args.least c.args.room c.args.tokens.now c.body.rest.now h xs i.leads c.in-Ok-item.found.1.now ys x c.in_default.ensures (ap (λ (k : QuantKind). may_more k (bodies (chain h xs))) i.kind ∙ ap (λ (j : ℕ). may_more c.args.start.kind j) i.count ∙ m) c.in-Ok-item.ensures.read n i.whole f;
+      leads = next_item c.args.bounds.least c.args.bounds.room c.args.next.tokens.now c.body.rest.now h xs i.leads c.in-Ok-item.found.1.now ys x c.in_default.ensures (ap (λ (k : QuantKind). may_more k (bodies (chain h xs))) i.kind ∙ ap (λ (j : ℕ). may_more c.args.start.kind j) i.count ∙ m) c.in-Ok-item.ensures.read n i.whole f;
       whole = ap part e;
       kind = ap quant e ∙ i.kind;
       count = omega (arith, ap bodies e, i.count, ap length f, length-append xs (x ∷ []));

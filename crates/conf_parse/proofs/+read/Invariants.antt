@@ -10,40 +10,40 @@ use Rattle.conf_parse.proofs.Placing.{BodiesRead}
 use Rattle.conf_parse.proofs.+read.Given as goal
 
 abbrev pub decreases-operand::first : goal.decreases-operand::first
-decreases-operand::first l = 6 * l.room + 4
+decreases-operand::first l = 6 * l.bounds.room + 4
 
 abbrev pub decreases-operand::grow : goal.decreases-operand::grow
-decreases-operand::grow l = 6 * l.room + 2
+decreases-operand::grow l = 6 * l.bounds.room + 2
 
 abbrev pub decreases-operand::operand : goal.decreases-operand::operand
 decreases-operand::operand l = 6 * l.room + 5
 
 abbrev pub decreases-operand::paren : goal.decreases-operand::paren
-decreases-operand::paren l = 6 * l.room + 1
+decreases-operand::paren l = 6 * l.bounds.room + 1
 
 abbrev pub decreases-operand::signed : goal.decreases-operand::signed
-decreases-operand::signed l = 6 * l.room + 1
+decreases-operand::signed l = 6 * l.bounds.room + 1
 
 abbrev pub decreases-operand::pair : goal.decreases-operand::pair
-decreases-operand::pair l = 6 * l.room + 1
+decreases-operand::pair l = 6 * l.bounds.room + 1
 
 abbrev pub decreases-quantifier::head : goal.decreases-quantifier::head
-decreases-quantifier::head l = 6 * l.room + 1
+decreases-quantifier::head l = 6 * l.bounds.room + 1
 
 abbrev pub decreases-quantifier::before_body : goal.decreases-quantifier::before_body
-decreases-quantifier::before_body l = 6 * l.room + 2
+decreases-quantifier::before_body l = 6 * l.bounds.room + 2
 
 abbrev pub decreases-quantifier::item : goal.decreases-quantifier::item
 decreases-quantifier::item l = 6 * l.room + 1
 
 abbrev pub decreases-quantifier::single : goal.decreases-quantifier::single
-decreases-quantifier::single l = 6 * l.room + 1
+decreases-quantifier::single l = 6 * l.bounds.room + 1
 
 abbrev pub decreases-quantifier::many : goal.decreases-quantifier::many
-decreases-quantifier::many l = 6 * l.room + 2
+decreases-quantifier::many l = 6 * l.bounds.room + 2
 
 abbrev pub decreases-quantifier::quant : goal.decreases-quantifier::quant
-decreases-quantifier::quant l = 6 * l.room + 3
+decreases-quantifier::quant l = 6 * l.bounds.room + 3
 
 -- what was read so far leads to the rest
 abbrev pub invariant-operand::operand-rows : goal.invariant-operand::operand-rows
@@ -62,15 +62,15 @@ decreases-operand::operand-rows l = length l.rest
 abbrev pub invariant-quantifier::many-body : goal.invariant-quantifier::many-body
 invariant-quantifier::many-body l =
     record {
-      leads : Leads l.least l.room Need (bare l.tokens) (next_at (chain (opening_tree l.start) l.body.items)) (bare l.rest);
+      leads : Leads l.bounds.least l.bounds.room Need (bare l.next.tokens.now) (next_at (chain (opening_tree l.start) l.body.items)) (bare l.rest);
       whole : part (chain (opening_tree l.start) l.body.items) ≡ 3;
       kind : quant (chain (opening_tree l.start) l.body.items) ≡ l.kind;
       count : bodies (chain (opening_tree l.start) l.body.items) ≡ length l.body.items;
       nest_is : l.nest ≡ nest (chain (opening_tree l.start) l.body.items);
-      nested : l.nest < l.room;
-      least : l.least ≤ 10;
+      nested : l.nest < l.bounds.room;
+      least : l.bounds.least ≤ 10;
       places : BodiesRead l.inside l.start.kind l.body.items l.rest;
-      shorter : length l.rest ≤ length l.tokens;
+      shorter : length l.rest ≤ length l.next.tokens.now;
     }
 
 abbrev pub decreases-quantifier::many-body : goal.decreases-quantifier::many-body
