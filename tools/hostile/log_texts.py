@@ -41,8 +41,24 @@ def growing(size):
 ROW = ("class A { var x as 0..1; var y as 0..1; } var a as A[10000]; "
        "where sum b in A { b.x + b.y } <= 0;")
 
+GOALS = 2_000
+MANY = "".join(f"var v{n} as 0..1000000000;maximize v{n};" for n in range(GOALS))
+
+
+def better(size):
+    """Solutions of MANY, each better than the last, with their bounds."""
+    held = 0
+    for value in range(size):
+        values = f" {value}" + " 0" * (GOALS - 1)
+        lines = f"found{values}\nbound{values}\n".encode()
+        held += len(lines)
+        if held > size:
+            return
+        yield lines
+
+
 BESIDE = {"least.conf": LEAST, "wide.conf": WIDE, "growing.conf": growing_model,
-          "row.conf": ROW}
+          "row.conf": ROW, "many.conf": MANY}
 
 
 def log(name, pieces, model="least.conf", size=LOG):
@@ -71,6 +87,7 @@ LOGS = [
     log("clauses: `bound 2`", filled("found 2\n", "bound 2\n")),
     log("clauses: `chain 0 = 0:2..3`", filled(FIRST, "chain 0 = 0:2..3\n")),
     log("chains that grow a clause", growing, "growing.conf", LOG),
+    log("better solutions of 2,000 objectives", better, "many.conf", LOG // 100),
     log("axioms of a sum of 20,000 numbers", filled("", "axiom 0 0:0\n"), "row.conf", LOG // 500),
     log("steps over a clause of 20,000 literals", filled(
         f"axiom 0 0:0 {MANY_LITERALS}\nchain 0", " 0:0", f" = 0:0 {MANY_LITERALS}\n"), "row.conf",

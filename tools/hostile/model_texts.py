@@ -153,7 +153,7 @@ CLASSES = [
 
 def leaves_without_cells(size):
     """10,000 objects with attributes that have no cells."""
-    parts = "".join(f"var {short_name(n)} as ref Empty[0];" for n in range(size // 23))
+    parts = "".join(f"var {short_name(n)} as ref Empty[0];" for n in range(size // 25))
     yield f"class Empty{{}} class Class{{{parts}}} var c as Class[10000];".encode()
 
 
@@ -223,14 +223,23 @@ def packing(machines):
             "where pack v in Vm { v.host; v.size; v.host.cap; };")
 
 
+def objectives(goals):
+    """Variables whose values are known, each with an objective that could be better."""
+    return "".join(f"var v{n} as 0..1;where v{n}=1;minimize v{n};" for n in range(goals))
+
+
 def wide_enumeration(objects):
     values = ",".join(short_name(n + 53) for n in range(100_000))
     return f"enum E{{{values}}} class C{{var e as E;}} var c as C[{objects}];"
 
 
 LARGE = [
-    model("10,000 objects, leaves without cells", leaves_without_cells, SOLVE, MODEL // 20),
-    model("10,000 objects, an attribute of a long name", long_keys, SOLVE, MODEL // 4),
+    model("10,000 objects, leaves without cells", leaves_without_cells, SOLVE, MODEL // 40),
+    model("10,000 objects, more leaves without cells", leaves_without_cells),
+    model("10,000 objects, an attribute of a name of 53,000 bytes", long_keys, SOLVE, 53_060),
+    model("10,000 objects, an attribute of a longer name", long_keys),
+    model("5,700 objectives on as many variables", scaled(objectives, goals=5_700)),
+    model("20,000 objectives on as many variables", scaled(objectives, goals=20_000)),
     model("references to an object of a long path", long_paths),
     model("20,000 references to a class with 5,000 gaps", gaps),
     model("10,000 variables of 100,000 values", scaled(wide_enumeration, objects=10_000)),

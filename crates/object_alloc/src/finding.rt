@@ -11,9 +11,9 @@ ghost use Rattle.object_alloc.specs.Parts.{IsElement};
 ghost use Rattle.object_alloc.specs.Paths.{index_text, path};
 ghost use Rattle.object_alloc.specs.Walk.{objects as all_objects};
 
-use crate::numbers::number_of;
 use crate::objects::Objects;
 use class_table::Resolved;
+use decimal_text::number_of;
 
 impl<'t> Objects<'t> {
     /// The object that has this path. The cost is proportional to the path's length, but for an

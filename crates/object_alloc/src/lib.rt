@@ -14,7 +14,6 @@ mod finding;
 mod groups;
 mod hints;
 mod layout;
-mod numbers;
 mod object;
 mod objects;
 mod paths;

@@ -15,7 +15,8 @@ use Rattle.proof_log.specs.Spelling.{behind, set_text, literal_text, step_text, 
 use Rattle.proof_log.specs.Words.{IsNumberFirst, word_text, word_at, IsBehind}
 use Rattle.proof_log.specs.Parts.{lacks, heads, IsCut, IsNextPart}
 use Rattle.proof_log.proofs.Separated.{same_cut, heads-behind, all_lack, values_same, pieces_front, pieces_same, behind-append}
-use Rattle.proof_log.proofs.Digits.{lacks-decimal, one_number}
+use Rattle.decimal_text.proofs.Digits.{one_number}
+use Rattle.proof_log.proofs.Digits.{lacks-decimal}
 use Rattle.proof_log.proofs.Spellings.{literal_spelling, step_spelling, value_pieces, set_spelling}
 
 -- ---- a number in front

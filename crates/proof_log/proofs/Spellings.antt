@@ -14,7 +14,8 @@ use Rattle.signed_clause.proofs.RangeLaws.{Ascends-ends}
 use Rattle.proof_log.specs.Spelling.{behind, joined, range_text, set_text, literal_text, step_text, IsSigned, IsRange, IsStep, IsLiteral}
 use Rattle.proof_log.specs.Parts.{lacks, heads}
 use Rattle.proof_log.proofs.Separated.{IsSpelling, same_cut, all_lack, values_same}
-use Rattle.proof_log.proofs.Digits.{lacks-decimal, lacks-signed, signed_apart, one_number}
+use Rattle.decimal_text.proofs.Digits.{one_number}
+use Rattle.proof_log.proofs.Digits.{lacks-decimal, lacks-signed, signed_apart}
 
 pub lacks-append : (s : ℕ) (a b : List ℕ) → lacks s a ≡ true → lacks s b ≡ true → lacks s (a ++ b) ≡ true
 lacks-append s a b h k = list_all-append (λ x. not (x == s)) a b ∙ and_from _ _ h k

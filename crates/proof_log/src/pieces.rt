@@ -11,8 +11,9 @@ ghost use Rattle.proof_log.specs.Spelling.{behind, range_text, set_text, literal
 ghost use Rattle.proof_log.specs.declared.fault.LineError.TheVariants.{BadLine};
 
 use crate::fault::LineError;
-use crate::numbers::{number_of, small_number_of, value_of};
+use crate::numbers::{small_number_of, value_of};
 use crate::parts::{behind_separator, next_part, split_before};
+use decimal_text::number_of;
 use signed_clause::IntSet;
 use std::alloc::Global;
 

@@ -15,10 +15,11 @@ ghost use Rattle.proof_log.specs.declared.words.Word.TheVariants as words;
 ghost use Rattle.proof_log.specs.declared.fault.LineError.TheVariants.{BadLine};
 
 use crate::fault::LineError;
-use crate::numbers::{number_of, small_number_of};
+use crate::numbers::small_number_of;
 use crate::parts::{next_part, split_before};
 use crate::pieces::{literals_of, set_of, step_of, values_of};
 use crate::words::{Word, word_of};
+use decimal_text::number_of;
 use log_form::{Line, Values};
 use numbered_clauses::{Chain, ChainSteps};
 use signed_clause::{Clause, ClauseHandle};

@@ -1,5 +1,5 @@
 use Rattle.std.proofs.Common.{arith}
-use Rattle.proof_log.proofs.Digits.{one_number}
+use Rattle.decimal_text.proofs.Digits.{one_number}
 use Rattle.proof_log.proofs.numbers.value_from_zero.Goals as goal
 
 pub returns-then-n-clause-none : goal.returns-then-n-clause-none

@@ -1,7 +1,7 @@
 use Rattle.std.proofs.Common.{◌≡◌, ◌<◌, ◌^◌, drop}
 use Rattle.std.specs.Str.{all_ascii_digits}
-use Rattle.proof_log.proofs.Digits.{read_on}
-use Rattle.proof_log.proofs.numbers.number_of.Given as goal
+use Rattle.decimal_text.proofs.Digits.{read_on}
+use Rattle.decimal_text.proofs.numbers.number_of.Given as goal
 
 abbrev pub invariant-loop-b : goal.invariant-loop-b
 invariant-loop-b l = record {

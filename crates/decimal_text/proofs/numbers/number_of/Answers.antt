@@ -1,6 +1,6 @@
 use Rattle.std.proofs.Common.{arith, subst, IsTrue}
-use Rattle.object_alloc.proofs.Digits.{not_begun, number_is, refused_digit}
-use Rattle.object_alloc.proofs.numbers.number_of.Goals as goal
+use Rattle.decimal_text.proofs.Digits.{not_begun, number_is, refused_digit}
+use Rattle.decimal_text.proofs.numbers.number_of.Goals as goal
 
 pub returns-then-not-begins_well-clause-none : goal.returns-then-not-begins_well-clause-none
 returns-then-not-begins_well-clause-none c n h e = not_begun c.args.text.now n h e (λ k. let wrong = subst IsTrue c.if-not-begins_well.true (c.begins_well.ensures.1 k) in cc)
