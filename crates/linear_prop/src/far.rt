@@ -32,7 +32,7 @@ pub fn is_near(set: &IntSet) -> bool
 {
     let least = low_end(set).value.unsigned_abs();
     let greatest = high_end(set).value.unsigned_abs();
-    least.max(greatest) <= MOST_SUM
+    least.max(greatest) <= MOST_SUM as u64
 }
 
 /// Why the row 'the variable is at most `MOST_SUM`' has something to say.
