@@ -4,13 +4,15 @@
 //! that it cannot pass; `token`, `run`, `keyword`, `mark` and `literal` each read one thing for it.
 //! `parser` has `parse`: the tree of a model, or the first place that no model has there. `item`,
 //! `declaration` and `statement` read what stands at the top level and in classes, `operand` reads
-//! expressions, `table` says how tightly operators bind, `row` reads straight rows, and `cursor`
-//! takes tokens one by one. What is proved of each reader is what the machine of `conf_grammar`
-//! does with the same tokens, whatever stands around them.
+//! expressions by way of `prefix`, `growth` and `quantifier`, `table` says how tightly operators
+//! bind, `row` reads straight rows, and `cursor` takes tokens one by one. What is proved of each
+//! reader is what the machine of `conf_grammar` does with the same tokens, whatever stands around
+//! them.
 #![tactic(auto)]
 
 mod cursor;
 mod declaration;
+mod growth;
 mod item;
 mod keyword;
 mod lexer;
@@ -18,6 +20,7 @@ mod literal;
 mod mark;
 mod operand;
 mod parser;
+mod prefix;
 mod quantifier;
 mod row;
 mod run;

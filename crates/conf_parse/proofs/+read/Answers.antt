@@ -31,17 +31,17 @@ quantifier::head-returns-clause-read u c =
     head_part c.args.bounds.least c.args.bounds.room c.args.kind c.args.next.tokens.now c.args.next.token.now c.args.next.after.now c.requires.tokens c.requires.begin c.in_ok-name.name c.in-Some.at c.in-Some.behind.now c.in-Some-after_key.path.now (tree_of c.in-Ok.found.0.tree.node) c.in-Ok.found.1.now
     (subst (λ (x : List ℕ). Names c.args.next.after.now x c.in-Some.at c.in-Some.behind.now) (sym e) c.in-Some.ensures) c.in-Some-after_key.ensures (omega arith) (omega arith) c.in-Ok.ensures.read
 
-pub operand::signed-returns-then-bounds-level-clause-read : goal.operand::signed-returns-then-bounds-level-clause-read
-operand::signed-returns-then-bounds-level-clause-read t c = sign_wrong c.args.bounds.least c.args.bounds.room (sign_of c.args.sign) c.sign_level-level.result c.args.next.tokens.now c.args.next.token.now c.args.next.after.now c.requires.tokens c.requires.begin c.sign_level-level.ensures (omega arith)
+pub prefix::signed-returns-then-bounds-level-clause-read : goal.prefix::signed-returns-then-bounds-level-clause-read
+prefix::signed-returns-then-bounds-level-clause-read t c = sign_wrong c.args.bounds.least c.args.bounds.room (sign_of c.args.sign) c.sign_level-level.result c.args.next.tokens.now c.args.next.token.now c.args.next.after.now c.requires.tokens c.requires.begin c.sign_level-level.ensures (omega arith)
 
-pub operand::signed-returns-then-bounds-lt2-clause-read : goal.operand::signed-returns-then-bounds-lt2-clause-read
-operand::signed-returns-then-bounds-lt2-clause-read t c = sign_deeper c.args.bounds.least c.args.bounds.room (sign_of c.args.sign) c.sign_level-level.result c.args.next.tokens.now c.args.next.token.now c.args.next.after.now c.requires.tokens c.requires.begin c.sign_level-level.ensures (omega arith) (omega arith)
+pub prefix::signed-returns-then-bounds-lt2-clause-read : goal.prefix::signed-returns-then-bounds-lt2-clause-read
+prefix::signed-returns-then-bounds-lt2-clause-read t c = sign_deeper c.args.bounds.least c.args.bounds.room (sign_of c.args.sign) c.sign_level-level.result c.args.next.tokens.now c.args.next.token.now c.args.next.after.now c.requires.tokens c.requires.begin c.sign_level-level.ensures (omega arith) (omega arith)
 
-pub operand::signed-returns-in-Err-clause-read : goal.operand::signed-returns-in-Err-clause-read
-operand::signed-returns-in-Err-clause-read t c = sign_error c.args.bounds.least c.args.bounds.room (sign_of c.args.sign) c.sign_level-level.result c.args.next.tokens.now c.args.next.token.now c.args.next.after.now c.in-Err.e c.requires.tokens c.requires.begin c.sign_level-level.ensures (omega arith) (omega arith) c.in-Err.ensures.read
+pub prefix::signed-returns-in-Err-clause-read : goal.prefix::signed-returns-in-Err-clause-read
+prefix::signed-returns-in-Err-clause-read t c = sign_error c.args.bounds.least c.args.bounds.room (sign_of c.args.sign) c.sign_level-level.result c.args.next.tokens.now c.args.next.token.now c.args.next.after.now c.in-Err.e c.requires.tokens c.requires.begin c.sign_level-level.ensures (omega arith) (omega arith) c.in-Err.ensures.read
 
-pub operand::signed-returns-clause-read : goal.operand::signed-returns-clause-read
-operand::signed-returns-clause-read t c = sign_part c.args.bounds.least c.args.bounds.room (sign_of c.args.sign) c.sign_level-level.result c.args.next.tokens.now c.args.next.token.now c.args.next.after.now (tree_of c.in_ok-tree.tree.node) (tree_of c.in-Ok.found.0.tree.node) c.in-Ok.found.0.level c.in-Ok.found.1.now c.requires.tokens c.requires.begin c.sign_level-level.ensures (omega arith) (omega arith) c.in-Ok.ensures.read c.in-Ok.ensures.operand.level_is c.in-Ok.ensures.stops c.in_ok-tree.ensures.tree
+pub prefix::signed-returns-clause-read : goal.prefix::signed-returns-clause-read
+prefix::signed-returns-clause-read t c = sign_part c.args.bounds.least c.args.bounds.room (sign_of c.args.sign) c.sign_level-level.result c.args.next.tokens.now c.args.next.token.now c.args.next.after.now (tree_of c.in_ok-tree.tree.node) (tree_of c.in-Ok.found.0.tree.node) c.in-Ok.found.0.level c.in-Ok.found.1.now c.requires.tokens c.requires.begin c.sign_level-level.ensures (omega arith) (omega arith) c.in-Ok.ensures.read c.in-Ok.ensures.operand.level_is c.in-Ok.ensures.stops c.in_ok-tree.ensures.tree
 
 pub quantifier::single-returns-in_default-clause-read : goal.quantifier::single-returns-in_default-clause-read
 quantifier::single-returns-in_default-clause-read t c =
@@ -60,14 +60,14 @@ quantifier::single-returns-clause-read t c =
 pub quantifier::before_body-returns-in-Some-clause-places : goal.quantifier::before_body-returns-in-Some-clause-places
 quantifier::before_body-returns-in-Some-clause-places t c = filter_opens c.args.next.tokens.now c.in-Ok.found.0 c.in-Ok.found.1.tree c.in-Ok.found.2.now c.in-Ok.ensures.places c.args.kind c.in-Ok-operand.found.0.tree c.max-nest.result c.in-Some.inner.now c.in-Ok-operand.found.1.now c.in-Some-after_mark.inside.now c.in-Some.ensures c.in-Ok-operand.ensures.places c.in-Some-after_mark.ensures
 
-pub operand::pair-returns-clause-places : goal.operand::pair-returns-clause-places
-operand::pair-returns-clause-places t c = pair_reads c.args.start.now c.args.next.tokens.now c.args.next.token.now c.args.next.after.now c.in-Ok.found.1.now c.args.op c.args.left.tree c.in-Ok.found.0.tree c.in_ok-left.left c.in_ok-right.right c.requires.tokens c.requires.places c.in-Ok.ensures.places c.in_ok-left.ensures.ok c.in_ok-right.ensures.ok
+pub growth::pair-returns-clause-places : goal.growth::pair-returns-clause-places
+growth::pair-returns-clause-places t c = pair_reads c.args.start.now c.args.next.tokens.now c.args.next.token.now c.args.next.after.now c.in-Ok.found.1.now c.args.op c.args.left.tree c.in-Ok.found.0.tree c.in_ok-left.left c.in_ok-right.right c.requires.tokens c.requires.places c.in-Ok.ensures.places c.in_ok-left.ensures.ok c.in_ok-right.ensures.ok
 
-pub operand::paren-returns-clause-places : goal.operand::paren-returns-clause-places
-operand::paren-returns-clause-places t c = paren_reads c.args.next.tokens.now c.args.next.token.now c.args.next.after.now c.in-Ok.found.1.now c.in-Some.behind.now c.in-Ok.found.0.tree c.in_ok-new.field-0 c.requires.tokens c.in-Ok.ensures.places c.in-Some.ensures c.in_ok-new.ensures.ok
+pub prefix::paren-returns-clause-places : goal.prefix::paren-returns-clause-places
+prefix::paren-returns-clause-places t c = paren_reads c.args.next.tokens.now c.args.next.token.now c.args.next.after.now c.in-Ok.found.1.now c.in-Some.behind.now c.in-Ok.found.0.tree c.in_ok-new.field-0 c.requires.tokens c.in-Ok.ensures.places c.in-Some.ensures c.in_ok-new.ensures.ok
 
-pub operand::signed-returns-clause-places : goal.operand::signed-returns-clause-places
-operand::signed-returns-clause-places t c = sign_reads c.args.next.tokens.now c.args.next.token.now c.args.next.after.now c.in-Ok.found.1.now c.in-Ok.found.0.tree c.in_ok-tree.tree c.requires.tokens c.in-Ok.ensures.places c.in_ok-tree.ensures.places
+pub prefix::signed-returns-clause-places : goal.prefix::signed-returns-clause-places
+prefix::signed-returns-clause-places t c = sign_reads c.args.next.tokens.now c.args.next.token.now c.args.next.after.now c.in-Ok.found.1.now c.in-Ok.found.0.tree c.in_ok-tree.tree c.requires.tokens c.in-Ok.ensures.places c.in_ok-tree.ensures.places
 
 pub quantifier::single-returns-clause-places : goal.quantifier::single-returns-clause-places
 quantifier::single-returns-clause-places t c =

@@ -9,23 +9,23 @@ use Rattle.conf_parse.specs.Reads.{Reads}
 use Rattle.conf_parse.proofs.Placing.{BodiesRead}
 use Rattle.conf_parse.proofs.+read.Given as goal
 
-abbrev pub decreases-operand::first : goal.decreases-operand::first
-decreases-operand::first l = 6 * l.bounds.room + 4
+abbrev pub decreases-prefix::first : goal.decreases-prefix::first
+decreases-prefix::first l = 6 * l.bounds.room + 4
 
-abbrev pub decreases-operand::grow : goal.decreases-operand::grow
-decreases-operand::grow l = 6 * l.bounds.room + 2
+abbrev pub decreases-growth::grow : goal.decreases-growth::grow
+decreases-growth::grow l = 6 * l.bounds.room + 2
 
 abbrev pub decreases-operand::operand : goal.decreases-operand::operand
 decreases-operand::operand l = 6 * l.room + 5
 
-abbrev pub decreases-operand::paren : goal.decreases-operand::paren
-decreases-operand::paren l = 6 * l.bounds.room + 1
+abbrev pub decreases-prefix::paren : goal.decreases-prefix::paren
+decreases-prefix::paren l = 6 * l.bounds.room + 1
 
-abbrev pub decreases-operand::signed : goal.decreases-operand::signed
-decreases-operand::signed l = 6 * l.bounds.room + 1
+abbrev pub decreases-prefix::signed : goal.decreases-prefix::signed
+decreases-prefix::signed l = 6 * l.bounds.room + 1
 
-abbrev pub decreases-operand::pair : goal.decreases-operand::pair
-decreases-operand::pair l = 6 * l.bounds.room + 1
+abbrev pub decreases-growth::pair : goal.decreases-growth::pair
+decreases-growth::pair l = 6 * l.bounds.room + 1
 
 abbrev pub decreases-quantifier::head : goal.decreases-quantifier::head
 decreases-quantifier::head l = 6 * l.bounds.room + 1

@@ -2,7 +2,7 @@ use Rattle.std.proofs.Common.{arith}
 use Rattle.conf_syntax.specs.Views.{tree_of}
 use Rattle.conf_parse.proofs.Parts.{leaf_wrong, leaf_part}
 use Rattle.conf_parse.proofs.Placing.{leaf_reads}
-use Rattle.conf_parse.proofs.operand.leaf.Goals as goal
+use Rattle.conf_parse.proofs.prefix.leaf.Goals as goal
 
 pub returns-then-bounds-level-clause-read : goal.returns-then-bounds-level-clause-read
 returns-then-bounds-level-clause-read c = leaf_wrong c.args.bounds.least c.args.bounds.room c.args.next.tokens.now c.args.next.token.now c.args.next.after.now c.args.level c.requires.tokens c.requires.begin c.requires.level (omega arith)

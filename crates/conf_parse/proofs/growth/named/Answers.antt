@@ -7,7 +7,7 @@ use Rattle.conf_grammar.specs.Leads.{Leads, at}
 use Rattle.conf_parse.specs.Cursor.{Names}
 use Rattle.conf_parse.proofs.Parts.{dot_part}
 use Rattle.conf_parse.proofs.Placing.{dot_reads}
-use Rattle.conf_parse.proofs.operand.named.Goals as goal
+use Rattle.conf_parse.proofs.growth.named.Goals as goal
 
 pub returns-clause-read : goal.returns-clause-read
 returns-clause-read c =
