@@ -54,32 +54,32 @@ fn may_intrude(d: usize, ended: usize, begun: usize) -> bool
     ended == d + 1 && ended < begun
 }
 
-/// What is found at the interval from `a` to `d` behind it, within which `ended` boxes lie and
-/// `begun` begin: nothing where it isn't crowded and, where it is full, keeps out each other box
-/// that begins at `a` or later.
-fn judge(
-    alloc: Global,
-    vars: &[u32],
-    boxes: &[IntSet],
-    a: Number,
+/// An interval by how far its end is behind its beginning, with the number of boxes that lie within
+/// it and the number of those that begin in it.
+#[derive(Clone, Copy)]
+struct Tally {
     d: usize,
     ended: usize,
     begun: usize,
-) -> Option<Finding>
+}
+
+/// What is found at the interval from `a` of this tally: nothing where it isn't crowded and, where
+/// it is full, keeps out each other box that begins at `a` or later.
+fn judge(alloc: Global, vars: &[u32], boxes: &[IntSet], a: Number, tally: Tally) -> Option<Finding>
     requires named { All (λ x. x < length boxes.now) vars.now }
     requires sets { All (λ s. IsValid s) boxes.now }
-    requires within { (a.value +ℤ pos d) ≤ℤ pos 9223372036854775807 }
-    requires size { d < length vars.now }
-    requires ended { ended ≡ count_in a.value (a.value +ℤ pos d) vars.now boxes.now }
-    requires begun { begun ≡ count_begun a.value (a.value +ℤ pos d) vars.now boxes.now }
+    requires within { (a.value +ℤ pos tally.d) ≤ℤ pos 9223372036854775807 }
+    requires size { tally.d < length vars.now }
+    requires ended { tally.ended ≡ count_in a.value (a.value +ℤ pos tally.d) vars.now boxes.now }
+    requires begun { tally.begun ≡ count_begun a.value (a.value +ℤ pos tally.d) vars.now boxes.now }
     ensures some { IfSome result (λ f. IsFinding f vars.now boxes.now) }
-    ensures none { IfNone result (IsFixpointBehind a.value d vars.now boxes.now) }
+    ensures none { IfNone result (IsFixpointBehind a.value tally.d vars.now boxes.now) }
 {
-    let b = behind(a, d);
-    if d + 1 < ended {
+    let b = behind(a, tally.d);
+    if tally.d + 1 < tally.ended {
         return Some(Finding::Crowded(a, b));
     }
-    if may_intrude(d, ended, begun) {
+    if may_intrude(tally.d, tally.ended, tally.begun) {
         return intruder(alloc, vars, boxes, a, b).map(|x| Finding::Full(a, b, x));
     }
     None
@@ -149,7 +149,7 @@ fn pass(
     while d < ends.len() {
         begun = with_slot(begun, starts, d);
         ended = with_slot(ended, ends, d);
-        let found = judge(alloc, vars, boxes, a, d, ended, begun);
+        let found = judge(alloc, vars, boxes, a, Tally { d, ended, begun });
         if found.is_some() {
             return found;
         }

@@ -24,7 +24,7 @@ ghost use Rattle.rule_law.specs.Reasons.{no_repeat};
 use crate::explain::explain;
 use crate::hall_intervals::{Counters, find};
 use ground_form::Con;
-use rule_law::{Repeats, probe};
+use rule_law::{Repeats, Subject, probe};
 use signed_clause::{Clause, IntSet};
 use std::alloc::{AllocError, Global};
 
@@ -33,25 +33,24 @@ use std::alloc::{AllocError, Global};
 fn prune_different(
     alloc: Global,
     counters: &mut Counters,
-    con: &Con,
+    subject: Subject<'_>,
     vars: &[u32],
-    domains: &[IntSet],
-    boxes: &[IntSet],
 ) -> Result<Option<Clause>, AllocError>
-    requires con { con.now ≡ AllDiff vars.now }
-    requires named { All (λ x. x < length boxes.now) vars.now }
-    requires domains { All (λ x. x < length domains.now) vars.now }
-    requires boxes { AreBoxesWithin domains.now boxes.now }
-    requires box_sets { All (λ s. IsValid s) boxes.now }
-    requires sets { All (λ d. IsValid d) domains.now }
+    requires con { subject.con.now ≡ AllDiff vars.now }
+    requires named { All (λ x. x < length subject.boxes.now) vars.now }
+    requires domains { All (λ x. x < length subject.domains.now) vars.now }
+    requires boxes { AreBoxesWithin subject.domains.now subject.boxes.now }
+    requires box_sets { All (λ s. IsValid s) subject.boxes.now }
+    requires sets { All (λ d. IsValid d) subject.domains.now }
     requires once { no_repeat vars.now ≡ true }
-    ensures { IfOk result (λ a. IsAnswer con.now domains.now boxes.now a) }
+    ensures { IfOk result (λ a. IsAnswer subject.entry.con.now subject.entry.domains.now
+        subject.entry.boxes.now a) }
 {
-    let found = find(alloc, counters, vars, boxes)?;
+    let found = find(alloc, counters, vars, subject.boxes)?;
     match found {
         None => Ok(None),
         Some(found) => {
-            let clause = explain(alloc, con, vars, domains, boxes, found)?;
+            let clause = explain(alloc, subject, vars, found)?;
             Ok(Some(clause))
         }
     }
@@ -116,7 +115,12 @@ impl AllDifferent {
     {
         let differ = self.repeats.has_no_repeat(k, con)?;
         if differ {
-            prune_different(self.alloc, &mut self.counters, con, vars, domains, boxes)
+            let subject = Subject {
+                con,
+                domains,
+                boxes,
+            };
+            prune_different(self.alloc, &mut self.counters, subject, vars)
         } else {
             probe(con, domains, boxes, self.alloc)
         }

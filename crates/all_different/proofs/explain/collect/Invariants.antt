@@ -3,5 +3,5 @@ use Rattle.all_different.specs.Within.{within, outside}
 use Rattle.all_different.proofs.explain.collect.Given as goal
 
 abbrev pub invariant-loop-y : goal.invariant-loop-y
-invariant-loop-y l = l.literals.items ++ outside l.a.value l.b.value (within l.left l.a.value l.b.value (drop l.y-index l.vars) l.boxes) l.domains
-    ≡ l.initial.literals.items ++ outside l.a.value l.b.value (within l.fn.need l.a.value l.b.value l.vars l.boxes) l.domains
+invariant-loop-y l = l.literals.items ++ outside l.interval.a.value l.interval.b.value (within l.left l.interval.a.value l.interval.b.value (drop l.y-index l.vars) l.subject.boxes.now) l.subject.domains.now
+    ≡ l.initial.literals.items ++ outside l.interval.a.value l.interval.b.value (within l.fn.need l.interval.a.value l.interval.b.value l.vars l.subject.boxes.now) l.subject.domains.now

@@ -5,5 +5,5 @@ use Rattle.all_different.proofs.explain.collect_one.Goals as goal
 
 pub returns-then-need-eq0 : goal.returns-then-need-eq0
 returns-then-need-eq0 c rest =
-    ap (λ (ps : List ℕ). c.args.literals.now.items ++ outside c.args.a.value c.args.b.value ps c.args.domains.now)
-    (none_needed c.args.need c.args.a.value c.args.b.value c.args.y rest c.args.boxes.now c.if-need-eq0.true)
+    ap (λ (ps : List ℕ). c.args.literals.now.items ++ outside c.args.interval.a.value c.args.interval.b.value ps c.args.subject.domains.now)
+    (none_needed c.args.need c.args.interval.a.value c.args.interval.b.value c.args.y rest c.args.subject.boxes.now c.if-need-eq0.true)
