@@ -17,8 +17,7 @@ ghost use Rattle.rule_law.specs.Plans.{IsFlag, literals_of};
 ghost use Rattle.element_prop.specs.Conditionals.{Says, either_plan};
 
 use crate::within::explain_within;
-use ground_form::Con;
-use rule_law::{is_rest_within, keep_out, planned_pruning, probe, pruning, truth};
+use rule_law::{Subject, is_rest_within, keep_out, planned_pruning, probe, pruning, truth};
 use signed_clause::{Clause, IntSet};
 use std::alloc::{AllocError, Global};
 
@@ -111,19 +110,20 @@ fn find(out: &IntSet, flags: &IntSet, item: &IntSet, alloc: Global) -> Finding
 
 /// The clause that the flag is 1, or out is 0.
 fn explain_zero(
-    con: &Con,
+    subject: Subject<'_>,
     flag: u32,
     out: u32,
-    domains: &[IntSet],
-    boxes: &[IntSet],
     alloc: Global,
 ) -> Result<Clause, AllocError>
-    requires flag { flag < length domains.now }
-    requires out { out < length domains.now }
-    requires reason { IsReason con.now domains.now boxes.now
-        (literals_of domains.now ((flag, (pos 0, pos 0) ∷ []) ∷ (out, less (box_of domains.now out) ((pos 0, pos 0) ∷ [])) ∷ [])) }
-    ensures pruning { IfOk result (λ c. IsPruning con.now domains.now boxes.now c) }
+    requires flag { flag < length subject.domains.now }
+    requires out { out < length subject.domains.now }
+    requires reason { IsReason subject.con.now subject.domains.now subject.boxes.now
+        (literals_of subject.domains.now ((flag, (pos 0, pos 0) ∷ [])
+        ∷ (out, less (box_of subject.domains.now out) ((pos 0, pos 0) ∷ [])) ∷ [])) }
+    ensures pruning { IfOk result (λ c. IsPruning subject.entry.con.now
+        subject.entry.domains.now subject.entry.boxes.now c) }
 {
+    let (con, domains, boxes) = (subject.con, subject.domains, subject.boxes);
     let other = domains[out as usize].less(&truth(alloc, false))?;
     let plan = [(flag, truth(alloc, false)), (out, other)];
     let clause = planned_pruning(con, domains, boxes, &plan, alloc)?;
@@ -133,20 +133,21 @@ fn explain_zero(
 /// The clause that out is 0 or has a value that the item's box has, or that the item is outside its
 /// box.
 fn explain_either(
-    con: &Con,
+    subject: Subject<'_>,
     out: u32,
     item: u32,
-    domains: &[IntSet],
-    boxes: &[IntSet],
     alloc: Global,
 ) -> Result<Clause, AllocError>
-    requires out { out < length domains.now }
-    requires item { item < length domains.now }
-    requires size { length boxes.now ≡ length domains.now }
-    requires reason { IsReason con.now domains.now boxes.now
-        (literals_of domains.now (either_plan domains.now boxes.now out item)) }
-    ensures pruning { IfOk result (λ c. IsPruning con.now domains.now boxes.now c) }
+    requires out { out < length subject.domains.now }
+    requires item { item < length subject.domains.now }
+    requires size { length subject.boxes.now ≡ length subject.domains.now }
+    requires reason { IsReason subject.con.now subject.domains.now subject.boxes.now
+        (literals_of subject.domains.now
+        (either_plan subject.domains.now subject.boxes.now out item)) }
+    ensures pruning { IfOk result (λ c. IsPruning subject.entry.con.now
+        subject.entry.domains.now subject.entry.boxes.now c) }
 {
+    let (con, domains, boxes) = (subject.con, subject.domains, subject.boxes);
     let domain = &domains[out as usize];
     let other = domain.less(&truth(alloc, false))?;
     let outside = other.less(&boxes[item as usize])?;
@@ -166,21 +167,21 @@ fn explain_either(
 /// # Errors
 /// Want of memory.
 pub fn prune_conditional(
-    con: &Con,
+    subject: Subject<'_>,
     vars: (u32, u32, u32),
-    domains: &[IntSet],
-    boxes: &[IntSet],
     alloc: Global,
 ) -> Result<Option<Clause>, AllocError>
-    requires is { con.now ≡ CondDef vars.0 vars.1 vars.2 }
-    requires well_made { IsWellMadeCon domains.now con.now }
-    requires boxes { AreBoxesWithin domains.now boxes.now }
-    requires sets { All (λ d. IsValid d) domains.now }
-    requires out { vars.0 < length domains.now }
-    requires flag { vars.1 < length domains.now }
-    requires item { vars.2 < length domains.now }
-    ensures answer { IfOk result (λ a. IsAnswer con.now domains.now boxes.now a) }
+    requires is { subject.con.now ≡ CondDef vars.0 vars.1 vars.2 }
+    requires well_made { IsWellMadeCon subject.domains.now subject.con.now }
+    requires boxes { AreBoxesWithin subject.domains.now subject.boxes.now }
+    requires sets { All (λ d. IsValid d) subject.domains.now }
+    requires out { vars.0 < length subject.domains.now }
+    requires flag { vars.1 < length subject.domains.now }
+    requires item { vars.2 < length subject.domains.now }
+    ensures answer { IfOk result (λ a. IsAnswer subject.entry.con.now
+        subject.entry.domains.now subject.entry.boxes.now a) }
 {
+    let (con, domains, boxes) = (subject.con, subject.domains, subject.boxes);
     let (out, flag, item) = vars;
     if out == flag || item == flag || item == out {
         return probe(con, domains, boxes, alloc);
@@ -193,10 +194,10 @@ pub fn prune_conditional(
     );
     let clause = match finding {
         Finding::Quiet => return Ok(None),
-        Finding::OutWithin => explain_within(con, flag, out, item, domains, boxes, alloc)?,
-        Finding::ItemWithin => explain_within(con, flag, item, out, domains, boxes, alloc)?,
-        Finding::Zero => explain_zero(con, flag, out, domains, boxes, alloc)?,
-        Finding::Either => explain_either(con, out, item, domains, boxes, alloc)?,
+        Finding::OutWithin => explain_within(subject, flag, out, item, alloc)?,
+        Finding::ItemWithin => explain_within(subject, flag, item, out, alloc)?,
+        Finding::Zero => explain_zero(subject, flag, out, alloc)?,
+        Finding::Either => explain_either(subject, out, item, alloc)?,
     };
     Ok(Some(clause))
 }

@@ -29,8 +29,8 @@ ghost use Rattle.element_prop.specs.Elements.{HasToPick, pick_plan, Says, all_me
 
 use crate::equality::{alone, is_value};
 use crate::offers::unoffered;
-use ground_form::{Con, Number};
-use rule_law::{Repeats, keep_out, planned_pruning, probe, pruning};
+use ground_form::Number;
+use rule_law::{Repeats, Subject, keep_out, planned_pruning, probe, pruning};
 use signed_clause::{Clause, IntSet};
 use std::alloc::{AllocError, Global};
 
@@ -245,23 +245,23 @@ fn without_items(items: &[(i64, u32)], set: &IntSet, alloc: Global) -> Result<In
 /// What an element says of an index that has more values than items can have: that it is one of the
 /// items' values. The domain of the index is all that explains it.
 fn prune_index(
-    con: &Con,
+    subject: Subject<'_>,
     vars: (u32, u32),
     items: &[(i64, u32)],
-    domains: &[IntSet],
-    boxes: &[IntSet],
     alloc: Global,
 ) -> Result<Clause, AllocError>
-    requires is { con.now ≡ ElementDef vars.0 vars.1 items.now }
-    requires well_made { IsWellMadeCon domains.now con.now }
-    requires boxes { AreBoxesWithin domains.now boxes.now }
-    requires sets { All (λ d. IsValid d) domains.now }
-    requires domain { vars.1 < length domains.now }
-    requires index { vars.1 < length boxes.now }
-    requires more { count_possible items.now (box_of boxes.now vars.1) < count_of
-        (box_of boxes.now vars.1) }
-    ensures pruning { IfOk result (λ c. IsPruning con.now domains.now boxes.now c) }
+    requires is { subject.con.now ≡ ElementDef vars.0 vars.1 items.now }
+    requires well_made { IsWellMadeCon subject.domains.now subject.con.now }
+    requires boxes { AreBoxesWithin subject.domains.now subject.boxes.now }
+    requires sets { All (λ d. IsValid d) subject.domains.now }
+    requires domain { vars.1 < length subject.domains.now }
+    requires index { vars.1 < length subject.boxes.now }
+    requires more { count_possible items.now (box_of subject.boxes.now vars.1) < count_of
+        (box_of subject.boxes.now vars.1) }
+    ensures pruning { IfOk result (λ c. IsPruning subject.entry.con.now
+        subject.entry.domains.now subject.entry.boxes.now c) }
 {
+    let (con, domains, boxes) = (subject.con, subject.domains, subject.boxes);
     let rest = without_items(items, &domains[vars.1 as usize], alloc)?;
     let clause = planned_pruning(con, domains, boxes, &[(vars.1, rest)], alloc)?;
     Ok(clause)
@@ -348,28 +348,28 @@ fn plan_out(
 /// that it has one of a possible item's. The index and the domains of these items explain it.
 fn prune_out(
     alloc: Global,
-    con: &Con,
+    subject: Subject<'_>,
     vars: (u32, u32),
     items: &[(i64, u32)],
     at: Number,
-    domains: &[IntSet],
-    boxes: &[IntSet],
 ) -> Result<Clause, AllocError>
-    requires is { con.now ≡ ElementDef vars.0 vars.1 items.now }
-    requires well_made { IsWellMadeCon domains.now con.now }
-    requires boxes { AreBoxesWithin domains.now boxes.now }
-    requires sets { All (λ d. IsValid d) domains.now }
-    requires domain { vars.0 < length domains.now }
-    requires out { vars.0 < length boxes.now }
-    requires index { vars.1 < length boxes.now }
-    requires items { All (λ t. t.1 < length boxes.now) items.now }
-    requires domain_items { All (λ t. t.1 < length domains.now) items.now }
-    requires differ { no_repeat (vars_of con.now) ≡ true }
-    requires member { has (box_of boxes.now vars.0) at.value ≡ true }
-    requires unoffered { some_offers items.now at.value (box_of boxes.now vars.1) boxes.now
-        ≡ false }
-    ensures pruning { IfOk result (λ c. IsPruning con.now domains.now boxes.now c) }
+    requires is { subject.con.now ≡ ElementDef vars.0 vars.1 items.now }
+    requires well_made { IsWellMadeCon subject.domains.now subject.con.now }
+    requires boxes { AreBoxesWithin subject.domains.now subject.boxes.now }
+    requires sets { All (λ d. IsValid d) subject.domains.now }
+    requires domain { vars.0 < length subject.domains.now }
+    requires out { vars.0 < length subject.boxes.now }
+    requires index { vars.1 < length subject.boxes.now }
+    requires items { All (λ t. t.1 < length subject.boxes.now) items.now }
+    requires domain_items { All (λ t. t.1 < length subject.domains.now) items.now }
+    requires differ { no_repeat (vars_of subject.con.now) ≡ true }
+    requires member { has (box_of subject.boxes.now vars.0) at.value ≡ true }
+    requires unoffered { some_offers items.now at.value (box_of subject.boxes.now vars.1)
+        subject.boxes.now ≡ false }
+    ensures pruning { IfOk result (λ c. IsPruning subject.entry.con.now
+        subject.entry.domains.now subject.entry.boxes.now c) }
 {
+    let (con, domains, boxes) = (subject.con, subject.domains, subject.boxes);
     let domain = &domains[vars.0 as usize];
     let rest = without_boxes(items, &boxes[vars.1 as usize], boxes, domain)?;
     let plan = plan_out(alloc, vars, items, domains, boxes, &rest)?;
@@ -382,29 +382,29 @@ fn prune_open(
     alloc: Global,
     repeats: &mut Repeats,
     k: u32,
-    con: &Con,
+    subject: Subject<'_>,
     vars: (u32, u32),
     items: &[(i64, u32)],
-    domains: &[IntSet],
-    boxes: &[IntSet],
 ) -> Result<Option<Clause>, AllocError>
-    requires is { con.now ≡ ElementDef vars.0 vars.1 items.now }
-    requires well_made { IsWellMadeCon domains.now con.now }
-    requires boxes { AreBoxesWithin domains.now boxes.now }
-    requires sets { All (λ d. IsValid d) domains.now }
-    requires domain { vars.1 < length domains.now }
-    requires domain_out { vars.0 < length domains.now }
-    requires domain_items { All (λ t. t.1 < length domains.now) items.now }
-    requires out { vars.0 < length boxes.now }
-    requires index { vars.1 < length boxes.now }
-    requires items { All (λ t. t.1 < length boxes.now) items.now }
-    requires met { all_meet items.now (box_of boxes.now vars.0) (box_of boxes.now vars.1) boxes.now
-        ≡ true }
-    ensures answer { IfOk result (λ a. IsAnswer con.now domains.now boxes.now a) }
+    requires is { subject.con.now ≡ ElementDef vars.0 vars.1 items.now }
+    requires well_made { IsWellMadeCon subject.domains.now subject.con.now }
+    requires boxes { AreBoxesWithin subject.domains.now subject.boxes.now }
+    requires sets { All (λ d. IsValid d) subject.domains.now }
+    requires domain { vars.1 < length subject.domains.now }
+    requires domain_out { vars.0 < length subject.domains.now }
+    requires domain_items { All (λ t. t.1 < length subject.domains.now) items.now }
+    requires out { vars.0 < length subject.boxes.now }
+    requires index { vars.1 < length subject.boxes.now }
+    requires items { All (λ t. t.1 < length subject.boxes.now) items.now }
+    requires met { all_meet items.now (box_of subject.boxes.now vars.0)
+        (box_of subject.boxes.now vars.1) subject.boxes.now ≡ true }
+    ensures answer { IfOk result (λ a. IsAnswer subject.entry.con.now
+        subject.entry.domains.now subject.entry.boxes.now a) }
 {
+    let (con, domains, boxes) = (subject.con, subject.domains, subject.boxes);
     let index = &boxes[vars.1 as usize];
     if !index.at_most(possible_items(items, index) as u64) {
-        let clause = prune_index(con, vars, items, domains, boxes, alloc)?;
+        let clause = prune_index(subject, vars, items, alloc)?;
         return Ok(Some(clause));
     }
     let once = repeats.occur_once(k, con, vars.0, vars.1)?;
@@ -414,7 +414,7 @@ fn prune_open(
     match find_further(items, vars, boxes) {
         Further::Idle => Ok(None),
         Further::OutOfSet(x) => {
-            let clause = explain_pick(con, vars.1, index, x, vars.0, domains, boxes, alloc)?;
+            let clause = explain_pick(subject, vars.1, index, x, vars.0, alloc)?;
             Ok(Some(clause))
         }
         Further::Unoffered(v) => {
@@ -422,7 +422,7 @@ fn prune_open(
             if !differ {
                 return probe(con, domains, boxes, alloc);
             }
-            let clause = prune_out(alloc, con, vars, items, v, domains, boxes)?;
+            let clause = prune_out(alloc, subject, vars, items, v)?;
             Ok(Some(clause))
         }
     }
@@ -431,23 +431,24 @@ fn prune_open(
 /// The clause that the index has no value of the set, or `var` has a value that the box of `other`
 /// has, or that other is outside it.
 fn explain_pick(
-    con: &Con,
+    subject: Subject<'_>,
     index: u32,
     values: &IntSet,
     var: u32,
     other: u32,
-    domains: &[IntSet],
-    boxes: &[IntSet],
     alloc: Global,
 ) -> Result<Clause, AllocError>
-    requires index { index < length domains.now }
-    requires var { var < length domains.now }
-    requires other { other < length domains.now }
-    requires size { length boxes.now ≡ length domains.now }
-    requires reason { IsReason con.now domains.now boxes.now
-        (literals_of domains.now (pick_plan domains.now boxes.now index values.now var other)) }
-    ensures pruning { IfOk result (λ c. IsPruning con.now domains.now boxes.now c) }
+    requires index { index < length subject.domains.now }
+    requires var { var < length subject.domains.now }
+    requires other { other < length subject.domains.now }
+    requires size { length subject.boxes.now ≡ length subject.domains.now }
+    requires reason { IsReason subject.con.now subject.domains.now subject.boxes.now
+        (literals_of subject.domains.now
+        (pick_plan subject.domains.now subject.boxes.now index values.now var other)) }
+    ensures pruning { IfOk result (λ c. IsPruning subject.entry.con.now
+        subject.entry.domains.now subject.entry.boxes.now c) }
 {
+    let (con, domains, boxes) = (subject.con, subject.domains, subject.boxes);
     let outside = domains[var as usize].less(&boxes[other as usize])?;
     let mut literals = Vec::new(alloc);
     keep_out(&mut literals, index, &domains[index as usize], values)?;
@@ -492,31 +493,31 @@ pub fn prune_element(
     alloc: Global,
     repeats: &mut Repeats,
     k: u32,
-    con: &Con,
+    subject: Subject<'_>,
     vars: (u32, u32),
     items: &[(i64, u32)],
-    domains: &[IntSet],
-    boxes: &[IntSet],
 ) -> Result<Option<Clause>, AllocError>
-    requires is { con.now ≡ ElementDef vars.0 vars.1 items.now }
-    requires well_made { IsWellMadeCon domains.now con.now }
-    requires boxes { AreBoxesWithin domains.now boxes.now }
-    requires sets { All (λ d. IsValid d) domains.now }
-    requires out { vars.0 < length domains.now }
-    requires index { vars.1 < length domains.now }
-    requires items { All (λ t. t.1 < length domains.now) items.now }
-    ensures answer { IfOk result (λ a. IsAnswer con.now domains.now boxes.now a) }
+    requires is { subject.con.now ≡ ElementDef vars.0 vars.1 items.now }
+    requires well_made { IsWellMadeCon subject.domains.now subject.con.now }
+    requires boxes { AreBoxesWithin subject.domains.now subject.boxes.now }
+    requires sets { All (λ d. IsValid d) subject.domains.now }
+    requires out { vars.0 < length subject.domains.now }
+    requires index { vars.1 < length subject.domains.now }
+    requires items { All (λ t. t.1 < length subject.domains.now) items.now }
+    ensures answer { IfOk result (λ a. IsAnswer subject.entry.con.now
+        subject.entry.domains.now subject.entry.boxes.now a) }
 {
+    let (con, domains, boxes) = (subject.con, subject.domains, subject.boxes);
     let (out, index) = vars;
     match find(items, &boxes[out as usize], &boxes[index as usize], boxes) {
-        Finding::Open => prune_open(alloc, repeats, k, con, vars, items, domains, boxes),
+        Finding::Open => prune_open(alloc, repeats, k, subject, vars, items),
         Finding::Item(i) => {
             let t = items[i];
             if !are_different(index, t.1, out) {
                 return probe(con, domains, boxes, alloc);
             }
             let at = item_alone(t, alloc);
-            let clause = explain_pick(con, index, &at, t.1, out, domains, boxes, alloc)?;
+            let clause = explain_pick(subject, index, &at, t.1, out, alloc)?;
             Ok(Some(clause))
         }
         Finding::Out(i) => {
@@ -525,7 +526,7 @@ pub fn prune_element(
                 return probe(con, domains, boxes, alloc);
             }
             let value = item_alone(t, alloc);
-            let clause = explain_pick(con, index, &value, out, t.1, domains, boxes, alloc)?;
+            let clause = explain_pick(subject, index, &value, out, t.1, alloc)?;
             Ok(Some(clause))
         }
     }

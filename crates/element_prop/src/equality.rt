@@ -16,8 +16,8 @@ ghost use Rattle.rule_law.specs.Plans.{IsFlag, literals_of};
 ghost use Rattle.element_prop.specs.Equalities.{Says, same_plan};
 
 use crate::within::explain_within;
-use ground_form::{Con, Number, ends_of};
-use rule_law::{planned_pruning, probe, truth};
+use ground_form::{Number, ends_of};
+use rule_law::{Subject, planned_pruning, probe, truth};
 use signed_clause::{Clause, IntSet};
 use std::alloc::{AllocError, Global};
 
@@ -133,20 +133,20 @@ fn find(flags: &IntSet, left: &IntSet, right: &IntSet) -> Finding
 
 /// The clause that the flag is 1, or one of both isn't the value.
 fn explain_same(
-    con: &Con,
+    subject: Subject<'_>,
     vars: (u32, u32, u32),
     at: Number,
-    domains: &[IntSet],
-    boxes: &[IntSet],
     alloc: Global,
 ) -> Result<Clause, AllocError>
-    requires flag { vars.0 < length domains.now }
-    requires left { vars.1 < length domains.now }
-    requires right { vars.2 < length domains.now }
-    requires reason { IsReason con.now domains.now boxes.now
-        (literals_of domains.now (same_plan vars.0 vars.1 vars.2 at.value)) }
-    ensures pruning { IfOk result (λ c. IsPruning con.now domains.now boxes.now c) }
+    requires flag { vars.0 < length subject.domains.now }
+    requires left { vars.1 < length subject.domains.now }
+    requires right { vars.2 < length subject.domains.now }
+    requires reason { IsReason subject.con.now subject.domains.now subject.boxes.now
+        (literals_of subject.domains.now (same_plan vars.0 vars.1 vars.2 at.value)) }
+    ensures pruning { IfOk result (λ c. IsPruning subject.entry.con.now
+        subject.entry.domains.now subject.entry.boxes.now c) }
 {
+    let (con, domains, boxes) = (subject.con, subject.domains, subject.boxes);
     let plan = [
         (vars.0, truth(alloc, false)),
         (vars.1, alone(alloc, at)),
@@ -168,21 +168,21 @@ pub fn alone(alloc: Global, at: Number) -> IntSet
 /// # Errors
 /// Want of memory.
 pub fn prune_equality(
-    con: &Con,
+    subject: Subject<'_>,
     vars: (u32, u32, u32),
-    domains: &[IntSet],
-    boxes: &[IntSet],
     alloc: Global,
 ) -> Result<Option<Clause>, AllocError>
-    requires is { con.now ≡ EqDef vars.0 vars.1 vars.2 }
-    requires well_made { IsWellMadeCon domains.now con.now }
-    requires boxes { AreBoxesWithin domains.now boxes.now }
-    requires sets { All (λ d. IsValid d) domains.now }
-    requires flag { vars.0 < length domains.now }
-    requires left { vars.1 < length domains.now }
-    requires right { vars.2 < length domains.now }
-    ensures answer { IfOk result (λ a. IsAnswer con.now domains.now boxes.now a) }
+    requires is { subject.con.now ≡ EqDef vars.0 vars.1 vars.2 }
+    requires well_made { IsWellMadeCon subject.domains.now subject.con.now }
+    requires boxes { AreBoxesWithin subject.domains.now subject.boxes.now }
+    requires sets { All (λ d. IsValid d) subject.domains.now }
+    requires flag { vars.0 < length subject.domains.now }
+    requires left { vars.1 < length subject.domains.now }
+    requires right { vars.2 < length subject.domains.now }
+    ensures answer { IfOk result (λ a. IsAnswer subject.entry.con.now
+        subject.entry.domains.now subject.entry.boxes.now a) }
 {
+    let (con, domains, boxes) = (subject.con, subject.domains, subject.boxes);
     let (flag, left, right) = vars;
     if left == flag || right == flag || right == left {
         return probe(con, domains, boxes, alloc);
@@ -195,15 +195,15 @@ pub fn prune_equality(
     match finding {
         Finding::Quiet => Ok(None),
         Finding::LeftWithin => {
-            let clause = explain_within(con, flag, left, right, domains, boxes, alloc)?;
+            let clause = explain_within(subject, flag, left, right, alloc)?;
             Ok(Some(clause))
         }
         Finding::RightWithin => {
-            let clause = explain_within(con, flag, right, left, domains, boxes, alloc)?;
+            let clause = explain_within(subject, flag, right, left, alloc)?;
             Ok(Some(clause))
         }
         Finding::Same(at) => {
-            let clause = explain_same(con, vars, at, domains, boxes, alloc)?;
+            let clause = explain_same(subject, vars, at, alloc)?;
             Ok(Some(clause))
         }
     }

@@ -11,7 +11,7 @@ use crate::conditional::prune_conditional;
 use crate::element::prune_element;
 use crate::equality::prune_equality;
 use ground_form::{Con, Ground, Kind};
-use rule_law::{Propagator, Repeats, probe};
+use rule_law::{Propagator, Repeats, Subject, probe};
 use signed_clause::{Clause, IntSet};
 use std::alloc::{AllocError, Global};
 
@@ -57,24 +57,20 @@ pub(crate) fn prune_one(
     requires sets { All (λ d. IsValid d) domains.now }
     ensures answer { IfOk result (λ a. IsAnswer con.now domains.now boxes.now a) }
 {
+    let subject = Subject {
+        con,
+        domains,
+        boxes,
+    };
     match con {
         Con::EqDef { flag, left, right } => {
-            prune_equality(con, (*flag, *left, *right), domains, boxes, alloc)
+            prune_equality(subject, (*flag, *left, *right), alloc)
         }
         Con::ElementDef { out, index, items } => {
-            prune_element(
-                alloc,
-                repeats,
-                k,
-                con,
-                (*out, *index),
-                items.items(),
-                domains,
-                boxes,
-            )
+            prune_element(alloc, repeats, k, subject, (*out, *index), items.items())
         }
         Con::CondDef { out, flag, item } => {
-            prune_conditional(con, (*out, *flag, *item), domains, boxes, alloc)
+            prune_conditional(subject, (*out, *flag, *item), alloc)
         }
         _ => probe(con, domains, boxes, alloc),
     }

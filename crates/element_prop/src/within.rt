@@ -6,8 +6,7 @@ ghost use Rattle.rule_law.specs.Reasons.{IsReason};
 ghost use Rattle.rule_law.specs.Plans.{literals_of};
 ghost use Rattle.element_prop.specs.Within.{within_plan};
 
-use ground_form::Con;
-use rule_law::{keep_out, pruning, truth};
+use rule_law::{Subject, keep_out, pruning, truth};
 use signed_clause::{Clause, IntSet};
 use std::alloc::{AllocError, Global};
 
@@ -16,22 +15,23 @@ use std::alloc::{AllocError, Global};
 /// # Errors
 /// Want of memory.
 pub fn explain_within(
-    con: &Con,
+    subject: Subject<'_>,
     flag: u32,
     var: u32,
     other: u32,
-    domains: &[IntSet],
-    boxes: &[IntSet],
     alloc: Global,
 ) -> Result<Clause, AllocError>
-    requires flag { flag < length domains.now }
-    requires var { var < length domains.now }
-    requires other { other < length domains.now }
-    requires size { length boxes.now ≡ length domains.now }
-    requires reason { IsReason con.now domains.now boxes.now
-        (literals_of domains.now (within_plan domains.now boxes.now flag var other)) }
-    ensures pruning { IfOk result (λ c. IsPruning con.now domains.now boxes.now c) }
+    requires flag { flag < length subject.domains.now }
+    requires var { var < length subject.domains.now }
+    requires other { other < length subject.domains.now }
+    requires size { length subject.boxes.now ≡ length subject.domains.now }
+    requires reason { IsReason subject.con.now subject.domains.now subject.boxes.now
+        (literals_of subject.domains.now
+        (within_plan subject.domains.now subject.boxes.now flag var other)) }
+    ensures pruning { IfOk result (λ c. IsPruning subject.entry.con.now
+        subject.entry.domains.now subject.entry.boxes.now c) }
 {
+    let (con, domains, boxes) = (subject.con, subject.domains, subject.boxes);
     let outside = domains[var as usize].less(&boxes[other as usize])?;
     let mut literals = Vec::new(alloc);
     keep_out(

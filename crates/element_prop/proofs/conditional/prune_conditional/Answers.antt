@@ -8,13 +8,13 @@ use Rattle.element_prop.proofs.conditional.prune_conditional.Goals as goal
 
 pub find-finding-requires-clause-flag : goal.find-finding-requires-clause-flag
 find-finding-requires-clause-flag c =
-    let con = c.args.con.now in let domains = c.args.domains.now in let boxes = c.args.boxes.now in let vars = c.args.vars in
+    let con = c.args.subject.con.now in let domains = c.args.subject.domains.now in let boxes = c.args.subject.boxes.now in let vars = c.args.vars in
     let flag : c.index-boxes-flag.result ≡ box_of boxes vars.1 = grind (arith, common_steps) in
     subst (λ (s : Ranges). IsFlag s) (sym flag) (conditional con domains boxes vars.0 vars.1 vars.2 c.requires.is c.requires.well_made c.requires.boxes c.requires.sets c.if-out-flag.false c.if-item-flag.false c.if-item-out.false).triple.bits
 
 pub explain_within-requires-clause-reason : goal.explain_within-requires-clause-reason
 explain_within-requires-clause-reason c =
-    let con = c.args.con.now in let domains = c.args.domains.now in let boxes = c.args.boxes.now in let vars = c.args.vars in
+    let con = c.args.subject.con.now in let domains = c.args.subject.domains.now in let boxes = c.args.subject.boxes.now in let vars = c.args.vars in
     let flag : c.index-boxes-flag.result ≡ box_of boxes vars.1 = grind (arith, common_steps) in
     let out : c.index-boxes-out.result ≡ box_of boxes vars.0 = grind (arith, common_steps) in
     let item : c.index-boxes-item.result ≡ box_of boxes vars.2 = grind (arith, common_steps) in
@@ -24,7 +24,7 @@ explain_within-requires-clause-reason c =
 
 pub explain_within-requires-in-ItemWithin-clause-reason : goal.explain_within-requires-in-ItemWithin-clause-reason
 explain_within-requires-in-ItemWithin-clause-reason c =
-    let con = c.args.con.now in let domains = c.args.domains.now in let boxes = c.args.boxes.now in let vars = c.args.vars in
+    let con = c.args.subject.con.now in let domains = c.args.subject.domains.now in let boxes = c.args.subject.boxes.now in let vars = c.args.vars in
     let flag : c.index-boxes-flag.result ≡ box_of boxes vars.1 = grind (arith, common_steps) in
     let out : c.index-boxes-out.result ≡ box_of boxes vars.0 = grind (arith, common_steps) in
     let item : c.index-boxes-item.result ≡ box_of boxes vars.2 = grind (arith, common_steps) in
@@ -34,7 +34,7 @@ explain_within-requires-in-ItemWithin-clause-reason c =
 
 pub explain_zero-requires-clause-reason : goal.explain_zero-requires-clause-reason
 explain_zero-requires-clause-reason c =
-    let con = c.args.con.now in let domains = c.args.domains.now in let boxes = c.args.boxes.now in let vars = c.args.vars in
+    let con = c.args.subject.con.now in let domains = c.args.subject.domains.now in let boxes = c.args.subject.boxes.now in let vars = c.args.vars in
     let flag : c.index-boxes-flag.result ≡ box_of boxes vars.1 = grind (arith, common_steps) in
     let out : c.index-boxes-out.result ≡ box_of boxes vars.0 = grind (arith, common_steps) in
     let item : c.index-boxes-item.result ≡ box_of boxes vars.2 = grind (arith, common_steps) in
@@ -44,7 +44,7 @@ explain_zero-requires-clause-reason c =
 
 pub explain_either-requires-clause-reason : goal.explain_either-requires-clause-reason
 explain_either-requires-clause-reason c =
-    let con = c.args.con.now in let domains = c.args.domains.now in let boxes = c.args.boxes.now in let vars = c.args.vars in
+    let con = c.args.subject.con.now in let domains = c.args.subject.domains.now in let boxes = c.args.subject.boxes.now in let vars = c.args.vars in
     let flag : c.index-boxes-flag.result ≡ box_of boxes vars.1 = grind (arith, common_steps) in
     let out : c.index-boxes-out.result ≡ box_of boxes vars.0 = grind (arith, common_steps) in
     let item : c.index-boxes-item.result ≡ box_of boxes vars.2 = grind (arith, common_steps) in
@@ -54,7 +54,7 @@ explain_either-requires-clause-reason c =
 
 pub returns-in-Quiet : goal.returns-in-Quiet
 returns-in-Quiet c =
-    let con = c.args.con.now in let domains = c.args.domains.now in let boxes = c.args.boxes.now in let vars = c.args.vars in
+    let con = c.args.subject.con.now in let domains = c.args.subject.domains.now in let boxes = c.args.subject.boxes.now in let vars = c.args.vars in
     let flag : c.index-boxes-flag.result ≡ box_of boxes vars.1 = grind (arith, common_steps) in
     let out : c.index-boxes-out.result ≡ box_of boxes vars.0 = grind (arith, common_steps) in
     let item : c.index-boxes-item.result ≡ box_of boxes vars.2 = grind (arith, common_steps) in

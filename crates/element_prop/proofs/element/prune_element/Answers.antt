@@ -10,7 +10,7 @@ use Rattle.element_prop.proofs.element.prune_element.Goals as goal
 
 pub explain_pick-requires-clause-reason : goal.explain_pick-requires-clause-reason
 explain_pick-requires-clause-reason c =
-    let con = c.args.con.now in let domains = c.args.domains.now in let boxes = c.args.boxes.now in let vars = c.args.vars in let items = c.args.items.now in
+    let con = c.args.subject.con.now in let domains = c.args.subject.domains.now in let boxes = c.args.subject.boxes.now in let vars = c.args.vars in let items = c.args.items.now in
     let i = c.in-Item.i in
     let said = c.in-Item.ensures in
     let t = get_or items i (pos 0, 0) in
@@ -25,7 +25,7 @@ explain_pick-requires-clause-reason c =
 
 pub explain_pick-requires-in-Out-clause-reason : goal.explain_pick-requires-in-Out-clause-reason
 explain_pick-requires-in-Out-clause-reason c =
-    let con = c.args.con.now in let domains = c.args.domains.now in let boxes = c.args.boxes.now in let vars = c.args.vars in let items = c.args.items.now in
+    let con = c.args.subject.con.now in let domains = c.args.subject.domains.now in let boxes = c.args.subject.boxes.now in let vars = c.args.vars in let items = c.args.items.now in
     let i = c.in-Out.i in
     let said = c.in-Out.ensures in
     let t = get_or items i (pos 0, 0) in

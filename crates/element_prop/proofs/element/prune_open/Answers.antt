@@ -12,13 +12,13 @@ use Rattle.element_prop.proofs.element.prune_open.Goals as goal
 
 pub find_further-requires-clause-open : goal.find_further-requires-clause-open
 find_further-requires-clause-open c =
-    let con = c.args.con.now in let domains = c.args.domains.now in let boxes = c.args.boxes.now in let vars = c.args.vars in let items = c.args.items.now in
+    let con = c.args.subject.con.now in let domains = c.args.subject.domains.now in let boxes = c.args.subject.boxes.now in let vars = c.args.vars in let items = c.args.items.now in
     let full : count_of (box_of boxes vars.1) ≤ count_possible items (box_of boxes vars.1) = grind (arith, common_steps) in
     some_open con domains boxes vars.0 vars.1 items (element con domains boxes vars.0 vars.1 items c.requires.is c.requires.well_made c.requires.boxes c.requires.sets) c.requires.met full
 
 pub explain_pick-requires-clause-reason : goal.explain_pick-requires-clause-reason
 explain_pick-requires-clause-reason c =
-    let con = c.args.con.now in let domains = c.args.domains.now in let boxes = c.args.boxes.now in let vars = c.args.vars in let items = c.args.items.now in
+    let con = c.args.subject.con.now in let domains = c.args.subject.domains.now in let boxes = c.args.subject.boxes.now in let vars = c.args.vars in let items = c.args.items.now in
     let index : c.index-boxes-vars.result ≡ box_of boxes vars.1 = grind (arith, common_steps) in
     let apart : AreHeadsApart vars.0 vars.1 items = search rules in
     subst (λ (s : Ranges). IsReason con domains boxes (literals_of domains (pick_plan domains boxes vars.1 s c.in-OutOfSet.x vars.0))) (sym index)
@@ -26,7 +26,7 @@ explain_pick-requires-clause-reason c =
 
 pub returns-in-Idle : goal.returns-in-Idle
 returns-in-Idle c =
-    let con = c.args.con.now in let domains = c.args.domains.now in let boxes = c.args.boxes.now in let vars = c.args.vars in let items = c.args.items.now in
+    let con = c.args.subject.con.now in let domains = c.args.subject.domains.now in let boxes = c.args.subject.boxes.now in let vars = c.args.vars in let items = c.args.items.now in
     record {
       answer = idle_quiet con domains boxes vars.0 vars.1 items (element con domains boxes vars.0 vars.1 items c.requires.is c.requires.well_made c.requires.boxes c.requires.sets) c.requires.well_made c.in-Idle.ensures;
     }

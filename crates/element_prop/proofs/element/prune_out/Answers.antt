@@ -5,9 +5,9 @@ use Rattle.element_prop.proofs.ElementLaws.{element}
 use Rattle.element_prop.proofs.OutLaws.{IsOutPlanned, out_asked}
 use Rattle.element_prop.proofs.element.prune_out.Goals as goal
 
-planned : (c : goal.After-as_slice) → IsOutPlanned c.args.con.now c.args.domains.now c.args.boxes.now c.as_slice.result.now
+planned : (c : goal.After-as_slice) → IsOutPlanned c.args.subject.con.now c.args.subject.domains.now c.args.subject.boxes.now c.as_slice.result.now
 planned c =
-    let con = c.args.con.now in let domains = c.args.domains.now in let boxes = c.args.boxes.now in let vars = c.args.vars in let items = c.args.items.now in
+    let con = c.args.subject.con.now in let domains = c.args.subject.domains.now in let boxes = c.args.subject.boxes.now in let vars = c.args.vars in let items = c.args.items.now in
     let domain : c.index-domains-vars.result ≡ box_of domains vars.0 = grind (arith, common_steps) in
     let index : c.index-boxes-vars.result ≡ box_of boxes vars.1 = grind (arith, common_steps) in
     out_asked con domains boxes vars.0 vars.1 items c.args.at.value c.index-domains-vars.result c.index-boxes-vars.result c.in_ok-rest.rest c.as_slice.result.now

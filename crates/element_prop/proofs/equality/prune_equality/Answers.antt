@@ -8,13 +8,13 @@ use Rattle.element_prop.proofs.equality.prune_equality.Goals as goal
 
 pub find-finding-requires-clause-flag : goal.find-finding-requires-clause-flag
 find-finding-requires-clause-flag c =
-    let con = c.args.con.now in let domains = c.args.domains.now in let boxes = c.args.boxes.now in let vars = c.args.vars in
+    let con = c.args.subject.con.now in let domains = c.args.subject.domains.now in let boxes = c.args.subject.boxes.now in let vars = c.args.vars in
     let flag : c.index-boxes-flag.result ≡ box_of boxes vars.0 = grind (arith, common_steps) in
     subst (λ (s : Ranges). IsFlag s) (sym flag) (equality con domains boxes vars.0 vars.1 vars.2 c.requires.is c.requires.well_made c.requires.boxes c.requires.sets c.if-left-flag.false c.if-right-flag.false c.if-right-left.false).triple.bits
 
 pub explain_within-requires-clause-reason : goal.explain_within-requires-clause-reason
 explain_within-requires-clause-reason c =
-    let con = c.args.con.now in let domains = c.args.domains.now in let boxes = c.args.boxes.now in let vars = c.args.vars in
+    let con = c.args.subject.con.now in let domains = c.args.subject.domains.now in let boxes = c.args.subject.boxes.now in let vars = c.args.vars in
     let flag : c.index-boxes-flag.result ≡ box_of boxes vars.0 = grind (arith, common_steps) in
     let left : c.index-boxes-left.result ≡ box_of boxes vars.1 = grind (arith, common_steps) in
     let right : c.index-boxes-right.result ≡ box_of boxes vars.2 = grind (arith, common_steps) in
@@ -24,7 +24,7 @@ explain_within-requires-clause-reason c =
 
 pub explain_within-requires-in-RightWithin-clause-reason : goal.explain_within-requires-in-RightWithin-clause-reason
 explain_within-requires-in-RightWithin-clause-reason c =
-    let con = c.args.con.now in let domains = c.args.domains.now in let boxes = c.args.boxes.now in let vars = c.args.vars in
+    let con = c.args.subject.con.now in let domains = c.args.subject.domains.now in let boxes = c.args.subject.boxes.now in let vars = c.args.vars in
     let flag : c.index-boxes-flag.result ≡ box_of boxes vars.0 = grind (arith, common_steps) in
     let left : c.index-boxes-left.result ≡ box_of boxes vars.1 = grind (arith, common_steps) in
     let right : c.index-boxes-right.result ≡ box_of boxes vars.2 = grind (arith, common_steps) in
@@ -34,7 +34,7 @@ explain_within-requires-in-RightWithin-clause-reason c =
 
 pub explain_same-requires-clause-reason : goal.explain_same-requires-clause-reason
 explain_same-requires-clause-reason c =
-    let con = c.args.con.now in let domains = c.args.domains.now in let boxes = c.args.boxes.now in let vars = c.args.vars in
+    let con = c.args.subject.con.now in let domains = c.args.subject.domains.now in let boxes = c.args.subject.boxes.now in let vars = c.args.vars in
     let flag : c.index-boxes-flag.result ≡ box_of boxes vars.0 = grind (arith, common_steps) in
     let left : c.index-boxes-left.result ≡ box_of boxes vars.1 = grind (arith, common_steps) in
     let right : c.index-boxes-right.result ≡ box_of boxes vars.2 = grind (arith, common_steps) in
@@ -44,7 +44,7 @@ explain_same-requires-clause-reason c =
 
 pub returns-in-Quiet : goal.returns-in-Quiet
 returns-in-Quiet c =
-    let con = c.args.con.now in let domains = c.args.domains.now in let boxes = c.args.boxes.now in let vars = c.args.vars in
+    let con = c.args.subject.con.now in let domains = c.args.subject.domains.now in let boxes = c.args.subject.boxes.now in let vars = c.args.vars in
     let flag : c.index-boxes-flag.result ≡ box_of boxes vars.0 = grind (arith, common_steps) in
     let left : c.index-boxes-left.result ≡ box_of boxes vars.1 = grind (arith, common_steps) in
     let right : c.index-boxes-right.result ≡ box_of boxes vars.2 = grind (arith, common_steps) in
