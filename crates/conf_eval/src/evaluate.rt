@@ -29,6 +29,15 @@ use conf_types::{RExpr, RNode, RQuant};
 use object_alloc::ObjectList;
 use std::alloc::{AllocError, Global};
 
+/// A quantifier in its parts: its kind, the list that it is over, its filter and its bodies.
+#[derive(Clone, Copy)]
+struct Parts<'a> {
+    kind: QuantKind,
+    over: &'a RExpr,
+    filter: &'a Option<RExpr>,
+    body: &'a [RExpr],
+}
+
 /// The object of the variable at this distance, 0 for the innermost.
 fn local_object(vars: &[u32], k: u32) -> u32
     ensures object { result ≡ local_object vars.now k }
@@ -249,60 +258,56 @@ fn quant_at(
     ensures value { IfOk result (λ v. v ≡ value (quant_tree quant.now 0)
         (setting_at scene.now vars.now)) }
 {
-    parts_at(
-        alloc,
-        scene,
-        vars,
-        quant.kind,
-        &quant.over,
-        &quant.filter,
-        &quant.body,
-    )
+    let parts = Parts {
+        kind: quant.kind,
+        over: &quant.over,
+        filter: &quant.filter,
+        body: &quant.body,
+    };
+    parts_at(alloc, scene, vars, parts)
 }
 
-/// A quantifier of this kind over a list.
+/// A quantifier, of which the parts are given.
 #[cycle(eval)]
 fn parts_at(
     alloc: Global,
     scene: &Scene<'_, '_>,
     vars: &[u32],
-    kind: QuantKind,
-    over: &RExpr,
-    filter: &Option<RExpr>,
-    body: &[RExpr],
+    parts: Parts<'_>,
 ) -> Result<Value, AllocError>
     requires given { IsGiven scene.now.objects.now scene.now.values.now }
     requires expr { IsEvaluable scene.now.objects.now scene.now.values.now
-        (tree.Quant 0 kind (tree_of over.now) (optional_tree filter.now) (trees_of body.now))
-        (setting_at scene.now vars.now) }
+        (tree.Quant 0 parts.kind (tree_of parts.over.now) (optional_tree parts.filter.now)
+        (trees_of parts.body.now)) (setting_at scene.now vars.now) }
     ensures value { IfOk result (λ v. v
-        ≡ value (tree.Quant 0 kind (tree_of over.now) (optional_tree filter.now)
-        (trees_of body.now)) (setting_at scene.now vars.now)) }
+        ≡ value (tree.Quant 0 parts.entry.kind (tree_of parts.entry.over.now)
+        (optional_tree parts.entry.filter.now) (trees_of parts.entry.body.now))
+        (setting_at scene.now vars.now)) }
 {
-    let list = members_at(alloc, scene, vars, over)?;
-    match kind {
+    let list = members_at(alloc, scene, vars, parts.over)?;
+    match parts.kind {
         QuantKind::Forall => {
-            let all = forall_at(alloc, scene, vars, &list, filter, body)?;
+            let all = forall_at(alloc, scene, vars, &list, parts.filter, parts.body)?;
             Ok(Value::Truth(all))
         }
         QuantKind::Exists => {
-            let some = exists_at(alloc, scene, vars, &list, filter, body)?;
+            let some = exists_at(alloc, scene, vars, &list, parts.filter, parts.body)?;
             Ok(Value::Truth(some))
         }
         QuantKind::Count => {
-            let count = count_at(alloc, scene, vars, &list, filter, body)?;
+            let count = count_at(alloc, scene, vars, &list, parts.filter, parts.body)?;
             Ok(count_value(count))
         }
         QuantKind::Sum => {
-            let sum = sum_at(alloc, scene, vars, &list, filter, body)?;
+            let sum = sum_at(alloc, scene, vars, &list, parts.filter, parts.body)?;
             Ok(int_value(sum))
         }
         QuantKind::AllDifferent => {
-            let values = firsts_at(alloc, scene, vars, &list, body)?;
+            let values = firsts_at(alloc, scene, vars, &list, parts.body)?;
             Ok(Value::Truth(all_differ(&values)))
         }
         QuantKind::Pack => {
-            let items = items_at(alloc, scene, vars, &list, body)?;
+            let items = items_at(alloc, scene, vars, &list, parts.body)?;
             Ok(Value::Truth(fits_all(&items)))
         }
     }

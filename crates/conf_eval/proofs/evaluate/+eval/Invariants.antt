@@ -33,7 +33,7 @@ abbrev pub decreases-quant_at : goal.decreases-quant_at
 decreases-quant_at l = 16 * height (quant_tree l.quant.now 0) - 1
 
 abbrev pub decreases-parts_at : goal.decreases-parts_at
-decreases-parts_at l = 16 * max (height (tree_of l.over.now)) (max (filter_height (optional_tree l.filter.now)) (bodies_height (trees_of l.body.now))) + 14
+decreases-parts_at l = 16 * max (height (tree_of l.parts.over.now)) (max (filter_height (optional_tree l.parts.filter.now)) (bodies_height (trees_of l.parts.body.now))) + 14
 
 abbrev pub decreases-forall_at : goal.decreases-forall_at
 decreases-forall_at l = 16 * max (filter_height (optional_tree l.filter.now)) (bodies_height (trees_of l.body.now)) + 12
