@@ -25,10 +25,10 @@ ghost use Rattle.pack_fit.specs.Packing.{AllFit, HasEnough};
 use crate::propagator::Kept;
 use crate::tight::prune_tight;
 use crate::unplaceable::prune_unplaceable;
-use ground_form::{Con, Number};
+use ground_form::Number;
 use pack_fit::{Look, look_at_items};
-use rule_law::{Repeats, probe};
-use signed_clause::{Clause, IntSet};
+use rule_law::{Repeats, Subject, probe};
+use signed_clause::Clause;
 use std::alloc::{AllocError, Global};
 
 /// What items with slack answer: nothing, where none of their open variables stands twice.
@@ -37,51 +37,49 @@ fn prune_with_slack(
     alloc: Global,
     repeats: &mut Repeats,
     k: u32,
-    con: &Con,
+    subject: Subject<'_>,
     items: &[(u32, u32, u32)],
-    domains: &[IntSet],
-    boxes: &[IntSet],
 ) -> Result<Option<Clause>, AllocError>
-    requires con { con.now ≡ Pack items.now }
-    requires items { AreItemsNamed items.now boxes.now }
-    requires well_made { IsWellMadeCon domains.now con.now }
-    requires boxes { AreBoxesWithin domains.now boxes.now }
-    requires sets { All (λ d. IsValid d) domains.now }
-    requires fit { AllFit items.now boxes.now }
-    requires enough { HasEnough items.now boxes.now }
-    ensures { IfOk result (λ a. IsAnswer con.now domains.now boxes.now a) }
+    requires con { subject.con.now ≡ Pack items.now }
+    requires items { AreItemsNamed items.now subject.boxes.now }
+    requires well_made { IsWellMadeCon subject.domains.now subject.con.now }
+    requires boxes { AreBoxesWithin subject.domains.now subject.boxes.now }
+    requires sets { All (λ d. IsValid d) subject.domains.now }
+    requires fit { AllFit items.now subject.boxes.now }
+    requires enough { HasEnough items.now subject.boxes.now }
+    ensures { IfOk result (λ a. IsAnswer subject.entry.con.now subject.entry.domains.now
+        subject.entry.boxes.now a) }
 {
-    let once = repeats.open_have_no_repeat(k, con, boxes)?;
+    let once = repeats.open_have_no_repeat(k, subject.con, subject.boxes)?;
     if once {
         return Ok(None);
     }
-    probe(con, domains, boxes, alloc)
+    probe(subject.con, subject.domains, subject.boxes, alloc)
 }
 
 /// What an item that doesn't fit at the value answers.
 #[tactic(auto, using(crate::proofs::Slack::pack_sizes))]
 fn prune_by_item(
     alloc: Global,
-    con: &Con,
+    subject: Subject<'_>,
     items: &[(u32, u32, u32)],
-    domains: &[IntSet],
-    boxes: &[IntSet],
     at: Number,
     i: (u32, u32, u32),
 ) -> Result<Option<Clause>, AllocError>
-    requires con { con.now ≡ Pack items.now }
-    requires items { AreItemsNamed items.now boxes.now }
-    requires item { IsItemNamed i boxes.now }
-    requires well_made { IsWellMadeCon domains.now con.now }
-    requires boxes { AreBoxesWithin domains.now boxes.now }
-    requires sets { All (λ d. IsValid d) domains.now }
-    ensures { IfOk result (λ a. IsAnswer con.now domains.now boxes.now a) }
+    requires con { subject.con.now ≡ Pack items.now }
+    requires items { AreItemsNamed items.now subject.boxes.now }
+    requires item { IsItemNamed i subject.boxes.now }
+    requires well_made { IsWellMadeCon subject.domains.now subject.con.now }
+    requires boxes { AreBoxesWithin subject.domains.now subject.boxes.now }
+    requires sets { All (λ d. IsValid d) subject.domains.now }
+    ensures { IfOk result (λ a. IsAnswer subject.entry.con.now subject.entry.domains.now
+        subject.entry.boxes.now a) }
 {
-    let pruned = prune_unplaceable(alloc, con, items, domains, boxes, at, i)?;
+    let pruned = prune_unplaceable(alloc, subject, items, at, i)?;
     if pruned.is_some() {
         return Ok(pruned);
     }
-    probe(con, domains, boxes, alloc)
+    probe(subject.con, subject.domains, subject.boxes, alloc)
 }
 
 /// What items answer of which each fits wherever it may be.
@@ -89,24 +87,25 @@ fn prune_undecided(
     alloc: Global,
     kept: &mut Kept,
     k: u32,
-    con: &Con,
+    subject: Subject<'_>,
     items: &[(u32, u32, u32)],
-    domains: &[IntSet],
-    boxes: &[IntSet],
 ) -> Result<Option<Clause>, AllocError>
-    requires con { con.now ≡ Pack items.now }
-    requires items { AreItemsNamed items.now boxes.now }
-    requires well_made { IsWellMadeCon domains.now con.now }
-    requires boxes { AreBoxesWithin domains.now boxes.now }
-    requires sets { All (λ d. IsValid d) domains.now }
-    requires fit { AllFit items.now boxes.now }
-    ensures { IfOk result (λ a. IsAnswer con.now domains.now boxes.now a) }
+    requires con { subject.con.now ≡ Pack items.now }
+    requires items { AreItemsNamed items.now subject.boxes.now }
+    requires well_made { IsWellMadeCon subject.domains.now subject.con.now }
+    requires boxes { AreBoxesWithin subject.domains.now subject.boxes.now }
+    requires sets { All (λ d. IsValid d) subject.domains.now }
+    requires fit { AllFit items.now subject.boxes.now }
+    ensures { IfOk result (λ a. IsAnswer subject.entry.con.now subject.entry.domains.now
+        subject.entry.boxes.now a) }
 {
-    let differ = kept.repeats.open_have_no_repeat(k, con, boxes)?;
+    let differ = kept
+        .repeats
+        .open_have_no_repeat(k, subject.con, subject.boxes)?;
     if differ {
-        prune_tight(alloc, &mut kept.best_rooms, con, items, domains, boxes)
+        prune_tight(alloc, &mut kept.best_rooms, subject, items)
     } else {
-        probe(con, domains, boxes, alloc)
+        probe(subject.con, subject.domains, subject.boxes, alloc)
     }
 }
 
@@ -120,28 +119,19 @@ pub fn prune_packing(
     alloc: Global,
     kept: &mut Kept,
     k: u32,
-    con: &Con,
+    subject: Subject<'_>,
     items: &[(u32, u32, u32)],
-    domains: &[IntSet],
-    boxes: &[IntSet],
 ) -> Result<Option<Clause>, AllocError>
-    requires con { con.now ≡ Pack items.now }
-    requires well_made { IsWellMadeCon domains.now con.now }
-    requires boxes { AreBoxesWithin domains.now boxes.now }
-    requires sets { All (λ d. IsValid d) domains.now }
-    ensures { IfOk result (λ a. IsAnswer con.now domains.now boxes.now a) }
+    requires con { subject.con.now ≡ Pack items.now }
+    requires well_made { IsWellMadeCon subject.domains.now subject.con.now }
+    requires boxes { AreBoxesWithin subject.domains.now subject.boxes.now }
+    requires sets { All (λ d. IsValid d) subject.domains.now }
+    ensures { IfOk result (λ a. IsAnswer subject.entry.con.now subject.entry.domains.now
+        subject.entry.boxes.now a) }
 {
-    match look_at_items(&mut kept.survey, items, boxes)? {
-        Look::WithSlack => prune_with_slack(
-            alloc,
-            &mut kept.repeats,
-            k,
-            con,
-            items,
-            domains,
-            boxes,
-        ),
-        Look::Unplaceable(at, i) => prune_by_item(alloc, con, items, domains, boxes, at, i),
-        Look::Undecided => prune_undecided(alloc, kept, k, con, items, domains, boxes),
+    match look_at_items(&mut kept.survey, items, subject.boxes)? {
+        Look::WithSlack => prune_with_slack(alloc, &mut kept.repeats, k, subject, items),
+        Look::Unplaceable(at, i) => prune_by_item(alloc, subject, items, at, i),
+        Look::Undecided => prune_undecided(alloc, kept, k, subject, items),
     }
 }

@@ -12,7 +12,7 @@ use crate::packing::prune_packing;
 use all_different::AllDifferent;
 use ground_form::{Con, Ground, Kind};
 use pack_fit::Survey;
-use rule_law::{Propagator, Repeats, probe};
+use rule_law::{Propagator, Repeats, Subject, probe};
 use signed_clause::{Clause, IntSet};
 use std::alloc::{AllocError, Global};
 
@@ -78,22 +78,22 @@ pub fn answer(
     alloc: Global,
     kept: &mut Kept,
     k: u32,
-    con: &Con,
-    domains: &[IntSet],
-    boxes: &[IntSet],
+    subject: Subject<'_>,
 ) -> Result<Option<Clause>, AllocError>
-    requires well_made { IsWellMadeCon domains.now con.now }
-    requires boxes { AreBoxesWithin domains.now boxes.now }
-    requires sets { All (λ d. IsValid d) domains.now }
-    ensures { IfOk result (λ a. IsAnswer con.now domains.now boxes.now a) }
+    requires well_made { IsWellMadeCon subject.domains.now subject.con.now }
+    requires boxes { AreBoxesWithin subject.domains.now subject.boxes.now }
+    requires sets { All (λ d. IsValid d) subject.domains.now }
+    ensures { IfOk result (λ a. IsAnswer subject.entry.con.now subject.entry.domains.now
+        subject.entry.boxes.now a) }
 {
+    let con = subject.con;
     match con {
         Con::AllDiff { vars } => {
             kept.all_different
-                .prune(k, con, vars.items(), domains, boxes)
+                .prune(k, con, vars.items(), subject.domains, subject.boxes)
         }
-        Con::Pack { items } => { prune_packing(alloc, kept, k, con, items.items(), domains, boxes) }
-        _ => probe(con, domains, boxes, alloc),
+        Con::Pack { items } => prune_packing(alloc, kept, k, subject, items.items()),
+        _ => probe(con, subject.domains, subject.boxes, alloc),
     }
 }
 
@@ -119,7 +119,11 @@ impl Propagator for PackProp {
         k: u32,
         boxes: &[IntSet],
     ) -> Result<Option<Clause>, AllocError> {
-        let con = &g.cons.items()[k as usize];
-        answer(self.alloc, &mut self.kept, k, con, g.domains.items(), boxes)
+        let subject = Subject {
+            con: &g.cons.items()[k as usize],
+            domains: g.domains.items(),
+            boxes,
+        };
+        answer(self.alloc, &mut self.kept, k, subject)
     }
 }

@@ -12,7 +12,7 @@ ghost use Rattle.pack_prop.specs.Sources.{with_part};
 ghost use Rattle.pack_prop.specs.Spans.{is_in};
 
 use crate::spans::{Span, span_of};
-use crate::with_part::{box_at, greatest};
+use crate::with_part::{Tried, box_at, greatest};
 use ground_form::Number;
 use pack_fit::{Total, greater};
 use signed_clause::IntSet;
@@ -70,56 +70,45 @@ fn lift_ranges(row: &mut [(i64, i64)], ranges: &[(i64, i64)], high: Number, firs
 }
 
 /// The ranges of the box of `y`.
-fn ranges_of<'a>(boxes: &'a [IntSet], x: u32, part: &'a IntSet, y: u32) -> &'a [(i64, i64)]
-    requires var { x < length boxes.now }
-    requires named { y < length boxes.now }
-    ensures { result.now ≡ box_of (with_part boxes.now x part.now) y }
+fn ranges_of<'a>(tried: Tried<'a>, y: u32) -> &'a [(i64, i64)]
+    requires var { tried.x < length tried.boxes.now }
+    requires named { y < length tried.boxes.now }
+    ensures { result.now ≡ box_of
+        (with_part tried.entry.boxes.now tried.entry.x tried.entry.part.now) y }
 {
-    box_at(boxes, x, part, y).ranges()
+    box_at(tried, y).ranges()
 }
 
 /// Lifts the entries where the item at `k` may be to its room, as is done for all items behind it.
-fn add_item(
-    row: &mut [(i64, i64)],
-    items: &[(u32, u32, u32)],
-    boxes: &[IntSet],
-    x: u32,
-    part: &IntSet,
-    first: Number,
-    k: usize,
-)
-    requires var { x < length boxes.now }
-    requires items { AreItemsNamed items.now boxes.now }
-    requires within { k < length items.now }
-    requires behind { HasRooms row.old first.value (drop (suc k) items.now)
-        (with_part boxes.now x part.now) }
+fn add_item(row: &mut [(i64, i64)], tried: Tried<'_>, first: Number, k: usize)
+    requires var { tried.x < length tried.boxes.now }
+    requires items { AreItemsNamed tried.items.now tried.boxes.now }
+    requires within { k < length tried.items.now }
+    requires behind { HasRooms row.old first.value (drop (suc k) tried.items.now)
+        (with_part tried.boxes.now tried.x tried.part.now) }
     ensures size { length row.new ≡ length row.old }
-    ensures row { HasRooms row.new first.value (drop k items.now) (with_part boxes.now x part.now) }
+    ensures row { HasRooms row.new first.value (drop k tried.entry.items.now)
+        (with_part tried.entry.boxes.now tried.entry.x tried.entry.part.now) }
 {
-    let i = items[k];
-    let high = greatest(boxes, x, part, i.2);
-    lift_ranges(row, ranges_of(boxes, x, part, i.0), high, first);
+    let i = tried.items[k];
+    let high = greatest(tried, i.2);
+    lift_ranges(row, ranges_of(tried, i.0), high, first);
 }
 
 /// Lifts the entries where an item may be to its room, for all items.
-fn add_items(
-    row: &mut [(i64, i64)],
-    items: &[(u32, u32, u32)],
-    boxes: &[IntSet],
-    x: u32,
-    part: &IntSet,
-    first: Number,
-)
-    requires var { x < length boxes.now }
-    requires items { AreItemsNamed items.now boxes.now }
-    requires none { HasRooms row.old first.value [] (with_part boxes.now x part.now) }
+fn add_items(row: &mut [(i64, i64)], tried: Tried<'_>, first: Number)
+    requires var { tried.x < length tried.boxes.now }
+    requires items { AreItemsNamed tried.items.now tried.boxes.now }
+    requires none { HasRooms row.old first.value []
+        (with_part tried.boxes.now tried.x tried.part.now) }
     ensures size { length row.new ≡ length row.old }
-    ensures row { HasRooms row.new first.value items.now (with_part boxes.now x part.now) }
+    ensures row { HasRooms row.new first.value tried.entry.items.now
+        (with_part tried.entry.boxes.now tried.entry.x tried.entry.part.now) }
 {
-    let mut k = items.len();
+    let mut k = tried.items.len();
     while 0 < k {
         k -= 1;
-        add_item(row, items, boxes, x, part, first, k);
+        add_item(row, tried, first, k);
     }
 }
 
@@ -165,23 +154,20 @@ fn bare_row(alloc: Global, first: Number, n: usize) -> Result<Vec<(i64, i64)>, A
 /// Want of memory.
 pub fn best_row(
     alloc: Global,
-    items: &[(u32, u32, u32)],
-    boxes: &[IntSet],
-    x: u32,
-    part: &IntSet,
+    tried: Tried<'_>,
     first: Number,
     n: usize,
 ) -> Result<Vec<(i64, i64)>, AllocError>
-    requires var { x < length boxes.now }
-    requires items { AreItemsNamed items.now boxes.now }
+    requires var { tried.x < length tried.boxes.now }
+    requires items { AreItemsNamed tried.items.now tried.boxes.now }
     requires low { pos 0 ≤ℤ first.value }
     requires high { first.value ≤ℤ pos 9999 }
     requires few { n ≤ 10000 }
-    ensures { IfOk result (λ row. row.items ≡ best_rooms n first.value items.now
-        (with_part boxes.now x part.now)) }
+    ensures { IfOk result (λ row. row.items ≡ best_rooms n first.value tried.entry.items.now
+        (with_part tried.entry.boxes.now tried.entry.x tried.entry.part.now)) }
 {
     let mut row = bare_row(alloc, first, n)?;
-    add_items(row.as_mut_slice(), items, boxes, x, part, first);
+    add_items(row.as_mut_slice(), tried, first);
     Ok(row)
 }
 

@@ -29,9 +29,10 @@ ghost use Rattle.pack_prop.specs.Tight.{AreBestRooms, firsts, seconds, left_at, 
 use crate::best_rooms::{Best, BestRooms};
 use crate::total::explain_total;
 use crate::unplaceable::{Trial, clamped, part_of};
-use ground_form::{Con, Number};
+use crate::with_part::Tried;
+use ground_form::Number;
 use pack_fit::{Total, bins_of, ends_at, greater, greatest, is_single, least, may_be, sizes_of};
-use rule_law::probe;
+use rule_law::{Subject, probe};
 use signed_clause::{Clause, IntSet};
 use std::alloc::{AllocError, Global};
 
@@ -323,53 +324,58 @@ fn excess(
 /// The clause of what takes too much room, where one is found.
 fn prune_excess(
     alloc: Global,
-    con: &Con,
+    subject: Subject<'_>,
     items: &[(u32, u32, u32)],
-    domains: &[IntSet],
-    boxes: &[IntSet],
     trial: Trial,
 ) -> Result<Option<Clause>, AllocError>
-    requires con { con.now ≡ Pack items.now }
-    requires items { AreItemsNamed items.now boxes.now }
-    requires var { trial.var < length boxes.now }
-    requires sizes { All (λ i. pos 0 ≤ℤ low_of (box_of domains.now i.1)) items.now }
-    requires boxes { AreBoxesWithin domains.now boxes.now }
-    requires sets { All (λ d. IsValid d) domains.now }
-    ensures { IfOk result (λ r. IfSome r (λ c. IsPruning con.now domains.now boxes.now c)) }
+    requires con { subject.con.now ≡ Pack items.now }
+    requires items { AreItemsNamed items.now subject.boxes.now }
+    requires var { trial.var < length subject.boxes.now }
+    requires sizes { All (λ i. pos 0 ≤ℤ low_of (box_of subject.domains.now i.1)) items.now }
+    requires boxes { AreBoxesWithin subject.domains.now subject.boxes.now }
+    requires sets { All (λ d. IsValid d) subject.domains.now }
+    ensures { IfOk result (λ r. IfSome r (λ c. IsPruning subject.entry.con.now
+        subject.entry.domains.now subject.entry.boxes.now c)) }
 {
     if trial.span.1 < trial.span.0 {
         return Ok(None);
     }
-    let part = part_of(alloc, boxes, trial.var, trial.span)?;
+    let part = part_of(alloc, subject.boxes, trial.var, trial.span)?;
     if part.is_empty() {
         return Ok(None);
     }
-    explain_total(alloc, con, items, domains, boxes, trial.var, &part)
+    let tried = Tried {
+        items,
+        domains: subject.domains,
+        boxes: subject.boxes,
+        x: trial.var,
+        part: &part,
+    };
+    explain_total(alloc, subject.con, tried)
 }
 
 /// What something that takes too much room answers.
 #[tactic(auto, using(crate::proofs::Slack::pack_sizes))]
 fn prune_or_probe(
     alloc: Global,
-    con: &Con,
+    subject: Subject<'_>,
     items: &[(u32, u32, u32)],
-    domains: &[IntSet],
-    boxes: &[IntSet],
     trial: Trial,
 ) -> Result<Option<Clause>, AllocError>
-    requires con { con.now ≡ Pack items.now }
-    requires items { AreItemsNamed items.now boxes.now }
-    requires var { trial.var < length boxes.now }
-    requires well_made { IsWellMadeCon domains.now con.now }
-    requires boxes { AreBoxesWithin domains.now boxes.now }
-    requires sets { All (λ d. IsValid d) domains.now }
-    ensures { IfOk result (λ a. IsAnswer con.now domains.now boxes.now a) }
+    requires con { subject.con.now ≡ Pack items.now }
+    requires items { AreItemsNamed items.now subject.boxes.now }
+    requires var { trial.var < length subject.boxes.now }
+    requires well_made { IsWellMadeCon subject.domains.now subject.con.now }
+    requires boxes { AreBoxesWithin subject.domains.now subject.boxes.now }
+    requires sets { All (λ d. IsValid d) subject.domains.now }
+    ensures { IfOk result (λ a. IsAnswer subject.entry.con.now subject.entry.domains.now
+        subject.entry.boxes.now a) }
 {
-    let pruned = prune_excess(alloc, con, items, domains, boxes, trial)?;
+    let pruned = prune_excess(alloc, subject, items, trial)?;
     if pruned.is_some() {
         return Ok(pruned);
     }
-    probe(con, domains, boxes, alloc)
+    probe(subject.con, subject.domains, subject.boxes, alloc)
 }
 
 /// What takes too much room of the items, where something does.
@@ -398,26 +404,25 @@ pub fn find_excess(
 pub fn prune_tight(
     alloc: Global,
     best_rooms: &mut BestRooms,
-    con: &Con,
+    subject: Subject<'_>,
     items: &[(u32, u32, u32)],
-    domains: &[IntSet],
-    boxes: &[IntSet],
 ) -> Result<Option<Clause>, AllocError>
-    requires con { con.now ≡ Pack items.now }
-    requires items { AreItemsNamed items.now boxes.now }
-    requires well_made { IsWellMadeCon domains.now con.now }
-    requires boxes { AreBoxesWithin domains.now boxes.now }
-    requires sets { All (λ d. IsValid d) domains.now }
-    requires fit { AllFit items.now boxes.now }
-    requires once { no_repeat (open_vars (vars_of con.now) boxes.now) ≡ true }
-    ensures { IfOk result (λ a. IsAnswer con.now domains.now boxes.now a) }
+    requires con { subject.con.now ≡ Pack items.now }
+    requires items { AreItemsNamed items.now subject.boxes.now }
+    requires well_made { IsWellMadeCon subject.domains.now subject.con.now }
+    requires boxes { AreBoxesWithin subject.domains.now subject.boxes.now }
+    requires sets { All (λ d. IsValid d) subject.domains.now }
+    requires fit { AllFit items.now subject.boxes.now }
+    requires once { no_repeat (open_vars (vars_of subject.con.now) subject.boxes.now) ≡ true }
+    ensures { IfOk result (λ a. IsAnswer subject.entry.con.now subject.entry.domains.now
+        subject.entry.boxes.now a) }
 {
     if items.is_empty() {
-        return probe(con, domains, boxes, alloc);
+        return probe(subject.con, subject.domains, subject.boxes, alloc);
     }
-    let excess = find_excess(best_rooms, items, boxes, items[0])?;
+    let excess = find_excess(best_rooms, items, subject.boxes, items[0])?;
     match excess {
         None => Ok(None),
-        Some(trial) => prune_or_probe(alloc, con, items, domains, boxes, trial),
+        Some(trial) => prune_or_probe(alloc, subject, items, trial),
     }
 }

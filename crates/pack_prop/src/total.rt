@@ -19,7 +19,7 @@ ghost use Rattle.pack_prop.specs.TotalSteps.{AreTotalled, AreWeighed, IsWindow};
 use crate::collected::{below, say};
 use crate::literals::{domain_at, say_room};
 use crate::room_row::{best_row, raise, short_values, sum_of};
-use crate::with_part;
+use crate::with_part::{self, Tried};
 use ground_form::{Con, Number};
 use pack_fit::{Total, first_bin, last_bin, least};
 use rule_law::pruning;
@@ -54,14 +54,15 @@ fn window(items: &[(u32, u32, u32)], domains: &[IntSet]) -> Option<(Number, usiz
 }
 
 /// All least sizes, added up.
-fn sizes_of(items: &[(u32, u32, u32)], boxes: &[IntSet], x: u32, part: &IntSet) -> Total
-    requires var { x < length boxes.now }
-    requires items { AreItemsNamed items.now boxes.now }
-    ensures { result.value ≡ least_sizes items.now (with_part boxes.now x part.now) }
+fn sizes_of(tried: Tried<'_>) -> Total
+    requires var { tried.x < length tried.boxes.now }
+    requires items { AreItemsNamed tried.items.now tried.boxes.now }
+    ensures { result.value ≡ least_sizes tried.entry.items.now
+        (with_part tried.entry.boxes.now tried.entry.x tried.entry.part.now) }
 {
     let mut sum = Total { value: 0 };
-    for i in items {
-        sum = sum.plus(with_part::least(boxes, x, part, i.1));
+    for i in tried.items {
+        sum = sum.plus(with_part::least(tried, i.1));
     }
     sum
 }
@@ -69,60 +70,57 @@ fn sizes_of(items: &[(u32, u32, u32)], boxes: &[IntSet], x: u32, part: &IntSet) 
 /// Says what has to be said of the bin and the room of item `k`, and gives the row with which it is
 /// counted.
 fn seat(
-    alloc: Global,
     literals: &mut Vec<(u32, IntSet)>,
-    items: &[(u32, u32, u32)],
+    tried: Tried<'_>,
     k: usize,
-    domains: &[IntSet],
-    boxes: &[IntSet],
-    x: u32,
-    part: &IntSet,
     row: Vec<(i64, i64)>,
     sizes: Total,
 ) -> Result<Vec<(i64, i64)>, AllocError>
-    requires ground { IsPart domains.now boxes.now items.now x part.now }
-    requires there { k < length items.now }
-    requires sizes { sizes.value ≡ least_sizes items.now (with_part boxes.now x part.now) }
-    requires so_far { AreTotalled items.now domains.now (with_part boxes.now x part.now) k 0
-        row.items (pos 0) literals.old.items }
-    ensures { IfOk result (λ r. AreTotalled items.now domains.now (with_part boxes.now x part.now)
-        (k + 1) 0 r.items (pos 0) literals.new.items) }
+    requires ground { IsPart tried.domains.now tried.boxes.now tried.items.now tried.x
+        tried.part.now }
+    requires there { k < length tried.items.now }
+    requires sizes { sizes.value ≡ least_sizes tried.items.now
+        (with_part tried.boxes.now tried.x tried.part.now) }
+    requires so_far { AreTotalled tried.items.now tried.domains.now
+        (with_part tried.boxes.now tried.x tried.part.now) k 0 row.items (pos 0)
+        literals.old.items }
+    ensures { IfOk result (λ r. AreTotalled tried.entry.items.now tried.entry.domains.now
+        (with_part tried.entry.boxes.now tried.entry.x tried.entry.part.now) (k + 1) 0 r.items
+        (pos 0) literals.new.items) }
 {
-    let y = items[k].0;
-    let high = say_room(alloc, literals, items, k, domains, boxes, x, part)?;
-    let more = raise(alloc, row.as_slice(), domain_at(domains, y), high)?;
+    let alloc = *literals.allocator();
+    let y = tried.items[k].0;
+    let high = say_room(literals, tried, k)?;
+    let more = raise(alloc, row.as_slice(), domain_at(tried.domains, y), high)?;
     if !sizes.is_at_most(sum_of(more.as_slice())) {
         return Ok(more);
     }
-    let short = short_values(alloc, row.as_slice(), domain_at(domains, y), high)?;
+    let short = short_values(alloc, row.as_slice(), domain_at(tried.domains, y), high)?;
     say(literals, y, short)?;
     Ok(row)
 }
 
 /// Says what has to be said of the bins and rooms, and gives the row with which they are counted.
 fn seat_all(
-    alloc: Global,
     literals: &mut Vec<(u32, IntSet)>,
-    items: &[(u32, u32, u32)],
-    domains: &[IntSet],
-    boxes: &[IntSet],
-    x: u32,
-    part: &IntSet,
+    tried: Tried<'_>,
     row: Vec<(i64, i64)>,
     sizes: Total,
 ) -> Result<Vec<(i64, i64)>, AllocError>
-    requires ground { IsPart domains.now boxes.now items.now x part.now }
-    requires sizes { sizes.value ≡ least_sizes items.now (with_part boxes.now x part.now) }
-    requires so_far { AreTotalled items.now domains.now (with_part boxes.now x part.now) 0 0
-        row.items (pos 0) literals.old.items }
-    ensures { IfOk result (λ r. AreTotalled items.now domains.now (with_part boxes.now x part.now)
-        (length items.now) 0 r.items (pos 0) literals.new.items) }
+    requires ground { IsPart tried.domains.now tried.boxes.now tried.items.now tried.x
+        tried.part.now }
+    requires sizes { sizes.value ≡ least_sizes tried.items.now
+        (with_part tried.boxes.now tried.x tried.part.now) }
+    requires so_far { AreTotalled tried.items.now tried.domains.now
+        (with_part tried.boxes.now tried.x tried.part.now) 0 0 row.items (pos 0)
+        literals.old.items }
+    ensures { IfOk result (λ r. AreTotalled tried.entry.items.now tried.entry.domains.now
+        (with_part tried.entry.boxes.now tried.entry.x tried.entry.part.now)
+        (length tried.entry.items.now) 0 r.items (pos 0) literals.new.items) }
 {
     let mut seated = row;
-    for k in 0..items.len() {
-        seated = seat(
-            alloc, literals, items, k, domains, boxes, x, part, seated, sizes,
-        )?;
+    for k in 0..tried.items.len() {
+        seated = seat(literals, tried, k, seated, sizes)?;
     }
     Ok(seated)
 }
@@ -154,54 +152,49 @@ pub fn spare_of(sizes: Total, rooms: Total) -> Number
 
 /// Says what has to be said of the size of item `m`, and gives what is left to spare.
 fn weigh(
-    alloc: Global,
     literals: &mut Vec<(u32, IntSet)>,
-    items: &[(u32, u32, u32)],
+    tried: Tried<'_>,
     m: usize,
-    domains: &[IntSet],
-    boxes: &[IntSet],
-    x: u32,
-    part: &IntSet,
     spare: Number,
 ) -> Result<Number, AllocError>
-    requires ground { IsPart domains.now boxes.now items.now x part.now }
-    requires there { m < length items.now }
-    requires so_far { AreWeighed items.now domains.now (with_part boxes.now x part.now) m
-        spare.value literals.old.items }
-    ensures { IfOk result (λ left. AreWeighed items.now domains.now (with_part boxes.now x part.now)
-        (m + 1) left.value literals.new.items) }
+    requires ground { IsPart tried.domains.now tried.boxes.now tried.items.now tried.x
+        tried.part.now }
+    requires there { m < length tried.items.now }
+    requires so_far { AreWeighed tried.items.now tried.domains.now
+        (with_part tried.boxes.now tried.x tried.part.now) m spare.value literals.old.items }
+    ensures { IfOk result (λ left. AreWeighed tried.entry.items.now tried.entry.domains.now
+        (with_part tried.entry.boxes.now tried.entry.x tried.entry.part.now) (m + 1) left.value
+        literals.new.items) }
 {
-    let y = items[m].1;
-    let low = with_part::least(boxes, x, part, y);
-    let fall = difference(low, least(domains, y));
+    let alloc = *literals.allocator();
+    let y = tried.items[m].1;
+    let low = with_part::least(tried, y);
+    let fall = difference(low, least(tried.domains, y));
     if fall.value <= spare.value {
         return Ok(difference(spare, fall));
     }
-    let under = below(alloc, domain_at(domains, y), difference(low, spare))?;
+    let under = below(alloc, domain_at(tried.domains, y), difference(low, spare))?;
     say(literals, y, under)?;
     Ok(Number { value: 0 })
 }
 
 /// Says what has to be said of the sizes, and gives what is left to spare.
 fn weigh_all(
-    alloc: Global,
     literals: &mut Vec<(u32, IntSet)>,
-    items: &[(u32, u32, u32)],
-    domains: &[IntSet],
-    boxes: &[IntSet],
-    x: u32,
-    part: &IntSet,
+    tried: Tried<'_>,
     spare: Number,
 ) -> Result<Number, AllocError>
-    requires ground { IsPart domains.now boxes.now items.now x part.now }
-    requires so_far { AreWeighed items.now domains.now (with_part boxes.now x part.now) 0
-        spare.value literals.old.items }
-    ensures { IfOk result (λ left. AreWeighed items.now domains.now (with_part boxes.now x part.now)
-        (length items.now) left.value literals.new.items) }
+    requires ground { IsPart tried.domains.now tried.boxes.now tried.items.now tried.x
+        tried.part.now }
+    requires so_far { AreWeighed tried.items.now tried.domains.now
+        (with_part tried.boxes.now tried.x tried.part.now) 0 spare.value literals.old.items }
+    ensures { IfOk result (λ left. AreWeighed tried.entry.items.now tried.entry.domains.now
+        (with_part tried.entry.boxes.now tried.entry.x tried.entry.part.now)
+        (length tried.entry.items.now) left.value literals.new.items) }
 {
     let mut left = spare;
-    for m in 0..items.len() {
-        left = weigh(alloc, literals, items, m, domains, boxes, x, part, left)?;
+    for m in 0..tried.items.len() {
+        left = weigh(literals, tried, m, left)?;
     }
     Ok(left)
 }
@@ -214,37 +207,25 @@ fn weigh_all(
 pub fn explain_total(
     alloc: Global,
     con: &Con,
-    items: &[(u32, u32, u32)],
-    domains: &[IntSet],
-    boxes: &[IntSet],
-    x: u32,
-    part: &IntSet,
+    tried: Tried<'_>,
 ) -> Result<Option<Clause>, AllocError>
-    requires con { con.now ≡ Pack items.now }
-    requires ground { IsPart domains.now boxes.now items.now x part.now }
-    ensures { IfOk result (λ r. IfSome r (λ c. IsPruning con.now domains.now boxes.now c)) }
+    requires con { con.now ≡ Pack tried.items.now }
+    requires ground { IsPart tried.domains.now tried.boxes.now tried.items.now tried.x
+        tried.part.now }
+    ensures { IfOk result (λ r. IfSome r (λ c. IsPruning con.now tried.entry.domains.now
+        tried.entry.boxes.now c)) }
 {
-    let Some((first, n)) = window(items, domains) else {
+    let Some((first, n)) = window(tried.items, tried.domains) else {
         return Ok(None);
     };
-    let best = best_row(alloc, items, boxes, x, part, first, n)?;
-    let sizes = sizes_of(items, boxes, x, part);
+    let best = best_row(alloc, tried, first, n)?;
+    let sizes = sizes_of(tried);
     if sizes.is_at_most(sum_of(best.as_slice())) {
         return Ok(None);
     }
     let mut literals = Vec::new(alloc);
-    let row = seat_all(
-        alloc,
-        &mut literals,
-        items,
-        domains,
-        boxes,
-        x,
-        part,
-        best,
-        sizes,
-    )?;
+    let row = seat_all(&mut literals, tried, best, sizes)?;
     let spare = spare_of(sizes, sum_of(row.as_slice()));
-    weigh_all(alloc, &mut literals, items, domains, boxes, x, part, spare)?;
-    Ok(Some(pruning(con, domains, boxes, literals)))
+    weigh_all(&mut literals, tried, spare)?;
+    Ok(Some(pruning(con, tried.domains, tried.boxes, literals)))
 }

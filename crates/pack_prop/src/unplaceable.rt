@@ -15,8 +15,10 @@ ghost use Rattle.rule_law.specs.Answers.{AreBoxesWithin, IsPruning};
 ghost use Rattle.box_rules.specs.Named.{AreItemsNamed, IsItemNamed};
 
 use crate::overfull::{explain_part, overfilled};
-use ground_form::{Con, Number};
+use crate::with_part::Tried;
+use ground_form::Number;
 use pack_fit::{greatest, is_fixed, least, load_at, tight_at};
+use rule_law::Subject;
 use signed_clause::{Clause, IntSet};
 use std::alloc::{AllocError, Global};
 
@@ -93,32 +95,38 @@ pub fn part_of(
 /// The clause of an item that doesn't fit at the value, where one is found.
 pub fn prune_unplaceable(
     alloc: Global,
-    con: &Con,
+    subject: Subject<'_>,
     items: &[(u32, u32, u32)],
-    domains: &[IntSet],
-    boxes: &[IntSet],
     at: Number,
     i: (u32, u32, u32),
 ) -> Result<Option<Clause>, AllocError>
-    requires con { con.now ≡ Pack items.now }
-    requires items { AreItemsNamed items.now boxes.now }
-    requires item { IsItemNamed i boxes.now }
-    requires sizes { All (λ i. pos 0 ≤ℤ low_of (box_of domains.now i.1)) items.now }
-    requires boxes { AreBoxesWithin domains.now boxes.now }
-    requires sets { All (λ d. IsValid d) domains.now }
-    ensures { IfOk result (λ r. IfSome r (λ c. IsPruning con.now domains.now boxes.now c)) }
+    requires con { subject.con.now ≡ Pack items.now }
+    requires items { AreItemsNamed items.now subject.boxes.now }
+    requires item { IsItemNamed i subject.boxes.now }
+    requires sizes { All (λ i. pos 0 ≤ℤ low_of (box_of subject.domains.now i.1)) items.now }
+    requires boxes { AreBoxesWithin subject.domains.now subject.boxes.now }
+    requires sets { All (λ d. IsValid d) subject.domains.now }
+    ensures { IfOk result (λ r. IfSome r (λ c. IsPruning subject.entry.con.now
+        subject.entry.domains.now subject.entry.boxes.now c)) }
 {
-    let trial = trial_of(items, boxes, i, at);
+    let trial = trial_of(items, subject.boxes, i, at);
     if trial.span.1 < trial.span.0 {
         return Ok(None);
     }
-    let part = part_of(alloc, boxes, trial.var, trial.span)?;
+    let part = part_of(alloc, subject.boxes, trial.var, trial.span)?;
     if part.is_empty() {
         return Ok(None);
     }
-    let Some(k) = overfilled(items, boxes, trial.var, &part, at) else {
+    let tried = Tried {
+        items,
+        domains: subject.domains,
+        boxes: subject.boxes,
+        x: trial.var,
+        part: &part,
+    };
+    let Some(k) = overfilled(tried, at) else {
         return Ok(None);
     };
-    let clause = explain_part(alloc, con, items, domains, boxes, trial.var, &part, at, k)?;
+    let clause = explain_part(alloc, subject.con, tried, at, k)?;
     Ok(Some(clause))
 }

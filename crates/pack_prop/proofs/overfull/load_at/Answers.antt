@@ -6,7 +6,7 @@ use Rattle.pack_prop.proofs.overfull.load_at.Goals as goal
 
 pub loop-i-preserved : goal.loop-i-preserved
 loop-i-preserved c = record {
-  value = load_step c.args.at.value c.args.items.now (with_part c.args.boxes.now c.args.x c.args.part.now) c.loop-i.i-index (get_or c.args.items.now c.loop-i.i-index (0, 0, 0))
+  value = load_step c.args.at.value c.args.tried.items.now (with_part c.args.tried.boxes.now c.args.tried.x c.args.tried.part.now) c.loop-i.i-index (get_or c.args.tried.items.now c.loop-i.i-index (0, 0, 0))
       c.loop-i.load.value c.with_load-load.result.value _ c.loop-i-test.true refl c.with_load-load.ensures.load c.loop-i.invariant.value;
   low = omega (arith, ints, c.with_load-load.ensures.low, c.loop-i.invariant.low);
   high = omega (arith, ints, c.with_load-load.ensures.high, c.loop-i.invariant.high);

@@ -4,9 +4,9 @@ use Rattle.pack_prop.proofs.overfull.overfilled.Given as goal
 
 abbrev pub invariant-loop-k : goal.invariant-loop-k
 invariant-loop-k l = record {
-  upto : l.k ≤ length l.items;
-  none : some_over l.at.value l.load.value (drop l.k l.items) (with_part l.boxes l.x l.part) ≡ some_over l.at.value l.load.value l.items (with_part l.boxes l.x l.part);
+  upto : l.k ≤ length l.tried.items.now;
+  none : some_over l.at.value l.load.value (drop l.k l.tried.items.now) (with_part l.tried.boxes.now l.tried.x l.tried.part.now) ≡ some_over l.at.value l.load.value l.tried.items.now (with_part l.tried.boxes.now l.tried.x l.tried.part.now);
 }
 
 abbrev pub decreases-loop-k : goal.decreases-loop-k
-decreases-loop-k l = length l.items - l.k
+decreases-loop-k l = length l.tried.items.now - l.k

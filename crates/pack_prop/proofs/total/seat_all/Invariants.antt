@@ -4,4 +4,4 @@ use Rattle.pack_prop.specs.TotalSteps.{AreTotalled}
 use Rattle.pack_prop.proofs.total.seat_all.Given as goal
 
 abbrev pub invariant-loop-k : goal.invariant-loop-k
-invariant-loop-k l = AreTotalled l.items l.domains (with_part l.boxes l.x l.part) l.k 0 l.seated.items (pos 0) l.literals.items
+invariant-loop-k l = AreTotalled l.tried.items.now l.tried.domains.now (with_part l.tried.boxes.now l.tried.x l.tried.part.now) l.k 0 l.seated.items (pos 0) l.literals.items

@@ -3,4 +3,4 @@ use Rattle.pack_prop.specs.TotalSteps.{AreWeighed}
 use Rattle.pack_prop.proofs.total.weigh_all.Given as goal
 
 abbrev pub invariant-loop-m : goal.invariant-loop-m
-invariant-loop-m l = AreWeighed l.items l.domains (with_part l.boxes l.x l.part) l.m l.left.value l.literals.items
+invariant-loop-m l = AreWeighed l.tried.items.now l.tried.domains.now (with_part l.tried.boxes.now l.tried.x l.tried.part.now) l.m l.left.value l.literals.items
