@@ -1,11 +1,11 @@
 -- How it is explained that all sizes are more than all room. What a reader believes after this
 -- file: with what the literals leave of the domains, the items come to sizes and rooms that are as
 -- good as those that were counted.
-use Rattle.std.specs.Prelude.{◌≡◌, ◌<◌, ◌≤◌, ℕ, zero, suc, true, List, [], ◌∷◌, ℤ, pos, ◌+ℤ◌, ◌≤ℤ◌, ◌<ℤ◌, slice_index_or, length}
+use Rattle.std.specs.Prelude.{◌≡◌, ◌<◌, ◌≤◌, ℕ, zero, suc, true, List, [], ◌∷◌, ℤ, pos, ◌+ℤ◌, ◌≤ℤ◌, ◌<ℤ◌, slice_index_or, length, ◌+◌}
 use Rattle.std.specs.List.{All}
 use Rattle.signed_clause.specs.Ranges.{has}
 use Rattle.signed_clause.specs.Clauses.{Boxes, Literals, box_of}
-use Rattle.ground_form.specs.Bounds.{low_of, high_of}
+use Rattle.ground_form.specs.Bounds.{low_of, high_of, last_bin}
 use Rattle.box_view.specs.Views.{cut}
 use Rattle.box_rules.specs.Refuted.{best_room}
 use Rattle.pack_prop.specs.Collected.{AreCollected}
@@ -44,7 +44,7 @@ pub record AreWeighed (items : List (ℕ × ℕ × ℕ)) (domains boxes : Boxes)
 -- n values from the first on, none below 0, hold all that the bins have in their domains
 pub record IsWindow (first : ℤ) (n : ℕ) (items : List (ℕ × ℕ × ℕ)) (domains : Boxes) : Type 0 where
   pub low : pos 0 ≤ℤ first
-  pub high : first ≤ℤ pos 9999
-  pub few : n ≤ 10000
+  pub high : first ≤ℤ pos last_bin
+  pub few : n ≤ last_bin + 1
   pub covers : All (λ i. (first ≤ℤ low_of (box_of domains i.0))
       × (high_of (box_of domains i.0) <ℤ (first +ℤ pos n))) items

@@ -1,11 +1,11 @@
 //! Rows of rooms: for each of some values that follow one another the best room there. `best_row`
 //! goes over the items once, and each lifts the entries of its bin's box to its room.
-ghost use Rattle.std.specs.Prelude.{◌≡◌, ◌≤◌, ◌<◌, ◌≤ℤ◌, ◌+ℤ◌, ◌&&◌, ◌||◌, ◌^◌, ℕ, ℤ, [], suc, true, cond, pos, IfOk, OnOk, int_lt, length, drop, slice_index_or};
+ghost use Rattle.std.specs.Prelude.{◌≡◌, ◌≤◌, ◌<◌, ◌≤ℤ◌, ◌+ℤ◌, ◌&&◌, ◌||◌, ◌^◌, ℕ, ℤ, [], suc, true, cond, pos, IfOk, OnOk, int_lt, length, drop, slice_index_or, ◌+◌};
 ghost use Rattle.std.specs.Int.{int_max};
 ghost use Rattle.std.specs.Ordering.{int_eq};
 ghost use Rattle.signed_clause.specs.Ranges.{has, in_range, IsValid};
 ghost use Rattle.signed_clause.specs.Clauses.{Boxes, box_of};
-ghost use Rattle.ground_form.specs.Bounds.{high_of};
+ghost use Rattle.ground_form.specs.Bounds.{high_of, last_bin};
 ghost use Rattle.box_rules.specs.Named.{AreItemsNamed, IsItemNamed};
 ghost use Rattle.pack_prop.specs.RoomRows.{best_rooms, HasRooms, lifted, row_sum, raised, is_short};
 ghost use Rattle.pack_prop.specs.Sources.{with_part};
@@ -115,8 +115,8 @@ fn add_items(row: &mut [(i64, i64)], tried: Tried<'_>, first: Number)
 /// The value that is `k` above the first.
 fn value_from(first: Number, k: usize) -> Number
     requires low { pos 0 ≤ℤ first.value }
-    requires high { first.value ≤ℤ pos 9999 }
-    requires few { k ≤ 9999 }
+    requires high { first.value ≤ℤ pos last_bin }
+    requires few { k ≤ last_bin }
     ensures { result.value ≡ first.value +ℤ pos k }
 {
     Number {
@@ -137,8 +137,8 @@ fn bare_at(at: Number) -> (i64, i64)
 /// Want of memory.
 fn bare_row(alloc: Global, first: Number, n: usize) -> Result<Vec<(i64, i64)>, AllocError>
     requires low { pos 0 ≤ℤ first.value }
-    requires high { first.value ≤ℤ pos 9999 }
-    requires few { n ≤ 10000 }
+    requires high { first.value ≤ℤ pos last_bin }
+    requires few { n ≤ last_bin + 1 }
     ensures { IfOk result (λ row. (boxes : Boxes) → row.items ≡ best_rooms n first.value [] boxes) }
 {
     let mut row = Vec::new(alloc);
@@ -161,8 +161,8 @@ pub fn best_row(
     requires var { tried.x < length tried.boxes.now }
     requires items { AreItemsNamed tried.items.now tried.boxes.now }
     requires low { pos 0 ≤ℤ first.value }
-    requires high { first.value ≤ℤ pos 9999 }
-    requires few { n ≤ 10000 }
+    requires high { first.value ≤ℤ pos last_bin }
+    requires few { n ≤ last_bin + 1 }
     ensures { IfOk result (λ row. row.items ≡ best_rooms n first.value tried.entry.items.now
         (with_part tried.entry.boxes.now tried.entry.x tried.entry.part.now)) }
 {

@@ -10,6 +10,7 @@
 ghost use Rattle.std.specs.Prelude.{◌≡◌, ◌<◌, ◌≤◌, ◌+◌, ◌≤ℤ◌, ◌<ℤ◌, ◌+ℤ◌, ◌-ℤ◌, ℤ, pos, IfOk, IfSome, length};
 ghost use Rattle.std.specs.List.{All};
 ghost use Rattle.ground_form.specs.declared.con.Con.TheVariants.{Pack};
+ghost use Rattle.ground_form.specs.Bounds.{last_bin};
 ghost use Rattle.rule_law.specs.Answers.{IsPruning};
 ghost use Rattle.box_rules.specs.Named.{AreItemsNamed};
 ghost use Rattle.box_rules.specs.Refuted.{least_sizes};
@@ -20,20 +21,17 @@ use crate::collected::{below, say};
 use crate::literals::{domain_at, say_room};
 use crate::room_row::{best_row, raise, short_values, sum_of};
 use crate::with_part::{self, Tried};
-use ground_form::{Con, Number};
+use ground_form::{Con, LAST_BIN, Number};
 use pack_fit::{Total, first_bin, last_bin, least};
 use rule_law::pruning;
 use signed_clause::{Clause, IntSet};
 use std::alloc::{AllocError, Global};
 
-/// The greatest value that a bin of a well made problem has.
-const LAST_BIN: i64 = 9999;
-
 /// How many values there are from the first to the last.
 fn count_of(first: Number, last: Number) -> usize
     requires low { pos 0 ≤ℤ first.value }
     requires order { first.value ≤ℤ last.value }
-    requires high { last.value ≤ℤ pos 9999 }
+    requires high { last.value ≤ℤ pos last_bin }
     ensures { first.value +ℤ pos result ≡ last.value +ℤ pos 1 }
 {
     (last.value - first.value) as usize + 1
