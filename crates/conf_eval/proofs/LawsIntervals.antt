@@ -22,7 +22,8 @@ use Rattle.conf_types.specs.Readings.{has, typed_if, list_class, takes_both}
 use Rattle.conf_types.specs.Readings as reading
 use Rattle.conf_types.specs.Trees.{Tree, Filter, Bodies, NoBody, Body}
 use Rattle.conf_types.specs.Trees as tree
-use Rattle.conf_types.specs.Types.{left_need, right_need, body_need}
+use Rattle.conf_types.specs.Types.{body_need}
+use Rattle.conf_types.specs.Operators.{left_need, right_need}
 use Rattle.conf_types.specs.Typing.{Place, inside, within, attribute_type, tree_type, filter_fits, bodies_fit}
 use Rattle.object_alloc.specs.Cells.{extent}
 use Rattle.object_alloc.specs.Configurations.{IsConfiguration}

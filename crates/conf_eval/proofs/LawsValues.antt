@@ -21,7 +21,8 @@ use Rattle.conf_types.specs.Readings.{has, typed_if, list_class}
 use Rattle.conf_types.specs.Readings as reading
 use Rattle.conf_types.specs.Trees.{Tree}
 use Rattle.conf_types.specs.Trees as tree
-use Rattle.conf_types.specs.Types.{shape_type, result_of, quant_result}
+use Rattle.conf_types.specs.Types.{shape_type, quant_result}
+use Rattle.conf_types.specs.Operators.{result_of}
 use Rattle.conf_types.specs.Typing.{Place, local_class, same_shape, shaped, variable_type, attribute_type, value_there, quantifier_type, tree_type}
 use Rattle.object_alloc.specs.Cells.{extent, value_count}
 use Rattle.object_alloc.specs.Configurations.{IsConfiguration}

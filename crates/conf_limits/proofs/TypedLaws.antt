@@ -19,7 +19,8 @@ use Rattle.conf_types.specs.Programs.{ResolvedConstraint, ResolvedGoal}
 use Rattle.conf_types.specs.Readings.{has, typed_if, list_class, object_of, takes_both}
 use Rattle.conf_types.specs.Trees.{Tree, Filter, NoFilter, Where, Bodies, NoBody, Body}
 use Rattle.conf_types.specs.Trees as tree
-use Rattle.conf_types.specs.Types.{shape_type, left_need, right_need, is_linear, result_of, body_need}
+use Rattle.conf_types.specs.Types.{shape_type, body_need}
+use Rattle.conf_types.specs.Operators.{left_need, right_need, is_linear, result_of}
 use Rattle.conf_types.specs.Typing.{Place, within, outermost, same_shape, shaped, variable_type, attribute_type, quantifier_type, is_literal, tree_type, filter_fits, bodies_fit, IsTypedConstraint, IsTypedGoal}
 use Rattle.conf_limits.specs.Limits.{IsShapeThere, IsThere, IsFilterThere, AreBodiesThere, IsConstraintThere, IsGoalThere}
 

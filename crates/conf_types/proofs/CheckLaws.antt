@@ -25,7 +25,8 @@ use Rattle.conf_types.specs.Scopes.{Scope, Sense, Nothing, attribute_named, sens
 use Rattle.conf_types.specs.declared.tree.RQuant as rquant
 use Rattle.conf_types.specs.Trees.{Tree, Bodies, NoBody, Body, tree_of, trees_of, optional_tree, quant_tree, body_trees}
 use Rattle.conf_types.specs.Trees as tree
-use Rattle.conf_types.specs.Types.{meets, body_need, left_need, right_need, quant_result, is_linear}
+use Rattle.conf_types.specs.Types.{meets, body_need, quant_result}
+use Rattle.conf_types.specs.Operators.{left_need, right_need, is_linear}
 
 pub on_fault : (f : TypeFault) (P Q : TypeFault → Type 0) → ((g : TypeFault) → P g → Q g) → OnFault f P → OnFault f Q
 on_fault (Unknown at) P Q each h = each (Unknown at) h

@@ -17,7 +17,8 @@ use Rattle.conf_types.specs.declared.types.Need.TheVariants as need
 use Rattle.conf_types.specs.Readings.{has, typed_if, takes_both, list_class, object_of}
 use Rattle.conf_types.specs.Trees.{Tree, Filter, Bodies, Where, Body}
 use Rattle.conf_types.specs.Trees as tree
-use Rattle.conf_types.specs.Types.{shape_type, meets, left_need, right_need, takes, result_of, is_linear, body_need, quant_result}
+use Rattle.conf_types.specs.Types.{shape_type, meets, body_need, quant_result}
+use Rattle.conf_types.specs.Operators.{left_need, right_need, takes, result_of, is_linear}
 use Rattle.conf_types.specs.Typing.{Place, inside, within, same_shape, shaped, variable_type, attribute_type, value_there, is_literal, quantifier_type, tree_type, filter_fits, bodies_fit}
 use Rattle.conf_types.proofs.TypedParts.{truth_is, int_is}
 

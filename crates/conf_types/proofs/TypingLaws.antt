@@ -24,7 +24,8 @@ use Rattle.conf_types.specs.declared.types.Need.TheVariants as need
 use Rattle.conf_types.specs.Readings.{Reading, has, typed_if, takes_both, list_class, object_of, values_of, number_reading, truth_reading, this_reading, word_reading, over_reading, right_reading, paren_reading, minus_reading, not_reading, value_reading, found_reading, attribute_reading, dot_reading, pair_reading}
 use Rattle.conf_types.specs.Scopes.{Scope, Sense, ALocal, AnOwn, ARoot, AnEnumeration, AClass, Nothing, shape_at, with_shape, attribute_named, own_named, own_or, local_or, declared_sense, sense}
 use Rattle.conf_types.specs.Scopes as scope
-use Rattle.conf_types.specs.Types.{shape_type, left_need, right_need, result_of, is_linear, keeps_literal, is_in, quant_result}
+use Rattle.conf_types.specs.Types.{shape_type, quant_result}
+use Rattle.conf_types.specs.Operators.{left_need, right_need, result_of, is_linear, keeps_literal, is_in}
 use Rattle.conf_types.specs.Typing.{Place, inside, local_class, same_shape, shaped, variable_type, attribute_type, is_literal, quantifier_type, tree_type}
 
 -- the tree has the type that was read, and is built of literals where the expression was

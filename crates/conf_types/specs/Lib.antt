@@ -1,4 +1,5 @@
 pub mod Types
+pub mod Operators
 pub mod Typing
 pub mod Trees
 pub mod Resolved

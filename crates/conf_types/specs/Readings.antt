@@ -21,7 +21,8 @@ use Rattle.conf_types.specs.declared.types.Need.TheVariants as need
 use Rattle.conf_types.specs.Scopes.{Scope, within, Sense, ALocal, AnOwn, ARoot, AnEnumeration, AClass, Nothing, attribute_named, sense}
 use Rattle.conf_types.specs.Trees.{Tree, Filter, Bodies, NoFilter, Where, NoBody, Body}
 use Rattle.conf_types.specs.Trees as tree
-use Rattle.conf_types.specs.Types.{shape_type, meets, left_need, right_need, takes, result_of, keeps_literal, is_linear, is_in, body_need, quant_result}
+use Rattle.conf_types.specs.Types.{shape_type, meets, body_need, quant_result}
+use Rattle.conf_types.specs.Operators.{left_need, right_need, takes, result_of, keeps_literal, is_linear, is_in}
 
 -- what is told of an expression where it stands: its type, if it has one; all faults that stand in
 -- it; what it is resolved to; the place of its first token; whether it is built of literals

@@ -15,7 +15,8 @@ use Rattle.conf_types.specs.Programs.{ResolvedConstraint, ResolvedGoal}
 use Rattle.conf_types.specs.Readings.{has, typed_if, takes_both, list_class, object_of}
 use Rattle.conf_types.specs.Trees.{Tree, Filter, NoFilter, Where, Bodies, NoBody, Body}
 use Rattle.conf_types.specs.Trees as tree
-use Rattle.conf_types.specs.Types.{shape_type, left_need, right_need, result_of, keeps_literal, is_linear, body_need, quant_result}
+use Rattle.conf_types.specs.Types.{shape_type, body_need, quant_result}
+use Rattle.conf_types.specs.Operators.{left_need, right_need, result_of, keeps_literal, is_linear}
 
 -- where a resolved expression stands: the class of `this`, if it stands in one, and the classes of
 -- the variables of the quantifiers round it, the outermost first

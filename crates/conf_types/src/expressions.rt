@@ -9,14 +9,16 @@ ghost use Rattle.conf_syntax.specs.Trees.{depth, depth_of_all, quant_depth};
 ghost use Rattle.conf_types.specs.Checked.{scope_of, told, IsScope, IsRead, IsTypeOf, IsFilter, AreBodies, optional_reading, optional_depth, readings, quantifier_at};
 ghost use Rattle.conf_types.specs.Programs.{OnFault};
 ghost use Rattle.conf_types.specs.Readings.{read, needed, faults_of, alone, over_reading, right_reading, paren_reading, dot_reading, attribute_reading, minus_reading, not_reading, pair_reading, quant_reading, filter_faults, bodies_faults};
-ghost use Rattle.conf_types.specs.Types.{meets, left_need, right_need, body_need};
+ghost use Rattle.conf_types.specs.Types.{meets, body_need};
+ghost use Rattle.conf_types.specs.Operators.{left_need, right_need};
 
+use crate::operators::{is_in, left_need, right_need};
 use crate::rules::{
     Checked, attribute, class, minus, negation, number, pair, paren, quantifier, require,
     scope_over, this, truth, unknown, value, word,
 };
 use crate::scope::{Scope, Sense, alone, sense_of};
-use crate::types::{body_need, is_in, left_need, right_need};
+use crate::types::body_need;
 use crate::{Need, RExpr, TypeFault};
 use class_table::ClassTable;
 use conf_syntax::{Expr, Ident, Node, Op, Quant, QuantKind};

@@ -6,11 +6,13 @@ ghost use Rattle.conf_syntax.specs.declared.token.Ident.{Ident as AnIdent};
 ghost use Rattle.conf_types.specs.Checked.{told, scope_of, IsRead, IsFilter, AreBodies, IsScope, IsSenseOf, IsTypeOf};
 ghost use Rattle.conf_types.specs.Programs.{OnFault};
 ghost use Rattle.conf_types.specs.Readings.{Reading, number_reading, truth_reading, this_reading, word_reading, over_reading, paren_reading, minus_reading, not_reading, value_reading, values_of, found_reading, attribute_reading, pair_reading, list_class, shadow, quantifier_reading};
-ghost use Rattle.conf_types.specs.Types.{meets, left_need, right_need, shape_type, result_of, quant_result};
+ghost use Rattle.conf_types.specs.Types.{meets, shape_type, quant_result};
+ghost use Rattle.conf_types.specs.Operators.{left_need, right_need, result_of};
 ghost use Rattle.conf_types.specs.Scopes.{AClass, Nothing, within};
 
+use crate::operators::{is_linear, keeps_literal, result_of, takes};
 use crate::scope::{Found, Scope, Sense, attribute_of, scope_within};
-use crate::types::{is_linear, keeps_literal, meets, quant_result, result_of, shape_type, takes};
+use crate::types::{meets, quant_result, shape_type};
 use crate::{ExprType, Need, RExpr, RNode, RQuant, TypeFault};
 use class_table::ClassTable;
 use conf_syntax::{Ident, Name, Op, QuantKind};

@@ -1,10 +1,10 @@
 //! Types, what a place needs of the type of the expression that stands there, and the tables of
-//! both for operators and quantifiers.
+//! both for quantifiers.
 ghost use Rattle.std.specs.Prelude.{◌≡◌};
-ghost use Rattle.conf_types.specs.Types.{meets, shape_type, is_comparable, left_need, right_need, takes, result_of, keeps_literal, is_linear, is_in, body_need, quant_result, is_int, is_truth, is_object, is_choice, is_list};
+ghost use Rattle.conf_types.specs.Types.{meets, shape_type, is_comparable, body_need, quant_result, is_int, is_truth, is_object, is_choice, is_list};
 
 use class_table::Resolved;
-use conf_syntax::{Op, QuantKind};
+use conf_syntax::QuantKind;
 
 /// The type of an expression. Classes and enumerations are the numbers of the class table.
 #[derive(Clone, Copy, Debug, PartialEq, Eq)]
@@ -49,7 +49,7 @@ pub(crate) fn shape_type(shape: Resolved) -> ExprType
     }
 }
 
-fn is_int(kind: ExprType) -> bool
+pub(crate) fn is_int(kind: ExprType) -> bool
     ensures { result ≡ is_int kind }
 {
     match kind {
@@ -125,7 +125,7 @@ pub(crate) fn meets(need: Need, kind: ExprType) -> bool
 }
 
 /// Whether `=` and `!=` take a pair of such types.
-fn is_comparable(left: ExprType, right: ExprType) -> bool
+pub(crate) fn is_comparable(left: ExprType, right: ExprType) -> bool
     ensures { result ≡ is_comparable left right }
 {
     match left {
@@ -134,121 +134,6 @@ fn is_comparable(left: ExprType, right: ExprType) -> bool
         ExprType::Choice(enumeration) => is_choice(enumeration, right),
         ExprType::Object(_) => is_object(right),
         ExprType::Objects(_) | ExprType::Class(_) => false,
-    }
-}
-
-/// What an operator needs of its left side.
-pub(crate) fn left_need(op: Op) -> Need
-    ensures { result ≡ left_need op }
-{
-    match op {
-        Op::Implies | Op::Or | Op::And => Need::Truth,
-        Op::Eq | Op::Ne => Need::Any,
-        Op::Lt | Op::Le | Op::Gt | Op::Ge | Op::Add | Op::Sub | Op::Mul => Need::Int,
-        Op::In => Need::Object,
-    }
-}
-
-/// What an operator needs of its right side.
-pub(crate) fn right_need(op: Op) -> Need
-    ensures { result ≡ right_need op }
-{
-    match op {
-        Op::Implies | Op::Or | Op::And => Need::Truth,
-        Op::Eq | Op::Ne => Need::Any,
-        Op::Lt | Op::Le | Op::Gt | Op::Ge | Op::Add | Op::Sub | Op::Mul => Need::Int,
-        Op::In => Need::List,
-    }
-}
-
-/// Whether a comparison takes a pair of such types. What isn't a comparison takes all pairs that
-/// meet its needs.
-pub(crate) fn takes(op: Op, left: ExprType, right: ExprType) -> bool
-    ensures { result ≡ takes op left right }
-{
-    match op {
-        Op::Eq | Op::Ne => is_comparable(left, right),
-        Op::Lt | Op::Le | Op::Gt | Op::Ge => is_int(left) && is_int(right),
-        Op::Implies | Op::Or | Op::And | Op::In | Op::Add | Op::Sub | Op::Mul => true,
-    }
-}
-
-/// The type of what an operator makes.
-pub(crate) fn result_of(op: Op) -> ExprType
-    ensures { result ≡ result_of op }
-{
-    match op {
-        Op::Add | Op::Sub | Op::Mul => ExprType::Int,
-        Op::Implies
-        | Op::Or
-        | Op::And
-        | Op::Eq
-        | Op::Ne
-        | Op::Lt
-        | Op::Le
-        | Op::Gt
-        | Op::Ge
-        | Op::In => ExprType::Truth,
-    }
-}
-
-/// Whether what the operator makes of two sides that are built of literals is so too.
-pub(crate) fn keeps_literal(op: Op) -> bool
-    ensures { result ≡ keeps_literal op }
-{
-    match op {
-        Op::Add | Op::Sub | Op::Mul => true,
-        Op::Implies
-        | Op::Or
-        | Op::And
-        | Op::Eq
-        | Op::Ne
-        | Op::Lt
-        | Op::Le
-        | Op::Gt
-        | Op::Ge
-        | Op::In => false,
-    }
-}
-
-/// Whether the operator takes such sides: `*` takes them where one is built of literals.
-pub(crate) fn is_linear(op: Op, left: bool, right: bool) -> bool
-    ensures { result ≡ is_linear op left right }
-{
-    match op {
-        Op::Mul => left || right,
-        Op::Implies
-        | Op::Or
-        | Op::And
-        | Op::Eq
-        | Op::Ne
-        | Op::Lt
-        | Op::Le
-        | Op::Gt
-        | Op::Ge
-        | Op::In
-        | Op::Add
-        | Op::Sub => true,
-    }
-}
-
-pub(crate) fn is_in(op: Op) -> bool
-    ensures { result ≡ is_in op }
-{
-    match op {
-        Op::In => true,
-        Op::Implies
-        | Op::Or
-        | Op::And
-        | Op::Eq
-        | Op::Ne
-        | Op::Lt
-        | Op::Le
-        | Op::Gt
-        | Op::Ge
-        | Op::Add
-        | Op::Sub
-        | Op::Mul => false,
     }
 }
 

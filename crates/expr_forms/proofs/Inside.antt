@@ -15,7 +15,7 @@ use Rattle.conf_types.specs.Readings.{has}
 use Rattle.conf_types.specs.Readings as reading
 use Rattle.conf_types.specs.Trees.{Tree}
 use Rattle.conf_types.specs.Trees as tree
-use Rattle.conf_types.specs.Types.{left_need, right_need}
+use Rattle.conf_types.specs.Operators.{left_need, right_need}
 use Rattle.conf_types.specs.Typing.{Place, local_class, attribute_type, tree_type}
 use Rattle.object_alloc.specs.Cells.{extent}
 use Rattle.object_alloc.specs.Laid.{variables_of}

@@ -11,7 +11,7 @@ use Rattle.conf_types.specs.declared.types.ExprType.{ExprType}
 use Rattle.conf_types.specs.Readings.{has}
 use Rattle.conf_types.specs.Trees.{Tree}
 use Rattle.conf_types.specs.Trees as tree
-use Rattle.conf_types.specs.Types.{left_need, right_need, keeps_literal, is_linear}
+use Rattle.conf_types.specs.Operators.{left_need, right_need, keeps_literal, is_linear}
 use Rattle.conf_types.specs.Typing.{Place, tree_type, is_literal}
 use Rattle.conf_limits.specs.declared.interval.Interval.{Interval}
 use Rattle.conf_limits.specs.Measures.{interval, operator_interval, times}

@@ -11,7 +11,8 @@ use Rattle.conf_syntax.specs.declared.tree.QuantKind.{QuantKind}
 use Rattle.conf_syntax.specs.declared.tree.QuantKind.TheVariants as kind
 use Rattle.conf_types.specs.declared.types.ExprType.{ExprType}
 use Rattle.conf_types.specs.Readings.{list_class}
-use Rattle.conf_types.specs.Types.{result_of, quant_result}
+use Rattle.conf_types.specs.Types.{quant_result}
+use Rattle.conf_types.specs.Operators.{result_of}
 use Rattle.conf_types.specs.Typing.{tree_type}
 use Rattle.object_alloc.specs.Cells.{extent}
 use Rattle.conf_types.specs.declared.types.ExprType.TheVariants as type

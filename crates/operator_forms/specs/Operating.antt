@@ -6,7 +6,7 @@ use Rattle.std.specs.Ordering.{int_eq}
 use Rattle.class_table.specs.Outline.{Outline}
 use Rattle.conf_syntax.specs.declared.tree.Op.{Op}
 use Rattle.conf_syntax.specs.declared.tree.Op.TheVariants as op
-use Rattle.conf_types.specs.Types.{result_of}
+use Rattle.conf_types.specs.Operators.{result_of}
 use Rattle.conf_limits.specs.declared.interval.Interval.{Interval}
 use Rattle.conf_limits.specs.Measures.{operator_interval, is_narrow}
 use Rattle.conf_eval.specs.declared.value.Value.{Value}

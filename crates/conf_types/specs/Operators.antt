@@ -1,0 +1,98 @@
+-- The classes of operators, and what operators need of their sides and make of them: one line for
+-- each class.
+use Rattle.std.specs.Prelude.{Bool, true, false, ◌&&◌, ◌||◌}
+use Rattle.conf_syntax.specs.declared.tree.Op.{Op}
+use Rattle.conf_syntax.specs.declared.tree.Op.TheVariants as op
+use Rattle.conf_types.specs.declared.operators.OpClass.{OpClass}
+use Rattle.conf_types.specs.declared.operators.OpClass.TheVariants.{Logic, Equality, Order, Member, Sum, Product}
+use Rattle.conf_types.specs.declared.types.ExprType.{ExprType}
+use Rattle.conf_types.specs.declared.types.ExprType.TheVariants.{Int, Truth}
+use Rattle.conf_types.specs.declared.types.Need.{Need}
+use Rattle.conf_types.specs.declared.types.Need.TheVariants as need
+use Rattle.conf_types.specs.Types.{is_comparable, is_int}
+
+abbrev pub class_of : Op → OpClass
+class_of op.Implies = Logic
+class_of op.Or = Logic
+class_of op.And = Logic
+class_of op.Eq = Equality
+class_of op.Ne = Equality
+class_of op.Lt = Order
+class_of op.Le = Order
+class_of op.Gt = Order
+class_of op.Ge = Order
+class_of op.In = Member
+class_of op.Add = Sum
+class_of op.Sub = Sum
+class_of op.Mul = Product
+
+-- what a class needs of the left side
+abbrev pub left_by : OpClass → Need
+left_by Logic = need.Truth
+left_by Equality = need.Any
+left_by Order = need.Int
+left_by Member = need.Object
+left_by Sum = need.Int
+left_by Product = need.Int
+
+abbrev pub left_need : Op → Need
+left_need op = left_by (class_of op)
+
+-- what a class needs of the right side
+abbrev pub right_by : OpClass → Need
+right_by Logic = need.Truth
+right_by Equality = need.Any
+right_by Order = need.Int
+right_by Member = need.List
+right_by Sum = need.Int
+right_by Product = need.Int
+
+abbrev pub right_need : Op → Need
+right_need op = right_by (class_of op)
+
+-- the pairs of types that a class takes
+abbrev pub taken_by : OpClass → ExprType → ExprType → Bool
+taken_by Logic a b = true
+taken_by Equality a b = is_comparable a b
+taken_by Order a b = is_int a && is_int b
+taken_by Member a b = true
+taken_by Sum a b = true
+taken_by Product a b = true
+
+-- the pairs of types that a comparison takes; `in` and what compares nothing have their needs alone
+abbrev pub takes : Op → ExprType → ExprType → Bool
+takes op a b = taken_by (class_of op) a b
+
+-- the type of what a class makes
+abbrev pub made_by : OpClass → ExprType
+made_by Logic = Truth
+made_by Equality = Truth
+made_by Order = Truth
+made_by Member = Truth
+made_by Sum = Int
+made_by Product = Int
+
+abbrev pub result_of : Op → ExprType
+result_of op = made_by (class_of op)
+
+-- the class makes numbers of numbers
+abbrev pub makes_numbers : OpClass → Bool
+makes_numbers Logic = false
+makes_numbers Equality = false
+makes_numbers Order = false
+makes_numbers Member = false
+makes_numbers Sum = true
+makes_numbers Product = true
+
+-- what these make of sides that are built of literals is built of literals
+abbrev pub keeps_literal : Op → Bool
+keeps_literal op = makes_numbers (class_of op)
+
+-- one side of `*` is built of literals
+abbrev pub is_linear : Op → Bool → Bool → Bool
+is_linear op.Mul l r = l || r
+is_linear op l r = true
+
+abbrev pub is_in : Op → Bool
+is_in op.In = true
+is_in op = false
