@@ -11,6 +11,9 @@ use Rattle.conf_syntax.specs.declared.tree.Op.{Op}
 use Rattle.conf_syntax.specs.declared.tree.Op.TheVariants as op
 use Rattle.conf_syntax.specs.declared.tree.QuantKind.{QuantKind}
 use Rattle.conf_syntax.specs.declared.tree.QuantKind.TheVariants as kind
+use Rattle.conf_types.specs.declared.operators.OpClass.{OpClass}
+use Rattle.conf_types.specs.declared.operators.OpClass.TheVariants.{Logic, Equality, Order, Member, Sum, Product}
+use Rattle.conf_types.specs.Operators.{class_of}
 use Rattle.conf_types.specs.Programs.{ResolvedConstraint, ResolvedGoal}
 use Rattle.conf_types.specs.Trees.{Tree, Filter, NoFilter, Where, Bodies, NoBody, Body}
 use Rattle.conf_types.specs.Trees as tree
@@ -78,21 +81,17 @@ is_object (tree.Value at e k) = false
 is_object (tree.Quant at q over f bs) = false
 is_object (tree.Missing at) = false
 
--- `=` and `!=` on objects, and `in`, look at the lesser reach
+-- the classes that look at the lesser reach: equality on objects, and `in`
+abbrev pub looked_at_by : OpClass → Bool → Bool
+looked_at_by Logic objects = false
+looked_at_by Equality objects = objects
+looked_at_by Order objects = false
+looked_at_by Member objects = true
+looked_at_by Sum objects = false
+looked_at_by Product objects = false
+
 abbrev pub looks_at_reach : Op → Bool → Bool
-looks_at_reach op.In objects = true
-looks_at_reach op.Eq objects = objects
-looks_at_reach op.Ne objects = objects
-looks_at_reach op.Implies objects = false
-looks_at_reach op.Or objects = false
-looks_at_reach op.And objects = false
-looks_at_reach op.Lt objects = false
-looks_at_reach op.Le objects = false
-looks_at_reach op.Gt objects = false
-looks_at_reach op.Ge objects = false
-looks_at_reach op.Add objects = false
-looks_at_reach op.Sub objects = false
-looks_at_reach op.Mul objects = false
+looks_at_reach op objects = looked_at_by (class_of op) objects
 
 -- a quantifier over something of reach r, which weighs so much, with a filter and bodies that weigh
 -- so much
@@ -181,16 +180,7 @@ abbrev pub operator_interval : Op → Interval → Interval → Interval
 operator_interval op.Add i j = between (i.low +ℤ j.low) (i.high +ℤ j.high)
 operator_interval op.Sub i j = between (i.low -ℤ j.high) (i.high -ℤ j.low)
 operator_interval op.Mul i j = times i j
-operator_interval op.Implies i j = none
-operator_interval op.Or i j = none
-operator_interval op.And i j = none
-operator_interval op.Eq i j = none
-operator_interval op.Ne i j = none
-operator_interval op.Lt i j = none
-operator_interval op.Le i j = none
-operator_interval op.Gt i j = none
-operator_interval op.Ge i j = none
-operator_interval op.In i j = none
+operator_interval op i j = none
 
 -- of `sum` and `count`, and for `pack` the sum of all sizes: the interval of a quantifier over
 -- something of reach r, by those of its first two bodies

@@ -112,16 +112,7 @@ fn operator_interval(op: Op, i: Interval, j: Interval) -> Option<Interval>
             i.high as i128 - j.low as i128,
         ),
         Op::Mul => times(i, j),
-        Op::Implies
-        | Op::Or
-        | Op::And
-        | Op::Eq
-        | Op::Ne
-        | Op::Lt
-        | Op::Le
-        | Op::Gt
-        | Op::Ge
-        | Op::In => Some(nothing()),
+        _ => Some(nothing()),
     }
 }
 

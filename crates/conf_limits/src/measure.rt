@@ -12,6 +12,7 @@ use crate::capped::{capped_product, capped_sum};
 use crate::interval::{Interval, many, negated, nothing, number, operated, shape_interval, up_to};
 use class_table::Resolved;
 use conf_syntax::{Op, QuantKind};
+use conf_types::{OpClass, class_of};
 use object_alloc::Objects;
 
 /// What is measured of an expression.
@@ -192,19 +193,10 @@ pub(crate) fn negation(inner: Measure) -> Measure
 fn looks_at_reach(op: Op, objects: bool) -> bool
     ensures { result ≡ looks_at_reach op objects }
 {
-    match op {
-        Op::In => true,
-        Op::Eq | Op::Ne => objects,
-        Op::Implies
-        | Op::Or
-        | Op::And
-        | Op::Lt
-        | Op::Le
-        | Op::Gt
-        | Op::Ge
-        | Op::Add
-        | Op::Sub
-        | Op::Mul => false,
+    match class_of(op) {
+        OpClass::Member => true,
+        OpClass::Equality => objects,
+        OpClass::Logic | OpClass::Order | OpClass::Sum | OpClass::Product => false,
     }
 }
 
