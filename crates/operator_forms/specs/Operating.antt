@@ -6,7 +6,9 @@ use Rattle.std.specs.Ordering.{int_eq}
 use Rattle.class_table.specs.Outline.{Outline}
 use Rattle.conf_syntax.specs.declared.tree.Op.{Op}
 use Rattle.conf_syntax.specs.declared.tree.Op.TheVariants as op
-use Rattle.conf_types.specs.Operators.{result_of}
+use Rattle.conf_types.specs.declared.operators.OpClass.{OpClass}
+use Rattle.conf_types.specs.declared.operators.OpClass.TheVariants.{Logic, Equality, Order, Member}
+use Rattle.conf_types.specs.Operators.{class_of, makes_numbers, result_of}
 use Rattle.conf_limits.specs.declared.interval.Interval.{Interval}
 use Rattle.conf_limits.specs.Measures.{operator_interval, is_narrow}
 use Rattle.conf_eval.specs.declared.value.Value.{Value}
@@ -48,99 +50,52 @@ are_truths l r = is_truth l && is_truth r
 
 -- the operator makes a number of two numbers
 abbrev pub is_arithmetic : Op → Bool
-is_arithmetic op.Add = true
-is_arithmetic op.Sub = true
-is_arithmetic op.Mul = true
-is_arithmetic op.Implies = false
-is_arithmetic op.Or = false
-is_arithmetic op.And = false
-is_arithmetic op.Eq = false
-is_arithmetic op.Ne = false
-is_arithmetic op.Lt = false
-is_arithmetic op.Le = false
-is_arithmetic op.Gt = false
-is_arithmetic op.Ge = false
-is_arithmetic op.In = false
+is_arithmetic op = makes_numbers (class_of op)
 
--- the operator makes a truth of two truths
+-- the class makes a truth of two truths
+abbrev pub takes_truths_by : OpClass → Bool
+takes_truths_by Logic = true
+takes_truths_by Equality = true
+takes_truths_by c = false
+
 abbrev pub takes_truths : Op → Bool
-takes_truths op.Implies = true
-takes_truths op.Or = true
-takes_truths op.And = true
-takes_truths op.Eq = true
-takes_truths op.Ne = true
-takes_truths op.Lt = false
-takes_truths op.Le = false
-takes_truths op.Gt = false
-takes_truths op.Ge = false
-takes_truths op.Add = false
-takes_truths op.Sub = false
-takes_truths op.Mul = false
-takes_truths op.In = false
+takes_truths op = takes_truths_by (class_of op)
 
--- the operator joins two truths here, or asks whether they are the same
+-- the class joins two truths here, or asks whether they are the same
+abbrev pub joins_truths_by : OpClass → Form → Form → Bool
+joins_truths_by Logic l r = true
+joins_truths_by Equality l r = are_truths l r
+joins_truths_by c l r = false
+
 abbrev pub joins_truths : Op → Form → Form → Bool
-joins_truths op.Implies l r = true
-joins_truths op.Or l r = true
-joins_truths op.And l r = true
-joins_truths op.Eq l r = are_truths l r
-joins_truths op.Ne l r = are_truths l r
-joins_truths op.Lt l r = false
-joins_truths op.Le l r = false
-joins_truths op.Gt l r = false
-joins_truths op.Ge l r = false
-joins_truths op.Add l r = false
-joins_truths op.Sub l r = false
-joins_truths op.Mul l r = false
-joins_truths op.In l r = false
+joins_truths op l r = joins_truths_by (class_of op) l r
 
--- the operator compares two numbers, whatever else it may compare
+-- the class compares two numbers, whatever else it may compare
+abbrev pub compares_by : OpClass → Bool
+compares_by Equality = true
+compares_by Order = true
+compares_by c = false
+
 abbrev pub is_comparison : Op → Bool
-is_comparison op.Eq = true
-is_comparison op.Ne = true
-is_comparison op.Lt = true
-is_comparison op.Le = true
-is_comparison op.Gt = true
-is_comparison op.Ge = true
-is_comparison op.Implies = false
-is_comparison op.Or = false
-is_comparison op.And = false
-is_comparison op.Add = false
-is_comparison op.Sub = false
-is_comparison op.Mul = false
-is_comparison op.In = false
+is_comparison op = compares_by (class_of op)
 
--- the operator compares numbers here
+-- the class compares numbers here
+abbrev pub compares_numbers_by : OpClass → Form → Form → Bool
+compares_numbers_by Equality l r = are_numbers l r
+compares_numbers_by Order l r = true
+compares_numbers_by c l r = false
+
 abbrev pub compares_numbers : Op → Form → Form → Bool
-compares_numbers op.Eq l r = are_numbers l r
-compares_numbers op.Ne l r = are_numbers l r
-compares_numbers op.Lt l r = true
-compares_numbers op.Le l r = true
-compares_numbers op.Gt l r = true
-compares_numbers op.Ge l r = true
-compares_numbers op.Implies l r = false
-compares_numbers op.Or l r = false
-compares_numbers op.And l r = false
-compares_numbers op.Add l r = false
-compares_numbers op.Sub l r = false
-compares_numbers op.Mul l r = false
-compares_numbers op.In l r = false
+compares_numbers op l r = compares_numbers_by (class_of op) l r
 
--- the operator compares no objects and no values of enumerations
+-- the class compares no objects and no values of enumerations
+abbrev pub is_plain_by : OpClass → Form → Form → Bool
+is_plain_by Equality l r = are_numbers l r || are_truths l r
+is_plain_by Member l r = false
+is_plain_by c l r = true
+
 abbrev pub is_plain : Op → Form → Form → Bool
-is_plain op.Eq l r = are_numbers l r || are_truths l r
-is_plain op.Ne l r = are_numbers l r || are_truths l r
-is_plain op.In l r = false
-is_plain op.Lt l r = true
-is_plain op.Le l r = true
-is_plain op.Gt l r = true
-is_plain op.Ge l r = true
-is_plain op.Implies l r = true
-is_plain op.Or l r = true
-is_plain op.And l r = true
-is_plain op.Add l r = true
-is_plain op.Sub l r = true
-is_plain op.Mul l r = true
+is_plain op l r = is_plain_by (class_of op) l r
 
 -- ---- operators between numbers and between truths
 
@@ -173,18 +128,7 @@ pub record IsSide (boxes : Boxes) (i : Interval) (f : Form) : Type 0 where
 -- of two intervals that are multiplied one has a single number
 abbrev pub has_factor : Op → Interval → Interval → Bool
 has_factor op.Mul i j = int_eq i.low i.high || int_eq j.low j.high
-has_factor op.Add i j = true
-has_factor op.Sub i j = true
-has_factor op.Eq i j = true
-has_factor op.Ne i j = true
-has_factor op.Lt i j = true
-has_factor op.Le i j = true
-has_factor op.Gt i j = true
-has_factor op.Ge i j = true
-has_factor op.Implies i j = true
-has_factor op.Or i j = true
-has_factor op.And i j = true
-has_factor op.In i j = true
+has_factor op i j = true
 
 -- two numbers that an operator joins: what it makes of their intervals is narrow, and where it
 -- multiplies, one of them is a single number
@@ -223,32 +167,14 @@ abbrev pub needs_both : Op → Bool → Bool
 needs_both op.And want = want
 needs_both op.Or want = not want
 needs_both op.Implies want = not want
-needs_both op.Eq want = false
-needs_both op.Ne want = false
-needs_both op.Lt want = false
-needs_both op.Le want = false
-needs_both op.Gt want = false
-needs_both op.Ge want = false
-needs_both op.Add want = false
-needs_both op.Sub want = false
-needs_both op.Mul want = false
-needs_both op.In want = false
+needs_both op want = false
 
 -- one side with the right truth makes the wanted truth, whatever the other one is
 abbrev pub needs_either : Op → Bool → Bool
 needs_either op.And want = not want
 needs_either op.Or want = want
 needs_either op.Implies want = want
-needs_either op.Eq want = false
-needs_either op.Ne want = false
-needs_either op.Lt want = false
-needs_either op.Le want = false
-needs_either op.Gt want = false
-needs_either op.Ge want = false
-needs_either op.Add want = false
-needs_either op.Sub want = false
-needs_either op.Mul want = false
-needs_either op.In want = false
+needs_either op want = false
 
 -- these truths of both sides together make the wanted truth, and no others
 abbrev pub AreBoth : Op → Bool → Bool × Bool → Type 0

@@ -5,6 +5,7 @@ ghost use Rattle.expr_forms.specs.FormValues.{nought, number_part, truth_part};
 ghost use Rattle.operator_forms.specs.Operating.{are_truths, is_arithmetic, joins_truths};
 
 use conf_syntax::Op;
+use conf_types::{OpClass, class_of};
 use expr_forms::Form;
 use form_build::{Linear, Truth};
 use std::alloc::Global;
@@ -13,18 +14,9 @@ use std::alloc::Global;
 pub(crate) fn is_arithmetic(op: Op) -> bool
     ensures { result ≡ is_arithmetic op }
 {
-    match op {
-        Op::Add | Op::Sub | Op::Mul => true,
-        Op::Implies
-        | Op::Or
-        | Op::And
-        | Op::Eq
-        | Op::Ne
-        | Op::Lt
-        | Op::Le
-        | Op::Gt
-        | Op::Ge
-        | Op::In => false,
+    match class_of(op) {
+        OpClass::Sum | OpClass::Product => true,
+        OpClass::Logic | OpClass::Equality | OpClass::Order | OpClass::Member => false,
     }
 }
 
@@ -42,10 +34,10 @@ fn are_truths(l: &Form, r: &Form) -> bool
 pub(crate) fn joins_truths(op: Op, l: &Form, r: &Form) -> bool
     ensures { result ≡ joins_truths op l.now r.now }
 {
-    match op {
-        Op::Implies | Op::Or | Op::And => true,
-        Op::Eq | Op::Ne => are_truths(l, r),
-        Op::Lt | Op::Le | Op::Gt | Op::Ge | Op::In | Op::Add | Op::Sub | Op::Mul => false,
+    match class_of(op) {
+        OpClass::Logic => true,
+        OpClass::Equality => are_truths(l, r),
+        OpClass::Order | OpClass::Member | OpClass::Sum | OpClass::Product => false,
     }
 }
 
