@@ -11,6 +11,7 @@ ghost use Rattle.operator_forms.specs.Operating.{are_numbers, compares_numbers, 
 ghost use Rattle.ground_expr.specs.Stated.{AreOpposite};
 
 use conf_syntax::Op;
+use conf_types::{OpClass, class_of};
 use expr_forms::Form;
 use form_build::Maker;
 use form_truths::state;
@@ -31,10 +32,10 @@ fn are_numbers(l: &Form, r: &Form) -> bool
 pub(crate) fn compares_numbers(op: Op, l: &Form, r: &Form) -> bool
     ensures { result ≡ compares_numbers op l.now r.now }
 {
-    match op {
-        Op::Eq | Op::Ne => are_numbers(l, r),
-        Op::Lt | Op::Le | Op::Gt | Op::Ge => true,
-        Op::Implies | Op::Or | Op::And | Op::Add | Op::Sub | Op::Mul | Op::In => false,
+    match class_of(op) {
+        OpClass::Equality => are_numbers(l, r),
+        OpClass::Order => true,
+        OpClass::Logic | OpClass::Member | OpClass::Sum | OpClass::Product => false,
     }
 }
 

@@ -14,6 +14,7 @@ ghost use Rattle.ground_expr.specs.Usable.{IsUsable};
 
 use crate::names::{choice_of, listing_of};
 use conf_syntax::Op;
+use conf_types::{OpClass, class_of};
 use expr_forms::{Choice, Form};
 use form_build::{Maker, Truth, turned};
 use identity_forms::{is_member, same_choice};
@@ -35,19 +36,10 @@ fn are_alike(l: &Form, r: &Form) -> bool
 fn is_plain(op: Op, l: &Form, r: &Form) -> bool
     ensures { result ≡ is_plain op l.now r.now }
 {
-    match op {
-        Op::Eq | Op::Ne => are_alike(l, r),
-        Op::In => false,
-        Op::Lt
-        | Op::Le
-        | Op::Gt
-        | Op::Ge
-        | Op::Implies
-        | Op::Or
-        | Op::And
-        | Op::Add
-        | Op::Sub
-        | Op::Mul => true,
+    match class_of(op) {
+        OpClass::Equality => are_alike(l, r),
+        OpClass::Member => false,
+        OpClass::Logic | OpClass::Order | OpClass::Sum | OpClass::Product => true,
     }
 }
 
@@ -148,16 +140,7 @@ fn targeted(maker: &mut Maker, op: Op, l: Form, r: Form) -> Result<Truth, AllocE
             let u = turned(maker.alloc(), maker.domains(), &t)?;
             Ok(u)
         }
-        Op::Lt
-        | Op::Le
-        | Op::Gt
-        | Op::Ge
-        | Op::Implies
-        | Op::Or
-        | Op::And
-        | Op::Add
-        | Op::Sub
-        | Op::Mul => unreachable!(),
+        _ => unreachable!(),
     }
 }
 
