@@ -3,7 +3,7 @@ use Rattle.std.proofs.Common.{◌≡◌, ℕ, zero, suc, ◌+◌, ◌<◌, ◌�
 use Rattle.std.specs.Prelude.{int_lt}
 use Rattle.std.proofs.lemmas.Int.{ints}
 use Rattle.std.proofs.lemmas.Bool.{and_parts, false_from_ne_true}
-use Rattle.signed_clause.specs.Ranges.{Ranges, has, is_nil, IsValid, Ascends}
+use Rattle.signed_clause.specs.Ranges.{Ranges, has, is_nil, IsValid, IsSubset, Ascends}
 use Rattle.signed_clause.specs.SetAlgebra.{is_disjoint, is_within, less}
 use Rattle.signed_clause.specs.Clauses.{Boxes, Literals, box_of, set_of, has_var}
 use Rattle.signed_clause.proofs.RangeLaws.{Ascends-ends}
@@ -62,6 +62,15 @@ pub disjoint_turned_from : (d s t : Ranges) (r : Bool) → IsValid d → IsValid
     (r ≡ true → HasNoneFrom (λ u. (has d u && not (has s u)) && has t u) (negsuc 9223372036854775807)) → (r ≡ false → (w : ℤ) × (((has d w && not (has s w)) && has t w) ≡ true)) → r ≡ is_disjoint t (less d s)
 disjoint_turned_from d s t r f g h n some =
     disjoint_from d s t r f g h n some ∙ disjoint_sym (less d s) t (IsValid-less d s f g) h
+
+-- where the second has all of a set, nothing of it is left
+pub within_apart : (d s t : Ranges) → IsValid d → IsValid s → IsValid t → IsSubset t s → true ≡ is_disjoint (less d s) t
+within_apart d s t f g h sub =
+    sym ((disjoint_law (less d s) t (IsValid-less d s f g) h).1 (λ v k. false_from_ne_true (has t v) (λ q.
+    let left = has-less_valid d s f g v in let out = sub v q in absurd (grind arith))))
+
+pub within_apart_turned : (d s t : Ranges) → IsValid d → IsValid s → IsValid t → IsSubset t s → true ≡ is_disjoint t (less d s)
+within_apart_turned d s t f g h sub = within_apart d s t f g h sub ∙ disjoint_sym (less d s) t (IsValid-less d s f g) h
 
 pub apart_from : (d s e t : Ranges) (r : Bool) → IsValid d → IsValid s → IsValid e → IsValid t →
     (r ≡ true → HasNoneFrom (λ u. (has d u && not (has s u)) && (has e u && not (has t u))) (negsuc 9223372036854775807)) →

@@ -9,13 +9,17 @@ ghost use Rattle.clause_watches.specs.Rows.{IsMaskOf};
 
 use signed_clause::IntSet;
 
-/// The values of the set from `least` on as bits, in one step for each range.
+/// The values of the set from `least` on as bits, in one step for each range up to the window's
+/// end.
 pub(crate) fn mask_of(set: &IntSet, least: i64) -> u64
     ensures mask { IsMaskOf least set.now result }
     ensures valid { IsValid set.now }
 {
     let mut mask = 0;
     for r in set.ranges() {
+        if steps_from(least, r.0) > 63 {
+            return mask;
+        }
         mask |= range_bits(*r, least);
     }
     mask

@@ -1,6 +1,7 @@
 //! What cases ask of sets and clauses.
 //!
 //! - `lists FIRST`: how many pairs of sets of six numbers are as their lists of numbers.
+//! - `long FIRST`: how many pairs of long sets of 44 numbers are.
 //! - `less SET SET`: the first without the second. `count SET`: how many numbers it has.
 //! - `clause LITERAL ..`: how many literals are refused, or the clause.
 //! - `resolve CLAUSE | CLAUSE`: the resolvent on variable 0.
@@ -8,7 +9,7 @@
 //!   its unit.
 //! - `cut CLAUSE | DOMAIN ..`: the clause cut to the domains.
 use crate::bounds::has_boxes;
-use crate::sets::count_agreeing;
+use crate::sets::{count_agreeing, count_long_agreeing};
 use case_files::{Case, Subject, words_of};
 use given_problems::{
     Unread, clause_of, clause_text, literals_of, number, set_of, set_text, sets_of,
@@ -57,6 +58,15 @@ fn lists(alloc: Global, words: &[&str]) -> Result<String, Unread> {
         return Err(Unread::Form);
     };
     let count = count_agreeing(alloc, number(first)?)?;
+    Ok(format!(in alloc; "{count}")?)
+}
+
+/// How many pairs of long sets are as their lists.
+fn long(alloc: Global, words: &[&str]) -> Result<String, Unread> {
+    let [first] = words else {
+        return Err(Unread::Form);
+    };
+    let count = count_long_agreeing(alloc, number(first)?)?;
     Ok(format!(in alloc; "{count}")?)
 }
 
@@ -140,6 +150,7 @@ fn told(alloc: Global, ask: &str, text: &[u8]) -> Result<String, Unread> {
     let words = words_of(alloc, text)?;
     match ask {
         "lists" => lists(alloc, &words),
+        "long" => long(alloc, &words),
         "less" => less(alloc, &words),
         "count" => count(alloc, &words),
         "clause" => made(alloc, &words),

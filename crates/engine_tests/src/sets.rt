@@ -3,12 +3,12 @@ use signed_clause::IntSet;
 use std::alloc::{AllocError, Global};
 
 /// Whether bit `k` is 1.
-fn bit(bits: u32, k: usize) -> bool {
-    (bits >> (k % 32)) & 1 == 1
+fn bit(bits: u64, k: usize) -> bool {
+    (bits >> (k % 64)) & 1 == 1
 }
 
 /// The set of the values whose bits are 1, joined value by value.
-fn set_of_bits(alloc: Global, values: &[i64], bits: u32) -> Result<IntSet, AllocError> {
+fn set_of_bits(alloc: Global, values: &[i64], bits: u64) -> Result<IntSet, AllocError> {
     let mut set = IntSet::empty(alloc);
     for (k, v) in values.iter().enumerate() {
         if bit(bits, k) {
@@ -19,7 +19,7 @@ fn set_of_bits(alloc: Global, values: &[i64], bits: u32) -> Result<IntSet, Alloc
 }
 
 /// Whether the set has exactly the values whose bits are 1, in as few ranges as that takes.
-fn has_bits(set: &IntSet, values: &[i64], bits: u32) -> bool {
+fn has_bits(set: &IntSet, values: &[i64], bits: u64) -> bool {
     for (k, v) in values.iter().enumerate() {
         if set.contains(*v) != bit(bits, k) {
             return false;
@@ -29,7 +29,7 @@ fn has_bits(set: &IntSet, values: &[i64], bits: u32) -> bool {
 }
 
 /// Whether what is asked of one set is answered as of its list of numbers.
-fn one_agrees(set: &IntSet, values: &[i64], bits: u32) -> bool {
+fn one_agrees(set: &IntSet, values: &[i64], bits: u64) -> bool {
     let count = bits.count_ones() as u64;
     has_bits(set, values, bits)
         && set.is_empty() == (count == 0)
@@ -39,12 +39,12 @@ fn one_agrees(set: &IntSet, values: &[i64], bits: u32) -> bool {
         && set.least() == values.get(bits.trailing_zeros() as usize).copied()
         && set.greatest()
             == values
-                .get(31u32.wrapping_sub(bits.leading_zeros()) as usize)
+                .get(63u32.wrapping_sub(bits.leading_zeros()) as usize)
                 .copied()
 }
 
 /// Whether two sets make the sets, and answer the tests, that their lists of numbers do.
-fn pair_agrees(alloc: Global, values: &[i64], a: u32, b: u32) -> Result<bool, AllocError> {
+fn pair_agrees(alloc: Global, values: &[i64], a: u64, b: u64) -> Result<bool, AllocError> {
     let first = set_of_bits(alloc, values, a)?;
     let second = set_of_bits(alloc, values, b)?;
     let made = has_bits(&first.meet(&second)?, values, a & b)
@@ -57,19 +57,48 @@ fn pair_agrees(alloc: Global, values: &[i64], a: u32, b: u32) -> Result<bool, Al
     Ok(made && tests && one_agrees(&first, values, a))
 }
 
-/// Six numbers, the first of them and those behind it; the last six where there are fewer.
-fn six_from(first: i64) -> [i64; 6] {
-    let first = first.min(i64::MAX - 5);
-    [first, first + 1, first + 2, first + 3, first + 4, first + 5]
+/// So many numbers, the first of them and those behind it.
+fn numbers_from(alloc: Global, first: i64, count: i64) -> Result<Vec<i64>, AllocError> {
+    let mut values = Vec::new(alloc);
+    for k in 0..count {
+        values.push(first.saturating_add(k))?;
+    }
+    Ok(values)
 }
 
 /// How many pairs of sets of six numbers, the first of them and those behind it, are as their
 /// lists of numbers.
 pub(crate) fn count_agreeing(alloc: Global, first: i64) -> Result<u32, AllocError> {
-    let values = six_from(first);
+    let values = numbers_from(alloc, first, 6)?;
     let mut count = 0u32;
-    for pair in 0..4096u32 {
+    for pair in 0..4096u64 {
         if pair_agrees(alloc, &values, pair / 64, pair % 64)? {
+            count = count.saturating_add(1);
+        }
+    }
+    Ok(count)
+}
+
+/// Sets of 44 numbers, of up to 22 ranges: long ones whose copies share their memory, and some of
+/// them within others.
+const LONG: [u64; 9] = [
+    0,
+    0xfff_ffff_ffff,
+    0x555_5555_5555,
+    0xaaa_aaaa_aaaa,
+    0x111_1111_1111,
+    0x555_5555_5554,
+    0x5ff_5555_5555,
+    0x555_5500_0000,
+    0xaaa_aa55_5555,
+];
+
+/// How many pairs of long sets, of 44 numbers from the first on, are as their lists of numbers.
+pub(crate) fn count_long_agreeing(alloc: Global, first: i64) -> Result<u32, AllocError> {
+    let values = numbers_from(alloc, first, 44)?;
+    let mut count = 0u32;
+    for pair in 0..81usize {
+        if pair_agrees(alloc, &values, LONG[pair / 9], LONG[pair % 9])? {
             count = count.saturating_add(1);
         }
     }

@@ -83,10 +83,7 @@ pub(crate) fn is_object(
         → truth_at t a ≡ nat_eq (choice_at c.now a) n) }
 {
     match c {
-        Choice::Fixed(_) => {
-            let t = is_number(maker, c, n)?;
-            Ok(t)
-        }
+        Choice::Fixed(m) => Ok(Truth::Fixed(*m == n)),
         Choice::Cell(_) => {
             let t = is_number(maker, c, n)?;
             Ok(t)

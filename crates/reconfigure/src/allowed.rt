@@ -1,17 +1,18 @@
 //! What keeps failed objects out: for each cell that could name one a clause of one literal, which
 //! leaves it its other values.
-ghost use Rattle.std.specs.Prelude.{◌≡◌, ◌<◌, ℕ, ℤ, List, [], ◌∷◌, cond, not, ◌&&◌, length, pos, take, slice_index_or, IfNone, IfOk, IfSome, OnOk};
+ghost use Rattle.std.specs.Prelude.{◌≡◌, ◌<◌, ℕ, ℤ, List, [], ◌∷◌, cond, not, ◌&&◌, length, pos, take, slice_index_or, IfOk, IfSome, OnOk};
 ghost use Rattle.std.specs.List.{list_all};
 ghost use Rattle.object_alloc.specs.declared.object.Cell.{Cell as ACell};
 ghost use Rattle.object_alloc.specs.Cells.{cells as all_cells};
 ghost use Rattle.object_alloc.specs.Changes.{allowed, is_sound, named_by};
 ghost use Rattle.object_alloc.specs.Members.{is_one};
-ghost use Rattle.signed_clause.specs.Ranges.{has, HaveNoCommonValue};
+ghost use Rattle.signed_clause.specs.Ranges.{Ranges, has};
 ghost use Rattle.signed_clause.specs.Clauses.{box_of};
 ghost use Rattle.ground_form.specs.Meaning.{value_of};
 ghost use Rattle.form_build.specs.Worlds.{Adds, IsFew};
 ghost use Rattle.reconfigure.specs.CellsFirst.{HasCells};
 ghost use Rattle.reconfigure.specs.Marking.{AreFailed};
+ghost use Rattle.reconfigure.specs.Rests.{AreRests};
 
 use crate::failed::Failed;
 use form_build::{Maker, Truth};
@@ -20,32 +21,73 @@ use object_alloc::{Cell, Domain, Objects};
 use signed_clause::IntSet;
 use std::alloc::AllocError;
 
-/// The values of a variable's box that aren't in the set. None where that takes nothing away.
-fn rest_of(boxes: &[IntSet], x: u32, values: &IntSet) -> Result<Option<IntSet>, AllocError>
-    requires exists { x < length boxes.now }
-    ensures some { IfOk result (λ o. IfSome o (λ s. (v : ℤ)
-        → has s v ≡ (has (box_of boxes.now x) v && not (has values.now v)))) }
-    ensures none { IfOk result (λ o. IfNone o
-        (HaveNoCommonValue (box_of boxes.now x) values.now)) }
-{
-    let at = &boxes[x as usize];
-    if at.disjoint(values) {
-        return Ok(None);
-    }
-    let rest = at.less(values)?;
-    Ok(Some(rest))
+/// What is left of the box that cells of a class have.
+#[derive(Drop)]
+struct ExtentRest {
+    class: u32,
+    /// The box.
+    whole: IntSet,
+    /// Its values that aren't forbidden.
+    rest: IntSet,
 }
 
-/// States that a variable has none of these values, where its box has one.
-fn forbid(maker: &mut Maker, x: u32, values: &IntSet) -> Result<(), AllocError>
+/// What is left of this box, if it is among these.
+fn found<'a>(kept: &'a [ExtentRest], class: u32, whole: &IntSet) -> Option<&'a IntSet>
+    ensures { (values : Ranges) → AreRests values kept.now
+        → IfSome result (λ s. (v : ℤ) → has s.now v ≡ (has whole.now v && not (has values v))) }
+{
+    for r in kept {
+        if r.class == class && r.whole.same(whole) {
+            return Some(&r.rest);
+        }
+    }
+    None
+}
+
+/// What is left of this box without the values of a set. It is kept for further cells, which share
+/// its memory.
+fn rest_of(
+    kept: &mut Vec<ExtentRest>,
+    class: u32,
+    whole: &IntSet,
+    values: &IntSet,
+) -> Result<IntSet, AllocError>
+    requires kept { AreRests values.now kept.old.items }
+    ensures rest { IfOk result (λ s. (v : ℤ)
+        → has s v ≡ (has whole.now v && not (has values.now v))) }
+    ensures kept { OnOk result (AreRests values.now kept.new.items) }
+{
+    if let Some(rest) = found(kept, class, whole) {
+        return rest.copy();
+    }
+    let rest = whole.less(values)?;
+    let copy = rest.copy()?;
+    let whole = whole.copy()?;
+    kept.push(ExtentRest { class, whole, rest })?;
+    Ok(copy)
+}
+
+/// The box of a variable.
+fn box_at(boxes: &[IntSet], x: u32) -> &IntSet
+    requires exists { x < length boxes.now }
+    ensures { result.now ≡ box_of boxes.now x }
+{
+    &boxes[x as usize]
+}
+
+/// States that a variable has none of these values, where its box has one; `rest` has the others of
+/// its box.
+fn forbid(maker: &mut Maker, x: u32, values: &IntSet, rest: IntSet) -> Result<(), AllocError>
     requires exists { x < length maker.old.domains }
+    requires rest { (v : ℤ) → has rest v
+        ≡ (has (box_of maker.old.domains x) v && not (has values.now v)) }
     ensures says { OnOk result (Adds [] maker.old maker.new
         (λ a. not (has values.now (value_of a x)))) }
     ensures few { OnOk result (IsFew 1 maker.old maker.new) }
 {
-    let Some(rest) = rest_of(maker.domains(), x, values)? else {
+    if box_at(maker.domains(), x).disjoint(values) {
         return Ok(());
-    };
+    }
     maker.ask(1)?;
     state_truth(maker, Truth::In(x, rest))?;
     Ok(())
@@ -76,7 +118,8 @@ fn allow_member(
     let _count = objects.count();
     if is_failed(failed, n) {
         let member = IntSet::range(maker.alloc(), 1, 1);
-        forbid(maker, x, &member)?;
+        let rest = box_at(maker.domains(), x).less(&member)?;
+        forbid(maker, x, &member, rest)?;
         return Ok(());
     }
     Ok(())
@@ -85,11 +128,13 @@ fn allow_member(
 /// States that a cell names no failed object.
 fn allow_cell(
     maker: &mut Maker,
+    kept: &mut Vec<ExtentRest>,
     objects: &Objects<'_>,
     failed: &Failed,
     cell: Cell,
     x: u32,
 ) -> Result<(), AllocError>
+    requires kept { AreRests failed.now.inside kept.old.items }
     requires cells { HasCells objects.now maker.old }
     requires failed { AreFailed objects.now failed.now }
     requires exists { x < length (all_cells objects.now) }
@@ -98,13 +143,15 @@ fn allow_cell(
         (λ a. list_all (is_sound objects.now failed.now.numbers.items)
         (named_by cell (value_of a x)))) }
     ensures few { OnOk result (IsFew 1 maker.old maker.new) }
+    ensures kept { OnOk result (AreRests failed.now.inside kept.new.items) }
 {
     if let Some(n) = cell.element {
         allow_member(maker, objects, failed, n, x)?;
         return Ok(());
     }
-    if let Domain::Extent(_) = cell.domain {
-        forbid(maker, x, &failed.inside)?;
+    if let Domain::Extent(class) = cell.domain {
+        let rest = rest_of(kept, class, box_at(maker.domains(), x), &failed.inside)?;
+        forbid(maker, x, &failed.inside, rest)?;
         return Ok(());
     }
     Ok(())
@@ -132,8 +179,16 @@ pub(crate) fn require_allowed(
 {
     let _count = objects.count();
     let cells = objects.cells();
+    let mut kept = Vec::new(maker.alloc());
     for i in 0..cells.len() {
-        allow_cell(maker, objects, failed, cell_at(cells, i), i as u32)?;
+        allow_cell(
+            maker,
+            &mut kept,
+            objects,
+            failed,
+            cell_at(cells, i),
+            i as u32,
+        )?;
     }
     Ok(())
 }

@@ -16,7 +16,7 @@ ghost use Rattle.reconfigure.specs.CellsFirst.{HasCells};
 ghost use Rattle.reconfigure.specs.Counting.{count_at, IsCount};
 
 use crate::count::{Count, add_truth};
-use form_build::{Maker, Truth};
+use form_build::{Maker, Truth, turned};
 use form_truths::{Disjunction, truth_of};
 use object_alloc::{Leaf, Objects};
 use signed_clause::IntSet;
@@ -29,8 +29,8 @@ fn other_value(alloc: Global, boxes: &[IntSet], x: u32, former: i64) -> Result<T
     ensures value { IfOk result (λ t. (a : List ℤ) → IsInBoxes boxes.now a
         → truth_at t a ≡ differs (Some former) (value_of a x)) }
 {
-    let others = boxes[x as usize].less(&IntSet::range(alloc, former, former))?;
-    Ok(Truth::In(x, others))
+    let same = Truth::In(x, IntSet::range(alloc, former, former));
+    turned(alloc, boxes, &same)
 }
 
 /// Adds that a cell has another value than its hint, where it has a hint.

@@ -1,14 +1,14 @@
 -- What the tests of sets say of their values.
-use Rattle.std.proofs.Common.{◌≡◌, ◌↔◌, IsTrue, Bool, ◌+ℤ◌, ◌<◌, ◌-◌, ◌&&◌, [], ◌∷◌, ℤ, pos, length, get_or, subst, sym, ap, ◌∙◌, refl, arith}
+use Rattle.std.proofs.Common.{◌≡◌, ◌↔◌, IsTrue, Bool, true, ◌+ℤ◌, ◌<◌, ◌-◌, ◌&&◌, [], ◌∷◌, ℤ, pos, length, get_or, subst, sym, ap, ◌∙◌, refl, arith}
 use Rattle.std.specs.Bool.{Decides}
 use Rattle.std.specs.Ordering.{int_eq}
 use Rattle.std.proofs.lemmas.Bool.{and_parts}
 use Rattle.std.proofs.lemmas.Bool.Decides.{Decides-int_eq}
 use Rattle.std.proofs.lemmas.Int.{ints}
 use Rattle.signed_clause.specs.Ranges.{Ranges, has, high_from, IsValid, HasNoValue, IsSubset, HaveNoCommonValue, HaveSameValues, IsLeast, IsGreatest, is_nil, Ascends}
-use Rattle.signed_clause.specs.SetAlgebra.{meet, less, is_disjoint, is_within}
+use Rattle.signed_clause.specs.SetAlgebra.{meet, less, join, is_disjoint, is_within}
 use Rattle.signed_clause.proofs.RangeLaws.{has-below, same_ranges}
-use Rattle.signed_clause.proofs.RangeSteps.{high_at, has-meet_valid, has-less_valid, IsValid-meet, IsValid-less}
+use Rattle.signed_clause.proofs.RangeSteps.{high_at, has-meet_valid, has-less_valid, has-join_valid, IsValid-meet, IsValid-less, IsValid-join}
 
 -- a set with no range is one with no value
 pub nil_law : (a : Ranges) → IsValid a → IsTrue (is_nil a) ↔ HasNoValue a
@@ -28,6 +28,10 @@ within_law a b s t =
       (λ h v k. let e = has-less_valid a b s t v in let none = law.0 h v in grind arith),
       (λ h. law.1 (λ v. let e = has-less_valid a b s t v in let sub = h v in grind arith)),
     )
+
+-- a set has its own values
+pub within_same : (a b : Ranges) → IsValid a → a ≡ b → true ≡ is_within a b
+within_same a b s e = sym (subst (λ (z : Ranges). IsTrue (is_within a z)) e ((within_law a a s s).1 (λ v k. k)))
 
 -- valid sets with the same values are the same list
 pub same_law : (a b : Ranges) → IsValid a → IsValid b → (a ≡ b) ↔ HaveSameValues a b
@@ -81,3 +85,17 @@ greatest_law self (r ∷ rs) s e h =
     let at = high_at r.1 (r ∷ rs) (length (r ∷ rs) - 1) (omega arith) in
     subst (λ (z : Ranges). IsGreatest z (get_or (r ∷ rs) (length (r ∷ rs) - 1) (pos 0, pos 0)).1) e
     (subst (λ (w : ℤ). IsGreatest (r ∷ rs) w) at (greatest_in _ _ r rs (subst IsValid (sym e) s)))
+
+-- what two sets have in common, where one is within the other
+pub meet_first : (a b : Ranges) → IsValid a → IsValid b → IsSubset a b → a ≡ meet a b
+meet_first a b s t h = same_ranges a (meet a b) _ _ _ _ s (IsValid-meet a b s t) (λ v. let e = has-meet_valid a b s t v in let sub = h v in grind arith)
+
+pub meet_second : (a b : Ranges) → IsValid a → IsValid b → IsSubset b a → b ≡ meet a b
+meet_second a b s t h = same_ranges b (meet a b) _ _ _ _ t (IsValid-meet a b s t) (λ v. let e = has-meet_valid a b s t v in let sub = h v in grind arith)
+
+-- what they have together
+pub join_first : (a b : Ranges) → IsValid a → IsValid b → IsSubset b a → a ≡ join a b
+join_first a b s t h = same_ranges a (join a b) _ _ _ _ s (IsValid-join a b s t) (λ v. let e = has-join_valid a b s t v in let sub = h v in grind arith)
+
+pub join_second : (a b : Ranges) → IsValid a → IsValid b → IsSubset a b → b ≡ join a b
+join_second a b s t h = same_ranges b (join a b) _ _ _ _ t (IsValid-join a b s t) (λ v. let e = has-join_valid a b s t v in let sub = h v in grind arith)

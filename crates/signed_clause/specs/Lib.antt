@@ -1,4 +1,5 @@
 pub mod Ranges
+pub mod Stored
 pub mod SetAlgebra
 pub mod Union
 pub mod Clauses

@@ -1,10 +1,11 @@
 //! `IntSet`, a finite set of integers of 64 bits.
 //!
 //! A set is the list of its ranges in order; no two of them overlap or touch, so equal sets are
-//! equal lists. Up to two ranges stand in the value itself and take no memory. Whatever looks at
-//! two sets walks both lists once, `contains` halves the list, and the other questions look at its
-//! ends. Contracts see a set as its list, `has` says which values that holds, and every set is
-//! valid (`IsValid`), which `ranges` promises to whoever asks.
+//! equal lists. Up to two ranges stand in the value itself and take no memory; the copies of a set
+//! of more ranges share its memory. Whatever looks at two sets walks both lists once, `contains`
+//! halves the list, and the other questions look at its ends. Contracts see a set as its list,
+//! `has` says which values that holds, and every set is valid (`IsValid`), which `ranges` promises
+//! to whoever asks.
 ghost use Rattle.std.specs.Prelude.{◌≡◌, ◌↔◌, ◌≤ℤ◌, ◌<◌, ◌≤◌, ◌+◌, ◌^◌, ◌-ℤ◌, ◌+ℤ◌, pos, ◌⊎◌, ◌&&◌, ◌||◌, not, ℤ, List, drop, [], ◌∷◌, ◌++◌, IsTrue, IfOk, OnOk, IfSome, IsSome, IfNone, false, int_lt, int_le, length};
 ghost use Rattle.std.specs.Int.{int_min};
 ghost use Rattle.signed_clause.specs.Ranges.{has, in_range, IsValid, HasNoValue, IsSubset, HaveNoCommonValue, HaveSameValues, least_of, greatest_of, IsLeast, IsGreatest, count_of, is_nil};
@@ -15,14 +16,19 @@ use crate::range::{
     after, before, begins_by, begins_first, begins_no_later, common, covering, ends_before,
     ends_first, has_gap_before, is_range, overlap, steps,
 };
+use crate::stored::RangeList;
 use smallvec::SmallVec;
 use std::alloc::{AllocError, Global};
 use std::marker::Model;
 
+/// The most ranges of a set that isn't long. Of a long one it is looked first whether another one
+/// is the same, since long ones often are.
+const LONG: usize = 16;
+
 /// A finite set of integers of 64 bits.
 #[derive(Drop)]
 pub struct IntSet {
-    ranges: SmallVec<(i64, i64), 2>,
+    ranges: RangeList,
 }
 
 impl Model for IntSet {
@@ -31,9 +37,9 @@ impl Model for IntSet {
 
     ghost Value = { List (ℤ × ℤ) };
 
-    ghost view = { λ s. s.ranges.items };
+    ghost view = { λ s. s.ranges };
 
-    ghost invariant = { λ s. IsValid s.ranges.items };
+    ghost invariant = { λ s. IsValid s.ranges };
 }
 
 impl IntSet {
@@ -43,7 +49,7 @@ impl IntSet {
         ensures valid { IsValid result }
     {
         IntSet {
-            ranges: SmallVec::new(alloc),
+            ranges: RangeList::none(alloc),
         }
     }
 
@@ -55,7 +61,7 @@ impl IntSet {
         ensures valid { IsValid result }
     {
         IntSet {
-            ranges: SmallVec::from_buf_and_len(alloc, [(lo, hi), (lo, hi)], 1),
+            ranges: RangeList::one(alloc, (lo, hi)),
         }
     }
 
@@ -69,7 +75,7 @@ impl IntSet {
         if !are_canonical(ranges) {
             return Ok(None);
         }
-        let ranges = SmallVec::from_slice(alloc, ranges)?;
+        let ranges = RangeList::of(alloc, ranges)?;
         Ok(Some(IntSet { ranges }))
     }
 
@@ -86,12 +92,7 @@ impl IntSet {
         ensures list { IfOk result (λ s. s ≡ self.now) }
         ensures valid { IfOk result (λ s. IsValid s) }
     {
-        let alloc = *self.ranges.allocator();
-        let ranges = match self.ranges.as_slice() {
-            [r] => SmallVec::from_buf_and_len(alloc, [*r, *r], 1),
-            [r, s] => SmallVec::from_buf_and_len(alloc, [*r, *s], 2),
-            more => SmallVec::from_slice(alloc, more)?,
-        };
+        let ranges = self.ranges.copy()?;
         Ok(IntSet { ranges })
     }
 
@@ -207,7 +208,11 @@ impl IntSet {
         ensures list { result ≡ is_within self.now o.now }
         ensures values { IsTrue result ↔ IsSubset self.now o.now }
     {
-        all_covered(self.ranges(), o.ranges())
+        let (a, b) = (self.ranges(), o.ranges());
+        if self.is_long_as(o) {
+            return true;
+        }
+        all_covered(a, b)
     }
 
     /// The values of both sets.
@@ -216,20 +221,16 @@ impl IntSet {
         ensures values { IfOk result (λ s. (v : ℤ) → has s v ≡ (has self.now v && has o.now v)) }
         ensures valid { IfOk result (λ s. IsValid s) }
     {
-        let a = self.ranges();
-        let b = o.ranges();
-        let mut out = SmallVec::new(*self.ranges.allocator());
-        let mut i = 0;
-        let mut j = 0;
-        while i < a.len() && j < b.len() {
-            push_piece(&mut out, common(a[i], b[j]))?;
-            if ends_first(b[j], a[i]) {
-                j += 1;
-            } else {
-                i += 1;
-            }
+        let (a, b) = (self.ranges(), o.ranges());
+        if self.is_long_within(o) {
+            return self.copy();
         }
-        Ok(IntSet { ranges: out })
+        if o.is_long_within(self) {
+            return o.copy();
+        }
+        let common = common_ranges(self.ranges.alloc, a, b)?;
+        let ranges = RangeList::of(self.ranges.alloc, &common)?;
+        Ok(IntSet { ranges })
     }
 
     /// The values of this set that `o` lacks.
@@ -239,14 +240,10 @@ impl IntSet {
             ≡ (has self.now v && not (has o.now v))) }
         ensures valid { IfOk result (λ s. IsValid s) }
     {
-        let a = self.ranges();
-        let b = o.ranges();
-        let mut out = SmallVec::new(*self.ranges.allocator());
-        let mut j = 0;
-        for r in a {
-            j = push_less(&mut out, *r, b, j)?;
-        }
-        Ok(IntSet { ranges: out })
+        let (a, b) = (self.ranges(), o.ranges());
+        let rest = rest_ranges(self.ranges.alloc, a, b)?;
+        let ranges = RangeList::of(self.ranges.alloc, &rest)?;
+        Ok(IntSet { ranges })
     }
 
     /// The values of either set.
@@ -255,21 +252,94 @@ impl IntSet {
         ensures values { IfOk result (λ s. (v : ℤ) → has s v ≡ (has self.now v || has o.now v)) }
         ensures valid { IfOk result (λ s. IsValid s) }
     {
-        let a = self.ranges();
-        let b = o.ranges();
-        let mut out = SmallVec::new(*self.ranges.allocator());
-        let mut pending = None;
-        let mut i = 0;
-        let mut j = 0;
-        while i < a.len() || j < b.len() {
-            let (r, next_i, next_j) = next(a, i, b, j);
-            pending = Some(absorb(&mut out, pending, r)?);
-            i = next_i;
-            j = next_j;
+        let (a, b) = (self.ranges(), o.ranges());
+        if o.is_long_within(self) {
+            return self.copy();
         }
-        push_pending(&mut out, pending)?;
-        Ok(IntSet { ranges: out })
+        if self.is_long_within(o) {
+            return o.copy();
+        }
+        let all = joined_ranges(self.ranges.alloc, a, b)?;
+        let ranges = RangeList::of(self.ranges.alloc, &all)?;
+        Ok(IntSet { ranges })
     }
+
+    /// Whether the set is long and the same as `o`, which is faster to see than anything else.
+    fn is_long_as(&self, o: &IntSet) -> bool
+        ensures { IsTrue result → (self.now ≡ o.now) }
+    {
+        self.ranges().len() > LONG && self.same(o)
+    }
+
+    /// Whether the set is long and `o` has every value of it. Then what the two have in common, or
+    /// have together, is one of them, whose copy takes no memory.
+    fn is_long_within(&self, o: &IntSet) -> bool
+        ensures { IsTrue result → IsSubset self.now o.now }
+    {
+        self.ranges().len() > LONG && self.within(o)
+    }
+}
+
+/// The ranges that two lists have in common.
+fn common_ranges(
+    alloc: Global,
+    a: &[(i64, i64)],
+    b: &[(i64, i64)],
+) -> Result<SmallVec<(i64, i64), 2>, AllocError>
+    ensures { IfOk result (λ out. out.items ≡ meet a.now b.now) }
+{
+    let mut out = SmallVec::new(alloc);
+    let mut i = 0;
+    let mut j = 0;
+    while i < a.len() && j < b.len() {
+        push_piece(&mut out, common(a[i], b[j]))?;
+        if ends_first(b[j], a[i]) {
+            j += 1;
+        } else {
+            i += 1;
+        }
+    }
+    Ok(out)
+}
+
+/// The ranges of values that the second list lacks.
+fn rest_ranges(
+    alloc: Global,
+    a: &[(i64, i64)],
+    b: &[(i64, i64)],
+) -> Result<SmallVec<(i64, i64), 2>, AllocError>
+    ensures { IfOk result (λ out. out.items ≡ less a.now b.now) }
+{
+    let mut out = SmallVec::new(alloc);
+    let mut j = 0;
+    for r in a {
+        j = push_less(&mut out, *r, b, j)?;
+    }
+    Ok(out)
+}
+
+/// The ranges of the values of either list, whose ranges are those of sets.
+fn joined_ranges(
+    alloc: Global,
+    a: &[(i64, i64)],
+    b: &[(i64, i64)],
+) -> Result<SmallVec<(i64, i64), 2>, AllocError>
+    requires valid { IsValid a.now }
+    requires other { IsValid b.now }
+    ensures { IfOk result (λ out. out.items ≡ join a.now b.now) }
+{
+    let mut out = SmallVec::new(alloc);
+    let mut pending = None;
+    let mut i = 0;
+    let mut j = 0;
+    while i < a.len() || j < b.len() {
+        let (r, next_i, next_j) = next(a, i, b, j);
+        pending = Some(absorb(&mut out, pending, r)?);
+        i = next_i;
+        j = next_j;
+    }
+    push_pending(&mut out, pending)?;
+    Ok(out)
 }
 
 /// A number in a computation.

@@ -6,6 +6,7 @@
 //! - `handle`: a clause that several owners have.
 //! - `resolution`: the resolvent of two clauses.
 //! - `running`: a clause that a chain of resolution steps runs through.
+//! - `stored`: where the ranges of a set stand, and when copies share them.
 #![tactic(auto)]
 
 mod clause;
@@ -14,6 +15,7 @@ mod int_set;
 mod range;
 mod resolution;
 mod running;
+mod stored;
 
 pub use clause::{Clause, NotAClause};
 pub use handle::ClauseHandle;

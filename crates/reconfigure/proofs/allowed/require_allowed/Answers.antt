@@ -1,8 +1,11 @@
-use Rattle.std.proofs.Common.{◌≡◌, ◌<◌, ◌≤◌, ℕ, get_or, length, List, ap, subst, arith}
+use Rattle.std.proofs.Common.{◌≡◌, ◌<◌, ◌≤◌, ℕ, get_or, length, List, ap, sym, subst, arith}
+use Rattle.std.proofs.lemmas.List.Elements.{All-nil}
 use Rattle.object_alloc.specs.declared.object.Cell.{Cell}
 use Rattle.object_alloc.specs.Cells.{cells}
 use Rattle.form_build.specs.Worlds.{IsFew}
 use Rattle.form_build.proofs.Growth.{few_none, few_more}
+use Rattle.reconfigure.specs.declared.allowed.ExtentRest.{ExtentRest}
+use Rattle.reconfigure.specs.Rests.{AreRests}
 use Rattle.reconfigure.proofs.NamedLaws.{cells_still, allows_none, allows_more, allows_all}
 use Rattle.reconfigure.proofs.allowed.require_allowed.Goals as goal
 
@@ -10,6 +13,7 @@ pub loop-i-init : goal.loop-i-init
 loop-i-init c = record {
   says = allows_none c.args.objects.now c.args.failed.now.numbers.items c.args.maker.now;
   few = few_none 0 c.args.maker.now;
+  kept = subst (λ (z : List ExtentRest). AreRests c.args.failed.now.inside z) (sym c.new-kept.ensures.items) (All-nil _);
 }
 
 pub allow_cell-requires-clause-cells : goal.allow_cell-requires-clause-cells
@@ -27,6 +31,7 @@ loop-i-preserved c =
       says = allows_more o c.args.failed.now.numbers.items c.args.maker.now c.loop-i.maker c.allow_cell.new.maker i x c.requires.cells
           (subst (λ (ys : List Cell). i < length ys) e c.loop-i-test.true) (subst (λ (ys : List Cell). x ≡ get_or ys i x) e (c.cell_at.ensures x)) there.says more.says;
       few = few_more i 1 c.args.maker.now c.loop-i.maker c.allow_cell.new.maker there.few more.few;
+      kept = more.kept;
     }
 
 pub returns : goal.returns

@@ -1,25 +1,33 @@
-use Rattle.std.proofs.Common.{◌≡◌, sym, subst}
-use Rattle.signed_clause.specs.Ranges.{IsValid}
+use Rattle.std.proofs.Common.{◌≡◌, sym, subst, IfOk}
+use Rattle.signed_clause.specs.Ranges.{Ranges, IsValid}
 use Rattle.signed_clause.specs.SetAlgebra.{join}
-use Rattle.signed_clause.proofs.UnionLaws.{join_done}
 use Rattle.signed_clause.proofs.RangeSteps.{IsValid-join, has-join_valid}
+use Rattle.signed_clause.proofs.SetFacts.{join_first, join_second}
 use Rattle.signed_clause.proofs.int_set.IntSet.join.Goals as goal
 
--- behind the loop and the pending range all values are out
-joined : (c : goal.In_ok-push_pending) → c.push_pending.new.out.items ≡ join c.args.self.now c.args.o.now
-joined c =
-    let a = c.ranges-a.ensures.items in let b = c.ranges-b.ensures.items in
-    join_done c.args.self.now c.args.o.now c.ranges-a.result.now c.ranges-b.result.now c.loop-i.out.items c.push_pending.new.out.items c.loop-i.pending c.loop-i.i c.loop-i.j
-    c.ranges-a.ensures.valid c.ranges-b.ensures.valid a b c.if-i-a.false c.if-j-b.false c.loop-i.invariant.joined c.in_ok-push_pending.ensures
+pub returns-then-is_long_within-clause-list : goal.returns-then-is_long_within-clause-list
+returns-then-is_long_within-clause-list c =
+    let same = join_first _ _ c.ranges-a.ensures.valid c.ranges-b.ensures.valid (c.is_long_within.ensures c.if-is_long_within.true) in
+    subst (λ (z : Ranges). IfOk c.copy.result (λ s. s ≡ z)) same c.copy.ensures.list
 
-pub returns-clause-list : goal.returns-clause-list
-returns-clause-list c = joined c
+pub returns-then-is_long_within-2-clause-list : goal.returns-then-is_long_within-2-clause-list
+returns-then-is_long_within-2-clause-list c =
+    let same = join_second _ _ c.ranges-a.ensures.valid c.ranges-b.ensures.valid (c.is_long_within-2.ensures c.if-is_long_within-2.true) in
+    subst (λ (z : Ranges). IfOk c.copy-then-is_long_within-2.result (λ s. s ≡ z)) same c.copy-then-is_long_within-2.ensures.list
+
+-- the ranges that were made are those of either
+made : (c : goal.In_ok-ranges) → c.in_ok-ranges.ranges ≡ join c.args.self.now c.args.o.now
+made c = let a = c.ranges-a.ensures.items in let b = c.ranges-b.ensures.items in let out = c.in_ok-all.ensures in let own = c.in_ok-ranges.ensures in cc
+
+-- and still where the list that they were made from is let go
+made_all : (c : goal.Joined-all-2) → c.in_ok-ranges.ranges ≡ join c.args.self.now c.args.o.now
+made_all c = let a = c.ranges-a.ensures.items in let b = c.ranges-b.ensures.items in let out = c.in_ok-all.ensures in let own = c.in_ok-ranges.ensures in cc
 
 pub invariant_of-result : goal.invariant_of-result
-invariant_of-result c = subst IsValid (sym (joined c)) (IsValid-join _ _ c.ranges-a.ensures.valid c.ranges-b.ensures.valid)
+invariant_of-result c = subst IsValid (sym (made c)) (IsValid-join _ _ c.ranges-a.ensures.valid c.ranges-b.ensures.valid)
 
 pub returns-clause-values : goal.returns-clause-values
-returns-clause-values c v = let e = has-join_valid _ _ c.ranges-a.ensures.valid c.ranges-b.ensures.valid v in let same = joined c in cc
+returns-clause-values c v = let e = has-join_valid _ _ c.ranges-a.ensures.valid c.ranges-b.ensures.valid v in let same = made_all c in cc
 
 pub returns-clause-valid : goal.returns-clause-valid
-returns-clause-valid c = subst IsValid (sym (joined c)) (IsValid-join _ _ c.ranges-a.ensures.valid c.ranges-b.ensures.valid)
+returns-clause-valid c = subst IsValid (sym (made_all c)) (IsValid-join _ _ c.ranges-a.ensures.valid c.ranges-b.ensures.valid)

@@ -1,6 +1,6 @@
 use Rattle.std.proofs.Common.{◌≡◌, ◌++◌, ◌+◌, ◌-◌, drop, length}
 use Rattle.signed_clause.specs.SetAlgebra.{meet}
-use Rattle.signed_clause.proofs.int_set.IntSet.meet.Given as goal
+use Rattle.signed_clause.proofs.int_set.common_ranges.Given as goal
 
 abbrev pub invariant-loop-i : goal.invariant-loop-i
 invariant-loop-i l = l.out.items ++ meet (drop l.i l.a) (drop l.j l.b) ≡ meet l.a l.b

@@ -1,5 +1,5 @@
 use Rattle.box_view.proofs.CutLaws.{disjoint_from, disjoint_turned_from}
-use Rattle.box_view.proofs.cut.rest_disjoint.Goals as goal
+use Rattle.box_view.proofs.cut.is_rest_apart.Goals as goal
 
 pub returns-clause-missed : goal.returns-clause-missed
 returns-clause-missed c =

@@ -1,0 +1,10 @@
+-- Which ranges a list of them holds, wherever it stands.
+use Rattle.std.specs.Rc.{rc_slice_items}
+use Rattle.signed_clause.specs.Ranges.{Ranges}
+use Rattle.signed_clause.specs.declared.stored.Place.{Place}
+use Rattle.signed_clause.specs.declared.stored.Place.TheVariants.{Few, Shared}
+
+-- the ranges in their order
+abbrev pub stored : Place → Ranges
+stored (Few ranges) = ranges.items
+stored (Shared ranges) = rc_slice_items ranges
