@@ -1,4 +1,5 @@
 """Awkward models, of a megabyte each where nothing else is said."""
+import json
 import random
 
 from texts import MODEL, Text, counted, filled, random_bytes, short_name
@@ -175,6 +176,12 @@ def gaps(size):
     yield "".join(f"var {short_name(n)}_ as ref H;" for n in range(4 * racks)).encode()
 
 
+def placed():
+    """A former text in which each of the 20,000 references names an object."""
+    values = {f"{short_name(n)}_": f"r[{n % 5000}].h" for n in range(20_000)}
+    return json.dumps({"r": [{"h": {}}] * 5000, **values})
+
+
 def scaled(text, **counts):
     """Pieces: a text with numbers that go with the size."""
 
@@ -228,6 +235,13 @@ def objectives(goals):
     return "".join(f"var v{n} as 0..1;where v{n}=1;minimize v{n};" for n in range(goals))
 
 
+def through(picks):
+    """References through references, to a class whose objects have gaps between them."""
+    return ("class H {} class R { var h as H; } var r as R[2400]; class A { var r as ref H; } "
+            "class P { var x as ref A; var y as ref H; where x.r = y; } "
+            f"var a as A[4700]; var p as P[{picks}];")
+
+
 def wide_enumeration(objects):
     values = ",".join(short_name(n + 53) for n in range(100_000))
     return f"enum E{{{values}}} class C{{var e as E;}} var c as C[{objects}];"
@@ -244,9 +258,13 @@ LARGE = [
     model("20,000 references to a class with 5,000 gaps", gaps),
     model("the same, a repair", gaps, "reconfigure --budget 0 TEXT former.json r[0]", MODEL,
           {"former.json": "{}"}),
+    model("the same, a repair of a placement", gaps,
+          "reconfigure --budget 0 TEXT former.json r[0]", MODEL, {"former.json": placed()}),
     model("the same, a session of two failures", gaps,
           "session --budget 0 TEXT former.json events", MODEL,
           {"former.json": "{}", "events": "fail r[0]\nfail r[1]\n"}),
+    model("270 references through references to a class with 2,400 gaps",
+          scaled(through, picks=270), GROUND, MODEL, EMPTY),
     model("10,000 variables of 100,000 values", scaled(wide_enumeration, objects=10_000)),
     model("`limit-known`: 14 questions, sets of 5,000", scaled(known, times=14), GROUND, MODEL,
           EMPTY),

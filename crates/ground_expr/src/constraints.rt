@@ -1,5 +1,5 @@
-//! Whole constraints. `alldifferent` and `pack` over a few members that are the same in every
-//! configuration become one constraint of a kind that was made for them.
+//! Whole constraints. `alldifferent` and `pack` over members that are the same in every
+//! configuration become constraints of a kind that was made for them.
 ghost use Rattle.std.specs.Prelude.{◌≡◌, true, [], OnOk};
 ghost use Rattle.conf_syntax.specs.declared.tree.QuantKind.TheVariants as kinds;
 ghost use Rattle.conf_types.specs.Trees.{tree_of, quant_tree};
@@ -25,14 +25,9 @@ use pairwise_forms::{state_different, state_pack};
 use quantifier_forms::Part;
 use std::alloc::AllocError;
 
-/// The most members of one constraint of this kind. What it costs to look at packed items grows
-/// with their number and that of bins; at values that differ, of more than 64, with its third power.
-fn most_members(kind: QuantKind) -> usize {
-    match kind {
-        QuantKind::Pack => 1024,
-        _ => 64,
-    }
-}
+/// The most members of one packing. What it costs to look at packed items grows with their number
+/// and that of bins.
+const MOST_PACKED: usize = 1024;
 
 /// Whether an attribute of this shape is made of parts, which no configuration changes.
 fn is_part(shape: Resolved) -> bool
@@ -91,8 +86,8 @@ fn state_quantifier(maker: &mut Maker, kind: QuantKind, parts: &[Part]) -> Resul
     Ok(())
 }
 
-/// States a quantifier over what these parts give: one that compares a few members as one
-/// constraint.
+/// States a quantifier over what these parts give: one that compares members by constraints of its
+/// own.
 fn state_members(maker: &mut Maker, kind: QuantKind, parts: &[Part]) -> Result<(), AllocError>
     requires parts { AreParts maker.old.domains kind parts.now }
     requires alike { compares_members kind ≡ true → AreAlike maker.old.domains parts.now }
@@ -100,12 +95,17 @@ fn state_members(maker: &mut Maker, kind: QuantKind, parts: &[Part]) -> Result<(
     ensures says { OnOk result (Adds [] maker.old maker.new
         (λ a. truth_in (over_values kind (kept_values parts.now a)))) }
 {
-    if parts.len() < 2 || parts.len() > most_members(kind) {
+    if parts.len() < 2 {
         return state_quantifier(maker, kind, parts);
     }
     match kind {
         QuantKind::AllDifferent => state_different(maker, parts),
-        QuantKind::Pack => state_pack(maker, parts),
+        QuantKind::Pack => {
+            if parts.len() > MOST_PACKED {
+                return state_quantifier(maker, kind, parts);
+            }
+            state_pack(maker, parts)
+        }
         QuantKind::Forall | QuantKind::Exists | QuantKind::Sum | QuantKind::Count => {
             state_quantifier(maker, kind, parts)
         }

@@ -31,7 +31,7 @@ and_none false = refl
 
 -- ---- the walks
 
-or_group : (p q r : Bool) → ((p || q) || r) ≡ (p || (q || r))
+pub or_group : (p q r : Bool) → ((p || q) || r) ≡ (p || (q || r))
 or_group true q r = refl
 or_group false q r = refl
 

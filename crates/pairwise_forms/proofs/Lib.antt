@@ -2,6 +2,7 @@ pub mod KeyLaws
 pub mod PickedKeys
 pub mod KeptParts
 pub mod ClashSteps
+pub mod ApartLaws
 pub mod ClashLaws
 pub mod LoadSteps
 pub mod LoadLaws

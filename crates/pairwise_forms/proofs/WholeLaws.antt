@@ -1,14 +1,12 @@
 -- Members that are all kept: their clashes and loads by their variables alone.
-use Rattle.std.proofs.Common.{◌≡◌, ℕ, ◌+◌, ◌<◌, Bool, true, false, not, ◌&&◌, ◌||◌, cond, List, [], ◌∷◌, ◌++◌, take, get_or, map, ℤ, pos, ◌+ℤ◌, ◌≤ℤ◌, int_le, length, refl, sym, ap, ◌∙◌, subst, arith}
+use Rattle.std.proofs.Common.{◌≡◌, ℕ, ◌+◌, ◌<◌, Bool, true, false, not, ◌&&◌, ◌||◌, cond, List, [], ◌∷◌, ◌++◌, take, get_or, map, ℤ, pos, ◌+ℤ◌, int_le, length, refl, sym, ap, ◌∙◌, subst, arith}
 use Rattle.std.specs.List.{All, list_any}
 use Rattle.std.specs.Ordering.{int_eq}
 use Rattle.std.proofs.lemmas.Int.{ints}
 use Rattle.std.proofs.lemmas.List.{take_more, map-append}
 use Rattle.std.proofs.lemmas.List.Elements.{All-nil, All-push, All-weaker, All-head, All-tail, All-map}
-use Rattle.signed_clause.specs.Clauses.{Boxes, box_of}
 use Rattle.ground_form.specs.declared.ground.Ground.{Ground}
 use Rattle.ground_form.specs.Meaning.{value_of, lacks, all_differ, load_at, rooms_hold}
-use Rattle.ground_form.specs.Bounds.{low_of, high_of, LiesWithin, size_sum}
 use Rattle.ground_build.specs.Growing.{AreItemVariables}
 use Rattle.form_build.specs.declared.form.Truth.{Truth}
 use Rattle.form_build.specs.declared.form.Truth.TheVariants as truth

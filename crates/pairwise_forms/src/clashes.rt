@@ -65,7 +65,7 @@ fn is_one_out(e: &Keyed, f: &Keyed) -> bool
 }
 
 /// Whether both members are kept and have one value.
-fn clash_of(maker: &mut Maker, e: &Keyed, f: &Keyed) -> Result<Truth, AllocError>
+pub(crate) fn clash_of(maker: &mut Maker, e: &Keyed, f: &Keyed) -> Result<Truth, AllocError>
     requires left { IsKeyed (length maker.old.domains) e.now }
     requires right { IsKeyed (length maker.old.domains) f.now }
     ensures variable { IfOk result (λ t. HasVariable (length maker.new.domains) t) }

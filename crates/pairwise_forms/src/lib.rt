@@ -3,6 +3,7 @@
 //! What is compared becomes a variable first, once for each member, so that a pair of members costs
 //! one flag, however many objects they may be.
 //!
+//! - `apart`: that members have different values, stated pair by pair.
 //! - `bodies`: the bodies of a possible member, and what each of them is.
 //! - `clashes`: whether some two members have one value.
 //! - `keys`: forms as variables that tell their values apart.
@@ -13,6 +14,7 @@
 //! - `whole`: such quantifiers as constraints of their own.
 #![tactic(auto)]
 
+mod apart;
 mod bodies;
 mod clashes;
 mod keys;

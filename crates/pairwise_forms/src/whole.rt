@@ -1,7 +1,8 @@
 //! Quantifiers that compare their members, as constraints of their own.
 //!
-//! Where all members are kept in any case, and numbers are small, this is one constraint of the
-//! kind that was made for it; else the form is stated.
+//! Where all members are kept in any case, and they are few and numbers small, this is one
+//! constraint of the kind that was made for it. Else that values differ is stated pair by pair, and
+//! a packing by its form.
 ghost use Rattle.std.specs.Prelude.{◌≡◌, ◌<◌, ◌∷◌, [], List, ℤ, true, not, length, map, IfOk, IfSome, OnOk};
 ghost use Rattle.std.specs.List.{All};
 ghost use Rattle.conf_eval.specs.Meaning.{truth_of};
@@ -16,7 +17,8 @@ ghost use Rattle.pairwise_forms.specs.Clashing.{some_clash, IsKeyed};
 ghost use Rattle.pairwise_forms.specs.Packing.{some_overfull, IsPacked, AreNarrow};
 ghost use Rattle.pairwise_forms.specs.Rows.{AreRows};
 
-use crate::clashes::{keyed, no_clash};
+use crate::apart::state_no_clash;
+use crate::clashes::keyed;
 use crate::loads::{none_overfull, packed};
 use crate::members::{Keyed, Packed};
 use form_build::{Maker, Truth, settled};
@@ -58,17 +60,6 @@ fn keys(alloc: Global, members: &[Keyed]) -> Result<Vec<u32>, AllocError>
     Ok(vars)
 }
 
-/// States that no two members clash, by way of a truth.
-fn state_no_clash(maker: &mut Maker, members: &[Keyed]) -> Result<(), AllocError>
-    requires members { All (IsKeyed (length maker.old.domains)) members.now }
-    ensures says { OnOk result (Adds [] maker.old maker.new (λ a. not (some_clash members.now a))) }
-{
-    let t = no_clash(maker, members)?;
-    maker.ask(1)?;
-    state_truth(maker, t)?;
-    Ok(())
-}
-
 /// States that no two members clash, where all are kept.
 fn require_different(maker: &mut Maker, members: &[Keyed]) -> Result<(), AllocError>
     requires members { All (IsKeyed (length maker.old.domains)) members.now }
@@ -81,6 +72,17 @@ fn require_different(maker: &mut Maker, members: &[Keyed]) -> Result<(), AllocEr
     Ok(())
 }
 
+/// The most members of one constraint that values differ. What it costs to look at grows with the
+/// third power of their number.
+const MOST_DIFFERENT: usize = 64;
+
+/// Whether that the members' values differ is stated as one constraint.
+fn is_one_constraint(members: &[Keyed]) -> bool
+    ensures { result ≡ true → All (λ e. e.kept ≡ truth.Fixed true) members.now }
+{
+    members.len() <= MOST_DIFFERENT && are_kept(members)
+}
+
 /// States that the values of all members that are kept differ.
 pub fn state_different(maker: &mut Maker, parts: &[Part]) -> Result<(), AllocError>
     requires parts { AreParts maker.old.domains kind.AllDifferent parts.now }
@@ -89,7 +91,7 @@ pub fn state_different(maker: &mut Maker, parts: &[Part]) -> Result<(), AllocErr
         (λ a. truth_of (over_values kind.AllDifferent (kept_values parts.now a)))) }
 {
     let members = keyed(maker, parts)?;
-    if are_kept(&members) {
+    if is_one_constraint(&members) {
         require_different(maker, &members)?;
         return Ok(());
     }
