@@ -71,19 +71,27 @@ write_made_from() {
 }
 
 # Says of the first file, in the order of their paths, that isn't as dist/MADE-FROM has it what is
-# otherwise; nothing where all are as there.
+# otherwise; nothing where all are as there. It fails where they can't be compared.
 first_difference() {
-    LC_ALL=C awk '
+    {
+        recorded_sums "$1"
+        echo
+        source_sums "$1"
+    } | LC_ALL=C awk '
         function tell(path, what) { print path " " what; told = 1; exit }
-        FNR == NR { path[++count] = $2; sum[count] = $1; next }
+        !NF { here = 1; next }
+        !here { path[++count] = $2; sum[count] = $1; next }
         {
             at++
             if (at > count || $2 < path[at]) tell($2, "is new")
             if ($2 != path[at]) tell(path[at], "is gone")
             if ($1 != sum[at]) tell($2, "differs")
         }
-        END { if (!told && at < count) print path[at + 1] " is gone" }
-    ' <(recorded_sums "$1") <(source_sums "$1")
+        END {
+            if (!told && at < count) print path[at + 1] " is gone"
+            exit !count
+        }
+    '
 }
 
 # Sets `fault` to why the program of dist/ isn't run, and to nothing where it is.
@@ -99,8 +107,8 @@ find_dist_fault() {
     elif recorded=$(awk -v file="dist/$name" '$2 == file { print $1 }' "$made")
         [ "$(sha256sum <"$file" | cut -d ' ' -f 1)" != "$recorded" ]; then
         fault="dist/$name was changed, so it isn't run: dist/MADE-FROM has another sum of it"
-    elif fault=$(first_difference "$name"); [ -n "$fault" ]; then
-        fault="dist/$name isn't of these sources: $fault"
+    elif ! fault=$(first_difference "$name") || [ -n "$fault" ]; then
+        fault="dist/$name isn't of these sources: ${fault:-nothing compares them}"
     elif [ "$HOSTTYPE" != x86_64 ] || [[ $OSTYPE != linux* ]]; then
         fault="dist/$name is for Linux on x86-64, and this is $OSTYPE on $HOSTTYPE"
     else
