@@ -80,12 +80,13 @@ first_difference() {
     } | LC_ALL=C awk '
         function tell(path, what) { print path " " what; told = 1; exit }
         !NF { here = 1; next }
-        !here { path[++count] = $2; sum[count] = $1; next }
+        # With a letter in front no sum is taken for a number.
+        !here { path[++count] = $2; sum[count] = "s" $1; next }
         {
             at++
             if (at > count || $2 < path[at]) tell($2, "is new")
             if ($2 != path[at]) tell(path[at], "is gone")
-            if ($1 != sum[at]) tell($2, "differs")
+            if ("s" $1 != sum[at]) tell($2, "differs")
         }
         END {
             if (!told && at < count) print path[at + 1] " is gone"
