@@ -1,13 +1,14 @@
-# Which program a script runs: one that was built here; else that of dist/, where dist/MADE-FROM says
-# that it was made from these sources; else one that is built. `confsolve` and `confsolve-view` read
-# this file, and so do tools/release and the tests, so that what one writes the others understand.
+# Which program a script runs: one that was built here; else that of dist/, where dist/MADE-FROM
+# says that it was made from these sources; else one that is built. `confsolve` and `confsolve-view`
+# read this file, and so do tools/release and the tests, so that what one writes the others
+# understand.
 #
 # Whoever reads it has set `here`, the top of the repository, and `script`, its own name.
 #
-# dist/MADE-FROM is a text that `sha256sum -c` takes: the SHA-256 and the path of HANDLES, crates.txt,
-# each file in src, specs and proofs of the programs' crates, and each program, in the order of the
-# paths' bytes. The line before them names the toolchain (`rt version`), the one behind them has the
-# sum of all that stands above it; both begin with `#`.
+# dist/MADE-FROM is a text that `sha256sum -c` takes: the SHA-256 and the path of HANDLES,
+# crates.txt, each file in src, specs and proofs of the programs' crates, and each program, in the
+# order of the paths' bytes. The line before them names the toolchain (`rt version`), the one behind
+# them has the sum of all that stands above it; both begin with `#`.
 
 # The crates that programs are made of, themselves among them, one a line.
 crates_of() {
@@ -185,8 +186,8 @@ build_program() {
     "$here/tools/build" "$1" || exit 70
 }
 
-# Sets `program` to the file of the program that is run, which is built where there is none, and says
-# on first use which one it is.
+# Sets `program` to the file of the program that is run, which is built where there is none, and
+# says on first use which one it is.
 take_program() {
     local name=$1 built=$here/crates/$1/out/$1 mark fault said
     ! is_marked "$name" || return 0
