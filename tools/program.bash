@@ -153,10 +153,9 @@ is_marked() {
                 ;;
             dist)
                 [ ! -e "$built" ] && [ -x "$here/dist/$name" ] || continue
-                # Files, and folders from which one was taken out.
-                [ -z "$(find "$here/crates.txt" "$here/HANDLES" "$here/dist" \
-                    "$here"/crates/*/{src,specs,proofs} -newercm "$mark" -print -quit 2>&1)" ] ||
-                    continue
+                # Files, and folders from which something was taken out.
+                [ -z "$(find "$here/crates.txt" "$here/HANDLES" "$here/dist" "$here/crates" \
+                    -name out -prune -o -newercm "$mark" -print -quit 2>&1)" ] || continue
                 program=$here/dist/$name
                 ;;
             *) continue ;;
