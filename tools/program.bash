@@ -32,19 +32,24 @@ crates_of() {
     ' "$here/crates.txt" | LC_ALL=C sort
 }
 
+# What of the checkout a build of these programs reads: two files, and folders, one a line.
+places_of() {
+    echo HANDLES
+    echo crates.txt
+    crates_of "$@" | awk '{ print "crates/" $1 "/src\ncrates/" $1 "/specs\ncrates/" $1 "/proofs" }'
+}
+
+# The files there, each ended by a byte 0, by the further words of `find`.
+files_of() {
+    local places
+    places=($(places_of "$1"))
+    shift
+    (cd -- "$here" && find "${places[@]}" -type f "$@" 2>/dev/null)
+}
+
 # The sums of what a build of these programs reads.
 source_sums() {
-    local crate folders=()
-    for crate in $(crates_of "$@"); do
-        folders+=("crates/$crate/src" "crates/$crate/specs" "crates/$crate/proofs")
-    done
-    (
-        cd -- "$here" || exit
-        {
-            printf '%s\0' HANDLES crates.txt
-            [ "${#folders[@]}" -eq 0 ] || find "${folders[@]}" -type f -print0
-        } 2>/dev/null | LC_ALL=C sort -z | xargs -0 sha256sum 2>/dev/null
-    )
+    files_of "$*" -print0 | LC_ALL=C sort -z | (cd -- "$here" && xargs -0r sha256sum 2>/dev/null)
 }
 
 # The same sums as dist/MADE-FROM has them.
@@ -140,27 +145,33 @@ mark_in_cache() {
     echo "${XDG_CACHE_HOME:-${HOME:-/dev/null}/.cache}/confsolve/${here//\//%}"
 }
 
+# Whether no file that counts, and no folder from which something was taken out, changed since a
+# mark was made.
+nothing_changed() {
+    local places=() place
+    for place in crates.txt HANDLES dist crates; do
+        [ ! -e "$here/$place" ] || places+=("$here/$place")
+    done
+    [ -z "$(find "${places[@]}" -regextype posix-extended \
+        -name out -regex '.*/crates/[^/]+/out' -prune -o -newercm "$1" -print -quit 2>&1)" ]
+}
+
+# A file that a build of the program reads and that is newer than the one that was built here.
+newer_source() {
+    files_of "$1" -newer "$here/crates/$1/out/$1" -print -quit
+}
+
 # Whether a mark tells which program is taken, and nothing changed behind it. Sets `program`.
 is_marked() {
     local name=$1 built=$here/crates/$1/out/$1 mark taken
     for mark in "$here/.state/$name" "$(mark_in_cache)/$name"; do
         { read -r taken <"$mark"; } 2>/dev/null || continue
         case $taken in
-            built)
-                [ -x "$built" ] && [ ! "$built" -nt "$mark" ] &&
-                    [ ! "$here/dist/MADE-FROM" -nt "$mark" ] || continue
-                program=$built
-                ;;
-            dist)
-                [ ! -e "$built" ] && [ -x "$here/dist/$name" ] || continue
-                # Files, and folders from which something was taken out.
-                [ -z "$(find "$here/crates.txt" "$here/HANDLES" "$here/dist" "$here/crates" \
-                    -name out -prune -o -newercm "$mark" -print -quit 2>&1)" ] || continue
-                program=$here/dist/$name
-                ;;
+            built) program=$built ;;
+            dist) [ ! -e "$built" ] && program=$here/dist/$name || continue ;;
             *) continue ;;
         esac
-        return 0
+        [ -x "$program" ] && [ ! "$program" -nt "$mark" ] && nothing_changed "$mark" && return 0
     done
     return 1
 }
@@ -188,7 +199,7 @@ build_program() {
 # Sets `program` to the file of the program that is run, which is built where there is none, and
 # says on first use which one it is.
 take_program() {
-    local name=$1 built=$here/crates/$1/out/$1 mark fault said
+    local name=$1 built=$here/crates/$1/out/$1 mark fault said newer
     ! is_marked "$name" || return 0
     if [ ! -x "$built" ]; then
         make_mark dist
@@ -202,11 +213,13 @@ take_program() {
     if [ -x "$built" ]; then
         program=$built
         said="runs crates/$name/out/$name, which was built here"
-        if [ "$here/dist/MADE-FROM" -nt "$built" ]; then
+        newer=$(newer_source "$name")
+        if [ -n "$newer" ]; then
+            said+=" before $newer was changed"
+        elif [ "$here/dist/MADE-FROM" -nt "$built" ]; then
             said+=", though dist/$name is newer: without the former the latter is run"
-        else
-            said+="; tools/build $name builds it anew"
         fi
+        said+="; tools/build $name builds it anew"
         make_mark built
     else
         program=$here/dist/$name
