@@ -1,7 +1,6 @@
 //! One model that is made ground.
 ghost use Rattle.conf_types.specs.Typing.{IsTypedModel};
 
-use crate::clock::Clock;
 use conf_limits::{limits, model_weight};
 use conf_types::TypedModel;
 use given_models::typed_of;
@@ -10,6 +9,7 @@ use ground_model::ground;
 use object_alloc::{Objects, allocate};
 use std::alloc::{AllocError, Global};
 use std::rt::Runtime;
+use test_clock::Clock;
 
 /// A ground problem, and how long it took.
 #[derive(Drop)]
@@ -18,9 +18,9 @@ pub(crate) struct Grounded {
     pub(crate) ground: Ground,
     /// How much the model's expressions weigh.
     pub(crate) weight: u64,
-    /// Microseconds of reading, typing and allocating.
+    /// Nanoseconds of reading, typing and allocating.
     pub(crate) typing_time: u128,
-    /// Microseconds of making it ground.
+    /// Nanoseconds of making it ground.
     pub(crate) time: u128,
 }
 

@@ -5,7 +5,6 @@
 //! that takes; the first part of a row's name as a further word picks rows, also of those.
 #![tactic(auto)]
 
-mod clock;
 mod counts;
 mod grounding;
 mod limits;
@@ -15,7 +14,8 @@ use counts::{Counts, counts_of, nth_kind, of_kind};
 use ground_form::Ground;
 use grounding::{Grounded, made_ground};
 use models::{QUICK_ROWS, ROWS, Row, nth_row, text_of};
-use std::{env, io};
+use std::io;
+use test_clock::{has_picks, is_picked, is_timed};
 
 /// Prints how many constraints of each kind a problem has.
 fn show_kinds(rt: &HostRuntime, g: &Ground) -> io::Result<()> {
@@ -39,7 +39,8 @@ fn show(rt: &HostRuntime, row: Row, seen: &Grounded, timed: bool) -> io::Result<
     if timed {
         println!(rt;
             "  read and typed {} us, ground {} us",
-            seen.typing_time, seen.time
+            seen.typing_time / 1_000,
+            seen.time / 1_000
         )?;
         return Ok(());
     }
@@ -59,15 +60,11 @@ fn show_row(rt: &HostRuntime, row: Row, timed: bool) -> io::Result<()> {
 }
 
 fn main(rt: HostRuntime) -> io::Result<()> {
-    let timed = env::args(&rt)?.skip(1).any(|word| word.as_str() == "times");
-    let some = env::args(&rt)?.skip(1).any(|word| word.as_str() != "times");
-    let shown = if some { ROWS } else { QUICK_ROWS };
+    let timed = is_timed(&rt)?;
+    let shown = if has_picks(&rt)? { ROWS } else { QUICK_ROWS };
     for number in 0..shown {
         let row = nth_row(number);
-        let picked = env::args(&rt)?
-            .skip(1)
-            .any(|word| row.name.starts_with(word.as_str()));
-        if picked || !some {
+        if is_picked(&rt, row.name)? {
             show_row(&rt, row, timed)?;
         }
     }

@@ -1,98 +1,39 @@
-//! What one call of `prune` answers and costs, kind by kind, at 10, 100 and 1,000 parts.
+//! What is asked again and again in a search and in the check of its log, and what it costs: what
+//! constraints prune, whether clauses are justified, and the other parts of a search.
 //!
-//! For each row there are boxes in which the constraint has nothing to say (None) and boxes in
-//! which it has (Some). With no word the program prints for each row whether that is so; with the
-//! word `times` it prints how many nanoseconds a call takes.
+//! With no word the program prints what small cases answer; with the word `times` how long calls
+//! take. The words `pruning`, `rules` and `parts` pick what is printed.
 #![tactic(auto)]
 
-mod cases;
-mod timing;
+mod conflict_costs;
+mod packs;
+mod part_table;
+mod prune_cases;
+mod prune_table;
+mod prune_timing;
+mod queue_costs;
+mod rule_cases;
+mod rule_table;
+mod rule_timing;
+mod store_costs;
+mod watch_costs;
 
-use bool_prop::BoolProp;
-use cases::{Case, ROWS, nth_case};
-use element_prop::ElementProp;
-use ground_check::is_search_well_made;
-use ground_form::{Cons, Domains, Goals, Ground};
-use linear_prop::LinearProp;
-use pack_prop::PackProp;
-use rule_law::{Kit, Propagator, are_boxes_within};
-use signed_clause::IntSet;
-use std::alloc::{AllocError, Global};
-use std::{env, io};
-use timing::{does_say, nanoseconds};
-
-/// Of each variable what it may be in either row of boxes.
-fn domains_of(alloc: Global, idle: &[IntSet], acting: &[IntSet]) -> Result<Domains, AllocError> {
-    let mut domains = Vec::new(alloc);
-    for (one, other) in idle.iter().zip(acting) {
-        domains.push(one.join(other)?)?;
-    }
-    Ok(Domains::of(domains))
-}
-
-/// The problem of one constraint.
-fn problem_of(alloc: Global, case: &Case) -> Result<Ground, AllocError> {
-    let domains = domains_of(alloc, &case.idle, &case.acting)?;
-    let search = domains.items().len().min(1000000) as u32;
-    Ok(Ground {
-        domains,
-        search,
-        cons: Cons::of(vec![in alloc; case.con.copy()?]?),
-        goals: Goals::of(Vec::new(alloc)),
-    })
-}
-
-/// Prints a line of the table.
-fn show(rt: &HostRuntime, kit: &mut Kit, case: &Case, n: u32, timed: bool) -> io::Result<()> {
-    let g = problem_of(rt.alloc(), case)?;
-    if !is_search_well_made(&g, rt.alloc())?
-        || g.cons.items().is_empty()
-        || !are_boxes_within(g.domains.items(), &case.idle)
-        || !are_boxes_within(g.domains.items(), &case.acting)
-    {
-        println!(rt; "{} {}: no problem", case.name, n)?;
-        return Ok(());
-    }
-    if timed {
-        let none = nanoseconds(rt, kit, &g, &case.idle)?;
-        let some = nanoseconds(rt, kit, &g, &case.acting)?;
-        println!(rt; "{} {}: None {} ns, Some {} ns", case.name, n, none, some)?;
-        return Ok(());
-    }
-    let idle = if does_say(kit, &g, &case.idle)? {
-        "Some"
-    } else {
-        "None"
-    };
-    let acting = if does_say(kit, &g, &case.acting)? {
-        "Some"
-    } else {
-        "None"
-    };
-    println!(rt; "{} {}: {} {}", case.name, n, idle, acting)?;
-    Ok(())
-}
-
-/// Prints the table.
-fn show_all(rt: &HostRuntime, kit: &mut Kit, timed: bool) -> io::Result<()> {
-    for row in 0..ROWS {
-        for n in [10u32, 100, 1000] {
-            let case = nth_case(rt.alloc(), row, n)?;
-            show(rt, kit, &case, n, timed)?;
-        }
-    }
-    Ok(())
-}
+use part_table::show_parts;
+use prune_table::show_pruning;
+use rule_table::show_rules;
+use std::io;
+use test_clock::{is_picked, is_timed};
 
 fn main(rt: HostRuntime) -> io::Result<()> {
-    let alloc = rt.alloc();
-    let timed = env::args(&rt)?.skip(1).any(|word| word.as_str() == "times");
-    let sums: Box<dyn Propagator> = Box::new(alloc, LinearProp::new(alloc))?;
-    let truths: Box<dyn Propagator> = Box::new(alloc, BoolProp::new(alloc))?;
-    let choices: Box<dyn Propagator> = Box::new(alloc, ElementProp::new(alloc))?;
-    let places: Box<dyn Propagator> = Box::new(alloc, PackProp::new(alloc))?;
-    match Kit::new(vec![in alloc; sums, truths, choices, places]?) {
-        Ok(mut kit) => show_all(&rt, &mut kit, timed),
-        Err(_) => Ok(()),
+    let timed = is_timed(&rt)?;
+    if is_picked(&rt, "pruning")? {
+        show_pruning(&rt, timed)?;
     }
+    if is_picked(&rt, "rules")? {
+        show_rules(&rt, timed)?;
+    }
+    if is_picked(&rt, "parts")? {
+        show_parts(&rt, timed)?;
+    }
+    Ok(())
 }

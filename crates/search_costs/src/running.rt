@@ -3,7 +3,6 @@ ghost use Rattle.std.specs.Prelude.{◌≡◌, ◌<◌, length, IfOk, IfSome};
 ghost use Rattle.std.specs.List.{All};
 ghost use Rattle.ground_form.specs.WellMade.{IsWellMade};
 
-use crate::clock::Clock;
 use crate::problems::Problem;
 use bound_search::{Ended, Limits, search};
 use branch_choice::Chooser;
@@ -16,6 +15,7 @@ use proof_log::Record;
 use rule_law::Kit;
 use std::alloc::{AllocError, Global};
 use std::rt::Runtime;
+use test_clock::Clock;
 
 /// How many lines of each kind there are.
 #[derive(Clone, Copy)]
@@ -59,9 +59,9 @@ pub(crate) struct Outcome {
     pub(crate) counts: Counts,
     /// The bytes of its text.
     pub(crate) bytes: usize,
-    /// Microseconds of the search.
+    /// Nanoseconds of the search.
     pub(crate) search_time: u128,
-    /// Microseconds of the check.
+    /// Nanoseconds of the check.
     pub(crate) check_time: u128,
 }
 
