@@ -13,7 +13,7 @@ use Rattle.ground_form.specs.Bounds.{singles}
 use Rattle.ground_form.specs.Meaning.{value_of}
 use Rattle.ground_form.specs.Solutions.{IsSolution, better}
 use Rattle.ground_form.specs.WellMade.{IsWellMade}
-use Rattle.fixpoint_law.specs.Singles.{IsSingle}
+use Rattle.rule_law.specs.Singles.{IsSingle}
 use Rattle.branch_choice.specs.Picks.{is_single}
 use Rattle.fd_store.specs.Levels.{Stack}
 use Rattle.log_form.specs.declared.line.Line.{Line}

@@ -7,7 +7,7 @@ ghost use Rattle.ground_form.specs.Bounds.{singles, low_of};
 ghost use Rattle.ground_form.specs.Meaning.{value_of};
 ghost use Rattle.ground_form.specs.Solutions.{IsSolution};
 ghost use Rattle.ground_form.specs.WellMade.{IsWellMade};
-ghost use Rattle.fixpoint_law.specs.Singles.{least_values};
+ghost use Rattle.rule_law.specs.Singles.{least_values};
 ghost use Rattle.rule_law.specs.Answers.{AreBoxesWithin};
 ghost use Rattle.fd_store.specs.Levels.{Stack};
 ghost use Rattle.prop_queue.specs.Work.{Work, AreAllQuiet};
@@ -23,12 +23,11 @@ ghost use Rattle.bound_search.specs.Engines.{Shows, Reached, IsKept, DecideAlike
 use crate::after::After;
 use crate::engine::Engine;
 use clause_watches::Watches;
-use fixpoint_law::fixpoint_is_solution;
-use goal_bounds::bounds_of;
 use ground_form::{Ground, GroundGoal, Number};
-use log_form::{Line, Values};
+use log_form::{Line, Values, bounds_of};
 use numbered_clauses::Clauses;
 use proof_log::Record;
+use rule_law::fixpoint_is_solution;
 use signed_clause::{ClauseHandle, IntSet};
 use std::alloc::{AllocError, Global};
 

@@ -11,7 +11,7 @@ ghost use Rattle.ground_model.specs.Stated.{IsReady};
 use conf_types::Constraint;
 use form_build::Maker;
 use ground_expr::Scene;
-use ground_rows::row_at;
+use crate::row_form::row_at;
 use object_alloc::Objects;
 use packed_rows::{Row, pack_rows};
 use std::alloc::AllocError;

@@ -3,7 +3,7 @@ use crate::numbers::Numbers;
 use clause_watches::Counts;
 use signed_clause::{Clause, ClauseHandle, IntSet};
 use std::alloc::{AllocError, Global};
-use watch_check::Watched;
+use search_checks::Watched;
 
 /// How many variables are changed; as many stand in clauses that are to be left alone.
 const VARIABLES: u32 = 400;

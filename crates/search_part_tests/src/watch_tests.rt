@@ -6,7 +6,7 @@ use ground_form::copy_sets;
 use numbered_clauses::Clauses;
 use signed_clause::{ClauseHandle, IntSet};
 use std::alloc::{AllocError, Global};
-use watch_check::Watched;
+use search_checks::Watched;
 
 /// How many variables there are.
 const VARIABLES: u32 = 6;
