@@ -10,9 +10,9 @@ use Rattle.log_form.specs.declared.line.Line.{Line}
 use Rattle.log_form.specs.declared.line.Line.TheVariants.{Bound, Found}
 use Rattle.log_form.specs.Acceptance.{bounds_of}
 use Rattle.proof_log.specs.Rounds.{Journal}
-use Rattle.search_run.specs.Replay.{Going, mode_by_bounds, is_run}
-use Rattle.search_run.specs.Decisions.{decisions}
-use Rattle.search_run.specs.Ordered.{IsOrdered}
+use Rattle.run_law.specs.Replay.{Going, mode_by_bounds, is_run}
+use Rattle.run_law.specs.Decisions.{decisions}
+use Rattle.run_law.specs.Ordered.{IsOrdered}
 use Rattle.bound_search.specs.declared.after.After.{After}
 use Rattle.bound_search.specs.declared.after.After.TheVariants as after
 use Rattle.bound_search.specs.declared.engine.Engine.{Engine}

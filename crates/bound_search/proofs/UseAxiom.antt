@@ -9,10 +9,10 @@ use Rattle.branch_choice.specs.Picks.{Hints}
 use Rattle.log_form.specs.declared.line.Line.{Line}
 use Rattle.log_form.specs.declared.line.Line.TheVariants.{Axiom, Use}
 use Rattle.proof_log.specs.Rounds.{Journal}
-use Rattle.search_run.specs.Replay.{State, Going, mode_by, is_run, state_of}
-use Rattle.search_run.specs.Ordered.{IsLineBy, IsOrdered}
-use Rattle.search_run.proofs.Orders.{ordered_more}
-use Rattle.search_run.specs.Decisions.{decisions}
+use Rattle.run_law.specs.Replay.{State, Going, mode_by, is_run, state_of}
+use Rattle.run_law.specs.Ordered.{IsLineBy, IsOrdered}
+use Rattle.run_law.proofs.Orders.{ordered_more}
+use Rattle.run_law.specs.Decisions.{decisions}
 use Rattle.bound_search.specs.declared.after.After.{After}
 use Rattle.bound_search.specs.declared.engine.Engine.{Engine}
 use Rattle.bound_search.specs.Boards.{AreLower}

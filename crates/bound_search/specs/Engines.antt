@@ -11,9 +11,9 @@ use Rattle.fd_store.specs.Levels.{Stack, reacted, dropped}
 use Rattle.log_form.specs.declared.line.Line.{Line}
 use Rattle.log_form.specs.Acceptance.{has_empty, made}
 use Rattle.proof_log.specs.Rounds.{Journal}
-use Rattle.search_run.specs.Replay.{Mode, Going, Conflict, mode_by, mode_by_bounds, is_run}
-use Rattle.search_run.specs.Ordered.{IsOrdered}
-use Rattle.search_run.specs.Decisions.{decisions}
+use Rattle.run_law.specs.Replay.{Mode, Going, Conflict, mode_by, mode_by_bounds, is_run}
+use Rattle.run_law.specs.Ordered.{IsOrdered}
+use Rattle.run_law.specs.Decisions.{decisions}
 use Rattle.bound_search.specs.declared.after.After.{After}
 use Rattle.bound_search.specs.declared.after.After.TheVariants as after
 use Rattle.bound_search.specs.declared.engine.Engine.{Engine}

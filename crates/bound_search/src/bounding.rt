@@ -13,7 +13,7 @@ ghost use Rattle.fd_store.specs.Levels.{Stack};
 ghost use Rattle.prop_queue.specs.Work.{Work, AreAllQuiet};
 ghost use Rattle.branch_choice.specs.Picks.{AreAllSingle};
 ghost use Rattle.log_form.specs.Acceptance.{states, has_empty};
-ghost use Rattle.search_run.specs.Replay.{Mode, Going, Conflict, first_false};
+ghost use Rattle.run_law.specs.Replay.{Mode, Going, Conflict, first_false};
 ghost use Rattle.bound_search.specs.BoundLists.{numbered_from, first_or, values_of};
 ghost use Rattle.bound_search.specs.Boards.{IsBoard};
 ghost use Rattle.bound_search.specs.Modes.{rank};

@@ -3,7 +3,7 @@
 //! Constraints are asked before clauses. A constraint that says again what it said lately uses that
 //! clause; else its clause is written.
 ghost use Rattle.std.specs.Prelude.{◌≡◌, length, IfOk, OnOk, IfSome};
-ghost use Rattle.search_run.specs.Replay.{Going};
+ghost use Rattle.run_law.specs.Replay.{Going};
 ghost use Rattle.bound_search.specs.Standing.{IsReason};
 ghost use Rattle.bound_search.specs.Engines.{Shows, Reached, IsKept, IsTurn, DecideAlike, TurnOf, FixedIf};
 

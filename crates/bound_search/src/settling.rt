@@ -1,6 +1,6 @@
 //! On to the next decision of a search, or to its end.
 ghost use Rattle.std.specs.Prelude.{◌≡◌, ◌≤◌, length, IfOk, OnOk};
-ghost use Rattle.search_run.specs.Replay.{Going};
+ghost use Rattle.run_law.specs.Replay.{Going};
 ghost use Rattle.bound_search.specs.Standing.{IsFixed};
 ghost use Rattle.bound_search.specs.Engines.{Shows, IsKept, DecideAlike, StepOf, SettledOf};
 

@@ -8,9 +8,9 @@ ghost use Rattle.ground_form.specs.WellMade.{IsWellMade};
 ghost use Rattle.branch_choice.specs.declared.split.Order.{Order};
 ghost use Rattle.branch_choice.specs.Picks.{Hints, half_of};
 ghost use Rattle.log_form.specs.Acceptance.{has_empty, made};
-ghost use Rattle.search_run.specs.Replay.{Going, is_run};
-ghost use Rattle.search_run.specs.Ordered.{IsOrdered};
-ghost use Rattle.search_run.specs.Decisions.{decisions, MayDecide};
+ghost use Rattle.run_law.specs.Replay.{Going, is_run};
+ghost use Rattle.run_law.specs.Ordered.{IsOrdered};
+ghost use Rattle.run_law.specs.Decisions.{decisions, MayDecide};
 ghost use Rattle.bound_search.specs.Engines.{Shows, IsKeptBy, IsDue};
 ghost use Rattle.bound_search.specs.Ends.{EndsOf};
 

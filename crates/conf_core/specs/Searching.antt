@@ -17,7 +17,7 @@ use Rattle.proof_log.specs.declared.record.Round.{Round}
 use Rattle.run_finder.specs.Outcomes.{OutcomeOf}
 use Rattle.run_finder.specs.declared.outcome.Outcome.{Outcome}
 use Rattle.run_finder.specs.declared.outcome.Outcome.TheVariants as outcomes
-use Rattle.search_run.specs.Replay.{is_run}
+use Rattle.run_law.specs.Replay.{is_run}
 
 -- the rounds have one more, over the problem of these constraints, by a run that ended so
 pub record HasClosed (o : Outline) (ks : List ResolvedConstraint) (budget : ℕ) (part : List ℕ)

@@ -16,7 +16,7 @@ use Rattle.reconfigure.specs.Failing.{objects_named}
 use Rattle.reconfigure.specs.Repairing.{Extends}
 use Rattle.run_finder.specs.Outcomes.{OutcomeOf}
 use Rattle.run_finder.specs.declared.outcome.Outcome.{Outcome}
-use Rattle.search_run.specs.Replay.{is_run}
+use Rattle.run_law.specs.Replay.{is_run}
 use Rattle.conf_session.specs.Keeping.{most_kept, keeping}
 use Rattle.conf_session.specs.Standing.{Standing, IsOver, failed_behind, former_behind}
 

@@ -6,7 +6,7 @@ ghost use Rattle.ground_form.specs.WellMade.{IsWellMade};
 ghost use Rattle.reconfigure.specs.Failing.{unknown_word};
 ghost use Rattle.reconfigure.specs.Repairing.{Extends};
 ghost use Rattle.run_finder.specs.Outcomes.{OutcomeOf};
-ghost use Rattle.search_run.specs.Replay.{is_run};
+ghost use Rattle.run_law.specs.Replay.{is_run};
 ghost use Rattle.conf_session.specs.Standing.{IsOver};
 ghost use Rattle.conf_session.specs.Steps.{RepairsFor, IsSearched};
 

@@ -18,12 +18,12 @@ mod series;
 mod stating;
 mod writing;
 
-use case_files::run_file;
 use models::Models;
 use series::Series;
 use std::alloc::AllocError;
 use std::fs;
 use std::process::ExitCode;
+use test_case_files::run_file;
 
 /// Runs all files.
 fn run_files(rt: &HostRuntime) -> Result<(), AllocError> {

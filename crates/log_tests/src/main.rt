@@ -16,11 +16,11 @@ mod packing;
 mod problems;
 mod spelling;
 
-use case_files::run_file;
 use checked::Checked;
 use spelling::Spelling;
 use std::alloc::AllocError;
 use std::process::ExitCode;
+use test_case_files::run_file;
 
 /// Runs all files.
 fn run_files(rt: &HostRuntime) -> Result<(), AllocError> {

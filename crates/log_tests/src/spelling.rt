@@ -3,10 +3,10 @@
 //! line alone; and of clauses by number what `numbering` and `packing` say.
 use crate::numbering::{found, owned_twice};
 use crate::packing::read_back;
-use case_files::{Case, Subject};
 use log_form::{Line, Lines};
 use proof_log::{Record, line_text, lines_text, read_line};
 use std::alloc::{AllocError, Global};
+use test_case_files::{Case, Subject};
 
 /// What is asked of the format.
 #[derive(Drop)]

@@ -10,7 +10,7 @@ ghost use Rattle.model_search.specs.Problems.{IsProblemOf};
 ghost use Rattle.model_search.specs.Runs.{HasRun};
 ghost use Rattle.proof_log.specs.declared.record.Round.{Round as ARound};
 ghost use Rattle.run_finder.specs.Outcomes.{OutcomeOf};
-ghost use Rattle.search_run.specs.Replay.{is_run};
+ghost use Rattle.run_law.specs.Replay.{is_run};
 
 use ground_form::Ground;
 use kept_clauses::know_lines;
@@ -18,7 +18,7 @@ use log_form::Line;
 use model_search::{Question, undecided_has_more};
 use proof_log::{Record, Round};
 use run_finder::Outcome;
-use search_run::front_is_run;
+use run_law::front_is_run;
 
 /// The last round of a record that has one.
 pub fn last_round(journal: &Record) -> &Round

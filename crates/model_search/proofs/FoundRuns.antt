@@ -11,8 +11,8 @@ use Rattle.log_form.specs.Acceptance.{has_empty, made}
 use Rattle.object_alloc.specs.Counts.{configuration_count}
 use Rattle.proof_log.specs.Rounds.{Journal}
 use Rattle.reconfigure.specs.declared.repair.Repair.{Repair}
-use Rattle.search_run.proofs.Fronts.{run_accepted}
-use Rattle.search_run.specs.Decisions.{decisions, MayDecide}
+use Rattle.run_law.proofs.Fronts.{run_accepted}
+use Rattle.run_law.specs.Decisions.{decisions, MayDecide}
 use Rattle.model_search.specs.Findings.{finding, finding_by, Tells}
 use Rattle.model_search.specs.Problems.{IsProblemOf}
 use Rattle.model_search.specs.Runs.{is_open, values_for, IsSpent, HasRun}

@@ -15,9 +15,9 @@ use Rattle.model_search.specs.declared.finding.Finding.TheVariants as findings
 use Rattle.object_alloc.specs.Counts.{configuration_count}
 use Rattle.proof_log.specs.Rounds.{Journal}
 use Rattle.reconfigure.specs.declared.repair.Repair.{Repair}
-use Rattle.search_run.specs.Decisions.{decisions, MayDecide}
-use Rattle.search_run.specs.Ordered.{IsOrdered}
-use Rattle.search_run.specs.Replay.{is_run}
+use Rattle.run_law.specs.Decisions.{decisions, MayDecide}
+use Rattle.run_law.specs.Ordered.{IsOrdered}
+use Rattle.run_law.specs.Replay.{is_run}
 
 -- neither is shown
 abbrev pub is_open : Finding → Bool

@@ -11,7 +11,7 @@ ghost use Rattle.model_search.specs.Problems.{IsProblemOf};
 ghost use Rattle.model_search.specs.Runs.{HasRun, values_for};
 ghost use Rattle.model_search.specs.Searching.{HasSearched};
 ghost use Rattle.model_search.specs.Wanted.{IsUnderstood};
-ghost use Rattle.search_run.specs.Replay.{is_run};
+ghost use Rattle.run_law.specs.Replay.{is_run};
 
 use crate::finding::{Finding, finding_of};
 use crate::laws::undecided_has_more;

@@ -27,8 +27,8 @@ use Rattle.run_finder.specs.declared.outcome.Outcome.{Outcome}
 use Rattle.run_finder.specs.declared.outcome.Outcome.TheVariants as outcomes
 use Rattle.run_status.specs.declared.status.Status.{Status}
 use Rattle.run_status.specs.declared.status.Status.TheVariants as status
-use Rattle.search_run.specs.Decisions.{MayDecide}
-use Rattle.search_run.specs.Replay.{is_run}
+use Rattle.run_law.specs.Decisions.{MayDecide}
+use Rattle.run_law.specs.Replay.{is_run}
 
 some_ground : (g h : Ground) → Some g ≡ Some h → g ≡ h
 some_ground g h e = cc

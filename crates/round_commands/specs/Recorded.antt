@@ -16,9 +16,9 @@ use Rattle.model_rounds.specs.Runs.{is_open}
 use Rattle.proof_log.specs.Rounds.{Journal, empty}
 use Rattle.proof_log.specs.declared.record.Round.{Round}
 use Rattle.run_status.specs.declared.status.Status.{Status}
-use Rattle.search_run.specs.Decisions.{decisions, MayDecide}
-use Rattle.search_run.specs.Ordered.{IsOrdered}
-use Rattle.search_run.specs.Replay.{is_run}
+use Rattle.run_law.specs.Decisions.{decisions, MayDecide}
+use Rattle.run_law.specs.Ordered.{IsOrdered}
+use Rattle.run_law.specs.Replay.{is_run}
 use Rattle.session_run.specs.Sessions.{session_status}
 use Rattle.round_commands.specs.Answer.{searched_status, order_at}
 use Rattle.answer_text.specs.Texts.{generated_budget}

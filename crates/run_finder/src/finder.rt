@@ -1,7 +1,7 @@
 //! `Finder`, who finds a best solution of a ground problem and leaves a run behind.
 ghost use Rattle.std.specs.Prelude.{◌≡◌, [], ℕ, true, None, Some, length, IfOk, OnOk};
 ghost use Rattle.ground_form.specs.WellMade.{IsWellMade};
-ghost use Rattle.search_run.specs.Replay.{is_run};
+ghost use Rattle.run_law.specs.Replay.{is_run};
 ghost use Rattle.run_finder.specs.Outcomes.{OutcomeOf};
 
 use crate::outcome::Outcome;

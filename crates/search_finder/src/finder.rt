@@ -2,7 +2,7 @@
 ghost use Rattle.std.specs.Prelude.{◌≡◌, [], true, None, Some, length, IfOk, OnOk};
 ghost use Rattle.ground_form.specs.WellMade.{IsWellMade};
 ghost use Rattle.run_finder.specs.Outcomes.{OutcomeOf};
-ghost use Rattle.search_run.specs.Replay.{is_run};
+ghost use Rattle.run_law.specs.Replay.{is_run};
 
 use crate::ended::outcome_of;
 use bound_search::{Limits, search};

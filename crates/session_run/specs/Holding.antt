@@ -20,7 +20,7 @@ use Rattle.proof_log.specs.declared.record.Round.{Round}
 use Rattle.reconfigure.specs.declared.repair.Repair.{Repair}
 use Rattle.run_finder.specs.Outcomes.{OutcomeOf}
 use Rattle.run_finder.specs.declared.outcome.Outcome.{Outcome}
-use Rattle.search_run.specs.Replay.{is_run}
+use Rattle.run_law.specs.Replay.{is_run}
 use Rattle.session_run.specs.Sessions.{Subject, Situation, situation, situation_behind, situation_after, is_none_told, IsAnswered, AreAnswered}
 
 -- the session stands at this situation, over the problem of the model
