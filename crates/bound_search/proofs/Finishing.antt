@@ -65,7 +65,7 @@ pub found_kept : (g : Ground) (old mid : Journal) (d : Engine) (a : List ℤ) �
 found_kept g old mid d a s f w =
     kept_by g old mid (Found a) w (λ g order hints s. tt) (found_runs g old d a s f)
 
--- a record that a failed push left as it was
+-- a journal that a failed push left as it was
 pub kept_after : (g : Ground) (old mid new : Journal) → IsKept g old mid →
     new.lines ≡ mid.lines → new.ground ≡ mid.ground → new.rounds ≡ mid.rounds → IsKept g old new
 kept_after g old mid new h l p q = λ order hints.

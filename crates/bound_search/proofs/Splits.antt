@@ -111,7 +111,7 @@ due_may_decide g ls order hints e s d f =
           d.at.at d.fixed decision).lines.run;
     }
 
--- ---- a record that two steps led on
+-- ---- a journal that two steps led on
 
 pub kept_on : (g : Ground) (order : Order) (hints : Hints) (a b c : Journal) →
     IsKeptBy g order hints a b → IsKeptBy g order hints b c → IsKeptBy g order hints a c

@@ -21,7 +21,7 @@ use Rattle.bound_search.specs.Engines.{Shows, Reached, IsKeptBy, IsKept, IsAppli
 use Rattle.bound_search.proofs.MoreLines.{IsUsed, use_at, axiom_at}
 use Rattle.bound_search.proofs.Steps.{valid_at, known_clause, reached_by, turn_by, alike}
 
--- the record got a line, and nothing else of it has changed
+-- the journal got a line, and nothing else of it has changed
 pub record IsWritten (old new : Journal) (l : Line) : Type 0 where
   pub lines : new.lines ≡ old.lines ++ l ∷ []
   pub problem : new.ground ≡ old.ground
@@ -161,7 +161,7 @@ axiom_step g old new d e k c a s r w f p =
       alike = alike old.lines new.lines (Axiom k c) w.lines refl;
     }
 
--- the record alone, where memory is wanting behind the line
+-- the journal alone, where memory is wanting behind the line
 pub use_kept : (g : Ground) (old new : Journal) (d : Engine) (n : ℕ) (c : Literals) →
     Shows g old.lines d Going → IsUsed d.clauses d.board.store n c → IsWritten old new (Use n) →
     IsKept g old new

@@ -1,6 +1,6 @@
--- Where a search stands. What a reader believes after this file: the lines of its record are a run,
--- the clauses, the levels and the mode that it keeps are what the run leaves, and each clause that
--- a run has to wait for is watched under its number.
+-- Where a search stands. What a reader believes after this file: the lines of its journal are a
+-- run, the clauses, the levels and the mode that it keeps are what the run leaves, and each clause
+-- that a run has to wait for is watched under its number.
 use Rattle.std.specs.Prelude.{◌≡◌, ℕ, ◌<◌, true, false, List, [], ◌∷◌, Some, length, slice_get}
 use Rattle.std.specs.List.{All, Contains}
 use Rattle.signed_clause.specs.Ranges.{Ranges, is_nil, IsValid}

@@ -26,7 +26,7 @@ use clause_watches::Watches;
 use ground_form::{Ground, GroundGoal, Number};
 use log_form::{Line, Values, bounds_of};
 use numbered_clauses::Clauses;
-use proof_log::Record;
+use proof_log::Journal;
 use rule_law::fixpoint_is_solution;
 use signed_clause::{ClauseHandle, IntSet};
 use std::alloc::{AllocError, Global};
@@ -184,7 +184,7 @@ fn take_all(e: &mut Engine, list: &[ClauseHandle]) -> Result<After, AllocError>
 }
 
 /// Writes the solution that the boxes are, and asks for a better one.
-pub fn finish(g: &Ground, e: &mut Engine, journal: &mut Record) -> Result<After, AllocError>
+pub fn finish(g: &Ground, e: &mut Engine, journal: &mut Journal) -> Result<After, AllocError>
     requires at { Shows g.now journal.old.lines e.old Going }
     requires fixed { IsFixed g.now e.old.board.store.top.now e.old.board.watches.added }
     requires single { AreAllSingle e.old.board.store.top.now g.now.search }

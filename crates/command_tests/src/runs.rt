@@ -5,7 +5,7 @@ use crate::cases::Case;
 use branch_choice::Chooser;
 use confsolve_run::{Status, line_of, run};
 use desk_io::{Desk, SteadyDesk};
-use proof_log::Record;
+use proof_log::Journal;
 use rule_law::Kit;
 use std::alloc::{AllocError, Global};
 use test_case_files::words_of;
@@ -18,12 +18,12 @@ pub(crate) struct Parts {
 }
 
 impl Parts {
-    /// The status of a run, with a record of its own.
+    /// The status of a run, with a journal of its own.
     pub(crate) fn run<D: Desk>(&mut self, alloc: Global, words: &[String], desk: &mut D) -> Status
         requires read { (name : List ℕ) → IsTrue (D.may_read desk.old name) }
         requires write { (name : List ℕ) → IsTrue (D.may_write desk.old name) }
     {
-        let mut journal = Record::new(alloc);
+        let mut journal = Journal::new(alloc);
         run(
             alloc,
             words,

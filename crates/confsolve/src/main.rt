@@ -13,13 +13,13 @@ use desk_io::RealDesk;
 use element_prop::ElementProp;
 use linear_prop::LinearProp;
 use pack_prop::PackProp;
-use proof_log::Record;
+use proof_log::Journal;
 use rule_law::{Kit, Propagator};
 use signed_clause::IntSet;
+use std::{env, io};
 use std::alloc::AllocError;
 use std::io::ErrorKind;
 use std::process::ExitCode;
-use std::{env, io};
 
 /// The words behind the program's name. A word that isn't UTF-8 is an error.
 fn collected(rt: &HostRuntime) -> io::Result<Vec<String>> {
@@ -43,7 +43,7 @@ fn run_words(
     choosers: &[Chooser; 3],
 ) -> Result<Status, AllocError> {
     let mut desk = RealDesk::new(rt.clone()?);
-    let mut journal = Record::new(rt.alloc());
+    let mut journal = Journal::new(rt.alloc());
     Ok(run(rt.alloc(), words, &mut desk, kit, choosers, &mut journal))
 }
 

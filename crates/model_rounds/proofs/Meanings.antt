@@ -22,7 +22,7 @@ use Rattle.model_search.specs.Problems.{IsProblemOf}
 use Rattle.model_search.specs.Runs.{is_open, values_for, IsSpent, HasRun}
 use Rattle.model_search.proofs.Solutions.{verdict_tells}
 use Rattle.object_alloc.specs.Counts.{configuration_count}
-use Rattle.proof_log.specs.declared.record.Round.{Round}
+use Rattle.proof_log.specs.declared.journal.Round.{Round}
 use Rattle.reconfigure.specs.declared.repair.Repair.{Repair}
 use Rattle.run_finder.specs.Outcomes.{OutcomeOf}
 use Rattle.run_finder.specs.declared.outcome.Outcome.{Outcome}

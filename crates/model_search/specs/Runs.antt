@@ -1,6 +1,6 @@
--- What a record holds of a search over a model. What a reader believes after this file: its problem
--- is the model's, or that of a repair of it; its lines are a run of a search by the order, which the
--- checker accepts, and what they show is what is told.
+-- What a journal holds of a search over a model. What a reader believes after this file: its
+-- problem is the model's, or that of a repair of it; its lines are a run of a search by the order,
+-- which the checker accepts, and what they show is what is told.
 use Rattle.std.specs.Prelude.{◌≡◌, ◌+◌, ◌≤◌, ℕ, Bool, true, false, List, ℤ, Option, None, Some, replicate}
 use Rattle.branch_choice.specs.declared.split.Order.{Order}
 use Rattle.class_table.specs.Outline.{Outline}

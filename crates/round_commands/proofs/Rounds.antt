@@ -1,4 +1,4 @@
--- What holds of the record's rounds, whatever is known of files.
+-- What holds of the journal's rounds, whatever is known of files.
 use Rattle.std.proofs.Common.{◌≡◌, ◌∙◌, true, List, [], Option, None, Some, slice_index_or, refl, sym, subst, ap, ℕ}
 use Rattle.branch_choice.specs.declared.split.Order.TheVariants as orders
 use Rattle.class_table.specs.Outline.{Outline}
@@ -19,7 +19,7 @@ use Rattle.model_rounds.specs.Runs.{HasRun, is_open}
 use Rattle.model_rounds.specs.Finding.{Finding}
 use Rattle.model_rounds.specs.Finding.TheVariants as findings
 use Rattle.proof_log.specs.Rounds.{Journal}
-use Rattle.proof_log.specs.declared.record.Round.{Round}
+use Rattle.proof_log.specs.declared.journal.Round.{Round}
 use Rattle.reconfigure.specs.declared.repair.Repair.{Repair}
 use Rattle.round_commands.specs.Answer.{searched_status}
 use Rattle.round_commands.specs.Recorded.{HasBlamed, IsRoundOf}

@@ -56,7 +56,7 @@ pub record IsBroken (o : Outline) (ks : List ResolvedConstraint) (bytes : List â
   pub is : IsConfigOf o bytes config
   pub broken : IsBrokenAt o ks config place path_text
 
--- the record holds the problem of the model or of the repair alone, and P holds of it
+-- the journal holds the problem of the model or of the repair alone, and P holds of it
 pub record HasProblem (o : Outline) (ks : List ResolvedConstraint) (gs : List ResolvedGoal)
     (r : Option Repair) (journal : Journal) (P : Ground â†’ Type 0) : Type 0 where
   pub ground : Ground

@@ -9,7 +9,7 @@
 //!
 //! What a run promises, as definitions:
 //! - `specs/Asking`: which text is that of a request's model, and what is asked of it.
-//! - `specs/Answer`: what answers it; `specs/Recorded`: what the record then holds.
+//! - `specs/Answer`: what answers it; `specs/Recorded`: what the journal then holds.
 //! - `specs/Refusal`: why it is refused; `specs/Unreadable`: or why a file gave nothing.
 //! - `specs/Delivery`: what is printed and written; `specs/Ending`: how a run ends, by stages.
 //!

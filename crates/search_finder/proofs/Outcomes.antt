@@ -1,4 +1,4 @@
--- What was said of lines that were read, of the lines that the record keeps.
+-- What was said of lines that were read, of the lines that the journal keeps.
 use Rattle.std.proofs.Common.{◌≡◌, ℕ, List, subst, sym}
 use Rattle.ground_form.specs.declared.ground.Ground.{Ground}
 use Rattle.log_form.specs.declared.line.Line.{Line}

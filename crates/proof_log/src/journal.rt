@@ -1,7 +1,8 @@
-//! The record of a search: ground problems and the lines that speak of them.
+//! The journal of a search: ground problems and the lines that speak of them.
 //!
-//! A record has a present round, a ground problem and lines, and the rounds that were closed
-//! before. Contracts see it as a `Journal`. Whatever runs out of memory leaves it as it was.
+//! A journal has a present round, a ground problem and lines, and the rounds that were closed
+//! before. Contracts see it as the `Journal` of `specs/Rounds`. Whatever runs out of memory leaves
+//! it as it was.
 ghost use Rattle.std.specs.Prelude.{◌≡◌, ◌++◌, [], ◌∷◌, Some, None, IfOk, OnOk, OnErr, IsSome, IfSome, IfNone};
 ghost use Rattle.proof_log.specs.Spelling as spelling;
 ghost use Rattle.proof_log.specs.Rounds.{closed};
@@ -24,31 +25,31 @@ pub struct Round {
     pub part: Indexes,
 }
 
-/// The record of a search.
+/// The journal of a search.
 #[derive(Drop)]
-pub struct Record {
+pub struct Journal {
     alloc: Global,
     ground: Option<Ground>,
     lines: Vec<Line>,
     rounds: Vec<Round>,
 }
 
-impl Model for Record {
-    ghost use Rattle.proof_log.specs.Rounds.{Journal};
+impl Model for Journal {
+    ghost use Rattle.proof_log.specs.Rounds.{Journal as AJournal};
 
-    ghost Value = { Journal };
+    ghost Value = { AJournal };
 
     ghost view = { λ r. record { ground = r.ground; lines = r.lines.items; rounds = r.rounds.items } };
 }
 
-impl Record {
-    /// An empty record. It takes no memory until something is kept.
+impl Journal {
+    /// An empty journal. It takes no memory until something is kept.
     pub fn new(alloc: Global) -> Self
         ensures ground { result.ground ≡ None }
         ensures lines { result.lines ≡ [] }
         ensures rounds { result.rounds ≡ [] }
     {
-        Record {
+        Journal {
             alloc,
             ground: None,
             lines: Vec::new(alloc),
@@ -56,7 +57,7 @@ impl Record {
         }
     }
 
-    /// Adds a line to the present round. After want of memory the record is as before.
+    /// Adds a line to the present round. After want of memory the journal is as before.
     pub fn push(&mut self, line: Line) -> Result<(), AllocError>
         ensures ok { OnOk result (self.new.lines ≡ self.old.lines ++ line ∷ []) }
         ensures err { OnErr result (self.new.lines ≡ self.old.lines) }
@@ -106,7 +107,7 @@ impl Record {
     }
 
     /// Closes the present round, which has a ground problem, and begins an empty one. After want of
-    /// memory the record is as before.
+    /// memory the journal is as before.
     pub fn close_round(&mut self) -> Result<(), AllocError>
         requires { IsSome self.old.ground }
         ensures ok { OnOk result (self.new ≡ closed self.old.ground self.old []) }
