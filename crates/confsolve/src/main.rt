@@ -16,10 +16,10 @@ use pack_prop::PackProp;
 use proof_log::Journal;
 use rule_law::{Kit, Propagator};
 use signed_clause::IntSet;
-use std::{env, io};
 use std::alloc::AllocError;
 use std::io::ErrorKind;
 use std::process::ExitCode;
+use std::{env, io};
 
 /// The words behind the program's name. A word that isn't UTF-8 is an error.
 fn collected(rt: &HostRuntime) -> io::Result<Vec<String>> {

@@ -17,10 +17,10 @@ ghost use Rattle.reference_forms.specs.Attributes.{IsAttributeForm};
 ghost use Rattle.ground_expr.specs.Known.{IsHeld, IsKnownValue, IsKnownChoice, IsKnownForm};
 
 use crate::scene::Scene;
-use reference_forms::attribute_form;
 use class_table::Resolved;
 use expr_forms::{Choice, Form};
 use form_build::{Linear, Maker, Truth};
+use reference_forms::attribute_form;
 use signed_clause::IntSet;
 use std::alloc::AllocError;
 

@@ -1,9 +1,9 @@
 //! How much watches look at while boxes change.
 use crate::numbers::Numbers;
 use clause_watches::Counts;
+use search_checks::Watched;
 use signed_clause::{Clause, ClauseHandle, IntSet};
 use std::alloc::{AllocError, Global};
-use search_checks::Watched;
 
 /// How many variables are changed; as many stand in clauses that are to be left alone.
 const VARIABLES: u32 = 400;

@@ -11,11 +11,11 @@
 #![tactic(auto)]
 
 mod fault;
+mod journal;
 mod numbers;
 mod parts;
 mod pieces;
 mod reading;
-mod journal;
 mod words;
 mod writing;
 

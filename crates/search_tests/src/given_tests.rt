@@ -1,7 +1,7 @@
 //! Given problems, and what is to come of them.
 use crate::given::{
-    AT_LEAST_TWO, CONSTANTS, CROWDED, FIRST_GOAL, FITTING, FLAGS, GREATEST, LESS, NO_VALUE, OPPOSED,
-    OVERFULL, SECOND_GOAL, TWO_GOALS, UNEQUAL,
+    AT_LEAST_TWO, CONSTANTS, CROWDED, FIRST_GOAL, FITTING, FLAGS, GREATEST, LESS, NO_VALUE,
+    OPPOSED, OVERFULL, SECOND_GOAL, TWO_GOALS, UNEQUAL,
 };
 use crate::series::{Budgets, Series, Source, Tally, run, run_plainly};
 use std::alloc::AllocError;
