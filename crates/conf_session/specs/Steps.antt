@@ -17,7 +17,8 @@ use Rattle.reconfigure.specs.Repairing.{Extends}
 use Rattle.run_finder.specs.Outcomes.{OutcomeOf}
 use Rattle.run_finder.specs.declared.outcome.Outcome.{Outcome}
 use Rattle.run_law.specs.Replay.{is_run}
-use Rattle.conf_session.specs.Keeping.{most_kept, keeping}
+use Rattle.command_limits.specs.Limits.{most_kept}
+use Rattle.conf_session.specs.Keeping.{keeping}
 use Rattle.conf_session.specs.Standing.{Standing, IsOver, failed_behind, former_behind}
 
 -- whatever the one problem stands for, the other stands for too, with that nothing that failed is

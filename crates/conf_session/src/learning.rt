@@ -3,12 +3,13 @@ ghost use Rattle.std.specs.Prelude.{◌≡◌, ◌+◌, ◌^◌, ◌≤◌, true
 ghost use Rattle.ground_form.specs.WellMade.{IsWellMade};
 ghost use Rattle.reconfigure.specs.Repairing.{Extends};
 ghost use Rattle.run_law.specs.Replay.{is_run};
-ghost use Rattle.conf_session.specs.Keeping.{most_kept};
+ghost use Rattle.command_limits.specs.Limits.{most_kept};
 ghost use Rattle.conf_session.specs.Steps.{IsGroundBehind, IsBehind};
 
-use crate::keeping::{MOST_KEPT, with_kept};
+use crate::keeping::with_kept;
 use crate::state::State;
 use crate::values::former_behind;
+use command_limits::MOST_KEPT;
 use ground_form::Ground;
 use kept_clauses::kept_lines;
 use log_form::Line;

@@ -9,7 +9,7 @@ use Rattle.log_check.specs.Fed.{FailsAt, HasTaken, IsLogOf, Left}
 use Rattle.log_check.specs.Verdicts.{Ending}
 use Rattle.log_check.specs.declared.lines.CheckError.{CheckError}
 use Rattle.log_check.specs.declared.lines.CheckError.TheVariants as refusal
-use Rattle.log_file.specs.Limits.{log_bytes}
+use Rattle.command_limits.specs.Limits.{log_bytes}
 use Rattle.log_file.specs.declared.reading.FileCheck.{FileCheck}
 use Rattle.log_file.specs.declared.reading.FileCheck.TheVariants as file
 use Rattle.model_search.specs.Findings.{finding}

@@ -20,11 +20,12 @@ ghost use Rattle.round_commands.specs.Unreadable.{Unreadable};
 
 use crate::answer::{Answer, question_of};
 use answer_text::check_text;
+use command_limits::LOG_BYTES;
 use conf_request::FileName;
 use desk_io::Desk;
 use ground_form::Ground;
 use log_check::{CheckError, Checker, Verdict};
-use log_file::{FileCheck, LOG_BYTES, check_file};
+use log_file::{FileCheck, check_file};
 use model_reader::Built;
 use model_search::{Finding, Question, finding_of, problem_of};
 use proof_log::Journal;

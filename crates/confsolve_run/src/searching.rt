@@ -8,14 +8,16 @@ ghost use Rattle.model_search.specs.Runs.{HasRun};
 ghost use Rattle.model_search.specs.Wanted.{IsUnderstood};
 ghost use Rattle.proof_log.specs.Rounds.{empty};
 ghost use Rattle.round_commands.specs.Answer.{IsSearched, searched_status, order_at};
-ghost use Rattle.answer_text.specs.Texts.{solve_text, gen_text, generated_budget};
+ghost use Rattle.answer_text.specs.Texts.{solve_text, gen_text};
+ghost use Rattle.command_limits.specs.Limits.{generated_budget};
 ghost use Rattle.model_reader.specs.Ready.{IsReady};
 ghost use Rattle.run_status.specs.Stages.{Answered, stage_of};
 ghost use Rattle.confsolve_run.specs.Told.{HoldsLog, IsLogOf};
 
 use crate::answer::{Answer, question_of};
-use answer_text::{GENERATED_BUDGET, gen_text, solve_text};
+use answer_text::{gen_text, solve_text};
 use bound_search::Limits;
+use command_limits::GENERATED_BUDGET;
 use model_reader::Built;
 use model_search::{Finding, Question, find_best, trimmed_text};
 use proof_log::Journal;

@@ -25,4 +25,4 @@ mod same_keys;
 mod whole;
 
 pub use pairwise::pairwise_form;
-pub use whole::{state_different, state_pack};
+pub use whole::{MOST_PACKED, state_different, state_pack};

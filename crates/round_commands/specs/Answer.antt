@@ -1,12 +1,12 @@
 -- What answers that which is asked of a model. What a reader believes after this file: what the
 -- text that is printed and the status say of the model, and what the journal holds that shows it.
 use Rattle.std.specs.Prelude.{◌≡◌, ◌≤◌, [], List, length, Option, None, Some, IsSome, map, true, slice_index_or, ℕ, ℤ}
-use Rattle.answer_text.specs.Texts.{check_text, gen_text, generated_budget, satisfied_text, solve_text}
+use Rattle.answer_text.specs.Texts.{check_text, gen_text, satisfied_text, solve_text}
 use Rattle.branch_choice.specs.declared.split.Order.{Order}
 use Rattle.branch_choice.specs.declared.split.Order.TheVariants as orders
 use Rattle.class_table.specs.Outline.{Outline}
 use Rattle.conf_eval.specs.Satisfying.{Satisfies}
-use Rattle.conf_events.specs.Limits.{events_bytes}
+use Rattle.command_limits.specs.Limits.{events_bytes, generated_budget}
 use Rattle.conf_events.specs.Texts.{bad_line, events_of}
 use Rattle.conf_events.specs.declared.event.Event.{Event}
 use Rattle.conf_syntax.specs.declared.tree.Program.{Program}

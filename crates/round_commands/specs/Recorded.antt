@@ -21,7 +21,7 @@ use Rattle.run_law.specs.Ordered.{IsOrdered}
 use Rattle.run_law.specs.Replay.{is_run}
 use Rattle.session_run.specs.Sessions.{session_status}
 use Rattle.round_commands.specs.Answer.{searched_status, order_at}
-use Rattle.answer_text.specs.Texts.{generated_budget}
+use Rattle.command_limits.specs.Limits.{generated_budget}
 
 -- of a search by this order within this budget; but for a repair it had no values to go by
 pub record HasSearched (repaired : Bool) (order : Order) (budget : ℕ) (s : Status)

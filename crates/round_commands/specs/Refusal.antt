@@ -3,7 +3,7 @@
 use Rattle.std.specs.Prelude.{◌≡◌, ◌⊎◌, ◌+◌, ◌<◌, ◌≤◌, List, [], Option, None, Some, IsSome, length, take, ℕ, ℤ}
 use Rattle.class_table.specs.Outline.{Outline}
 use Rattle.conf_eval.specs.Breaking.{IsWrongConstraint}
-use Rattle.conf_events.specs.Limits.{events_bytes}
+use Rattle.command_limits.specs.Limits.{events_bytes, log_bytes}
 use Rattle.conf_events.specs.Texts.{bad_line}
 use Rattle.conf_syntax.specs.declared.tree.Program.{Program}
 use Rattle.conf_types.specs.Programs.{ResolvedConstraint, ResolvedGoal}
@@ -12,7 +12,6 @@ use Rattle.config_json.specs.Reading.{value_read, IsOther}
 use Rattle.desk_io.specs.Desk.{Files}
 use Rattle.ground_form.specs.declared.ground.Ground.{Ground}
 use Rattle.log_check.specs.Fed.{FailsAt, HasTaken, Left}
-use Rattle.log_file.specs.Limits.{log_bytes}
 use Rattle.model_limits.specs.Limits.{config_bytes, model_bytes}
 use Rattle.model_rounds.specs.Problems.{IsProblemOf}
 use Rattle.object_alloc.specs.Paths.{path}

@@ -2,7 +2,7 @@
 ghost use Rattle.std.specs.Prelude.{map, ◌≡◌, ◌⊎◌, ◌≤◌, ◌^◌, IsTrue, IsSome, List, [], None, Some, true, length, IfOk, IfErr, OnErr, OnOk, IsErrOf, ℕ};
 ghost use Rattle.std.specs.List.{All};
 ghost use Rattle.class_table.specs.Outline.{Outline};
-ghost use Rattle.conf_events.specs.Limits.{events_bytes};
+ghost use Rattle.command_limits.specs.Limits.{events_bytes};
 ghost use Rattle.conf_events.specs.Texts.{bad_line, events_of};
 ghost use Rattle.conf_request.specs.Words.{IsLawful};
 ghost use Rattle.conf_syntax.specs.Trees.{program_tokens, nesting};
@@ -30,7 +30,8 @@ ghost use Rattle.round_commands.specs.Unreadable.{Unreadable};
 use crate::finder::{Resources, Searching};
 use crate::former::{config_bytes, repair_in};
 use bound_search::Limits;
-use conf_events::{EVENTS_BYTES, Events, EventsError, read_events};
+use command_limits::EVENTS_BYTES;
+use conf_events::{Events, EventsError, read_events};
 use conf_request::{FileName, Request};
 use conf_session::Session;
 use conf_syntax::Program;
