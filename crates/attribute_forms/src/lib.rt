@@ -1,4 +1,4 @@
-//! Attributes of an owner that is known, and variables of the top level, as forms.
+//! Attributes of a known owner, and variables of the top level, as forms.
 //!
 //! - `attributes`: an attribute of any shape.
 //! - `variables`: a cell's variable as a truth or a choice.

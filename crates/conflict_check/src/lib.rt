@@ -1,5 +1,5 @@
-//! Whether a conflict may be analysed, found out as a program runs, for programs and tests that
-//! make the trail and the clauses themselves. A search knows it, and asks nothing.
+//! Whether a conflict may be analysed, found out as a program runs. This is for programs and tests
+//! that make the trail and the clauses themselves. A search knows it, and asks nothing.
 //!
 //! - `within`: whether clauses speak of variables that have boxes, and of values of the domains
 //!   alone.

@@ -1,5 +1,5 @@
-//! The law of fixpoints: what boxes are in which every constraint is quiet and the searched
-//! variables have single values.
+//! A law: quiet boxes are a solution once the searched variables are decided. Each of these has a
+//! single value then.
 //!
 //! A search decides the first variables of a ground problem and asks propagators until they have
 //! nothing more to say. This law is why it has found a solution then: all other variables have

@@ -1,4 +1,4 @@
-//! What goals ask of a solution better than one that was found.
+//! What goals ask of a better solution: the clauses of a `bound` line.
 //!
 //! - `bounds`: the clauses of a Bound line.
 #![tactic(auto)]

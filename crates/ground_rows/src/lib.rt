@@ -1,5 +1,5 @@
-//! Constraints as rows: `sum v in C where v.host = this { size } <= room`, where sizes and room are
-//! fixed.
+//! The row that a constraint is: a sum of what is in a bin, at most a number. Such a constraint is
+//! `sum v in C where v.host = this { size } <= room`, where sizes and room are fixed.
 //!
 //! - `loads`: what a quantifier's parts add to a row.
 //! - `rows`: the row that a constraint is.

@@ -1,4 +1,4 @@
-//! Clauses by number, and how one was derived from others.
+//! Clauses by number, and the resolution steps that derive one from others.
 //!
 //! - `chain`: a derivation by resolution, a first clause and steps.
 //! - `clauses`: the list of clauses in the order in which they were made.

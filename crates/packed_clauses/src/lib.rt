@@ -1,4 +1,4 @@
-//! Clauses that take little memory.
+//! Clauses by number in little memory, each made anew when it is asked for.
 //!
 //! A clause is kept as a row of bytes: how many literals it has, and of each its variable, how many
 //! ranges its set has, and their ends. Each of these is a number of a byte or more. So a clause

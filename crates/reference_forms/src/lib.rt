@@ -1,4 +1,4 @@
-//! Attributes of an object that is chosen, as forms.
+//! What a variable may choose, and attributes of what is chosen, as forms.
 //!
 //! - `candidates`: the objects that a variable may choose.
 //! - `dots`: an attribute of any shape of a chosen object.
