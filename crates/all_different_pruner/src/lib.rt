@@ -1,4 +1,4 @@
-//! Prunes by places that differ.
+//! The part of `pack_prop` for places that differ: it prunes by Hall intervals.
 //!
 //! - `prune`: `AllDifferent`, what it answers, and what it keeps between calls.
 //! - `hall_intervals`: finds crowded and full intervals with the counters of `counters`.

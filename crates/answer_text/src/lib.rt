@@ -1,4 +1,4 @@
-//! The text that answers what is asked of a model.
+//! The text of each answer to what is asked of a model.
 //!
 //! - `texts`: the answers to `solve`, `reconfigure`, `check` and `verify`.
 //! - `generated`: the answer to `gen`.

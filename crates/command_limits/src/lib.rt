@@ -1,6 +1,6 @@
-//! The numbers that decide what the commands take, each once: a constant for code, and in
-//! `specs/Limits` the same number by the same name for clauses. A proof that uses both ties them to
-//! each other. What decides of models is in `model_limits`.
+//! The limits of commands, each a constant and a definition of one name. The definitions are in
+//! `specs/Limits`, for clauses; a proof that uses both ties them to each other. The limits of models
+//! are in `model_limits`.
 #![tactic(auto)]
 
 /// How many bytes of a log are read.

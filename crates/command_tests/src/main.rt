@@ -1,4 +1,5 @@
-//! Runs the command on the cases of files, and prints of each file how many came out as they say.
+//! Cases of whole runs of the command, of repairs, of desks, and of limits. The program runs it on
+//! the cases of files, and prints of each file how many came out as they say.
 //!
 //! The files lie in `data`; `cases` says how they are written, and `desks` what those ask that are
 //! about desks, limits, words and logs. `repairs.series` is what `tools/repair-cases` wrote,

@@ -1,4 +1,4 @@
-//! What to blame where no configuration satisfies a model: an irreducible list of its constraints.
+//! What to blame where nothing satisfies a model: an irreducible list of constraints.
 //!
 //! - `core_search`: `find_core`, the first search and what comes behind it.
 //! - `part_search`: a search over a part of the model, as a round of the journal.

@@ -1,6 +1,6 @@
-//! The program: it collects the words behind its name, runs the command that they are over real
-//! files and standard output, writes the line of a status that has one on standard error, and ends
-//! with the status's number.
+//! The program `confsolve`: words, real files, standard output, exit status. It collects the words
+//! behind its name, runs the command that they are over real files and standard output, writes the
+//! line of a status that has one on standard error, and ends with the status's number.
 #![tactic(auto)]
 
 ghost use Rattle.branch_choice.specs.Picks.{IsAsked, IsPick};

@@ -1,5 +1,5 @@
-//! The ground problem of a whole model: its solutions are the configurations that satisfy the
-//! model, and its goals are the model's objectives.
+//! The ground problem of a whole model, which `ground` makes. Its solutions are the configurations
+//! that satisfy the model, and its goals are the model's objectives.
 //!
 //! `ground` is the entry. It promises that the problem stands for the model (`StandsFor` of
 //! `ground_form`), and knows nothing of a search. What an expression is once it is ground is

@@ -1,4 +1,4 @@
-//! How fast logs are checked: lines of axioms, and chains of steps over clauses of 30 literals.
+//! How fast logs are checked: axioms, and chains of steps over long clauses.
 //!
 //! With no word the program prints of short logs what `check` and `feed` say; with the word `times`
 //! it prints of long ones how many lines a second each takes.

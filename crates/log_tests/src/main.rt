@@ -1,6 +1,5 @@
-//! Tests of logs: the clauses that they number, how their lines are spelled, and what the checker
-//! says of them. The program runs the cases of the files in `data`, and prints of each file how
-//! many came out as they say.
+//! Tests of logs: numbered clauses, how lines are spelled, what the checker says. The program runs
+//! the cases of the files in `data`, and prints of each file how many came out as they say.
 //!
 //! - `problems`: the problems that logs are about.
 //! - `checked`: what the checker says. `cut`: that where a text is cut changes no answer. `file`: a

@@ -1,4 +1,4 @@
-//! The search for a best configuration of a model, or of a repair of it, and what its log says.
+//! The search for what is asked of a model, a repair too, and what its log says.
 //!
 //! The ground problem is kept in a journal beside the lines of a search over it; the checker reads
 //! the lines, and only its verdict says what is told of the model.

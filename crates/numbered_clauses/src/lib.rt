@@ -1,4 +1,4 @@
-//! Clauses by number, as they are and packed, and how one was derived from others.
+//! Clauses by number, packed or not, and the steps that derive one from others.
 //!
 //! A packed clause is a row of bytes: how many literals it has, and of each its variable, how many
 //! ranges its set has, and their ends. Each of these is a number of a byte or more. So a clause

@@ -1,5 +1,4 @@
-//! What the parts of a search cost: boxes in levels, the walk back from a conflict, watches and the
-//! queue of constraints.
+//! What the parts of a search cost: boxes, conflicts, watches and the queue.
 //!
 //! With no word the program prints what small cases come to; with the word `times` it prints how
 //! many nanoseconds large ones take.

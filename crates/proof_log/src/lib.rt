@@ -1,4 +1,4 @@
-//! The text of a log, and the journal of a search.
+//! The text of a log, read and written, and the journal of a search.
 //!
 //! `specs/Spelling` says how the lines of a log are written; what they are and which logs are
 //! accepted stands in `log_form`.

@@ -1,4 +1,4 @@
-//! What one call of `prune` answers and costs, kind by kind, at 10, 100 and 1,000 parts.
+//! What a call of `prune` answers and costs, kind by kind, at 10 to 1,000 parts.
 //!
 //! For each row there are boxes in which the constraint has nothing to say (None) and boxes in
 //! which it has (Some). With no word the program prints for each row whether that is so; with the

@@ -1,5 +1,4 @@
-//! Attributes of an owner that is known, and of one that is chosen, and variables of the top level,
-//! as forms.
+//! Attributes of what is known or chosen, and top-level variables, as forms.
 //!
 //! - `attributes`: an attribute of any shape of an owner that is known.
 //! - `variables`: a cell's variable as a truth or a choice.

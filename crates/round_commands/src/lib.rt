@@ -1,5 +1,5 @@
-//! What a run of the command promises, and the parts of it that stand on the former configuration
-//! or on several searches.
+//! What a run promises; former texts, `session`, `core`, and their finder. Former texts, sessions
+//! and cores are the parts of a run that stand on the former configuration or on several searches.
 //!
 //! - `former`: the text of a configuration as it was or is to be: its file, what it is read as, and
 //!   the repair that one asks for.

@@ -1,5 +1,5 @@
-//! What it costs to tell whether a constraint of many parts justifies a clause, as the checker of
-//! logs asks at each `axiom` line.
+//! What it costs to tell whether a constraint of many parts justifies a clause. The checker of logs
+//! asks that at each `axiom` line.
 //!
 //! For each row there are two clauses: one that leaves the first half of the parts different values
 //! and is not justified, and one that leaves them all the same value and is. With no word the

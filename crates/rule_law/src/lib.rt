@@ -1,4 +1,4 @@
-//! The face of propagators, and what they share: clauses made of reasons, plain probing, and kits.
+//! The face of propagators, and what they share: explanations, plain probing, kits.
 //!
 //! A propagator finds a clause that a constraint justifies and that takes something away, or says
 //! that the constraint is quiet. What refutes, justifies and is quiet is told by the rules of the

@@ -1,4 +1,4 @@
-//! Runs of a search: which logs a search with learning may leave, and what every such log has.
+//! Which logs a search with learning may leave, and what every such log has.
 //!
 //! `specs/Replay` says which lists of lines are runs. A run is read without the search that made
 //! it: at each line the boxes that the lines so far leave are known, level by level, and so is what

@@ -1,5 +1,6 @@
-//! What whole searches come to and cost: pigeons with one hole too few, and packings of items with
-//! two sizes into bins, each by sums and by packing constraints.
+//! What whole searches come to and cost, of pigeons and of packings. The pigeons have one hole too
+//! few; the packings are of items with two sizes into bins, each by sums and by packing
+//! constraints.
 //!
 //! With no word the program prints counts of lines, with small budgets for the packings. With the
 //! word `times` it prints how long searches and checks take, with large ones; the first part of a

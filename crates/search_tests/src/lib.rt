@@ -1,4 +1,5 @@
-//! Tests of the search, of what no clause says. There is no code here.
+//! Tests of the search, against enumeration and a plain replay of its runs. They are of what no
+//! clause says. There is no code here.
 //!
 //! Random small problems are searched, and what comes of it is compared with what plain
 //! definitions say: the answer with a look at every point (`test_small_problems`), the lines with a run

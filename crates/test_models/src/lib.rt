@@ -1,4 +1,5 @@
-//! Models that are given as texts, for tests: `texts` reads one, makes its table, and types it.
+//! Typed models and objects of texts that a test gives. `texts` reads one, makes its table, and
+//! types it.
 #![tactic(auto)]
 
 mod texts;

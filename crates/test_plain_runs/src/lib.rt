@@ -1,5 +1,5 @@
-//! Which lines a search may leave, written out plainly for tests: boxes are copied whole at each
-//! level and before each change. It stands on no part of the search.
+//! Which lines a search may leave, replayed plainly for tests, with whole boxes. Boxes are copied
+//! at each level and before each change. It stands on no part of the search.
 //!
 //! - `replay`: a run, line by line.
 //! - `walking`: the walk back from a conflict.

@@ -1,4 +1,4 @@
-//! Ground problems that are given as texts, for tests, and what tests of propagators share.
+//! Ground problems that are given as texts, and what tests of propagators share.
 //!
 //! - `words`: why a text is unread, and the numbers of its words.
 //! - `sets`: sets of integers and clauses as texts, and back.

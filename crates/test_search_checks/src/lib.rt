@@ -1,5 +1,5 @@
-//! Whether a conflict may be analysed, and watches and a queue with boxes that they fit, for tests
-//! and measures that make trail, clauses and boxes themselves. What a call requires of them is
+//! Conflicts that may be analysed, and watches and a queue with boxes that they fit. They are for
+//! tests and measures that make trail, clauses and boxes themselves: what a call requires of them is
 //! asked at run time. A search knows it, and asks nothing.
 //!
 //! - `asked`: whether a conflict may be analysed. `came`: whether the prunings of a trail came from

@@ -1,5 +1,5 @@
-//! Small ground problems for tests: random ones, and what they mean, written out over bits. It
-//! stands on no part of the search.
+//! Small random ground problems for tests, and what they mean, by bits. It stands on no part
+//! of the search.
 //!
 //! - `rows`: sets of small values for eight variables, as bits.
 //! - `making`: random problems.

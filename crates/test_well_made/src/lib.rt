@@ -1,5 +1,5 @@
-//! Whether a ground problem is well made, found out as a program runs, so that propagators may be
-//! asked about it.
+//! Whether a ground problem is well made, found out as a program runs. Propagators may be asked
+//! about one that is.
 //!
 //! They may say no of a problem that is well made, and never yes of one that isn't.
 //!

@@ -1,5 +1,5 @@
-//! Tests of `confsolve-view`: the program runs the cases of `data/plan.cases` and
-//! `data/picture.cases`, and prints how many came out as they say.
+//! Tests of `confsolve-view`: the cases of its plans and of its pictures. The program runs those of
+//! `data/plan.cases` and `data/picture.cases`, and prints how many came out as they say.
 //!
 //! - `given TEXT` and `more TEXT`: the text of the former configuration.
 //! - `plan TEXT`: a plan to this text: what is printed, the status's number, and its line.
