@@ -1,4 +1,4 @@
-//! The part of `pack_prop` for places that differ: it prunes by Hall intervals.
+//! The part of `pack_prop` for places that differ, by Hall intervals.
 //!
 //! - `prune`: `AllDifferent`, what it answers, and what it keeps between calls.
 //! - `hall_intervals`: finds crowded and full intervals with the counters of `counters`.

@@ -1,6 +1,6 @@
-//! Conflicts that may be analysed, and watches and a queue with boxes that they fit. They are for
-//! tests and measures that make trail, clauses and boxes themselves: what a call requires of them is
-//! asked at run time. A search knows it, and asks nothing.
+//! Conflicts to analyse, and watches and a queue that fit their boxes. They are for tests and
+//! measures that make trail, clauses and boxes themselves: what a call requires of them is asked at
+//! run time. A search knows it, and asks nothing.
 //!
 //! - `asked`: whether a conflict may be analysed. `came`: whether the prunings of a trail came from
 //!   clauses. `within`: whether clauses speak of variables that have boxes, and of values of the
