@@ -14,6 +14,7 @@
 crates_of() {
     awk -v wanted="$*" '
         /^[a-z]/ {
+            sub(/#.*/, "")
             name = $1
             sub(/:.*/, "", name)
             below[name] = substr($0, index($0, ":") + 1)

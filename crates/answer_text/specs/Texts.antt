@@ -3,6 +3,7 @@ use Rattle.std.specs.Prelude.{◌++◌, ◌∷◌, [], List, Option, None, Some,
 use Rattle.std.specs.Fmt.{signed_decimal}
 use Rattle.std.specs.List.{flat_map}
 use Rattle.class_table.specs.Outline.{Outline}
+use Rattle.command_limits.specs.Limits.{generated_budget}
 use Rattle.conf_eval.specs.Satisfying.{objectives}
 use Rattle.conf_types.specs.Programs.{ResolvedGoal}
 use Rattle.config_json.specs.Tree.{config_bytes}
@@ -53,10 +54,6 @@ abbrev pub check_text : Outline → List ResolvedGoal → Option Repair → Find
 check_text o gs r (findings.Best t) = best_text o gs r t
 check_text o gs r findings.NoneExists = none_text
 check_text o gs r (findings.Open last) = codes "open\n"
-
--- how many decisions `gen` may take
-abbrev pub generated_budget : ℕ
-generated_budget = 10000
 
 -- the length of a model's text, its objects and its cells
 abbrev pub number_lines : Outline → ℕ → List ℕ

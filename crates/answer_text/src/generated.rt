@@ -7,13 +7,11 @@ ghost use Rattle.model_reader.specs.Ready.{IsReady};
 
 use crate::configurations::push_values;
 use crate::lines::{push_number, push_undecided};
+use command_limits::GENERATED_BUDGET;
 use model_generator::generate;
 use model_reader::Built;
 use model_search::Finding;
 use std::alloc::{AllocError, Global};
-
-/// How many decisions `gen` may take.
-pub const GENERATED_BUDGET: u32 = 10_000;
 
 /// Adds how large the model that is made for `n` is.
 fn push_numbers(

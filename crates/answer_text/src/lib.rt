@@ -1,4 +1,4 @@
-//! The text that answers what is asked of a model.
+//! The text of each answer to what is asked of a model.
 //!
 //! - `texts`: the answers to `solve`, `reconfigure`, `check` and `verify`.
 //! - `generated`: the answer to `gen`.
@@ -13,6 +13,6 @@ mod generated;
 mod lines;
 mod texts;
 
-pub use generated::{GENERATED_BUDGET, gen_text};
+pub use generated::gen_text;
 pub use lines::{push_number, push_undecided};
 pub use texts::{check_text, satisfied_text, solve_text};

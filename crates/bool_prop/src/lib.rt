@@ -5,7 +5,7 @@
 //! test finds which of them has something to say in the boxes, and its literals are the
 //! explanation. Nothing is built where none has.
 //!
-//! - `conjunction`, `member`: one module for each kind; of clauses `clause_rule` has it.
+//! - `conjunction`, `member`: one module for each kind; of clauses `rule_law` has it.
 //! - `propagator`: `BoolProp`, the face.
 #![tactic(auto)]
 

@@ -9,9 +9,8 @@ ghost use Rattle.bool_prop.specs.Handled.{is_handled};
 
 use crate::conjunction::prune_conjunction;
 use crate::member::prune_member;
-use clause_rule::prune_clause;
 use ground_form::{Con, Ground, Kind};
-use rule_law::{Propagator, Repeats, Subject, probe};
+use rule_law::{Propagator, Repeats, Subject, probe, prune_clause};
 use signed_clause::{Clause, IntSet};
 use std::alloc::{AllocError, Global};
 

@@ -14,7 +14,7 @@ use Rattle.prop_queue.specs.Work.{Work, IsOver, AreAllQuiet}
 use Rattle.clause_watches.specs.Watching as watches
 use Rattle.clause_watches.specs.declared.rest.Rest.{Rest}
 use Rattle.clause_watches.specs.Watching.{Watching, AreWider, IsKnown, clause_of, rest_of}
-use Rattle.search_run.proofs.Units.{some_same, none_some, exists_from_meets, box-set_other}
+use Rattle.run_law.proofs.Units.{some_same, none_some, exists_from_meets, box-set_other}
 use Rattle.bound_search.specs.Boards.{IsBoard, IsBelow, AreLower}
 
 -- ---- the first board

@@ -13,7 +13,7 @@ use Rattle.ground_form.specs.Bounds.{singles}
 use Rattle.ground_form.specs.Meaning.{value_of}
 use Rattle.ground_form.specs.Solutions.{IsSolution, better}
 use Rattle.ground_form.specs.WellMade.{IsWellMade}
-use Rattle.fixpoint_law.specs.Singles.{IsSingle}
+use Rattle.rule_law.specs.Singles.{IsSingle}
 use Rattle.branch_choice.specs.Picks.{is_single}
 use Rattle.fd_store.specs.Levels.{Stack}
 use Rattle.log_form.specs.declared.line.Line.{Line}
@@ -21,13 +21,13 @@ use Rattle.log_form.specs.declared.line.Line.TheVariants.{Bound, Found}
 use Rattle.log_form.specs.Acceptance.{Made, clause_at, has_empty, states, states_found, bounds, bounds_of, accepts, after, may_come, made}
 use Rattle.log_form.specs.Acceptance as acceptance
 use Rattle.log_check.proofs.Bounds.{bounds_form}
-use Rattle.search_run.specs.Replay.{State, Mode, Going, Conflict, AtFound, Closed, top_boxes, first_false, mode_by_bounds, asked, may_stand, changed, next, state_of}
-use Rattle.search_run.specs.Replay as replay
-use Rattle.search_run.proofs.Fronts.{made_more as made_with, state_more as state_with}
-use Rattle.search_run.proofs.LineSets.{one_more}
-use Rattle.search_run.proofs.StateSteps.{made_more, made_new}
-use Rattle.search_run.proofs.FoundLines.{found_follows, single_true}
-use Rattle.search_run.proofs.BoundTruths.{bound_beats}
+use Rattle.run_law.specs.Replay.{State, Mode, Going, Conflict, AtFound, Closed, top_boxes, first_false, mode_by_bounds, asked, may_stand, changed, next, state_of}
+use Rattle.run_law.specs.Replay as replay
+use Rattle.run_law.proofs.Fronts.{made_more as made_with, state_more as state_with}
+use Rattle.run_law.proofs.LineSets.{one_more}
+use Rattle.run_law.proofs.StateSteps.{made_more, made_new}
+use Rattle.run_law.proofs.FoundLines.{found_follows, single_true}
+use Rattle.run_law.proofs.BoundTruths.{bound_beats}
 use Rattle.bound_search.specs.BoundLists.{numbered_from, values_of}
 use Rattle.bound_search.specs.Standing.{IsRun, clauses_of, IsNumbered, AreAdded, AreWatched, IsFixed, IsAt}
 use Rattle.bound_search.proofs.MoreLines.{run_of, going_on, MayFollow, run_with, IsBehind, at_with, numbered_more}

@@ -13,12 +13,12 @@ use Rattle.log_form.specs.declared.line.Line.{Line}
 use Rattle.log_form.specs.declared.line.Line.TheVariants.{Chain}
 use Rattle.log_form.specs.Acceptance.{Made, clause_at, has_empty, after, made}
 use Rattle.log_form.specs.Acceptance as acceptance
-use Rattle.search_run.specs.Replay.{State, Mode, Going, Conflict, Closed, top_boxes, leads_back, mode_by, react, learned, led_back, back_or, changed, next, is_run, state_of}
-use Rattle.search_run.specs.Replay as replay
-use Rattle.search_run.proofs.Fronts.{made_more}
-use Rattle.search_run.proofs.LineSets.{one_more}
-use Rattle.search_run.proofs.StateSteps.{made_more as still_among}
-use Rattle.search_run.proofs.WalkLines.{walk_follows}
+use Rattle.run_law.specs.Replay.{State, Mode, Going, Conflict, Closed, top_boxes, leads_back, mode_by, react, learned, led_back, back_or, changed, next, is_run, state_of}
+use Rattle.run_law.specs.Replay as replay
+use Rattle.run_law.proofs.Fronts.{made_more}
+use Rattle.run_law.proofs.LineSets.{one_more}
+use Rattle.run_law.proofs.StateSteps.{made_more as still_among}
+use Rattle.run_law.proofs.WalkLines.{walk_follows}
 use Rattle.bound_search.specs.Standing.{IsRun, clauses_of, IsNumbered, AreAdded, AreWatched, IsAt}
 use Rattle.bound_search.proofs.MoreLines.{run_of, IsBehind, at_with, numbered_more}
 

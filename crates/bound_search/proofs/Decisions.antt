@@ -10,10 +10,10 @@ use Rattle.log_form.specs.declared.line.Line.{Line}
 use Rattle.log_form.specs.declared.line.Line.TheVariants.{Decide}
 use Rattle.log_form.specs.Acceptance.{Made, has_empty, accepts, after, may_come, made}
 use Rattle.log_form.specs.Acceptance as acceptance
-use Rattle.search_run.specs.Replay.{State, Mode, Going, top_boxes, is_going, acts, none_acts, is_settled, are_quiet, none_empty, is_split, may_stand, changed, next, state_of}
-use Rattle.search_run.specs.Replay as replay
-use Rattle.search_run.proofs.RunLaws.{none_of}
-use Rattle.search_run.proofs.FoundLines.{quiet_all}
+use Rattle.run_law.specs.Replay.{State, Mode, Going, top_boxes, is_going, acts, none_acts, is_settled, are_quiet, none_empty, is_split, may_stand, changed, next, state_of}
+use Rattle.run_law.specs.Replay as replay
+use Rattle.run_law.proofs.RunLaws.{none_of}
+use Rattle.run_law.proofs.FoundLines.{quiet_all}
 use Rattle.bound_search.specs.Standing.{clauses_of, AreWatched, IsFixed, IsDecision, IsAt}
 use Rattle.bound_search.proofs.MoreLines.{boxes_at, going_on, MayFollow, run_with, IsBehind, at_with}
 

@@ -13,9 +13,9 @@ use Rattle.ground_form.specs.declared.ground.Ground.{Ground}
 use Rattle.fd_store.specs.Levels.{Level, Stack, moved, reacted, pruned_by}
 use Rattle.prop_queue.specs.Work.{AreAllQuiet}
 use Rattle.clause_watches.specs.Watching.{AreWider}
-use Rattle.search_run.specs.Replay.{Going, Conflict, Closed, acts, mode_by}
-use Rattle.search_run.proofs.Units.{some_same, none_some, unit_is}
-use Rattle.search_run.proofs.LevelFacts.{AreBoxesIn, IsPart, part_in, unit_part}
+use Rattle.run_law.specs.Replay.{Going, Conflict, Closed, acts, mode_by}
+use Rattle.run_law.proofs.Units.{some_same, none_some, unit_is}
+use Rattle.run_law.proofs.LevelFacts.{AreBoxesIn, IsPart, part_in, unit_part}
 use Rattle.bound_search.specs.Boards.{IsBelow, AreLower}
 use Rattle.bound_search.specs.Engines.{total}
 

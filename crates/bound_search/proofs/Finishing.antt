@@ -10,9 +10,9 @@ use Rattle.log_form.specs.declared.line.Line.{Line}
 use Rattle.log_form.specs.declared.line.Line.TheVariants.{Bound, Found}
 use Rattle.log_form.specs.Acceptance.{bounds_of}
 use Rattle.proof_log.specs.Rounds.{Journal}
-use Rattle.search_run.specs.Replay.{Going, mode_by_bounds, is_run}
-use Rattle.search_run.specs.Decisions.{decisions}
-use Rattle.search_run.specs.Ordered.{IsOrdered}
+use Rattle.run_law.specs.Replay.{Going, mode_by_bounds, is_run}
+use Rattle.run_law.specs.Decisions.{decisions}
+use Rattle.run_law.specs.Ordered.{IsOrdered}
 use Rattle.bound_search.specs.declared.after.After.{After}
 use Rattle.bound_search.specs.declared.after.After.TheVariants as after
 use Rattle.bound_search.specs.declared.engine.Engine.{Engine}
@@ -65,7 +65,7 @@ pub found_kept : (g : Ground) (old mid : Journal) (d : Engine) (a : List ℤ) �
 found_kept g old mid d a s f w =
     kept_by g old mid (Found a) w (λ g order hints s. tt) (found_runs g old d a s f)
 
--- a record that a failed push left as it was
+-- a journal that a failed push left as it was
 pub kept_after : (g : Ground) (old mid new : Journal) → IsKept g old mid →
     new.lines ≡ mid.lines → new.ground ≡ mid.ground → new.rounds ≡ mid.rounds → IsKept g old new
 kept_after g old mid new h l p q = λ order hints.

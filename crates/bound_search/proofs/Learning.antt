@@ -21,11 +21,11 @@ use Rattle.log_form.specs.declared.line.Line.TheVariants.{Chain, Decide}
 use Rattle.log_form.specs.Acceptance.{clause_at, has_empty, made}
 use Rattle.proof_log.specs.Rounds.{Journal}
 use Rattle.prop_queue.specs.Work.{Work}
-use Rattle.search_run.specs.Replay.{Mode, Going, Conflict, state_of}
-use Rattle.search_run.specs.Ordered.{IsDecidedBy}
-use Rattle.search_run.specs.Decisions.{decisions}
-use Rattle.search_run.proofs.LevelFacts.{IsPart}
-use Rattle.search_run.proofs.RunLaws.{run_came, run_domains, run_within, run_conflict}
+use Rattle.run_law.specs.Replay.{Mode, Going, Conflict, state_of}
+use Rattle.run_law.specs.Ordered.{IsDecidedBy}
+use Rattle.run_law.specs.Decisions.{decisions}
+use Rattle.run_law.proofs.LevelFacts.{IsPart}
+use Rattle.run_law.proofs.RunLaws.{run_came, run_domains, run_within, run_conflict}
 use Rattle.bound_search.specs.declared.after.After.{After}
 use Rattle.bound_search.specs.declared.after.After.TheVariants as after
 use Rattle.bound_search.specs.declared.board.Board.{Board}

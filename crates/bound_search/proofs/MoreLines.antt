@@ -15,13 +15,13 @@ use Rattle.log_form.specs.declared.line.Line.{Line}
 use Rattle.log_form.specs.declared.line.Line.TheVariants.{Axiom, Use}
 use Rattle.log_form.specs.Acceptance.{Made, clause_at, has_empty, vars_below, con_at, accepts, after, may_come, made}
 use Rattle.log_form.specs.Acceptance as acceptance
-use Rattle.search_run.specs.Replay.{State, Mode, Going, top_boxes, is_going, acts, none_acts, is_settled, are_quiet, none_empty, are_sets_within, is_split, mode_by, may_stand, changed, next, is_run, state_of}
-use Rattle.search_run.specs.Replay as replay
-use Rattle.search_run.specs.Lines.{HasSets}
-use Rattle.search_run.proofs.Fronts.{run_more, made_more, state_more}
-use Rattle.search_run.proofs.LineSets.{one_more}
-use Rattle.search_run.proofs.RunLaws.{IsRunOf, state_is, run_boxes}
-use Rattle.search_run.proofs.FoundLines.{going_open}
+use Rattle.run_law.specs.Replay.{State, Mode, Going, top_boxes, is_going, acts, none_acts, is_settled, are_quiet, none_empty, are_sets_within, is_split, mode_by, may_stand, changed, next, is_run, state_of}
+use Rattle.run_law.specs.Replay as replay
+use Rattle.run_law.specs.Lines.{HasSets}
+use Rattle.run_law.proofs.Fronts.{run_more, made_more, state_more}
+use Rattle.run_law.proofs.LineSets.{one_more}
+use Rattle.run_law.proofs.RunLaws.{IsRunOf, state_is, run_boxes}
+use Rattle.run_law.proofs.FoundLines.{going_open}
 use Rattle.bound_search.specs.Standing.{IsRun, IsNumbered, AreAdded, AreWatched, IsReason, IsAt}
 
 pub run_of : (g : Ground) (ls : List Line) → IsRun g ls → IsRunOf g ls

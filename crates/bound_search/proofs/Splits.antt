@@ -17,10 +17,10 @@ use Rattle.log_form.specs.declared.line.Line.TheVariants.{Empty}
 use Rattle.log_form.specs.Acceptance.{has_empty, made}
 use Rattle.log_form.specs.Acceptance as acceptance
 use Rattle.proof_log.specs.Rounds.{Journal}
-use Rattle.search_run.specs.Replay as replay
-use Rattle.search_run.specs.Replay.{Going, is_split, is_run}
-use Rattle.search_run.specs.Ordered.{IsDecidedBy, IsOrdered}
-use Rattle.search_run.specs.Decisions.{MayDecide}
+use Rattle.run_law.specs.Replay as replay
+use Rattle.run_law.specs.Replay.{Going, is_split, is_run}
+use Rattle.run_law.specs.Ordered.{IsDecidedBy, IsOrdered}
+use Rattle.run_law.specs.Decisions.{MayDecide}
 use Rattle.bound_search.specs.declared.engine.Engine.{Engine}
 use Rattle.bound_search.specs.Standing.{IsDecision}
 use Rattle.bound_search.specs.Engines.{Shows, IsDue, IsKeptBy}
@@ -111,7 +111,7 @@ due_may_decide g ls order hints e s d f =
           d.at.at d.fixed decision).lines.run;
     }
 
--- ---- a record that two steps led on
+-- ---- a journal that two steps led on
 
 pub kept_on : (g : Ground) (order : Order) (hints : Hints) (a b c : Journal) →
     IsKeptBy g order hints a b → IsKeptBy g order hints b c → IsKeptBy g order hints a c

@@ -9,10 +9,10 @@ use Rattle.learn_clauses.proofs.WithinLaws.{valid_boxes, vars_within}
 use Rattle.log_form.specs.declared.line.Line.{Line}
 use Rattle.log_form.specs.declared.line.Line.TheVariants.{Axiom, Chain, Bound, Use, Found, Decide, Empty}
 use Rattle.log_form.specs.Acceptance.{clause_at, has_empty, made}
-use Rattle.search_run.specs.Replay.{Mode, Closed, acts, mode_by, state_of}
-use Rattle.search_run.specs.Decisions.{decisions}
-use Rattle.search_run.proofs.RunLaws.{run_closed, state_is}
-use Rattle.search_run.proofs.Waiting.{run_sound}
+use Rattle.run_law.specs.Replay.{Mode, Closed, acts, mode_by, state_of}
+use Rattle.run_law.specs.Decisions.{decisions}
+use Rattle.run_law.proofs.RunLaws.{run_closed, state_is}
+use Rattle.run_law.proofs.Waiting.{run_sound}
 use Rattle.bound_search.specs.declared.after.After.{After}
 use Rattle.bound_search.specs.declared.after.After.TheVariants as after
 use Rattle.bound_search.specs.declared.engine.Engine.{Engine}

@@ -6,7 +6,7 @@ use Rattle.fd_store.specs.Levels.{Stack}
 use Rattle.clause_watches.specs.Watching.{IsActing}
 use Rattle.log_form.specs.declared.line.Line.{Line}
 use Rattle.log_form.specs.Acceptance.{clause_at}
-use Rattle.search_run.specs.Replay.{Mode, acts}
+use Rattle.run_law.specs.Replay.{Mode, acts}
 use Rattle.bound_search.specs.declared.engine.Engine.{Engine}
 use Rattle.bound_search.specs.Boards.{IsBoard, AreLower}
 use Rattle.bound_search.specs.Standing.{IsNumbered, IsAt}

@@ -9,10 +9,10 @@ use Rattle.branch_choice.specs.Picks.{Hints}
 use Rattle.log_form.specs.declared.line.Line.{Line}
 use Rattle.log_form.specs.declared.line.Line.TheVariants.{Axiom, Use}
 use Rattle.proof_log.specs.Rounds.{Journal}
-use Rattle.search_run.specs.Replay.{State, Going, mode_by, is_run, state_of}
-use Rattle.search_run.specs.Ordered.{IsLineBy, IsOrdered}
-use Rattle.search_run.proofs.Orders.{ordered_more}
-use Rattle.search_run.specs.Decisions.{decisions}
+use Rattle.run_law.specs.Replay.{State, Going, mode_by, is_run, state_of}
+use Rattle.run_law.specs.Ordered.{IsLineBy, IsOrdered}
+use Rattle.run_law.proofs.Orders.{ordered_more}
+use Rattle.run_law.specs.Decisions.{decisions}
 use Rattle.bound_search.specs.declared.after.After.{After}
 use Rattle.bound_search.specs.declared.engine.Engine.{Engine}
 use Rattle.bound_search.specs.Boards.{AreLower}
@@ -21,7 +21,7 @@ use Rattle.bound_search.specs.Engines.{Shows, Reached, IsKeptBy, IsKept, IsAppli
 use Rattle.bound_search.proofs.MoreLines.{IsUsed, use_at, axiom_at}
 use Rattle.bound_search.proofs.Steps.{valid_at, known_clause, reached_by, turn_by, alike}
 
--- the record got a line, and nothing else of it has changed
+-- the journal got a line, and nothing else of it has changed
 pub record IsWritten (old new : Journal) (l : Line) : Type 0 where
   pub lines : new.lines ≡ old.lines ++ l ∷ []
   pub problem : new.ground ≡ old.ground
@@ -161,7 +161,7 @@ axiom_step g old new d e k c a s r w f p =
       alike = alike old.lines new.lines (Axiom k c) w.lines refl;
     }
 
--- the record alone, where memory is wanting behind the line
+-- the journal alone, where memory is wanting behind the line
 pub use_kept : (g : Ground) (old new : Journal) (d : Engine) (n : ℕ) (c : Literals) →
     Shows g old.lines d Going → IsUsed d.clauses d.board.store n c → IsWritten old new (Use n) →
     IsKept g old new

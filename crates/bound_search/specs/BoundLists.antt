@@ -4,7 +4,7 @@ use Rattle.std.specs.Prelude.{ℕ, suc, List, [], ◌∷◌, ℤ, Option, Some, 
 use Rattle.signed_clause.specs.Clauses.{Literals}
 use Rattle.ground_form.specs.declared.ground.GroundGoal.{GroundGoal}
 use Rattle.ground_form.specs.Meaning.{value_of}
-use Rattle.search_run.specs.Replay.{Mode, Conflict}
+use Rattle.run_law.specs.Replay.{Mode, Conflict}
 
 -- the clauses with their numbers, from n on
 abbrev pub numbered_from : ℕ → List Literals → List (ℕ × Literals)

@@ -4,7 +4,7 @@ use Rattle.std.specs.Prelude.{◌≡◌, ℕ, true, List}
 use Rattle.ground_form.specs.declared.ground.Ground.{Ground}
 use Rattle.log_form.specs.declared.line.Line.{Line}
 use Rattle.log_form.specs.Acceptance.{has_empty, made}
-use Rattle.search_run.specs.Decisions.{decisions, MayDecide}
+use Rattle.run_law.specs.Decisions.{decisions, MayDecide}
 use Rattle.bound_search.specs.declared.solving.Ended.{Ended}
 use Rattle.bound_search.specs.declared.solving.Ended.TheVariants as ended
 

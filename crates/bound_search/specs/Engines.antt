@@ -1,5 +1,5 @@
 -- What each step of a search keeps true. What a reader believes after this file: the engine shows
--- where the lines of the record have led, and how far each step is from the end of its loop.
+-- where the lines of the journal have led, and how far each step is from the end of its loop.
 use Rattle.std.specs.Prelude.{◌≡◌, ℕ, ◌+◌, ◌*◌, ◌-◌, ◌<◌, ◌≤◌, true, List, [], ◌∷◌, ◌++◌, Option, Some, None, length}
 use Rattle.signed_clause.specs.Ranges.{count_of}
 use Rattle.signed_clause.specs.Clauses.{Boxes, Literals, IsClause, IsWithinBoxes}
@@ -11,9 +11,9 @@ use Rattle.fd_store.specs.Levels.{Stack, reacted, dropped}
 use Rattle.log_form.specs.declared.line.Line.{Line}
 use Rattle.log_form.specs.Acceptance.{has_empty, made}
 use Rattle.proof_log.specs.Rounds.{Journal}
-use Rattle.search_run.specs.Replay.{Mode, Going, Conflict, mode_by, mode_by_bounds, is_run}
-use Rattle.search_run.specs.Ordered.{IsOrdered}
-use Rattle.search_run.specs.Decisions.{decisions}
+use Rattle.run_law.specs.Replay.{Mode, Going, Conflict, mode_by, mode_by_bounds, is_run}
+use Rattle.run_law.specs.Ordered.{IsOrdered}
+use Rattle.run_law.specs.Decisions.{decisions}
 use Rattle.bound_search.specs.declared.after.After.{After}
 use Rattle.bound_search.specs.declared.after.After.TheVariants as after
 use Rattle.bound_search.specs.declared.engine.Engine.{Engine}
@@ -68,10 +68,10 @@ pub record IsTakenIn (g : Ground) (d e : Engine) (c : Literals) (level : ℕ) (a
     pub engine : IsEngineWith d e (d.clauses ++ c ∷ [])
         (d.board.watches.added ++ (length d.clauses, c) ∷ [])
 
--- ---- what a step does to the record
+-- ---- what a step does to the journal
 
 -- the lines are a run, also after want of memory; they decide by the order if they did; and nothing
--- else of the record has changed
+-- else of the journal has changed
 pub record IsKeptBy (g : Ground) (order : Order) (hints : Hints) (old new : Journal) : Type 0 where
   pub run : is_run g new.lines ≡ true
   pub ordered : IsOrdered g order hints old.lines → IsOrdered g order hints new.lines

@@ -1,7 +1,7 @@
 -- What a search has come to behind a line. What a reader believes after this file: which mode of a
 -- run each answer of the engine's steps stands for.
 use Rattle.std.specs.Prelude.{ℕ}
-use Rattle.search_run.specs.Replay.{Mode, Going, Conflict, Closed}
+use Rattle.run_law.specs.Replay.{Mode, Going, Conflict, Closed}
 use Rattle.bound_search.specs.declared.after.After.{After}
 use Rattle.bound_search.specs.declared.after.After.TheVariants as after
 

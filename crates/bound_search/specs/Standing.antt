@@ -1,6 +1,6 @@
--- Where a search stands. What a reader believes after this file: the lines of its record are a run,
--- the clauses, the levels and the mode that it keeps are what the run leaves, and each clause that
--- a run has to wait for is watched under its number.
+-- Where a search stands. What a reader believes after this file: the lines of its journal are a
+-- run, the clauses, the levels and the mode that it keeps are what the run leaves, and each clause
+-- that a run has to wait for is watched under its number.
 use Rattle.std.specs.Prelude.{◌≡◌, ℕ, ◌<◌, true, false, List, [], ◌∷◌, Some, length, slice_get}
 use Rattle.std.specs.List.{All, Contains}
 use Rattle.signed_clause.specs.Ranges.{Ranges, is_nil, IsValid}
@@ -15,8 +15,8 @@ use Rattle.clause_watches.specs.Watching.{acts, clause_of}
 use Rattle.fd_store.specs.Levels.{Stack}
 use Rattle.log_form.specs.declared.line.Line.{Line}
 use Rattle.log_form.specs.Acceptance.{clause_at, made}
-use Rattle.search_run.specs.Replay.{State, Mode, is_split, is_run, state_of}
-use Rattle.search_run.specs.Lines.{HasSets}
+use Rattle.run_law.specs.Replay.{State, Mode, is_split, is_run, state_of}
+use Rattle.run_law.specs.Lines.{HasSets}
 
 -- the lines are a run over a well made problem without empty domains, and their parts are sets
 pub record IsRun (g : Ground) (ls : List Line) : Type 0 where

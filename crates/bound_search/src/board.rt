@@ -13,7 +13,7 @@ ghost use Rattle.rule_law.specs.Answers.{AreBoxesWithin, IsPruning};
 ghost use Rattle.prop_queue.specs.Work.{AreAllQuiet};
 ghost use Rattle.clause_watches.specs.Watching.{acts, clause_of, IsActing};
 ghost use Rattle.fd_store.specs.Levels.{bottom, moved, dropped, reacted};
-ghost use Rattle.search_run.specs.Replay.{mode_by};
+ghost use Rattle.run_law.specs.Replay.{mode_by};
 ghost use Rattle.bound_search.specs.Modes.{mode_of};
 ghost use Rattle.bound_search.specs.Standing.{IsReason};
 ghost use Rattle.bound_search.specs.Boards.{IsBoard, AreLower};

@@ -7,13 +7,13 @@ ghost use Rattle.ground_form.specs.Bounds.{singles, low_of};
 ghost use Rattle.ground_form.specs.Meaning.{value_of};
 ghost use Rattle.ground_form.specs.Solutions.{IsSolution};
 ghost use Rattle.ground_form.specs.WellMade.{IsWellMade};
-ghost use Rattle.fixpoint_law.specs.Singles.{least_values};
+ghost use Rattle.rule_law.specs.Singles.{least_values};
 ghost use Rattle.rule_law.specs.Answers.{AreBoxesWithin};
 ghost use Rattle.fd_store.specs.Levels.{Stack};
 ghost use Rattle.prop_queue.specs.Work.{Work, AreAllQuiet};
 ghost use Rattle.branch_choice.specs.Picks.{AreAllSingle};
 ghost use Rattle.log_form.specs.Acceptance.{states, has_empty};
-ghost use Rattle.search_run.specs.Replay.{Mode, Going, Conflict, first_false};
+ghost use Rattle.run_law.specs.Replay.{Mode, Going, Conflict, first_false};
 ghost use Rattle.bound_search.specs.BoundLists.{numbered_from, first_or, values_of};
 ghost use Rattle.bound_search.specs.Boards.{IsBoard};
 ghost use Rattle.bound_search.specs.Modes.{rank};
@@ -23,12 +23,11 @@ ghost use Rattle.bound_search.specs.Engines.{Shows, Reached, IsKept, DecideAlike
 use crate::after::After;
 use crate::engine::Engine;
 use clause_watches::Watches;
-use fixpoint_law::fixpoint_is_solution;
-use goal_bounds::bounds_of;
 use ground_form::{Ground, GroundGoal, Number};
-use log_form::{Line, Values};
+use log_form::{Line, Values, bounds_of};
 use numbered_clauses::Clauses;
-use proof_log::Record;
+use proof_log::Journal;
+use rule_law::fixpoint_is_solution;
 use signed_clause::{ClauseHandle, IntSet};
 use std::alloc::{AllocError, Global};
 
@@ -185,7 +184,7 @@ fn take_all(e: &mut Engine, list: &[ClauseHandle]) -> Result<After, AllocError>
 }
 
 /// Writes the solution that the boxes are, and asks for a better one.
-pub fn finish(g: &Ground, e: &mut Engine, journal: &mut Record) -> Result<After, AllocError>
+pub fn finish(g: &Ground, e: &mut Engine, journal: &mut Journal) -> Result<After, AllocError>
     requires at { Shows g.now journal.old.lines e.old Going }
     requires fixed { IsFixed g.now e.old.board.store.top.now e.old.board.watches.added }
     requires single { AreAllSingle e.old.board.store.top.now g.now.search }

@@ -1,4 +1,4 @@
-//! `Engine`, what a search keeps beside its record, and one function for each kind of line.
+//! `Engine`, what a search keeps beside its journal, and one function for each kind of line.
 //!
 //! Each function writes its line as soon as nothing but memory can be wanting, so that the lines
 //! are a run at every time.
@@ -7,9 +7,9 @@ ghost use Rattle.ground_form.specs.WellMade.{IsWellMade};
 ghost use Rattle.log_form.specs.Acceptance.{clause_at};
 ghost use Rattle.branch_choice.specs.declared.split.Order.{Order};
 ghost use Rattle.branch_choice.specs.Picks.{Hints};
-ghost use Rattle.search_run.specs.Decisions.{decisions};
-ghost use Rattle.search_run.specs.Ordered.{IsDecidedBy};
-ghost use Rattle.search_run.specs.Replay.{Going, Conflict, acts, is_run, mode_by};
+ghost use Rattle.run_law.specs.Decisions.{decisions};
+ghost use Rattle.run_law.specs.Ordered.{IsDecidedBy};
+ghost use Rattle.run_law.specs.Replay.{Going, Conflict, acts, is_run, mode_by};
 ghost use Rattle.fd_store.specs.Levels.{dropped, reacted};
 ghost use Rattle.bound_search.specs.Modes.{mode_of};
 ghost use Rattle.bound_search.specs.Boards.{IsBoard, AreLower};
@@ -23,7 +23,7 @@ use ground_form::Ground;
 use learn_clauses::analyse;
 use log_form::Line;
 use numbered_clauses::Clauses;
-use proof_log::Record;
+use proof_log::Journal;
 use signed_clause::{Clause, ClauseHandle, IntSet, RunningClause};
 use std::alloc::{AllocError, Global};
 
@@ -46,7 +46,7 @@ pub struct Engine {
 pub fn use_clause(
     g: &Ground,
     e: &mut Engine,
-    journal: &mut Record,
+    journal: &mut Journal,
     n: u64,
 ) -> Result<After, AllocError>
     requires at { Shows g.now journal.old.lines e.old Going }
@@ -69,7 +69,7 @@ pub fn use_clause(
 pub fn add_axiom(
     g: &Ground,
     e: &mut Engine,
-    journal: &mut Record,
+    journal: &mut Journal,
     k: u32,
     c: Clause,
 ) -> Result<After, AllocError>
@@ -93,7 +93,7 @@ pub fn add_axiom(
 pub fn decide(
     g: &Ground,
     e: &mut Engine,
-    journal: &mut Record,
+    journal: &mut Journal,
     x: u32,
     half: &IntSet,
 ) -> Result<(), AllocError>
@@ -115,7 +115,7 @@ pub fn decide(
 }
 
 /// Explains a conflict: levels are dropped, and the learnt clause is used and watched from now on.
-pub fn learn(g: &Ground, e: &mut Engine, journal: &mut Record, n: u64) -> Result<After, AllocError>
+pub fn learn(g: &Ground, e: &mut Engine, journal: &mut Journal, n: u64) -> Result<After, AllocError>
     requires at { Shows g.now journal.old.lines e.old (Conflict n) }
     ensures kept { IsKept g.now journal.old journal.new }
     ensures at { IfOk result (λ a. Reached g.now journal.new.lines e.new a) }

@@ -1,4 +1,4 @@
-//! Branch and bound, the record of which is a run.
+//! Branch and bound, the journal of which is a run.
 //!
 //! - `engine`: what goes with the lines, and one function for each kind of line.
 //! - `solving`: from the beginning to the end.

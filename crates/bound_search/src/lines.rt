@@ -3,14 +3,14 @@
 //! Constraints are asked before clauses. A constraint that says again what it said lately uses that
 //! clause; else its clause is written.
 ghost use Rattle.std.specs.Prelude.{◌≡◌, length, IfOk, OnOk, IfSome};
-ghost use Rattle.search_run.specs.Replay.{Going};
+ghost use Rattle.run_law.specs.Replay.{Going};
 ghost use Rattle.bound_search.specs.Standing.{IsReason};
 ghost use Rattle.bound_search.specs.Engines.{Shows, Reached, IsKept, IsTurn, DecideAlike, TurnOf, FixedIf};
 
 use crate::after::After;
 use crate::engine::{Engine, add_axiom, use_clause};
 use ground_form::Ground;
-use proof_log::Record;
+use proof_log::Journal;
 use rule_law::Kit;
 use signed_clause::Clause;
 use std::alloc::AllocError;
@@ -19,7 +19,7 @@ use std::alloc::AllocError;
 fn explain(
     g: &Ground,
     e: &mut Engine,
-    journal: &mut Record,
+    journal: &mut Journal,
     k: u32,
     c: Clause,
 ) -> Result<After, AllocError>
@@ -41,7 +41,7 @@ pub fn turn(
     g: &Ground,
     kit: &mut Kit,
     e: &mut Engine,
-    journal: &mut Record,
+    journal: &mut Journal,
 ) -> Result<Option<After>, AllocError>
     requires at { Shows g.now journal.old.lines e.old Going }
     ensures kept { IsKept g.now journal.old journal.new }
@@ -69,7 +69,7 @@ pub fn propagate(
     g: &Ground,
     kit: &mut Kit,
     e: &mut Engine,
-    journal: &mut Record,
+    journal: &mut Journal,
 ) -> Result<After, AllocError>
     requires at { Shows g.now journal.old.lines e.old Going }
     ensures kept { IsKept g.now journal.old journal.new }

@@ -1,6 +1,6 @@
 //! On to the next decision of a search, or to its end.
 ghost use Rattle.std.specs.Prelude.{◌≡◌, ◌≤◌, length, IfOk, OnOk};
-ghost use Rattle.search_run.specs.Replay.{Going};
+ghost use Rattle.run_law.specs.Replay.{Going};
 ghost use Rattle.bound_search.specs.Standing.{IsFixed};
 ghost use Rattle.bound_search.specs.Engines.{Shows, IsKept, DecideAlike, StepOf, SettledOf};
 
@@ -10,7 +10,7 @@ use crate::engine::{Engine, learn};
 use crate::lines::propagate;
 use branch_choice::{Chooser, Split};
 use ground_form::Ground;
-use proof_log::Record;
+use proof_log::Journal;
 use rule_law::Kit;
 use std::alloc::AllocError;
 
@@ -29,7 +29,7 @@ fn branch(
     chooser: &Chooser,
     hints: &[Option<i64>],
     e: &mut Engine,
-    journal: &mut Record,
+    journal: &mut Journal,
 ) -> Result<Step, AllocError>
     requires at { Shows g.now journal.old.lines e.old Going }
     requires fixed { IsFixed g.now e.old.board.store.top.now e.old.board.watches.added }
@@ -57,7 +57,7 @@ fn advance(
     chooser: &Chooser,
     hints: &[Option<i64>],
     e: &mut Engine,
-    journal: &mut Record,
+    journal: &mut Journal,
 ) -> Result<Step, AllocError>
     requires at { Shows g.now journal.old.lines e.old Going }
     requires hints { g.now.search ≤ length hints.now }
@@ -85,7 +85,7 @@ pub fn settle(
     chooser: &Chooser,
     hints: &[Option<i64>],
     e: &mut Engine,
-    journal: &mut Record,
+    journal: &mut Journal,
 ) -> Result<Option<Split>, AllocError>
     requires at { Shows g.now journal.old.lines e.old Going }
     requires hints { g.now.search ≤ length hints.now }

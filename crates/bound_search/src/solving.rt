@@ -8,9 +8,9 @@ ghost use Rattle.ground_form.specs.WellMade.{IsWellMade};
 ghost use Rattle.branch_choice.specs.declared.split.Order.{Order};
 ghost use Rattle.branch_choice.specs.Picks.{Hints, half_of};
 ghost use Rattle.log_form.specs.Acceptance.{has_empty, made};
-ghost use Rattle.search_run.specs.Replay.{Going, is_run};
-ghost use Rattle.search_run.specs.Ordered.{IsOrdered};
-ghost use Rattle.search_run.specs.Decisions.{decisions, MayDecide};
+ghost use Rattle.run_law.specs.Replay.{Going, is_run};
+ghost use Rattle.run_law.specs.Ordered.{IsOrdered};
+ghost use Rattle.run_law.specs.Decisions.{decisions, MayDecide};
 ghost use Rattle.bound_search.specs.Engines.{Shows, IsKeptBy, IsDue};
 ghost use Rattle.bound_search.specs.Ends.{EndsOf};
 
@@ -22,7 +22,7 @@ use branch_choice::{Chooser, Split};
 use ground_form::Ground;
 use log_form::Line;
 use numbered_clauses::Clauses;
-use proof_log::Record;
+use proof_log::Journal;
 use rule_law::Kit;
 use signed_clause::{IntSet, RunningClause};
 use std::alloc::{AllocError, Global};
@@ -86,7 +86,7 @@ fn decide_split(
     chooser: &Chooser,
     hints: &[Option<i64>],
     e: &mut Engine,
-    journal: &mut Record,
+    journal: &mut Journal,
     split: Split,
 ) -> Result<(), AllocError>
     requires due { IsDue g.now journal.old.lines chooser.now.order hints.now e.old split }
@@ -128,7 +128,7 @@ fn first_empty(domains: &[IntSet]) -> Option<u32>
 }
 
 /// Writes that a domain is empty, so that there is no solution.
-fn no_point(g: &Ground, journal: &mut Record, x: u32) -> Result<Ended, AllocError>
+fn no_point(g: &Ground, journal: &mut Journal, x: u32) -> Result<Ended, AllocError>
     requires lines { journal.old.lines ≡ [] }
     requires var { x < length g.now.domains }
     requires none { is_nil (box_of g.now.domains x) ≡ true }
@@ -147,7 +147,7 @@ fn run(
     kit: &mut Kit,
     chooser: &Chooser,
     hints: &[Option<i64>],
-    journal: &mut Record,
+    journal: &mut Journal,
 ) -> Result<Ended, AllocError>
     requires well_made { IsWellMade g.now }
     requires some { All (λ s. is_nil s ≡ false) g.now.domains }
@@ -173,11 +173,11 @@ fn run(
     }
 }
 
-/// Searches for a best solution by branch and bound. The record's lines are a run: at each of them
+/// Searches for a best solution by branch and bound. The journal's lines are a run: at each of them
 /// the search was forced to what it wrote, or decided at a fixpoint by the chooser's order, and
 /// whoever has the problem and the lines can check what they show.
 ///
-/// It writes into the present round of the record, which has no lines yet, and takes at most
+/// It writes into the present round of the journal, which has no lines yet, and takes at most
 /// `limits.budget` decisions. `hints` has a value, or none, for each searched variable.
 ///
 /// # Errors
@@ -188,7 +188,7 @@ pub fn search(
     kit: &mut Kit,
     chooser: &Chooser,
     hints: &[Option<i64>],
-    journal: &mut Record,
+    journal: &mut Journal,
 ) -> Result<Ended, AllocError>
     requires well_made { IsWellMade g.now }
     requires lines { journal.old.lines ≡ [] }

@@ -1,5 +1,4 @@
-//! The rules of the constraints: when boxes refute a constraint, which clauses it justifies, and
-//! when it is quiet.
+//! The rules of constraints: what each refutes and justifies, and when it is quiet.
 //!
 //! Each kind of constraint has one rule, which looks at the boxes of its variables. A constraint is
 //! refuted where its rule leaves it no chance; a clause is justified by it where it is refuted in

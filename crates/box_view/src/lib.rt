@@ -1,5 +1,5 @@
-//! How boxes are looked at without building them: whole, with one variable fixed, or cut by a
-//! clause.
+//! How boxes are looked at: whole, with one variable fixed, or cut by a clause. No box is built for
+//! that.
 //!
 //! The rules of constraints ask little of boxes: their ends, whether they have a value, how they
 //! lie to a set. What they ask is one trait, and each way to look at boxes answers it.

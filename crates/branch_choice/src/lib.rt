@@ -1,4 +1,4 @@
-//! Which box a search splits next, and where.
+//! Which box a search splits next, and where: three orders, and stored choosers.
 //!
 //! - `split`: splits, and the orders in which boxes are split.
 //! - `chooser`: `Chooser`, a function that picks splits, kept with what is known of it.

@@ -1,5 +1,5 @@
-//! The classes, enumerations and top-level variables of a model, resolved: no name stands in them
-//! any more but as a label.
+//! Classes, enumerations and top-level variables of a model, or a fault among them. They are
+//! resolved: no name stands in them any more but as a label.
 //!
 //! `ClassTable::build` is the entry: it answers the table of a program in which names, ranges and
 //! classes are right, or one of the faults that stand in it, with its place. `specs` says what each

@@ -19,7 +19,7 @@ use Rattle.model_rounds.specs.Findings.{Tells}
 use Rattle.model_rounds.specs.Finding.{Finding}
 use Rattle.model_rounds.specs.Finding.TheVariants as findings
 use Rattle.object_alloc.specs.Configurations.{IsConfiguration}
-use Rattle.proof_log.specs.declared.record.Round.{Round}
+use Rattle.proof_log.specs.declared.journal.Round.{Round}
 use Rattle.run_finder.specs.declared.outcome.Outcome.{Outcome}
 use Rattle.run_finder.specs.declared.outcome.Outcome.TheVariants as outcomes
 

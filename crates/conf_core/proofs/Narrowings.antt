@@ -11,7 +11,7 @@ use Rattle.conf_core.specs.Parts.{IsPart, HasTried}
 use Rattle.conf_core.specs.Searching.{HasGrown, IsNarrowed, indexes_of, end_without}
 use Rattle.conf_core.specs.declared.narrowing.Settled.{Settled}
 use Rattle.conf_types.specs.Programs.{ResolvedConstraint}
-use Rattle.proof_log.specs.declared.record.Round.{Round}
+use Rattle.proof_log.specs.declared.journal.Round.{Round}
 use Rattle.run_finder.specs.declared.outcome.Outcome.{Outcome}
 use Rattle.run_finder.specs.declared.outcome.Outcome.TheVariants as outcomes
 

@@ -16,7 +16,7 @@ use Rattle.ground_form.specs.declared.ground.Ground.{Ground}
 use Rattle.log_form.specs.Acceptance.{accepted}
 use Rattle.model_rounds.specs.Rounds.{journal_of, told_by, end_of}
 use Rattle.model_rounds.specs.Runs.{HasRun}
-use Rattle.proof_log.specs.declared.record.Round.{Round}
+use Rattle.proof_log.specs.declared.journal.Round.{Round}
 use Rattle.run_finder.specs.declared.outcome.Outcome.{Outcome}
 
 -- ---- a part is within the limits

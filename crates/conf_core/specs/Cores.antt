@@ -11,7 +11,7 @@ use Rattle.conf_eval.specs.Satisfying.{Satisfies}
 use Rattle.conf_types.specs.Programs.{ResolvedConstraint}
 use Rattle.model_rounds.specs.Rounds.{told_by, end_of}
 use Rattle.object_alloc.specs.Configurations.{IsConfiguration}
-use Rattle.proof_log.specs.declared.record.Round.{Round}
+use Rattle.proof_log.specs.declared.journal.Round.{Round}
 use Rattle.run_finder.specs.declared.outcome.Outcome.{Outcome}
 use Rattle.run_finder.specs.declared.outcome.Outcome.TheVariants as outcomes
 

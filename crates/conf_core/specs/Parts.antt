@@ -1,6 +1,6 @@
 -- Parts of a model, and searches over them. What a reader believes after this file: which
--- constraints a part has; and that a round of the record is a run of a search over the part that it
--- names, without the model's objectives.
+-- constraints a part has; and that a round of the journal is a run of a search over the part that
+-- it names, without the model's objectives.
 use Rattle.std.specs.Prelude.{◌≡◌, ◌<◌, ◌++◌, ◌∷◌, [], ℕ, List, None, All, AllPairs, length, map}
 use Rattle.branch_choice.specs.declared.split.Order.TheVariants as orders
 use Rattle.class_table.specs.Outline.{Outline}
@@ -8,7 +8,7 @@ use Rattle.conf_types.specs.Programs.{ResolvedConstraint, constraint_at}
 use Rattle.ground_form.specs.WellMade.{IsWellMade}
 use Rattle.model_rounds.specs.Rounds.{journal_of, told_by, end_of}
 use Rattle.model_rounds.specs.Runs.{HasRun}
-use Rattle.proof_log.specs.declared.record.Round.{Round}
+use Rattle.proof_log.specs.declared.journal.Round.{Round}
 use Rattle.run_finder.specs.declared.outcome.Outcome.{Outcome}
 
 -- the constraints with these indexes

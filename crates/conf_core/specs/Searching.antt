@@ -13,11 +13,11 @@ use Rattle.ground_form.specs.WellMade.{IsWellMade}
 use Rattle.log_form.specs.Acceptance.{accepted}
 use Rattle.model_rounds.specs.Problems.{IsProblemOf}
 use Rattle.proof_log.specs.Rounds.{Journal}
-use Rattle.proof_log.specs.declared.record.Round.{Round}
+use Rattle.proof_log.specs.declared.journal.Round.{Round}
 use Rattle.run_finder.specs.Outcomes.{OutcomeOf}
 use Rattle.run_finder.specs.declared.outcome.Outcome.{Outcome}
 use Rattle.run_finder.specs.declared.outcome.Outcome.TheVariants as outcomes
-use Rattle.search_run.specs.Replay.{is_run}
+use Rattle.run_law.specs.Replay.{is_run}
 
 -- the rounds have one more, over the problem of these constraints, by a run that ended so
 pub record HasClosed (o : Outline) (ks : List ResolvedConstraint) (budget : ℕ) (part : List ℕ)

@@ -10,7 +10,7 @@ use ground_model::{Origins, seems_to_fix};
 use log_check::trim;
 use log_form::Line;
 use model_rounds::last_round;
-use proof_log::Record;
+use proof_log::Journal;
 use std::alloc::{AllocError, Global};
 
 /// As many marks, none of them set.
@@ -64,7 +64,7 @@ fn mark_fixing(marks: &mut Vec<bool>, constraints: &[Constraint])
     }
 }
 
-/// The constraints that the record's last round blames, without and with those that seem to give
+/// The constraints that the journal's last round blames, without and with those that seem to give
 /// cells their values: the lines of a log don't name these where others were stated by the values.
 #[derive(Drop)]
 pub(crate) struct Blamed {
@@ -72,12 +72,12 @@ pub(crate) struct Blamed {
     pub with_fixing: Vec<u32>,
 }
 
-/// Which constraints the record's last round blames.
+/// Which constraints the journal's last round blames.
 pub(crate) fn blamed_by(
     alloc: Global,
     constraints: &[Constraint],
     origins: &Origins,
-    journal: &Record,
+    journal: &Journal,
 ) -> Result<Blamed, AllocError>
     requires few { length constraints.now < 2 ^ 32 }
     requires accepted { EndsAccepted journal.now.rounds }

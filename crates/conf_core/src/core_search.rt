@@ -19,7 +19,7 @@ use conf_types::TypedModel;
 use ground_model::Origins;
 use log_form::Indexes;
 use object_alloc::Objects;
-use proof_log::Record;
+use proof_log::Journal;
 use run_finder::{Finder, Outcome};
 use std::alloc::{AllocError, Global};
 
@@ -29,7 +29,7 @@ fn are_impossible<F: Finder>(
     with: Subject<'_>,
     list: &[u32],
     finder: &mut F,
-    journal: &mut Record,
+    journal: &mut Journal,
 ) -> Result<bool, AllocError>
     requires typed { IsTypedModel with.objects.now with.model.now.constraints
         with.model.now.goals }
@@ -77,7 +77,7 @@ fn wider_suspects<F: Finder>(
     with: Subject<'_>,
     list: Vec<u32>,
     finder: &mut F,
-    journal: &mut Record,
+    journal: &mut Journal,
 ) -> Result<Suspects, AllocError>
     requires typed { IsTypedModel with.objects.now with.model.now.constraints
         with.model.now.goals }
@@ -112,7 +112,7 @@ fn suspected<F: Finder>(
     with: Subject<'_>,
     origins: &Origins,
     finder: &mut F,
-    journal: &mut Record,
+    journal: &mut Journal,
 ) -> Result<Suspects, AllocError>
     requires typed { IsTypedModel with.objects.now with.model.now.constraints
         with.model.now.goals }
@@ -162,7 +162,7 @@ fn blame<F: Finder>(
     with: Subject<'_>,
     origins: &Origins,
     finder: &mut F,
-    journal: &mut Record,
+    journal: &mut Journal,
 ) -> Result<CoreAnswer, AllocError>
     requires typed { IsTypedModel with.objects.now with.model.now.constraints
         with.model.now.goals }
@@ -195,7 +195,7 @@ fn blame<F: Finder>(
 fn first_search<F: Finder>(
     with: Subject<'_>,
     finder: &mut F,
-    journal: &mut Record,
+    journal: &mut Journal,
 ) -> Result<Tried, AllocError>
     requires typed { IsTypedModel with.objects.now with.model.now.constraints
         with.model.now.goals }
@@ -223,7 +223,7 @@ fn first_search<F: Finder>(
 }
 
 /// Searches the whole model, and where it has no configuration finds out which constraints are to
-/// blame. Each search is a round of the record, over the constraints that the round's part names.
+/// blame. Each search is a round of the journal, over the constraints that the round's part names.
 ///
 /// The constraints that the first search's log rests on are searched next; then some of them are
 /// left out at a time. Each that stays was left out once.
@@ -236,7 +236,7 @@ pub fn find_core<F: Finder>(
     model: &TypedModel,
     objects: &Objects<'_>,
     finder: &mut F,
-    journal: &mut Record,
+    journal: &mut Journal,
 ) -> Result<CoreAnswer, AllocError>
     requires typed { IsTypedModel objects.now model.now.constraints model.now.goals }
     requires narrow { model_narrow objects.now model.now.constraints model.now.goals ≡ true }

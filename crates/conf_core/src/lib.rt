@@ -1,7 +1,7 @@
-//! What to blame where no configuration satisfies a model: an irreducible list of its constraints.
+//! What to blame where nothing satisfies a model: an irreducible list of constraints.
 //!
 //! - `core_search`: `find_core`, the first search and what comes behind it.
-//! - `part_search`: a search over a part of the model, as a round of the record.
+//! - `part_search`: a search over a part of the model, as a round of the journal.
 //! - `blame`: which constraints the log of a round rests on.
 //! - `narrowing`: from constraints that no configuration satisfies to an irreducible list.
 //! - `indexes`: ascending lists of indexes.

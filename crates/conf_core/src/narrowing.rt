@@ -10,11 +10,11 @@ ghost use Rattle.conf_core.specs.Searching.{HasGrown, IsNarrowed, indexes_of, un
 ghost use Rattle.conf_limits.specs.Measures.{model_narrow};
 ghost use Rattle.conf_types.specs.Programs.{ResolvedConstraint};
 ghost use Rattle.conf_types.specs.Typing.{IsTypedModel};
-ghost use Rattle.proof_log.specs.declared.record.Round.{Round as ARound};
+ghost use Rattle.proof_log.specs.declared.journal.Round.{Round as ARound};
 ghost use Rattle.run_finder.specs.declared.outcome.Outcome.TheVariants as outcomes;
 
 use crate::part_search::{Subject, try_part};
-use proof_log::Record;
+use proof_log::Journal;
 use run_finder::{Finder, Outcome};
 use std::alloc::{AllocError, Global};
 
@@ -73,7 +73,7 @@ fn tried_with<F: Finder>(
     n: &Narrowing,
     others: &[u32],
     finder: &mut F,
-    journal: &mut Record,
+    journal: &mut Journal,
 ) -> Result<Outcome, AllocError>
     requires typed { IsTypedModel with.objects.now with.model.now.constraints
         with.model.now.goals }
@@ -198,7 +198,7 @@ fn step<F: Finder>(
     with: Subject<'_>,
     n: Narrowing,
     finder: &mut F,
-    journal: &mut Record,
+    journal: &mut Journal,
 ) -> Result<Narrowing, AllocError>
     requires typed { IsTypedModel with.objects.now with.model.now.constraints
         with.model.now.goals }
@@ -235,7 +235,7 @@ pub(crate) fn narrowed<F: Finder>(
     list: Vec<u32>,
     chunk: usize,
     finder: &mut F,
-    journal: &mut Record,
+    journal: &mut Journal,
 ) -> Result<Vec<Settled>, AllocError>
     requires typed { IsTypedModel with.objects.now with.model.now.constraints
         with.model.now.goals }

@@ -1,4 +1,4 @@
-//! A search over a part of a model, which is a round of the record.
+//! A search over a part of a model, which is a round of the journal.
 ghost use Rattle.std.specs.Prelude.{◌≡◌, [], true, None, IfOk, OnOk, OnErr};
 ghost use Rattle.conf_core.specs.Parts.{IsPart, HasTried};
 ghost use Rattle.conf_core.specs.Searching.{HasClosed};
@@ -12,7 +12,7 @@ use ground_form::Ground;
 use ground_model::{Origins, ground_with_origins};
 use model_rounds::{Question, last_round, no_hints, round_is_run};
 use object_alloc::Objects;
-use proof_log::Record;
+use proof_log::Journal;
 use run_finder::{Finder, Outcome};
 use std::alloc::{AllocError, Global};
 
@@ -68,7 +68,7 @@ fn closed_round<F: Finder>(
     model: &TypedModel,
     part: Vec<u32>,
     finder: &mut F,
-    journal: &mut Record,
+    journal: &mut Journal,
 ) -> Result<Tried, AllocError>
     requires typed { IsTypedModel with.objects.now model.now.constraints model.now.goals }
     requires narrow { model_narrow with.objects.now model.now.constraints model.now.goals ≡ true }
@@ -91,7 +91,7 @@ fn closed_round<F: Finder>(
     Ok(Tried { end, origins })
 }
 
-/// Searches a part of the model, which is then the record's last round.
+/// Searches a part of the model, which is then the journal's last round.
 ///
 /// # Errors
 /// Want of memory: the rounds are as before.
@@ -99,7 +99,7 @@ pub(crate) fn try_part<F: Finder>(
     with: Subject<'_>,
     part: Vec<u32>,
     finder: &mut F,
-    journal: &mut Record,
+    journal: &mut Journal,
 ) -> Result<Tried, AllocError>
     requires typed { IsTypedModel with.objects.now with.model.now.constraints
         with.model.now.goals }

@@ -1,5 +1,4 @@
-//! The meaning of a model: the value of an expression at a configuration, and which configurations
-//! satisfy the model.
+//! The meaning of a model: values, which configurations satisfy it, its objectives.
 //!
 //! `eval` gives the value of an expression, `satisfied` what is broken first, `objectives` the
 //! values of the objectives. `laws` has what holds of all values. What refuses models whose

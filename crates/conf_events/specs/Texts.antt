@@ -4,7 +4,7 @@ use Rattle.std.specs.Prelude.{◌≡◌, ℕ, ◌+◌, Bool, true, false, ◌&&�
 use Rattle.std.specs.List.{starts_with}
 use Rattle.class_table.specs.Outline.{Outline}
 use Rattle.object_alloc.specs.Named.{object_named}
-use Rattle.conf_events.specs.Limits.{most_events}
+use Rattle.command_limits.specs.Limits.{most_events}
 use Rattle.conf_events.specs.declared.event.Event.{Event}
 use Rattle.conf_events.specs.declared.event.EventsError.{EventsError}
 use Rattle.conf_events.specs.declared.event.EventsError.TheVariants.{BadLine, Memory}

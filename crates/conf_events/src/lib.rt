@@ -10,4 +10,4 @@ mod event;
 mod reading;
 
 pub use event::{Event, Events, EventsError};
-pub use reading::{EVENTS_BYTES, read_events};
+pub use reading::read_events;

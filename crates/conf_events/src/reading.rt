@@ -3,21 +3,16 @@ ghost use Rattle.std.specs.Prelude.{ℕ, ◌≡◌, ◌≢◌, ◌+◌, ◌<◌,
 ghost use Rattle.std.specs.Prelude.{None, Some, IsSome, IfOk, IfErr, OnOk, IfSome, IfNone};
 ghost use Rattle.std.specs.List.{All};
 ghost use Rattle.object_alloc.specs.Named.{object_named};
-ghost use Rattle.conf_events.specs.Limits.{most_events, events_bytes};
+ghost use Rattle.command_limits.specs.Limits.{most_events, events_bytes};
 ghost use Rattle.conf_events.specs.Texts.{bad_line, events_of, IsEventsError};
 ghost use Rattle.conf_events.specs.Texts.{ended, unended, event_at, event_of, bad_from};
 ghost use Rattle.conf_events.specs.declared.event.EventsError.TheVariants.{BadLine};
 
 use crate::event::{Event, Events, EventsError};
+use command_limits::MOST_EVENTS;
 use conf_syntax::PathText;
 use object_alloc::Objects;
 use std::alloc::{AllocError, Global};
-
-/// How many bytes a text of events may have.
-pub const EVENTS_BYTES: u64 = 1_048_576;
-
-/// How many events a text may have.
-const MOST_EVENTS: u32 = 100;
 
 /// The events of a text: each line is `fail PATH` or `repair PATH`, with one space and the path of
 /// an object, and is ended by a line feed; there are at most 100.

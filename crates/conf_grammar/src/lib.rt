@@ -1,5 +1,4 @@
-//! How models are read from left to right: a machine that takes one token at a time, and what is
-//! true of it.
+//! How models are read from left to right: a machine over tokens, and its laws.
 //!
 //! The machine is a definition, in `specs/Machine.antt`; `proofs` shows that it stops at exactly
 //! the first token that no model has there. `piece` names the tokens that stand in straight rows.

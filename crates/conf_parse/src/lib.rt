@@ -1,4 +1,4 @@
-//! From the text of a model to its tree.
+//! From the text of a model to its tree: the lexer and the parser.
 //!
 //! `lexer` takes the text apart into tokens with their places, or refuses it at the first place
 //! that it cannot pass; `token`, `run`, `keyword`, `mark` and `literal` each read one thing for it.

@@ -8,6 +8,7 @@ use Rattle.std.specs.Option.{option_and_then, option_map_or}
 use Rattle.std.specs.List.{starts_with, position_or_len, before_first, after_first}
 use Rattle.std.specs.Str.{byte}
 use Rattle.std.specs.declared.alloc.Global.{Global}
+use Rattle.command_limits.specs.Limits.{usual_budget, most_budget}
 use Rattle.conf_syntax.specs.Spelling.{is_digits, number_of}
 use Rattle.conf_request.specs.declared.command.Command.{Command}
 use Rattle.conf_request.specs.declared.command.Command.TheVariants as command
@@ -145,13 +146,6 @@ number_within digits least most word =
     if is_digits word && nat_le (length word) digits
     && nat_le least (number_of word) && nat_le (number_of word) most
     then Some (number_of word) else None
-
--- how many decisions a search may take where no word says it, and how many a word may give
-abbrev pub usual_budget : ℕ
-usual_budget = 10000
-
-abbrev pub most_budget : ℕ
-most_budget = 1000000
 
 -- how many decisions a search may take
 abbrev pub budget_of : Option (List ℕ) → Option ℕ

@@ -5,12 +5,7 @@ ghost use Rattle.conf_request.specs.Words.{has_none, budget_of, order_of, order_
 ghost use Rattle.conf_request.specs.Views.{given};
 
 use crate::numbers::number_within;
-
-/// How many decisions a search may take where no word says it.
-const USUAL_BUDGET: u32 = 10_000;
-
-/// How many decisions a word may give to a search.
-const MOST_BUDGET: u32 = 1_000_000;
+use command_limits::{MOST_BUDGET, USUAL_BUDGET};
 
 /// An option.
 #[derive(Clone, Copy)]

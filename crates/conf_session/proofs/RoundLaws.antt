@@ -15,7 +15,8 @@ use Rattle.reconfigure.specs.Repairing.{Extends}
 use Rattle.signed_clause.specs.Clauses.{IsClause, clause_true}
 use Rattle.conf_session.proofs.Following.{IsLow, kept_follow, kept_stands, kept_well_made}
 use Rattle.conf_session.proofs.KeptLaws.{kept_few}
-use Rattle.conf_session.specs.Keeping.{keeping, most_kept, with_kept}
+use Rattle.command_limits.specs.Limits.{most_kept}
+use Rattle.conf_session.specs.Keeping.{keeping, with_kept}
 use Rattle.conf_session.specs.Steps.{RepairsFor, ground_behind, IsGroundBehind}
 
 -- the same, of values, words and a problem that are the session's

@@ -8,12 +8,12 @@ use Rattle.ground_form.specs.declared.ground.Ground.{Ground}
 use Rattle.log_form.specs.declared.line.Line.{Line}
 use Rattle.object_alloc.specs.Named.{object_named}
 use Rattle.proof_log.specs.Rounds.{Journal}
-use Rattle.proof_log.specs.declared.record.Round.{Round}
+use Rattle.proof_log.specs.declared.journal.Round.{Round}
 use Rattle.reconfigure.specs.Failing.{unknown_word}
 use Rattle.reconfigure.specs.Repairing.{Extends}
 use Rattle.run_finder.specs.Outcomes.{OutcomeOf}
 use Rattle.run_finder.specs.declared.outcome.Outcome.{Outcome}
-use Rattle.search_run.specs.Replay.{is_run}
+use Rattle.run_law.specs.Replay.{is_run}
 use Rattle.conf_session.proofs.KnownWords.{behind_known}
 use Rattle.conf_session.specs.Standing.{Standing, IsOver, IsStanding, failed_behind, former_behind, values_found}
 use Rattle.conf_session.specs.Steps.{RepairsFor, IsStep, IsSearched, IsClosed, IsBehind, IsGroundBehind}

@@ -8,10 +8,6 @@ use Rattle.ground_form.specs.declared.ground.Ground.{Ground}
 use Rattle.log_form.specs.Acceptance.{same_clause}
 use Rattle.signed_clause.specs.Clauses.{Literals}
 
--- how many clauses a session keeps
-abbrev pub most_kept : ℕ
-most_kept = 10000
-
 -- the constraint is this clause
 abbrev pub is_that_clause : Literals → Con → Bool
 is_that_clause c (LinLe terms bound) = false

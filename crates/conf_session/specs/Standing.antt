@@ -14,7 +14,7 @@ use Rattle.log_form.specs.declared.line.Line.{Line}
 use Rattle.reconfigure.specs.Failing.{unknown_word}
 use Rattle.run_finder.specs.declared.outcome.Outcome.{Outcome}
 use Rattle.run_finder.specs.declared.outcome.Outcome.TheVariants as outcomes
-use Rattle.conf_session.specs.Keeping.{most_kept}
+use Rattle.command_limits.specs.Limits.{most_kept}
 
 -- the problem of the model with the clauses that were kept, the former values, the words that stand
 -- as failed, and how many constraints the problem had at first

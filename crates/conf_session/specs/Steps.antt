@@ -1,5 +1,5 @@
--- One step of a session. What a reader believes after this file: what the record holds of the round
--- that answers an event, and what the session has come to behind it.
+-- One step of a session. What a reader believes after this file: what the journal holds of the
+-- round that answers an event, and what the session has come to behind it.
 use Rattle.std.specs.Prelude.{◌≡◌, ◌≤◌, ◌&&◌, ◌+◌, ◌-◌, ℕ, Bool, true, false, List, [], ◌∷◌, ◌++◌, ℤ, pos, Option, None, Some, length}
 use Rattle.class_table.specs.Outline.{Outline}
 use Rattle.conf_events.specs.declared.event.Event.{Event}
@@ -11,13 +11,14 @@ use Rattle.kept_clauses.specs.Kept.{kept}
 use Rattle.log_form.specs.declared.line.Line.{Line}
 use Rattle.object_alloc.specs.Changes.{allowed, changes}
 use Rattle.proof_log.specs.Rounds.{Journal}
-use Rattle.proof_log.specs.declared.record.Round.{Round}
+use Rattle.proof_log.specs.declared.journal.Round.{Round}
 use Rattle.reconfigure.specs.Failing.{objects_named}
 use Rattle.reconfigure.specs.Repairing.{Extends}
 use Rattle.run_finder.specs.Outcomes.{OutcomeOf}
 use Rattle.run_finder.specs.declared.outcome.Outcome.{Outcome}
-use Rattle.search_run.specs.Replay.{is_run}
-use Rattle.conf_session.specs.Keeping.{most_kept, keeping}
+use Rattle.run_law.specs.Replay.{is_run}
+use Rattle.command_limits.specs.Limits.{most_kept}
+use Rattle.conf_session.specs.Keeping.{keeping}
 use Rattle.conf_session.specs.Standing.{Standing, IsOver, failed_behind, former_behind}
 
 -- whatever the one problem stands for, the other stands for too, with that nothing that failed is
@@ -42,7 +43,7 @@ ground_behind begun old g ls =
     keeping (begun + most_kept - length old.cons) old
     (kept g (length old.domains) (length old.cons) ls)
 
--- behind the event the record has one round more, over the problem of a repair of what stood, by a
+-- behind the event the journal has one round more, over the problem of a repair of what stood, by a
 -- run that the outcome tells of; and this is what the session has come to
 pub record IsStep (o : Outline) (e : Event) (budget : ℕ) (old new : Standing)
     (before after : Journal) (outcome : Outcome) : Type 0 where

@@ -12,9 +12,6 @@ use log_form::Line;
 use signed_clause::ClauseHandle;
 use std::alloc::{AllocError, Global};
 
-/// How many clauses a session keeps.
-pub(crate) const MOST_KEPT: usize = 10_000;
-
 /// Adds a clause, where it doesn't stand yet and there is room for one. Answers what room is left.
 #[tactic(auto, using(crate::proofs::KeptLaws::none_left, crate::proofs::KeptLaws::stood, crate::proofs::KeptLaws::one_more))]
 fn add(

@@ -2,18 +2,19 @@
 ghost use Rattle.std.specs.Prelude.{◌≡◌, ◌+◌, ◌^◌, ◌≤◌, true, length, IfOk};
 ghost use Rattle.ground_form.specs.WellMade.{IsWellMade};
 ghost use Rattle.reconfigure.specs.Repairing.{Extends};
-ghost use Rattle.search_run.specs.Replay.{is_run};
-ghost use Rattle.conf_session.specs.Keeping.{most_kept};
+ghost use Rattle.run_law.specs.Replay.{is_run};
+ghost use Rattle.command_limits.specs.Limits.{most_kept};
 ghost use Rattle.conf_session.specs.Steps.{IsGroundBehind, IsBehind};
 
-use crate::keeping::{MOST_KEPT, with_kept};
+use crate::keeping::with_kept;
 use crate::state::State;
 use crate::values::former_behind;
+use command_limits::MOST_KEPT;
 use ground_form::Ground;
 use kept_clauses::kept_lines;
 use log_form::Line;
 use run_finder::Outcome;
-use search_run::front_is_run;
+use run_law::front_is_run;
 use std::alloc::{AllocError, Global};
 
 /// The problem behind a round over a problem that begins with this one, of which it had so many

@@ -1,4 +1,4 @@
-//! Sessions: one failure after another, and what each teaches.
+//! Sessions: one event after another, each by a round, and what each teaches.
 //!
 //! A session keeps the ground problem of a model, the former values, and what stands as failed.
 //! Each event is answered by a round: a search over the problem of a repair, made of the session's.

@@ -6,7 +6,7 @@ ghost use Rattle.ground_form.specs.WellMade.{IsWellMade};
 ghost use Rattle.reconfigure.specs.Failing.{unknown_word};
 ghost use Rattle.reconfigure.specs.Repairing.{Extends};
 ghost use Rattle.run_finder.specs.Outcomes.{OutcomeOf};
-ghost use Rattle.search_run.specs.Replay.{is_run};
+ghost use Rattle.run_law.specs.Replay.{is_run};
 ghost use Rattle.conf_session.specs.Standing.{IsOver};
 ghost use Rattle.conf_session.specs.Steps.{RepairsFor, IsSearched};
 
@@ -14,7 +14,7 @@ use crate::state::{State, copied};
 use conf_syntax::PathText;
 use ground_form::Ground;
 use object_alloc::Objects;
-use proof_log::Record;
+use proof_log::Journal;
 use reconfigure::{FailedError, with_changes};
 use run_finder::{Finder, Outcome};
 use std::alloc::{AllocError, Global};
@@ -57,13 +57,13 @@ fn problem_of(alloc: Global, state: &State, objects: &Objects<'_>) -> Result<Gro
 }
 
 /// Searches for the best repair of what stands, and leaves problem and run in the present round of
-/// the record.
+/// the journal.
 pub(crate) fn searched<F: Finder>(
     alloc: Global,
     state: &State,
     objects: &Objects<'_>,
     finder: &mut F,
-    journal: &mut Record,
+    journal: &mut Journal,
 ) -> Result<Outcome, AllocError>
     requires over { IsOver objects.now state.now }
     requires problem { journal.old.ground ≡ None }

@@ -14,7 +14,7 @@ use conf_events::Event;
 use conf_syntax::PathText;
 use ground_form::Ground;
 use object_alloc::{Hints, Objects};
-use proof_log::Record;
+use proof_log::Journal;
 use run_finder::{Finder, Outcome};
 use std::alloc::{AllocError, Global};
 
@@ -47,12 +47,12 @@ fn with_event(alloc: Global, state: State, event: &Event) -> Result<State, Alloc
     })
 }
 
-/// What a session has come to behind the present round of the record, which is then closed.
+/// What a session has come to behind the present round of the journal, which is then closed.
 fn closed(
     alloc: Global,
     state: State,
     outcome: Outcome,
-    journal: &mut Record,
+    journal: &mut Journal,
 ) -> Result<State, AllocError>
     requires searched { (o : Outline) × (budget : ℕ)
         × IsSearched o state budget journal.old outcome }
@@ -74,7 +74,7 @@ fn advanced<F: Finder>(
     objects: &Objects<'_>,
     event: &Event,
     finder: &mut F,
-    journal: &mut Record,
+    journal: &mut Journal,
 ) -> Result<(State, Outcome), AllocError>
     requires over { IsOver objects.now state }
     requires named { IsSome (object_named objects.now event.now.path) }
@@ -150,7 +150,7 @@ impl Session {
     }
 
     /// Answers an event by a round: a search for the best repair of what then stands. Behind it the
-    /// record has one round more, over a problem that is made of the session's; the values of a
+    /// journal has one round more, over a problem that is made of the session's; the values of a
     /// best configuration are the former ones; and clauses that rest on the session's problem alone
     /// are part of it, each once and at most 10,000 in all.
     ///
@@ -163,7 +163,7 @@ impl Session {
         objects: &Objects<'_>,
         event: &Event,
         finder: &mut F,
-        journal: &mut Record,
+        journal: &mut Journal,
     ) -> Result<Outcome, AllocError>
         requires over { IsSomeAnd self.old.state (IsOver objects.now) }
         requires named { IsSome (object_named objects.now event.now.path) }

@@ -1,5 +1,4 @@
-//! The types of a model's expressions: each expression is resolved and typed, or refused with a
-//! fault that stands in it.
+//! Constraints and objectives, typed and resolved, or a fault that stands in one.
 //!
 //! `check` is the entry. `specs` says what a word means where it stands (`Scopes`), and then, one
 //! row for each kind of expression, its type, the faults that stand in it and what it is resolved

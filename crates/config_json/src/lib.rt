@@ -1,4 +1,4 @@
-//! Configurations as JSON: what is written for one, and the values that a former text gives.
+//! Configurations as JSON: what is written for one, and what a former text gives.
 //!
 //! A public call takes the table, of which its clauses speak, beside the objects that hold it. It
 //! hands on the objects alone, and leaves the parameter unread.

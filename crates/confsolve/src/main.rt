@@ -1,6 +1,6 @@
-//! The program: it collects the words behind its name, runs the command that they are over real
-//! files and standard output, writes the line of a status that has one on standard error, and ends
-//! with the status's number.
+//! The program `confsolve`: words, real files, standard output, exit status. It collects the words
+//! behind its name, runs the command that they are over real files and standard output, writes the
+//! line of a status that has one on standard error, and ends with the status's number.
 #![tactic(auto)]
 
 ghost use Rattle.branch_choice.specs.Picks.{IsAsked, IsPick};
@@ -13,7 +13,7 @@ use desk_io::RealDesk;
 use element_prop::ElementProp;
 use linear_prop::LinearProp;
 use pack_prop::PackProp;
-use proof_log::Record;
+use proof_log::Journal;
 use rule_law::{Kit, Propagator};
 use signed_clause::IntSet;
 use std::alloc::AllocError;
@@ -43,7 +43,7 @@ fn run_words(
     choosers: &[Chooser; 3],
 ) -> Result<Status, AllocError> {
     let mut desk = RealDesk::new(rt.clone()?);
-    let mut journal = Record::new(rt.alloc());
+    let mut journal = Journal::new(rt.alloc());
     Ok(run(rt.alloc(), words, &mut desk, kit, choosers, &mut journal))
 }
 

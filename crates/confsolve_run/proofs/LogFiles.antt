@@ -9,7 +9,7 @@ use Rattle.log_check.specs.Fed.{FailsAt, HasTaken, IsLogOf, Left}
 use Rattle.log_check.specs.Verdicts.{Ending}
 use Rattle.log_check.specs.declared.lines.CheckError.{CheckError}
 use Rattle.log_check.specs.declared.lines.CheckError.TheVariants as refusal
-use Rattle.log_file.specs.Limits.{log_bytes}
+use Rattle.command_limits.specs.Limits.{log_bytes}
 use Rattle.log_file.specs.declared.reading.FileCheck.{FileCheck}
 use Rattle.log_file.specs.declared.reading.FileCheck.TheVariants as file
 use Rattle.model_search.specs.Findings.{finding}
@@ -65,7 +65,7 @@ pub shown_by : (told : Option Files) (name : List ℕ) (g : Ground) (v : Ending)
 shown_by told name g v f log is =
     file_map told name _ _ (λ bytes h. record { lines = h.lines; read = h.text; taken = h.taken; shown = is ∙ ap (finding g) h.verdict }) log
 
--- the record holds the problem
+-- the journal holds the problem
 pub unchecked : (told : Option Files) (name : List ℕ) (reads reads_now : ℕ) (s : Status) (o : Outline) (ks : List ResolvedConstraint) (gs : List ResolvedGoal) (r : Option Repair) (g : Ground) (journal : Journal) → Unreadable reads reads_now s (OfFile told name (λ bytes. IsUnfit bytes s g)) → journal.ground ≡ Some g → journal.lines ≡ [] → IsProblemOf o ks gs r g → Unreadable reads reads_now s (OfFile told name (λ bytes. IsUnchecked o ks gs r journal bytes s))
 unchecked told name reads reads_now s o ks gs r g journal (inl u) kept alone problem = inl u
 unchecked told name reads reads_now s o ks gs r g journal (inr (inl u)) kept alone problem = inr (inl u)

@@ -1,4 +1,4 @@
--- What the record of a search holds, whatever is known of files.
+-- What the journal of a search holds, whatever is known of files.
 use Rattle.std.proofs.Common.{◌≡◌, ◌∙◌, Bool, true, false, List, Option, None, sym, subst, ap, refl, ℕ}
 use Rattle.branch_choice.specs.declared.split.Order.{Order}
 use Rattle.class_table.specs.Outline.{Outline}

@@ -10,14 +10,14 @@ use Rattle.log_form.specs.Acceptance.{accepted}
 use Rattle.proof_log.specs.Rounds.{Journal}
 use Rattle.round_commands.specs.Delivery.{Outside, log_text}
 
--- the record holds a problem and accepted lines
+-- the journal holds a problem and accepted lines
 pub record HoldsLog (journal : Journal) : Type 0 where
   pub ground : Ground
   pub kept : journal.ground ≡ Some ground
   pub well_made : IsWellMade ground
   pub taken : accepted ground journal.lines ≡ true
 
--- the text of the record's log, where one is wanted
+-- the text of the journal's log, where one is wanted
 abbrev pub IsLogOf : Bool → Journal → Option (List ℕ) → Type 0
 IsLogOf false journal log = log ≡ None
 IsLogOf true journal None = ⊥

@@ -33,7 +33,7 @@ use conf_request::{FileName, Request};
 use conf_syntax::Program;
 use desk_io::{Desk, WriteError};
 use model_reader::{Built, objects_of, read_model, table_of, typed_model};
-use proof_log::Record;
+use proof_log::Journal;
 use round_commands::{Resources, hold_model, repair_of};
 use rule_law::Kit;
 use run_status::Status;
@@ -76,7 +76,7 @@ fn asked<D: Desk>(
     request: &Request,
     built: Built<'_>,
     kit: &mut Kit,
-    journal: &mut Record,
+    journal: &mut Journal,
 ) -> Result<Answer, Status>
     requires may_read { (name : List ℕ) → IsFurther request.now name
         → IsTrue (D.may_read desk.old name) }
@@ -160,7 +160,7 @@ fn outcome<D: Desk>(
     program: &Program,
     request: &Request,
     kit: &mut Kit,
-    journal: &mut Record,
+    journal: &mut Journal,
 ) -> Result<Answer, Status>
     requires words { AreWords (program_tokens program.now) }
     requires nested { nesting program.now ≤ most_nesting }
@@ -213,7 +213,7 @@ fn answer_model<D: Desk>(
     program: &Program,
     request: &Request,
     kit: &mut Kit,
-    journal: &mut Record,
+    journal: &mut Journal,
 ) -> Status
     requires words { AreWords (program_tokens program.now) }
     requires nested { nesting program.now ≤ most_nesting }
@@ -254,7 +254,7 @@ pub(crate) fn run_text<D: Desk>(
     text: &[u8],
     request: &Request,
     kit: &mut Kit,
-    journal: &mut Record,
+    journal: &mut Journal,
 ) -> Status
     requires short { length text.now ≤ model_bytes }
     requires may_read { (name : List ℕ) → IsFurther request.now name

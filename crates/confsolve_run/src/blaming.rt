@@ -7,7 +7,7 @@ ghost use Rattle.run_status.specs.Stages.{Answered, stage_of};
 
 use crate::answer::Answer;
 use model_reader::Built;
-use proof_log::Record;
+use proof_log::Journal;
 use round_commands::{Resources, blame_model};
 use rule_law::Kit;
 use std::alloc::AllocError;
@@ -20,7 +20,7 @@ pub(crate) fn blamed(
     budget: u32,
     order: u8,
     kit: &mut Kit,
-    journal: &mut Record,
+    journal: &mut Journal,
 ) -> Result<Answer, AllocError>
     requires ready { IsReady built.table.now built.objects.now built.model.now.constraints
         built.model.now.goals }

@@ -20,14 +20,15 @@ ghost use Rattle.round_commands.specs.Unreadable.{Unreadable};
 
 use crate::answer::{Answer, question_of};
 use answer_text::check_text;
+use command_limits::LOG_BYTES;
 use conf_request::FileName;
 use desk_io::Desk;
 use ground_form::Ground;
 use log_check::{CheckError, Checker, Verdict};
-use log_file::{FileCheck, LOG_BYTES, check_file};
+use log_file::{FileCheck, check_file};
 use model_reader::Built;
 use model_search::{Finding, Question, finding_of, problem_of};
-use proof_log::Record;
+use proof_log::Journal;
 use reconfigure::Repair;
 use run_status::{LimitKind, Status};
 use std::alloc::{AllocError, Global};
@@ -148,7 +149,7 @@ fn answer_of(
     })
 }
 
-/// The answer to `check` with the log in this file, of the model or of a repair of it. The record
+/// The answer to `check` with the log in this file, of the model or of a repair of it. The journal
 /// then holds the ground problem, also where the log is refused.
 pub(crate) fn check<D: Desk>(
     alloc: Global,
@@ -156,7 +157,7 @@ pub(crate) fn check<D: Desk>(
     file: &FileName,
     built: Built<'_>,
     repair: Option<&Repair>,
-    journal: &mut Record,
+    journal: &mut Journal,
 ) -> Result<Answer, Status>
     requires may_read { IsTrue (D.may_read desk.old file.now) }
     requires ready { IsReady built.table.now built.objects.now built.model.now.constraints

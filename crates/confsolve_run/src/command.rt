@@ -20,7 +20,7 @@ use crate::source::text_of;
 use branch_choice::Chooser;
 use conf_request::{Request, request_of};
 use desk_io::Desk;
-use proof_log::Record;
+use proof_log::Journal;
 use round_commands::Resources;
 use rule_law::Kit;
 use run_status::Status;
@@ -32,7 +32,7 @@ fn run_request<D: Desk>(
     desk: &mut D,
     request: &Request,
     kit: &mut Kit,
-    journal: &mut Record,
+    journal: &mut Journal,
 ) -> Status
     requires may_read { (name : List ℕ) → model_file request.now ≡ Some name
         → IsTrue (D.may_read desk.old name) }
@@ -59,7 +59,7 @@ fn run_request<D: Desk>(
     }
 }
 
-/// Runs the command that the words behind the program's name are. The record, in which nothing
+/// Runs the command that the words behind the program's name are. The journal, in which nothing
 /// stands yet, then holds the ground problem of the model that was searched or whose log was
 /// checked, and of a search the lines that it wrote. `choosers` are those of the orders first,
 /// small and former.
@@ -69,7 +69,7 @@ pub fn run<D: Desk>(
     desk: &mut D,
     kit: &mut Kit,
     choosers: &[Chooser; 3],
-    journal: &mut Record,
+    journal: &mut Journal,
 ) -> Status
     requires may_read { (name : List ℕ) → Reads words.now name → IsTrue (D.may_read desk.old name) }
     requires may_write { (name : List ℕ) → Writes words.now name
@@ -83,7 +83,7 @@ pub fn run<D: Desk>(
         (λ r asked p. (text : List ℕ)
         × IsAnswer (map (λ c. c.order) choosers.now) journal.new asked p result text
         × (D.printed desk.new ≡ with_printed text (D.printed desk.old))) }
-    // the record holds what the answer rests on, also where no files are told
+    // the journal holds what the answer rests on, also where no files are told
     ensures recorded { stage_of result ≡ Answered → IfSome (request words.now)
         (λ r. IsRecorded (map (λ c. c.order) choosers.now) r result journal.new) }
     // the log that they ask for was written, and no other file has changed
@@ -104,8 +104,8 @@ pub fn run<D: Desk>(
         × IsAnswerBegun (map (λ c. c.order) choosers.now) journal.new asked p s text
         × IsCutOff r journal.new text (outside (D.files desk.old) (D.printed desk.old))
         (outside (D.files desk.new) (D.printed desk.new))) }
-    // want of memory came before writing and before a round was closed; or the same is so; or it came
-    // among the searches for what to blame, before writing
+    // want of memory came before writing and before a round was closed; or the same is so; or it
+    // came among the searches for what to blame, before writing
     ensures memory { result ≡ Status.Memory
         → ((outside (D.files desk.new) (D.printed desk.new)
         ≡ outside (D.files desk.old) (D.printed desk.old)) × (journal.new.rounds ≡ []))
@@ -119,7 +119,7 @@ pub fn run<D: Desk>(
         × OfRequest (D.files desk.old) words.now
         (λ r asked p. IsAnswerSearched journal.new asked p))) }
 
-    // the record holds what the answer rests on, and the log's file a front of the log
+    // the journal holds what the answer rests on, and the log's file a front of the log
     ensures kept { result ≡ Status.WriteFault → IfSome (request words.now)
         (λ r. (s : AStatus) × IsRecorded (map (λ c. c.order) choosers.now) r s journal.new) }
     ensures log_front { is_partial (stage_of result) ≡ true → IfSome (request words.now)

@@ -6,7 +6,7 @@ ghost use Rattle.conf_request.specs.declared.request.Request.{Request as AReques
 ghost use Rattle.conf_syntax.specs.declared.tree.Program.{Program as AProgram};
 ghost use Rattle.conf_syntax.specs.OneModel.{AreOneModel};
 ghost use Rattle.desk_io.specs.Desk.{Files};
-ghost use Rattle.proof_log.specs.Rounds.{Journal};
+ghost use Rattle.proof_log.specs.Rounds.{Journal as AJournal};
 ghost use Rattle.run_status.specs.declared.status.Status.{Status as AStatus};
 ghost use Rattle.round_commands.specs.Answer.{IsAnswer};
 ghost use Rattle.round_commands.specs.Asking.{Asked};
@@ -31,10 +31,10 @@ pub fn text_has_one_model(text: &[u8], model: &Program)
     ensures refused { (s : AStatus) → IsRefusedAs s text.now → IsRefusedFor s model.now }
     ensures within { IsWithin model.now → (s : AStatus) → IsRefusedAs s text.now → ⊥ }
     // what is asked of some tree of the text is asked of this one
-    ensures asked { (told : Option Files) (r : ARequest) (journal : Journal) (s : AStatus)
+    ensures asked { (told : Option Files) (r : ARequest) (journal : AJournal) (s : AStatus)
         → HasModel text.now (λ p. IsWithin p × IsDeniedOf told r journal s p)
         → IsWithin model.now × IsDeniedOf told r journal s model.now }
-    ensures answered { (os : List AnOrder) (journal : Journal) (asked : Asked) (s : AStatus)
+    ensures answered { (os : List AnOrder) (journal : AJournal) (asked : Asked) (s : AStatus)
         (printed : List ℕ)
         → HasModel text.now (λ p. IsWithin p × IsAnswer os journal asked p s printed)
         → IsWithin model.now × IsAnswer os journal asked model.now s printed }

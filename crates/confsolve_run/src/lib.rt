@@ -1,4 +1,4 @@
-//! The top call: from the words of a command to what is printed and how the run ends.
+//! The top call `run`: from words to what is printed and how the run ends.
 //!
 //! - `command`: `run`, which reads the words.
 //! - `source`: the text of the model, from its file or made for `gen`.

@@ -8,17 +8,19 @@ ghost use Rattle.model_search.specs.Runs.{HasRun};
 ghost use Rattle.model_search.specs.Wanted.{IsUnderstood};
 ghost use Rattle.proof_log.specs.Rounds.{empty};
 ghost use Rattle.round_commands.specs.Answer.{IsSearched, searched_status, order_at};
-ghost use Rattle.answer_text.specs.Texts.{solve_text, gen_text, generated_budget};
+ghost use Rattle.answer_text.specs.Texts.{solve_text, gen_text};
+ghost use Rattle.command_limits.specs.Limits.{generated_budget};
 ghost use Rattle.model_reader.specs.Ready.{IsReady};
 ghost use Rattle.run_status.specs.Stages.{Answered, stage_of};
 ghost use Rattle.confsolve_run.specs.Told.{HoldsLog, IsLogOf};
 
 use crate::answer::{Answer, question_of};
-use answer_text::{GENERATED_BUDGET, gen_text, solve_text};
+use answer_text::{gen_text, solve_text};
 use bound_search::Limits;
+use command_limits::GENERATED_BUDGET;
 use model_reader::Built;
 use model_search::{Finding, Question, find_best, trimmed_text};
-use proof_log::Record;
+use proof_log::Journal;
 use reconfigure::Repair;
 use round_commands::Resources;
 use rule_law::Kit;
@@ -52,7 +54,7 @@ fn found(
     budget: u32,
     order: u8,
     kit: &mut Kit,
-    journal: &mut Record,
+    journal: &mut Journal,
 ) -> Result<Finding, AllocError>
     requires typed { IsTypedModel question.objects.now question.model.now.constraints
         question.model.now.goals }
@@ -78,8 +80,8 @@ fn found(
     find_best(limits, question, kit, chooser, journal)
 }
 
-/// The text of the record's log, where it is wanted.
-fn wanted_log(alloc: Global, logged: bool, journal: &Record) -> Result<Option<Vec<u8>>, AllocError>
+/// The text of the journal's log, where it is wanted.
+fn wanted_log(alloc: Global, logged: bool, journal: &Journal) -> Result<Option<Vec<u8>>, AllocError>
     requires holds { HoldsLog journal.now }
     ensures { IfOk result (λ log. IsLogOf logged journal.now
         (option_map (λ text. text.items) log)) }
@@ -100,7 +102,7 @@ pub(crate) fn solve(
     repair: Option<&Repair>,
     wanted: Wanted,
     kit: &mut Kit,
-    journal: &mut Record,
+    journal: &mut Journal,
 ) -> Result<Answer, AllocError>
     requires ready { IsReady built.table.now built.objects.now built.model.now.constraints
         built.model.now.goals }
@@ -131,7 +133,7 @@ pub(crate) fn generated(
     built: Built<'_>,
     n: u32,
     kit: &mut Kit,
-    journal: &mut Record,
+    journal: &mut Journal,
 ) -> Result<Answer, AllocError>
     requires ready { IsReady built.table.now built.objects.now built.model.now.constraints
         built.model.now.goals }

@@ -1,6 +1,6 @@
-//! The program: it collects the words behind its name, does what they ask for over real files and
-//! standard output, writes the line of a status that has one on standard error, and ends with the
-//! status's number.
+//! The program `confsolve-view`: words, real files, standard output, exit status. It collects the
+//! words behind its name, does what they ask for over real files and standard output, writes the
+//! line of a status that has one on standard error, and ends with the status's number.
 #![tactic(auto)]
 
 use desk_io::RealDesk;

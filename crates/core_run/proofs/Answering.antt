@@ -8,7 +8,7 @@ use Rattle.conf_core.specs.declared.answer.CoreAnswer.TheVariants as answers
 use Rattle.conf_types.specs.Programs.{ResolvedConstraint}
 use Rattle.core_run.specs.Blaming.{IsSearchedSoFar}
 use Rattle.core_run.specs.Steps.{HasLines}
-use Rattle.proof_log.specs.declared.record.Round.{Round}
+use Rattle.proof_log.specs.declared.journal.Round.{Round}
 use Rattle.run_finder.specs.declared.outcome.Outcome.{Outcome}
 use Rattle.run_finder.specs.declared.outcome.Outcome.TheVariants as outcomes
 

@@ -1,5 +1,5 @@
 -- What answers the question what to blame. What a reader believes after this file: the searches of
--- the record show what is told, and the text and the status tell it.
+-- the journal show what is told, and the text and the status tell it.
 use Rattle.std.specs.Prelude.{◌≡◌, List, ℕ}
 use Rattle.class_table.specs.Outline.{Outline}
 use Rattle.conf_core.specs.Cores.{BeginsSo, IsAnswered}
@@ -7,7 +7,7 @@ use Rattle.conf_core.specs.Parts.{ArePartRounds}
 use Rattle.conf_core.specs.declared.answer.CoreAnswer.{CoreAnswer}
 use Rattle.conf_types.specs.Programs.{ResolvedConstraint}
 use Rattle.core_run.specs.Texts.{core_status, core_text}
-use Rattle.proof_log.specs.declared.record.Round.{Round}
+use Rattle.proof_log.specs.declared.journal.Round.{Round}
 use Rattle.run_finder.specs.declared.outcome.Outcome.{Outcome}
 use Rattle.run_status.specs.declared.status.Status.{Status}
 
@@ -21,7 +21,8 @@ pub record IsBlamed (o : Outline) (ks : List ResolvedConstraint) (budget : ℕ) 
   pub status_is : s ≡ core_status budget answer
   pub text_is : text ≡ core_text ks budget answer
 
--- the searches broke off behind the first: they are over parts of the model, that one over all of it
+-- the searches broke off behind the first: they are over parts of the model, that one over all of
+-- it
 pub record IsSearchedSoFar (o : Outline) (ks : List ResolvedConstraint) (budget : ℕ)
     (rounds : List Round) : Type 0 where
   pub end : Outcome

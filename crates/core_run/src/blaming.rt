@@ -9,7 +9,7 @@ ghost use Rattle.run_status.specs.Stages.{Answered, stage_of};
 use crate::texts::core_text;
 use conf_core::{CoreAnswer, find_core};
 use model_reader::Built;
-use proof_log::Record;
+use proof_log::Journal;
 use run_finder::Finder;
 use run_status::Status;
 use std::alloc::{AllocError, Global};
@@ -33,7 +33,7 @@ fn status_of(budget: u32, answer: &CoreAnswer) -> Status
     }
 }
 
-/// Tells what to blame where a model has no configuration. Each search is a round of the record.
+/// Tells what to blame where a model has no configuration. Each search is a round of the journal.
 ///
 /// # Errors
 ///
@@ -42,7 +42,7 @@ pub fn blame<F: Finder>(
     alloc: Global,
     built: Built<'_>,
     finder: &mut F,
-    journal: &mut Record,
+    journal: &mut Journal,
 ) -> Result<Answer, AllocError>
     requires ready { IsReady built.table.now built.objects.now built.model.now.constraints
         built.model.now.goals }

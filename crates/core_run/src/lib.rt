@@ -1,4 +1,4 @@
-//! The answer to the question what to blame: its text, its status, and the searches that show it.
+//! The answer to what is to blame: its text and its status. Searches show that it is right.
 //!
 //! - `blaming`: `blame`, from a model to the answer.
 //! - `texts`: the text.

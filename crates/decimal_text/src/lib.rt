@@ -1,4 +1,4 @@
-//! Numbers from their decimal text.
+//! Numbers from their decimal text, in paths and in logs.
 #![tactic(auto)]
 
 mod numbers;

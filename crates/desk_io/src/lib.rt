@@ -28,4 +28,4 @@ pub use file_list::StoredFile;
 pub use memory::MemoryDesk;
 pub use real::RealDesk;
 pub use steady::SteadyDesk;
-pub use whole::{ReadError, WriteError, print_all, read_all, store_all};
+pub use whole::{PIECE, ReadError, WriteError, print_all, read_all, store_all};

@@ -62,8 +62,8 @@ impl From<DeskError> for WriteError {
     }
 }
 
-// How many bytes a file is asked for at once.
-const PIECE: usize = 65536;
+/// How many bytes a file is asked for at once.
+pub const PIECE: usize = 65536;
 
 // Reads a piece of a file from where `bytes` ends, and says how many bytes it has. The piece is
 // read straight behind `bytes`, which grows for it on the heap, so that no byte is copied again and

@@ -1,5 +1,5 @@
-//! What expressions are once they are ground: sums and truths over variables of a problem in the
-//! making.
+//! A maker of forms, which are sums and truths over a problem in the making. They are what
+//! expressions are once they are ground.
 //!
 //! - `arithmetic`: plus and minus over a problem.
 //! - `form`: the forms.

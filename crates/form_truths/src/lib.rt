@@ -1,5 +1,5 @@
-//! Truths over a problem in the making: comparisons of sums as sets of one variable, disjunctions,
-//! and flags.
+//! Truths over a problem in the making: comparisons, disjunctions, clauses, flags. A comparison of
+//! sums becomes a set of one variable.
 //!
 //! - `compare`: sums compared with 0, as truths.
 //! - `disjunction`: disjunctions in the making, and clauses.

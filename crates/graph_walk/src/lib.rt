@@ -1,4 +1,5 @@
-//! Graphs of numbered nodes: a walk depth first, cycles and orders; nodes told by their parents.
+//! Graphs of numbered nodes: a walk, cycles and orders; nodes told by their parents. The walk goes
+//! depth first.
 //!
 //! - `walk`: a walk along the edges of a graph, step by step, on a list of its own.
 //! - `cycle`: whether a graph has a cycle, and else an order of its nodes.

@@ -1,4 +1,4 @@
-//! Builds well made ground problems.
+//! A builder of well made ground problems; each auxiliary variable is defined once.
 //!
 //! - `builder`: the builder, call by call.
 //! - `constraints`: what it adds.

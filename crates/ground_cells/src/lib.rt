@@ -1,4 +1,4 @@
-//! The cells of a model as the boxes of a ground problem.
+//! The cells of a model as boxes, whose points are the model's configurations.
 //!
 //! - `cells`: one box for each cell.
 //! - `numbers`: lists of ascending numbers as sets.

@@ -3,13 +3,13 @@ ghost use Rattle.conf_types.specs.Typing.{IsTypedModel};
 
 use conf_limits::{limits, model_weight};
 use conf_types::TypedModel;
-use given_models::typed_of;
 use ground_form::Ground;
 use ground_model::ground;
 use object_alloc::{Objects, allocate};
 use std::alloc::{AllocError, Global};
 use std::rt::Runtime;
 use test_clock::Clock;
+use test_models::typed_of;
 
 /// A ground problem, and how long it took.
 #[derive(Drop)]

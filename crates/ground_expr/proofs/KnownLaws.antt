@@ -27,7 +27,7 @@ use Rattle.expr_forms.specs.declared.form.Form.TheVariants as form
 use Rattle.expr_forms.specs.declared.form.Listing.{Listing}
 use Rattle.expr_forms.specs.FormBounds.{IsChoiceOf, IsFrom, IsFormOf, candidate_count}
 use Rattle.expr_forms.specs.FormValues.{choice_at}
-use Rattle.attribute_forms.specs.Attributes.{IsAttributeForm}
+use Rattle.reference_forms.specs.Attributes.{IsAttributeForm}
 use Rattle.ground_expr.specs.Known.{IsHeld, IsKnownValue, IsKnownChoice, IsKnownForm}
 
 number_typed : (o : Outline) (boxes : Boxes) (ty : ExprType) (f r : Linear) → IsFormOf o boxes ty (form.Number f) → IsFormOf o boxes ty (form.Number r)

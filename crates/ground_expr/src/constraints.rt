@@ -21,13 +21,9 @@ use class_table::Resolved;
 use conf_syntax::QuantKind;
 use conf_types::{RExpr, RNode, RQuant};
 use form_build::Maker;
-use pairwise_forms::{state_different, state_pack};
+use pairwise_forms::{MOST_PACKED, state_different, state_pack};
 use quantifier_forms::Part;
 use std::alloc::AllocError;
-
-/// The most members of one packing. What it costs to look at packed items grows with their number
-/// and that of bins.
-const MOST_PACKED: usize = 1024;
 
 /// Whether an attribute of this shape is made of parts, which no configuration changes.
 fn is_part(shape: Resolved) -> bool

@@ -13,14 +13,14 @@ ghost use Rattle.form_build.specs.Sums.{IsSum, IsVariable};
 ghost use Rattle.form_build.specs.Worlds.{AreKnown};
 ghost use Rattle.expr_forms.specs.declared.form.Choice.TheVariants as choice;
 ghost use Rattle.expr_forms.specs.Standing.{HasCells};
-ghost use Rattle.attribute_forms.specs.Attributes.{IsAttributeForm};
+ghost use Rattle.reference_forms.specs.Attributes.{IsAttributeForm};
 ghost use Rattle.ground_expr.specs.Known.{IsHeld, IsKnownValue, IsKnownChoice, IsKnownForm};
 
 use crate::scene::Scene;
-use attribute_forms::attribute_form;
 use class_table::Resolved;
 use expr_forms::{Choice, Form};
 use form_build::{Linear, Maker, Truth};
+use reference_forms::attribute_form;
 use signed_clause::IntSet;
 use std::alloc::AllocError;
 

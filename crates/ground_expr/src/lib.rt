@@ -1,4 +1,4 @@
-//! Typed expressions as forms over a ground problem in the making.
+//! Typed expressions as forms, and what is required: the recursions over trees.
 //!
 //! - `comparisons`: comparisons of numbers that are stated.
 //! - `constraints`: what is required of a whole constraint.

@@ -1,4 +1,4 @@
-//! Ground problems: what the engine solves.
+//! Ground problems, which the engine solves: eleven kinds of constraint, and goals.
 //!
 //! A ground problem knows no name, class or place of a model. It has variables with a domain each,
 //! constraints of eleven kinds over them, and goals in the order of their weight. A solution is one

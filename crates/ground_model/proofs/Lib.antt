@@ -8,3 +8,5 @@ pub mod Endings
 pub mod KnownCells
 pub mod Fixings
 pub mod RowSteps
+pub mod RowLaws
+pub mod SumRows

@@ -7,3 +7,4 @@ pub mod Fixing
 pub mod Known
 pub mod RowsAsked
 pub use Rattle.ground_expr.specs.Asked
+pub mod Adding

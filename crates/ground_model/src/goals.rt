@@ -14,7 +14,7 @@ use crate::required::form_of;
 use conf_types::Goal;
 use expr_forms::number_of;
 use form_build::{Maker, settled};
-use goal_sums::add_goal_sums;
+use goal_rows::add_goal_sums;
 use ground_form::{Goals, GroundGoal};
 use object_alloc::Objects;
 use std::alloc::{AllocError, Global};

@@ -8,10 +8,10 @@ ghost use Rattle.ground_model.specs.Requiring.{Requires};
 ghost use Rattle.ground_model.specs.RowsAsked.{IsRowWhere, AreRowsWhere};
 ghost use Rattle.ground_model.specs.Stated.{IsReady};
 
+use crate::row_form::row_at;
 use conf_types::Constraint;
 use form_build::Maker;
 use ground_expr::Scene;
-use ground_rows::row_at;
 use object_alloc::Objects;
 use packed_rows::{Row, pack_rows};
 use std::alloc::AllocError;

@@ -10,11 +10,11 @@ use crate::extension::{extension, lies_within};
 use crate::stating::all_true;
 use conf_eval::{limits, objectives, satisfied};
 use conf_types::{Goal, TypedModel};
-use given_models::typed_of;
 use ground_form::{Ground, GroundGoal};
 use ground_model::ground;
 use object_alloc::{Config, Objects, allocate};
 use std::alloc::{AllocError, Global};
+use test_models::typed_of;
 
 /// What a configuration is for a model and its ground problem.
 #[derive(Clone, Copy, PartialEq, Eq)]
@@ -207,7 +207,7 @@ fn values_text(alloc: Global, values: &[i64]) -> Result<String, AllocError> {
     let mut text = String::new(alloc);
     for value in values {
         let word = format!(in alloc; "{value}")?;
-        case_files::push_word(&mut text, &word)?;
+        test_case_files::push_word(&mut text, &word)?;
     }
     Ok(text)
 }

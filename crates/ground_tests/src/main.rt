@@ -1,6 +1,6 @@
-//! Tests of grounding: a model and its ground problem say the same of every configuration. The
-//! program runs the cases of the files in `data`, and prints of each file how many came out as they
-//! say.
+//! Tests of grounding: a model and its ground problem at every configuration. Both say the same
+//! there. The program runs the cases of the files in `data`, and prints of each file how many came
+//! out as they say.
 //!
 //! - `models`: models that are given, and what is made of them.
 //! - `series`: many models that are written by rules. `rules`: the rules of `data/models.rules`,
@@ -18,12 +18,12 @@ mod series;
 mod stating;
 mod writing;
 
-use case_files::run_file;
 use models::Models;
 use series::Series;
 use std::alloc::AllocError;
 use std::fs;
 use std::process::ExitCode;
+use test_case_files::run_file;
 
 /// Runs all files.
 fn run_files(rt: &HostRuntime) -> Result<(), AllocError> {

@@ -5,14 +5,14 @@
 ghost use Rattle.conf_types.specs.Typing.{IsTypedModel};
 
 use crate::comparing::{compare, compared_text};
-use case_files::{Case, Subject, push_word};
 use conf_eval::limits;
 use conf_types::TypedModel;
-use given_models::typed_of;
 use ground_form::{Con, Ground, kind_of};
 use ground_model::ground;
 use object_alloc::{Objects, allocate};
 use std::alloc::{AllocError, Global};
+use test_case_files::{Case, Subject, push_word};
+use test_models::typed_of;
 
 /// What is asked of models that are given.
 #[derive(Drop)]

@@ -5,9 +5,9 @@
 use crate::comparing::{Compared, compare, compared_text};
 use crate::rules::{Rule, rules_of};
 use crate::writing::write;
-use case_files::{Case, Subject, number_at, words_of};
-use given_problems::Random;
 use std::alloc::{AllocError, Global};
+use test_case_files::{Case, Subject, number_at, words_of};
+use test_problems::Random;
 
 /// What is asked of models that rules write.
 #[derive(Drop)]

@@ -1,7 +1,7 @@
 //! Texts of models that rules write, as numbers that look random pick them.
 use crate::rules::{Place, Rule, fits, is_named};
-use given_problems::Random;
 use std::alloc::{AllocError, Global};
+use test_problems::Random;
 
 /// How many rules fit.
 fn count_fitting(rules: &[Rule<'_>], name: &str, row: &str, place: Place) -> u32 {

@@ -1,4 +1,4 @@
-//! Whether two choices are the same object, and whether an object is a member of a list.
+//! Whether two choices are one object, and whether an object is in a list.
 //!
 //! - `groups`: the values of a map, by the objects that they give.
 //! - `literals`: a question about one choice as a literal.

@@ -1,6 +1,5 @@
-//! Tests of reading: from the text of a model to its tokens, tree, table, typed model and objects.
-//! The program runs the cases of the files in `data`, and prints of each file how many came out as
-//! they say.
+//! Tests of reading: texts, tokens, trees, tables, typed models and objects. The program runs the
+//! cases of the files in `data`, and prints of each file how many came out as they say.
 #![tactic(auto)]
 
 mod declarations;

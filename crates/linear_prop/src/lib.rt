@@ -1,5 +1,5 @@
-//! The propagator of the linear kinds: sums with a bound, sums that define a variable, and flags
-//! that say whether a sum keeps a bound.
+//! The propagator of the linear kinds: `LinLe`, `LinDef` and `ReifLe`. These are sums with a bound,
+//! sums that define a variable, and flags that say whether a sum keeps a bound.
 //!
 //! All three come down to rows: an inequality over terms. A walk over the terms adds up the least
 //! sum and finds the term that can rise the most above its least; these two numbers tell whether

@@ -14,7 +14,7 @@ use Rattle.signed_clause.proofs.RangeSteps.{has-meet_valid, IsValid-meet, has-jo
 use Rattle.ground_form.specs.declared.ground.GroundGoal.{GroundGoal}
 use Rattle.ground_form.specs.Meaning.{value_of}
 use Rattle.ground_form.specs.Solutions.{IsPoint, better}
-pub use Rattle.goal_bounds.proofs.WithForm.{with_form}
+pub use Rattle.log_form.proofs.WithForm.{with_form}
 use Rattle.log_form.specs.Acceptance.{better_than, as_good_as, with_literal, better_values, as_good_values, bounds_from}
 
 pub has-within : (low top : ℤ) (rs : Ranges) (v : ℤ) → Ascends low top rs → has rs v ≡ true → (low ≤ℤ v) × (v ≤ℤ top)

@@ -23,7 +23,7 @@ pub fn push_bounds(
         ≡ derived.old.clauses ++ bounds_of goals.now domains.now values.now) }
     ensures closed { OnOk result (derived.new.closed ≡ has_empty derived.new.clauses) }
 {
-    let clauses = goal_bounds::bounds_of(alloc, domains, goals, values)?;
+    let clauses = log_form::bounds_of(alloc, domains, goals, values)?;
     push_all(alloc, derived, clauses.as_slice())?;
     Ok(())
 }

@@ -1,4 +1,4 @@
-//! The checker of logs: why an answer can be believed.
+//! The checker of logs, of lines or of a text: why an answer can be believed.
 //!
 //! Whoever has a ground problem, a log and this crate needs nobody else. Nothing is asked of who
 //! made the log. Accepted lines make only clauses that are true at every solution better than the

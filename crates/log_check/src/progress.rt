@@ -22,9 +22,8 @@ use crate::derived::Derived;
 use crate::solution::{are_all_true, are_goal_values, is_better, is_point};
 use crate::verdict::Verdict;
 use box_rules::justified;
-use goal_bounds::empty_clause;
 use ground_form::Ground;
-use log_form::{Line, Values};
+use log_form::{Line, Values, empty_clause};
 use signed_clause::{Clause, RunningClause};
 use std::alloc::{AllocError, Global};
 

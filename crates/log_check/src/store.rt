@@ -7,8 +7,7 @@ ghost use Rattle.std.specs.Prelude.{◌≡◌, ◌<◌, ◌↔◌, ◌++◌, [],
 ghost use Rattle.signed_clause.specs.Clauses.{IsClause};
 ghost use Rattle.log_form.specs.Acceptance.{clause_at};
 
-use numbered_clauses::Clauses;
-use packed_clauses::PackedClauses;
+use numbered_clauses::{Clauses, PackedClauses};
 use signed_clause::{Clause, ClauseHandle};
 use std::alloc::{AllocError, Global};
 use std::marker::Model;

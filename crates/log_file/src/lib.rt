@@ -1,12 +1,9 @@
-//! A log in a file, checked piece by piece: neither the file nor its lines are kept, so what is
-//! taken of memory grows with what the checker keeps, and not with the length of the file.
+//! A log in a file, fed to the checker in pieces. Neither the file nor its lines are kept, so what
+//! is taken of memory grows with what the checker keeps, and not with the length of the file.
 //!
-//! `limit` has how long a log may be, `reading` `check_file`. `specs/Fronts` says how a checker
-//! stands to a file.
+//! `reading` has `check_file`. `specs/Fronts` says how a checker stands to a file.
 #![tactic(auto)]
 
-mod limit;
 mod reading;
 
-pub use limit::LOG_BYTES;
 pub use reading::{FileCheck, check_file};

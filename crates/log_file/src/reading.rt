@@ -10,7 +10,7 @@ ghost use Rattle.log_file.specs.Fronts.{TakesOn, desk_cause, check_cause};
 ghost use Rattle.log_file.specs.declared.reading.FileCheck.TheVariants.{ReadFault, TooLong};
 ghost use Rattle.log_file.specs.declared.reading.FileCheck.TheVariants.{Rejected, Memory};
 
-use desk_io::{Desk, DeskError};
+use desk_io::{Desk, DeskError, PIECE};
 use log_check::{CheckError, Checker};
 use std::alloc::{AllocError, Global};
 
@@ -56,9 +56,6 @@ impl From<AllocError> for FileCheck {
         FileCheck::Memory
     }
 }
-
-/// How many bytes a file is asked for at once.
-const PIECE: usize = 65536;
 
 /// Feeds the bytes of a piece for which there is room. `TooLong` comes behind them, where the piece
 /// has more.

@@ -6,10 +6,14 @@
 //!
 //! - `line`: the lines.
 //! - `lists`: lists of lines, values and indexes.
+//! - `bounds`: the clauses of a Bound line: what goals ask of a solution better than one that was
+//!   found.
 #![tactic(auto)]
 
+mod bounds;
 mod line;
 mod lists;
 
+pub use bounds::{bounds_of, empty_clause};
 pub use line::Line;
 pub use lists::{Indexes, Lines, Values};

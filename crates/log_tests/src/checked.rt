@@ -13,12 +13,12 @@ ghost use Rattle.ground_form.specs.WellMade.{IsWellMade};
 use crate::cut::{answer_by_bytes, answer_in_two, answers_in_two, count_cut_right};
 use crate::file::answer_to_file;
 use crate::problems::problem;
-use case_files::{Case, Subject};
 use ground_form::Ground;
 use log_check::{CheckError, Verdict, check, trim};
 use log_form::Line;
 use proof_log::{LineError, lines_text, read_line};
 use std::alloc::{AllocError, Global};
+use test_case_files::{Case, Subject};
 
 /// What is asked of the checker.
 #[derive(Drop)]

@@ -1,6 +1,5 @@
-//! Tests of logs: the clauses that they number, how their lines are spelled, and what the checker
-//! says of them. The program runs the cases of the files in `data`, and prints of each file how
-//! many came out as they say.
+//! Tests of logs: numbered clauses, how lines are spelled, what the checker says. The program runs
+//! the cases of the files in `data`, and prints of each file how many came out as they say.
 //!
 //! - `problems`: the problems that logs are about.
 //! - `checked`: what the checker says. `cut`: that where a text is cut changes no answer. `file`: a
@@ -16,11 +15,11 @@ mod packing;
 mod problems;
 mod spelling;
 
-use case_files::run_file;
 use checked::Checked;
 use spelling::Spelling;
 use std::alloc::AllocError;
 use std::process::ExitCode;
+use test_case_files::run_file;
 
 /// Runs all files.
 fn run_files(rt: &HostRuntime) -> Result<(), AllocError> {

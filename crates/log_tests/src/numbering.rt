@@ -1,10 +1,10 @@
 //! Clauses by number. `owned` asks whether a clause that is kept is owned twice, and is the same;
 //! `numbers` for the numbers of three clauses, what is found under the numbers 0 to 4, and the
 //! steps of a chain.
-use case_files::push_word;
 use numbered_clauses::{Chain, ChainSteps, Clauses};
 use signed_clause::{Clause, ClauseHandle, IntSet};
 use std::alloc::{AllocError, Global};
+use test_case_files::push_word;
 
 /// The clause that variable `x` is `v`, with one owner.
 fn clause_of(alloc: Global, x: u32, v: i64) -> Result<ClauseHandle, AllocError> {

@@ -2,7 +2,7 @@
 //! packed and made anew, and what has the number behind the last. Each may have its bytes in common
 //! with the first.
 use log_form::Line;
-use packed_clauses::PackedClauses;
+use numbered_clauses::PackedClauses;
 use proof_log::{line_text, read_line};
 use signed_clause::ClauseHandle;
 use std::alloc::{AllocError, Global};

@@ -2,10 +2,10 @@
 ghost use Rattle.std.specs.Prelude.{IfOk, IfSome};
 ghost use Rattle.ground_form.specs.WellMade.{IsWellMade};
 
-use ground_check::is_search_well_made;
 use ground_form::{Con, Cons, Domains, Goals, Ground, GroundGoal, Terms};
 use signed_clause::IntSet;
 use std::alloc::{AllocError, Global};
+use test_well_made::is_search_well_made;
 
 /// One variable of 1..3 that is to be at least 2, and as small as can be.
 fn at_least_two(alloc: Global) -> Result<Ground, AllocError>

@@ -1,12 +1,12 @@
 //! What cases ask of the format of logs: `line TEXT` whether a text is read as a line that is
-//! written as it is, `record` the text and the count of a record of two lines, with that of one
+//! written as it is, `journal` the text and the count of a journal of two lines, with that of one
 //! line alone; and of clauses by number what `numbering` and `packing` say.
 use crate::numbering::{found, owned_twice};
 use crate::packing::read_back;
-use case_files::{Case, Subject};
 use log_form::{Line, Lines};
-use proof_log::{Record, line_text, lines_text, read_line};
+use proof_log::{Journal, line_text, lines_text, read_line};
 use std::alloc::{AllocError, Global};
+use test_case_files::{Case, Subject};
 
 /// What is asked of the format.
 #[derive(Drop)]
@@ -23,14 +23,14 @@ fn read_again(alloc: Global, bytes: &[u8]) -> Result<String, AllocError> {
     }
 }
 
-/// A record of two lines: its text, how many lines it has, whether it has a problem; and the text
+/// A journal of two lines: its text, how many lines it has, whether it has a problem; and the text
 /// of one line.
-fn record(alloc: Global) -> Result<String, AllocError> {
-    let mut record = Record::new(alloc);
-    record.push(Line::Use(3))?;
-    record.push(Line::Empty(0))?;
-    let text = String::from_utf8_lossy(alloc, &record.text()?)?;
-    let (count, none) = (record.lines().len(), record.ground().is_none());
+fn journal(alloc: Global) -> Result<String, AllocError> {
+    let mut journal = Journal::new(alloc);
+    journal.push(Line::Use(3))?;
+    journal.push(Line::Empty(0))?;
+    let text = String::from_utf8_lossy(alloc, &journal.text()?)?;
+    let (count, none) = (journal.lines().len(), journal.ground().is_none());
     let one = one_line(alloc)?;
     format!(in alloc; "{text:?} {count} {none} {one:?}")
 }
@@ -45,7 +45,7 @@ impl Subject for Spelling {
     fn answer(&mut self, alloc: Global, case: &Case<'_>) -> Result<String, AllocError> {
         match case.ask {
             "line" => read_again(alloc, &case.text),
-            "record" => record(alloc),
+            "journal" => journal(alloc),
             "owned" => owned_twice(alloc),
             "packed" => read_back(alloc, &case.text),
             _ => found(alloc),

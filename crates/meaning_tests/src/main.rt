@@ -1,6 +1,5 @@
-//! Tests of meaning: what models weigh, what configurations are worth, and how they are written. The
-//! program runs the cases of the files in `data`, and prints of each file how
-//! many came out as they say.
+//! Tests of meaning: what models weigh, values, JSON and best configurations. The program runs the
+//! cases of the files in `data`, and prints of each file how many came out as they say.
 #![tactic(auto)]
 
 mod json;

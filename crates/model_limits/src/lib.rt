@@ -1,5 +1,5 @@
-//! The limits of models, each once: a constant for code, and in `specs/Limits` the same number by
-//! the same name for clauses. A proof that uses both ties them to each other.
+//! The limits of models, each a constant and a definition of one name. The constant is for code,
+//! the definition in `specs/Limits` for clauses. A proof that uses both ties them to each other.
 #![tactic(auto)]
 
 /// How many bytes the text of a model may have.

@@ -1,5 +1,4 @@
-//! The reader of models: from a text to the parts of the model that it is, each step with the status
-//! that refuses it.
+//! From a text to the parts of its model, each step with its refusals. A refusal is a status.
 //!
 //! - `reading`: `read_model`, from a text to the tree of its model.
 //! - `model`: its tokens and their tree, and why a text gives none.

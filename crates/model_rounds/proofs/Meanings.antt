@@ -22,15 +22,15 @@ use Rattle.model_search.specs.Problems.{IsProblemOf}
 use Rattle.model_search.specs.Runs.{is_open, values_for, IsSpent, HasRun}
 use Rattle.model_search.proofs.Solutions.{verdict_tells}
 use Rattle.object_alloc.specs.Counts.{configuration_count}
-use Rattle.proof_log.specs.declared.record.Round.{Round}
+use Rattle.proof_log.specs.declared.journal.Round.{Round}
 use Rattle.reconfigure.specs.declared.repair.Repair.{Repair}
 use Rattle.run_finder.specs.Outcomes.{OutcomeOf}
 use Rattle.run_finder.specs.declared.outcome.Outcome.{Outcome}
 use Rattle.run_finder.specs.declared.outcome.Outcome.TheVariants as outcomes
-use Rattle.search_run.proofs.Fronts.{run_accepted, run_more}
-use Rattle.search_run.proofs.Orders.{own_ordered}
-use Rattle.search_run.specs.Decisions.{decisions, MayDecide}
-use Rattle.search_run.specs.Replay.{is_run, may_stand, state_of}
+use Rattle.run_law.proofs.Fronts.{run_accepted, run_more}
+use Rattle.run_law.proofs.Orders.{own_ordered}
+use Rattle.run_law.specs.Decisions.{decisions, MayDecide}
+use Rattle.run_law.specs.Replay.{is_run, may_stand, state_of}
 
 -- ---- what lines show
 

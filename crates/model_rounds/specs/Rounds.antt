@@ -1,4 +1,4 @@
--- Closed rounds of a record. What a reader believes after this file: what the lines of a round
+-- Closed rounds of a journal. What a reader believes after this file: what the lines of a round
 -- show, and how the search ended that left them.
 use Rattle.std.specs.Prelude.{[], List, Some}
 use Rattle.ground_form.specs.declared.ground.Ground.{Ground}
@@ -8,15 +8,15 @@ use Rattle.model_search.specs.Findings.{finding}
 use Rattle.model_search.specs.declared.finding.Finding.{Finding}
 use Rattle.model_search.specs.declared.finding.Finding.TheVariants as findings
 use Rattle.proof_log.specs.Rounds.{Journal}
-use Rattle.proof_log.specs.declared.record.Round.{Round}
+use Rattle.proof_log.specs.declared.journal.Round.{Round}
 use Rattle.run_finder.specs.declared.outcome.Outcome.{Outcome}
 use Rattle.run_finder.specs.declared.outcome.Outcome.TheVariants as outcomes
 
--- a problem, with lines over it, as the record of a run
+-- a problem, with lines over it, as the journal of a run
 abbrev pub journal_with : (ground : Ground) → List Line → Journal
 journal_with g lines = record { ground = Some g; lines = lines; rounds = [] }
 
--- a round as the record of a run
+-- a round as the journal of a run
 abbrev pub journal_of : Round → Journal
 journal_of round = journal_with round.ground round.lines
 

@@ -1,5 +1,5 @@
-//! Rounds of a record as runs of searches over a model: the last one, and laws, in the contracts of
-//! functions that do nothing but look at lines once.
+//! Rounds of a journal as runs of searches over a model: the last one, and laws. The laws are
+//! contracts of functions that do nothing but look at lines once.
 //!
 //! What a round tells stands in `specs/Rounds`.
 #![tactic(auto)]

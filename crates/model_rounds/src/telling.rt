@@ -8,20 +8,20 @@ ghost use Rattle.log_check.specs.Verdicts.{ending, shown_of};
 ghost use Rattle.model_rounds.specs.Rounds.{journal_of, told_by, end_of};
 ghost use Rattle.model_search.specs.Problems.{IsProblemOf};
 ghost use Rattle.model_search.specs.Runs.{HasRun};
-ghost use Rattle.proof_log.specs.declared.record.Round.{Round as ARound};
+ghost use Rattle.proof_log.specs.declared.journal.Round.{Round as ARound};
 ghost use Rattle.run_finder.specs.Outcomes.{OutcomeOf};
-ghost use Rattle.search_run.specs.Replay.{is_run};
+ghost use Rattle.run_law.specs.Replay.{is_run};
 
 use ground_form::Ground;
 use kept_clauses::know_lines;
 use log_form::Line;
 use model_search::{Question, undecided_has_more};
-use proof_log::{Record, Round};
+use proof_log::{Journal, Round};
 use run_finder::Outcome;
-use search_run::front_is_run;
+use run_law::front_is_run;
 
-/// The last round of a record that has one.
-pub fn last_round(journal: &Record) -> &Round
+/// The last round of a journal that has one.
+pub fn last_round(journal: &Journal) -> &Round
     requires { 1 ≤ length journal.now.rounds }
     ensures { (before : List ARound) (round : ARound)
         → journal.now.rounds ≡ before ++ round ∷ [] → result.now ≡ round }

@@ -1,4 +1,4 @@
--- What the record holds when a search over a model has ended.
+-- What the journal holds when a search over a model has ended.
 use Rattle.std.proofs.Common.{◌≡◌, ℕ, ◌+◌, ◌≤◌, Bool, true, List, ℤ, Option, Some, None, subst, refl}
 use Rattle.bound_search.specs.declared.solving.Ended.{Ended}
 use Rattle.bound_search.specs.declared.solving.Ended.TheVariants as ended
@@ -11,8 +11,8 @@ use Rattle.log_form.specs.Acceptance.{has_empty, made}
 use Rattle.object_alloc.specs.Counts.{configuration_count}
 use Rattle.proof_log.specs.Rounds.{Journal}
 use Rattle.reconfigure.specs.declared.repair.Repair.{Repair}
-use Rattle.search_run.proofs.Fronts.{run_accepted}
-use Rattle.search_run.specs.Decisions.{decisions, MayDecide}
+use Rattle.run_law.proofs.Fronts.{run_accepted}
+use Rattle.run_law.specs.Decisions.{decisions, MayDecide}
 use Rattle.model_search.specs.Findings.{finding, finding_by, Tells}
 use Rattle.model_search.specs.Problems.{IsProblemOf}
 use Rattle.model_search.specs.Runs.{is_open, values_for, IsSpent, HasRun}
@@ -30,7 +30,7 @@ spent_of o g budget j ended.Spent closed spent more is =
     let h = spent refl in
     record { all = h.0; due = h.1; more = subst (λ n. n + 2 ≤ configuration_count o) h.0 (more h.1) }
 
--- the record's lines are those of the search, and its problem was kept behind them
+-- the journal's lines are those of the search, and its problem was kept behind them
 pub has_run : (o : Outline) (ks : List ResolvedConstraint) (gs : List ResolvedGoal) (r : Option Repair) (g : Ground) (order : Order) (budget : ℕ) (j : Journal) (told : Finding) (end : Ended) → j.ground ≡ Some g → IsProblemOf o ks gs r g → HasSearched g (values_for g.search r) order budget j.lines end → told ≡ finding g (ending g j.lines) → Tells o ks gs r told → (MayDecide g j.lines → decisions j.lines + 2 ≤ configuration_count o) → HasRun o ks gs r order budget j told
 has_run o ks gs r g order budget j told end kept problem searched shown tells more =
     record {

@@ -22,8 +22,8 @@ use Rattle.log_check.specs.Verdicts.{Ending, shown_of}
 use Rattle.log_form.specs.Acceptance.{shown_by, FailsFirst}
 use Rattle.log_form.specs.declared.line.Line.{Line}
 use Rattle.object_alloc.specs.Configurations.{IsConfiguration}
-use Rattle.search_run.proofs.Fronts.{run_accepted, run_front}
-use Rattle.search_run.specs.Replay.{is_run}
+use Rattle.run_law.proofs.Fronts.{run_accepted, run_front}
+use Rattle.run_law.specs.Replay.{is_run}
 use Rattle.signed_clause.specs.Clauses.{Boxes, box_of}
 use Rattle.signed_clause.specs.Ranges.{has}
 use Rattle.model_search.specs.Findings.{finding, finding_by, Tells}

@@ -1,6 +1,6 @@
--- What a record holds of a search over a model. What a reader believes after this file: its problem
--- is the model's, or that of a repair of it; its lines are a run of a search by the order, which the
--- checker accepts, and what they show is what is told.
+-- What a journal holds of a search over a model. What a reader believes after this file: its
+-- problem is the model's, or that of a repair of it; its lines are a run of a search by the order,
+-- which the checker accepts, and what they show is what is told.
 use Rattle.std.specs.Prelude.{◌≡◌, ◌+◌, ◌≤◌, ℕ, Bool, true, false, List, ℤ, Option, None, Some, replicate}
 use Rattle.branch_choice.specs.declared.split.Order.{Order}
 use Rattle.class_table.specs.Outline.{Outline}
@@ -15,9 +15,9 @@ use Rattle.model_search.specs.declared.finding.Finding.TheVariants as findings
 use Rattle.object_alloc.specs.Counts.{configuration_count}
 use Rattle.proof_log.specs.Rounds.{Journal}
 use Rattle.reconfigure.specs.declared.repair.Repair.{Repair}
-use Rattle.search_run.specs.Decisions.{decisions, MayDecide}
-use Rattle.search_run.specs.Ordered.{IsOrdered}
-use Rattle.search_run.specs.Replay.{is_run}
+use Rattle.run_law.specs.Decisions.{decisions, MayDecide}
+use Rattle.run_law.specs.Ordered.{IsOrdered}
+use Rattle.run_law.specs.Replay.{is_run}
 
 -- neither is shown
 abbrev pub is_open : Finding → Bool

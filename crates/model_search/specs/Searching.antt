@@ -8,9 +8,9 @@ use Rattle.branch_choice.specs.declared.split.Order.{Order}
 use Rattle.ground_form.specs.declared.ground.Ground.{Ground}
 use Rattle.log_form.specs.Acceptance.{has_empty, made}
 use Rattle.log_form.specs.declared.line.Line.{Line}
-use Rattle.search_run.specs.Decisions.{decisions, MayDecide}
-use Rattle.search_run.specs.Ordered.{IsOrdered}
-use Rattle.search_run.specs.Replay.{is_run}
+use Rattle.run_law.specs.Decisions.{decisions, MayDecide}
+use Rattle.run_law.specs.Ordered.{IsOrdered}
+use Rattle.run_law.specs.Replay.{is_run}
 
 pub record HasSearched (g : Ground) (hints : Hints) (order : Order) (budget : ℕ)
     (lines : List Line) (end : Ended) : Type 0 where

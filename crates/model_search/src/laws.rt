@@ -4,13 +4,13 @@ ghost use Rattle.std.specs.Prelude.{◌≡◌, ◌+◌, ◌≤◌, true, option_
 ghost use Rattle.ground_form.specs.WellMade.{IsWellMade};
 ghost use Rattle.model_search.specs.Problems.{IsProblemOf};
 ghost use Rattle.object_alloc.specs.Counts.{configuration_count};
-ghost use Rattle.search_run.specs.Decisions.{decisions, MayDecide};
-ghost use Rattle.search_run.specs.Replay.{is_run};
+ghost use Rattle.run_law.specs.Decisions.{decisions, MayDecide};
+ghost use Rattle.run_law.specs.Replay.{is_run};
 
 use crate::question::Question;
 use ground_form::Ground;
 use log_form::Line;
-use search_run::run_decides_less;
+use run_law::run_decides_less;
 
 /// Where a run over the ground problem of a model, or of a repair of it, may decide once more, the
 /// model has at least two configurations more than the run has decisions. So a model with few

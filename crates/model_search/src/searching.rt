@@ -1,4 +1,4 @@
-//! From a question to a record of a search for its best configuration, and what it tells.
+//! From a question to a journal of a search for its best configuration, and what it tells.
 ghost use Rattle.std.specs.Prelude.{◌≡◌, ◌≤◌, [], true, false, length, None, replicate, option_copied, IfOk, IfSome};
 ghost use Rattle.branch_choice.specs.declared.split.Order.{Order};
 ghost use Rattle.conf_limits.specs.Measures.{model_narrow};
@@ -11,7 +11,7 @@ ghost use Rattle.model_search.specs.Problems.{IsProblemOf};
 ghost use Rattle.model_search.specs.Runs.{HasRun, values_for};
 ghost use Rattle.model_search.specs.Searching.{HasSearched};
 ghost use Rattle.model_search.specs.Wanted.{IsUnderstood};
-ghost use Rattle.search_run.specs.Replay.{is_run};
+ghost use Rattle.run_law.specs.Replay.{is_run};
 
 use crate::finding::{Finding, finding_of};
 use crate::laws::undecided_has_more;
@@ -22,7 +22,7 @@ use branch_choice::Chooser;
 use ground_form::Ground;
 use log_check::{CheckError, Verdict, check};
 use log_form::Line;
-use proof_log::Record;
+use proof_log::Journal;
 use reconfigure::Repair;
 use rule_law::Kit;
 use std::alloc::{AllocError, Global};
@@ -81,7 +81,7 @@ fn searched(
     repair: Option<&Repair>,
     kit: &mut Kit,
     chooser: &Chooser,
-    journal: &mut Record,
+    journal: &mut Journal,
 ) -> Result<Ended, AllocError>
     requires well_made { IsWellMade g.now }
     requires hints { IfSome (option_copied repair) (λ r. g.now.search ≤ length r.former) }
@@ -102,18 +102,18 @@ fn searched(
 }
 
 /// Searches for a best configuration of a model, or of a repair of it, which then gives the values
-/// to go by. The present round of the record, which has no line yet, then holds the ground problem
+/// to go by. The present round of the journal, which has no line yet, then holds the ground problem
 /// and the lines of the search; the checker has read them, and what is told is by its verdict.
 ///
 /// # Errors
 ///
-/// Want of memory; of the record's present round nothing is said then.
+/// Want of memory; of the journal's present round nothing is said then.
 pub fn find_best(
     limits: Limits,
     question: Question<'_>,
     kit: &mut Kit,
     chooser: &Chooser,
-    journal: &mut Record,
+    journal: &mut Journal,
 ) -> Result<Finding, AllocError>
     requires typed { IsTypedModel question.objects.now question.model.now.constraints
         question.model.now.goals }

@@ -1,1 +1,4 @@
 pub mod Numbered
+pub mod Numbers
+pub mod Coded
+pub mod Packed

@@ -1,4 +1,4 @@
-//! The objects and the cells of a model, by containment.
+//! Objects and cells of a model by containment; extents, paths, configurations.
 //!
 //! `allocate` is the entry: it lists them from the table of a model's classes, or says which limit
 //! the model breaks. `specs` says which objects and cells a model has: `Walk` for objects, `Cells`

@@ -1,4 +1,4 @@
-//! Operators over forms: the form of an operator from the forms of its two sides.
+//! Operators over forms: the form of one from the forms of its two sides.
 //!
 //! - `arithmetic`: plus, minus and times.
 //! - `compare`: comparisons of numbers, as tests that make nothing.

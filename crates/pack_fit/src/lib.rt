@@ -1,4 +1,4 @@
-//! Whether all items of a packing fit.
+//! Whether all items of a packing fit, with slack or without.
 //!
 //! - `loads`: the least sizes at a bin and the rooms that are there, over the boxes of items.
 //! - `survey`: what a look at all items needs to know of each bin, counted in one pass.

@@ -23,9 +23,9 @@ use Rattle.box_view.proofs.CutLaws.{low_within, top_within}
 use Rattle.box_rules.proofs.Agreeing.{agree_refuted}
 use Rattle.rule_law.specs.Repeats.{is_one}
 use Rattle.pack_fit.specs.Packing.{fits, all_fit}
-use Rattle.all_different.proofs.Fixpoint.{all_at}
-use Rattle.all_different.proofs.FixpointQuiet.{none_empty, fixed_not_empty}
-use Rattle.all_different.proofs.QuietFrom.{quiet_from}
+use Rattle.all_different_pruner.proofs.Fixpoint.{all_at}
+use Rattle.all_different_pruner.proofs.FixpointQuiet.{none_empty, fixed_not_empty}
+use Rattle.all_different_pruner.proofs.QuietFrom.{quiet_from}
 use Rattle.pack_fit.proofs.Spots.{spot}
 use Rattle.pack_fit.proofs.OneBox.{tight_at_most}
 use Rattle.pack_fit.specs.Packing.{AllFit, opens}

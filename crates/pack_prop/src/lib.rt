@@ -1,4 +1,4 @@
-//! Prunes by places that differ and by items to be packed.
+//! Prunes by places that differ (`AllDiff`) and by items to be packed (`Pack`).
 //!
 //! - `propagator`: `PackProp`, and what a constraint answers. Places that differ are pruned by
 //!   `all_different`.

@@ -9,7 +9,7 @@ ghost use Rattle.pack_prop.specs.Handled.{is_handled};
 
 use crate::best_rooms::BestRooms;
 use crate::packing::prune_packing;
-use all_different::AllDifferent;
+use all_different_pruner::AllDifferent;
 use ground_form::{Con, Ground, Kind};
 use pack_fit::Survey;
 use rule_law::{Propagator, Repeats, Subject, probe};

@@ -1,5 +1,5 @@
-//! Rows of loads: what is in a bin adds up to at most its room. Rows that together are a
-//! packing are stated as one constraint.
+//! Rows of loads that are together a packing, stated as one constraint. A row says that what is in
+//! a bin adds up to at most its room.
 //!
 //! - `bounds`: whether the numbers of items to be packed are bounded.
 //! - `packing`: rows stated as one packing.

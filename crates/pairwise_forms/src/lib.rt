@@ -1,4 +1,4 @@
-//! The forms of quantifiers that compare their members with one another: `alldifferent`, `pack`.
+//! The forms of quantifiers that compare their members: `alldifferent`, `pack`.
 //!
 //! What is compared becomes a variable first, once for each member, so that a pair of members costs
 //! one flag, however many objects they may be.
@@ -25,4 +25,4 @@ mod same_keys;
 mod whole;
 
 pub use pairwise::pairwise_form;
-pub use whole::{state_different, state_pack};
+pub use whole::{MOST_PACKED, state_different, state_pack};

@@ -76,6 +76,10 @@ fn require_different(maker: &mut Maker, members: &[Keyed]) -> Result<(), AllocEr
 /// third power of their number.
 const MOST_DIFFERENT: usize = 64;
 
+/// The most members of one packing. What it costs to look at packed items grows with their number
+/// and that of bins.
+pub const MOST_PACKED: usize = 1024;
+
 /// Whether that the members' values differ is stated as one constraint.
 fn is_one_constraint(members: &[Keyed]) -> bool
     ensures { result ≡ true → All (λ e. e.kept ≡ truth.Fixed true) members.now }

@@ -1,8 +1,8 @@
--- What a record holds.
+-- What a journal holds.
 use Rattle.std.specs.Prelude.{ℕ, List, [], ◌∷◌, ◌++◌, Option, Some, None}
 use Rattle.ground_form.specs.declared.ground.Ground.{Ground}
 use Rattle.log_form.specs.declared.line.Line.{Line}
-use Rattle.proof_log.specs.declared.record.Round.{Round}
+use Rattle.proof_log.specs.declared.journal.Round.{Round}
 
 -- the present round's ground problem, where one was kept, and its lines; and the rounds before it
 pub record Journal : Type 0 where

@@ -14,7 +14,7 @@ use Rattle.ground_form.specs.declared.con.Con.TheVariants.{ClauseCon}
 use Rattle.ground_form.specs.Meaning.{clause_vars}
 use Rattle.box_view.proofs.EndLaws.{are_sets}
 use Rattle.rule_law.specs.Answers.{AreBoxesWithin}
-use Rattle.clause_rule.proofs.ClauseQuiet.{clause_quiet, named_here}
+use Rattle.rule_law.proofs.ClauseQuiet.{clause_quiet, named_here}
 use Rattle.clause_watches.specs.declared.rest.Rest.{Rest}
 use Rattle.clause_watches.specs.declared.rest.Rest.TheVariants.{Listed}
 use Rattle.clause_watches.specs.Watching.{acts, clause_of, IsKnown}

@@ -13,9 +13,9 @@ ghost use Rattle.clause_watches.specs.declared.rest.Rest.TheVariants as rest;
 ghost use Rattle.clause_watches.specs.Watching.{acts, rest_of};
 ghost use Rattle.prop_queue.specs.Work.{is_clause, literals_of, own_clause, clauses_from, IsActingAt};
 
-use clause_rule::own_reason;
 use clause_watches::Watches;
 use ground_form::{Con, Ground};
+use rule_law::own_reason;
 use signed_clause::{Clause, IntSet};
 use std::alloc::{AllocError, Global};
 

@@ -1,4 +1,4 @@
-//! The constraints that a search still has to look at.
+//! The constraints that a search still has to look at, and the next that prunes.
 //!
 //! - `queue`: `Queue`, with what contracts see of it.
 //! - `clauses`: the clauses, which are watched. `others`: the constraints that are listed.

@@ -4,7 +4,6 @@ ghost use Rattle.std.specs.List.{All};
 ghost use Rattle.signed_clause.specs.Clauses.{false_in};
 ghost use Rattle.learn_clauses.specs.Walk.{clause_at, domains_of, CameFrom, IsWithinDomains};
 
-use conflict_check::{has_boxes, may_analyse};
 use fd_store::{Applied, Store};
 use ground_form::{Cons, Domains, Goals, Ground};
 use learn_clauses::{Clauses, analyse};
@@ -12,6 +11,7 @@ use signed_clause::{Clause, ClauseHandle, IntSet, RunningClause};
 use std::alloc::{AllocError, Global};
 use std::rt::Runtime;
 use test_clock::Clock;
+use test_search_checks::{has_boxes, may_analyse};
 
 /// How many prunings a conflict goes back over.
 pub(crate) const TOUCHED: u32 = 200;

@@ -1,8 +1,12 @@
-//! What is asked again and again in a search and in the check of its log, and what it costs: what
-//! constraints prune, whether clauses are justified, and the other parts of a search.
+//! What pruning, rules and the other parts of a search answer and cost.
 //!
-//! With no word the program prints what small cases answer; with the word `times` how long calls
-//! take. The words `pruning`, `rules` and `parts` pick what is printed.
+//! - `pruning`: what a call of `prune` answers, kind by kind.
+//! - `rules`: whether a constraint of many parts justifies a clause.
+//! - `parts`: boxes in levels, the walk back from a conflict, watches, the queue of constraints.
+//!
+//! With no word the program prints what small cases answer; with the word `times` it prints how
+//! many nanoseconds calls take, of the parts over large cases. The words above pick what is
+//! printed.
 #![tactic(auto)]
 
 mod conflict_costs;

@@ -6,7 +6,6 @@ use crate::prune_cases::{Case, ROWS, nth_case};
 use crate::prune_timing::{does_say, nanoseconds};
 use bool_prop::BoolProp;
 use element_prop::ElementProp;
-use ground_check::is_search_well_made;
 use ground_form::{Cons, Domains, Goals, Ground};
 use linear_prop::LinearProp;
 use pack_prop::PackProp;
@@ -14,6 +13,7 @@ use rule_law::{Kit, Propagator, are_boxes_within};
 use signed_clause::IntSet;
 use std::alloc::{AllocError, Global};
 use std::io;
+use test_well_made::is_search_well_made;
 
 /// Of each variable what it may be in either row of boxes.
 fn domains_of(alloc: Global, idle: &[IntSet], acting: &[IntSet]) -> Result<Domains, AllocError> {

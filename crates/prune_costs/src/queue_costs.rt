@@ -3,8 +3,6 @@ ghost use Rattle.ground_form.specs.WellMade.{IsWellMade};
 ghost use Rattle.rule_law.specs.Answers.{AreBoxesWithin};
 ghost use Rattle.prop_queue.specs.Work.{IsOver, Fits};
 
-use given_problems::Prober;
-use ground_check::is_search_well_made;
 use ground_form::{Con, Cons, Domains, Goals, Ground, Terms};
 use prop_queue::Queue;
 use rule_law::{Kit, Propagator, are_boxes_within};
@@ -12,6 +10,8 @@ use signed_clause::IntSet;
 use std::alloc::{AllocError, Global};
 use std::rt::Runtime;
 use test_clock::Clock;
+use test_problems::Prober;
+use test_well_made::is_search_well_made;
 
 /// A problem of so many constraints that have nothing to say.
 fn problem(alloc: Global, count: u32) -> Result<Ground, AllocError> {

@@ -1,14 +1,14 @@
-//! What it costs to tell whether a constraint of many parts justifies a clause, as the checker of
-//! logs asks at each `axiom` line.
+//! What it costs to tell whether a constraint of many parts justifies a clause. The checker of logs
+//! asks that at each `axiom` line.
 //!
 //! For each row there are two clauses: one that leaves the first half of the parts different values
 //! and is not justified, and one that leaves them all the same value and is.
 use crate::rule_cases::{Case, ROWS, fixing, nth_case};
 use crate::rule_timing::{count_justified, nanoseconds};
-use ground_check::is_constraint_well_made;
 use signed_clause::Clause;
 use std::alloc::AllocError;
 use std::io;
+use test_well_made::is_constraint_well_made;
 
 /// What is printed of a clause of the case.
 fn told(rt: &HostRuntime, case: &Case, clause: &Clause, timed: bool) -> Result<String, AllocError> {

@@ -1,10 +1,10 @@
 //! What prunings and undos of boxes of one range cost.
-use conflict_check::has_boxes;
 use fd_store::{Applied, Moved, Store};
 use ground_form::{Cons, Domains, Goals, Ground};
 use signed_clause::{Clause, IntSet};
 use std::alloc::{AllocError, Global};
 use std::mem;
+use test_search_checks::has_boxes;
 
 /// How many variables there are.
 const VARIABLES: u32 = 100;

@@ -1,9 +1,9 @@
 //! How much watches look at while boxes change.
 use clause_watches::Counts;
-use given_problems::Random;
 use signed_clause::{Clause, ClauseHandle, IntSet};
 use std::alloc::{AllocError, Global};
-use watch_check::Watched;
+use test_problems::Random;
+use test_search_checks::Watched;
 
 /// How many variables are changed; as many stand in clauses that are to be left alone.
 const VARIABLES: u32 = 400;

@@ -1,5 +1,6 @@
-//! The ground problem of a repair: nothing refers to what failed, as few former values as can be
-//! are changed, and among such configurations the model's objectives decide.
+//! The ground problem of a repair, made of a model's; how many values are changed. Nothing refers
+//! to what failed, as few former values as can be are changed, and among such configurations the
+//! model's objectives decide.
 //!
 //! `with_changes` is the entry. It takes the ground problem of a model, whatever that asks, and
 //! promises that the result stands for the same with these two things more. It knows nothing of a

@@ -21,8 +21,8 @@ use Rattle.expr_forms.specs.declared.form.Choice.TheVariants as choice
 use Rattle.expr_forms.specs.declared.form.Form.{Form}
 use Rattle.expr_forms.specs.FormBounds.{MayBe, IsMap, IsChoiceOf}
 use Rattle.expr_forms.specs.FormValues.{number_for}
-use Rattle.attribute_forms.specs.Attributes.{IsAttributeForm}
-use Rattle.attribute_forms.proofs.CellLaws.{shape_there}
+use Rattle.reference_forms.specs.Attributes.{IsAttributeForm}
+use Rattle.reference_forms.proofs.CellLaws.{shape_there}
 use Rattle.reference_forms.specs.Candidates.{held, HaveShape}
 use Rattle.reference_forms.specs.Dots.{IsMappedForm, IsDotForm}
 use Rattle.reference_forms.specs.Picks.{IsFirst}

@@ -6,3 +6,7 @@ pub mod MappedForms
 pub mod PartLaws
 pub mod PickLaws
 pub mod SlotLaws
+pub mod CellLaws
+pub mod BoxFacts
+pub mod MemberLists
+pub mod Shapes

@@ -11,7 +11,7 @@ use Rattle.ground_form.specs.WellMade.{lacks_value, IsWellMade}
 use Rattle.form_build.specs.Worlds.{AreSome}
 use Rattle.expr_forms.specs.FormBounds.{IsMap}
 use Rattle.expr_forms.specs.FormValues.{number_for}
-use Rattle.attribute_forms.proofs.BoxFacts.{low_there}
+use Rattle.reference_forms.proofs.BoxFacts.{low_there}
 use Rattle.reference_forms.specs.Picks.{IsFirst}
 
 -- it holds of the one that goes with a value

@@ -32,8 +32,8 @@ use Rattle.expr_forms.specs.declared.form.Form.TheVariants as form
 use Rattle.expr_forms.specs.FormBounds.{IsCandidate, MayBe, IsChoiceOf, IsFrom, candidate_count}
 use Rattle.expr_forms.specs.FormValues.{choice_at}
 use Rattle.expr_forms.proofs.Trees.{no_number}
-use Rattle.attribute_forms.specs.Attributes.{IsCellChoice}
-use Rattle.attribute_forms.proofs.BoxFacts.{low_there}
+use Rattle.reference_forms.specs.Attributes.{IsCellChoice}
+use Rattle.reference_forms.proofs.BoxFacts.{low_there}
 use Rattle.reference_forms.specs.Picks.{IsChosenCell}
 use Rattle.reference_forms.specs.Dots.{IsMappedForm}
 

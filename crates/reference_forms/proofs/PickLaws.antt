@@ -29,8 +29,8 @@ use Rattle.expr_forms.specs.FormBounds.{IsMap}
 use Rattle.expr_forms.specs.FormValues.{number_for}
 use Rattle.expr_forms.specs.Standing.{HasCells}
 use Rattle.expr_forms.proofs.Configured.{cells_still}
-use Rattle.attribute_forms.specs.Attributes.{IsCellOf}
-use Rattle.attribute_forms.proofs.CellLaws.{cell_is, cell_value}
+use Rattle.reference_forms.specs.Attributes.{IsCellOf}
+use Rattle.reference_forms.proofs.CellLaws.{cell_is, cell_value}
 use Rattle.reference_forms.specs.Candidates.{HaveShape}
 use Rattle.reference_forms.proofs.MapLaws.{first_there}
 use Rattle.reference_forms.specs.Picks.{cell_items, AreAlike, IsFirst, IsCommon, HasDomain, IsPicked, IsChosenCell}

@@ -29,7 +29,7 @@ use Rattle.expr_forms.specs.FormValues.{number_for, cell_for, owned_at}
 use Rattle.expr_forms.specs.Standing.{HasCells}
 use Rattle.expr_forms.proofs.Configured.{front_value}
 use Rattle.expr_forms.proofs.Trees.{no_number}
-use Rattle.attribute_forms.proofs.CellLaws.{get_low, cell_searched, cell_there}
+use Rattle.reference_forms.proofs.CellLaws.{get_low, cell_searched, cell_there}
 use Rattle.reference_forms.specs.Candidates.{HaveShape}
 use Rattle.reference_forms.specs.Dots.{IsMappedForm}
 use Rattle.reference_forms.proofs.MapLaws.{number_all}

@@ -2,3 +2,4 @@ pub mod Candidates
 pub mod Dots
 pub mod Lists
 pub mod Picks
+pub mod Attributes

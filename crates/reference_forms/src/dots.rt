@@ -9,10 +9,11 @@ ghost use Rattle.expr_forms.specs.Standing.{HasCells};
 ghost use Rattle.reference_forms.specs.Candidates.{HaveShape};
 ghost use Rattle.reference_forms.specs.Dots.{part_items, IsMappedChoice, IsMappedForm, IsDotForm};
 
+use crate::attributes::{attribute_form, first};
 use crate::candidates::candidates_of;
 use crate::lists::{chosen_parts, slots_of};
 use crate::picks::{chosen_cell, common_number};
-use attribute_forms::{attribute_form, first, variable_choice, variable_truth};
+use crate::variables::{variable_choice, variable_truth};
 use class_table::Resolved;
 use expr_forms::{Choice, Form, Listing};
 use form_build::{Maker, variable};

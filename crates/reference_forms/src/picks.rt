@@ -16,7 +16,8 @@ ghost use Rattle.expr_forms.specs.Standing.{HasCells};
 ghost use Rattle.reference_forms.specs.Candidates.{HaveShape};
 ghost use Rattle.reference_forms.specs.Picks.{cell_items, AreAlike, IsFirst, IsCommon, HasDomain, IsPicked, IsChosenCell};
 
-use attribute_forms::{ends_at, first};
+use crate::attributes::first;
+use crate::variables::ends_at;
 use class_table::Resolved;
 use form_build::Maker;
 use object_alloc::Objects;

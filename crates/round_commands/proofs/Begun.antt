@@ -5,7 +5,7 @@ use Rattle.class_table.specs.Outline.{Outline}
 use Rattle.conf_events.specs.declared.event.Event.{Event}
 use Rattle.conf_types.specs.Programs.{ResolvedConstraint, ResolvedGoal}
 use Rattle.proof_log.specs.Rounds.{Journal}
-use Rattle.proof_log.specs.declared.record.Round.{Round}
+use Rattle.proof_log.specs.declared.journal.Round.{Round}
 use Rattle.round_commands.specs.Answer.{IsModelAnswer, IsModelBegun}
 use Rattle.round_commands.specs.Asking.{Asked, Best, Generated, Checked, Satisfied, Held, Blamed}
 use Rattle.run_status.specs.declared.status.Status.{Status}

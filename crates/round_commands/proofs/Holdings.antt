@@ -28,7 +28,7 @@ use Rattle.object_alloc.specs.Cells.{cells}
 use Rattle.object_alloc.specs.Hints.{AreCellHints, AreHints}
 use Rattle.object_alloc.specs.declared.object.Cell.{Cell}
 use Rattle.proof_log.specs.Rounds.{Journal}
-use Rattle.proof_log.specs.declared.record.Round.{Round}
+use Rattle.proof_log.specs.declared.journal.Round.{Round}
 use Rattle.reconfigure.specs.Failing.{unknown_word}
 use Rattle.run_status.specs.declared.status.FormerKind.TheVariants as former
 use Rattle.run_status.specs.declared.status.Status.TheVariants as status
@@ -179,7 +179,7 @@ module _ (o : Outline) (ks : List ResolvedConstraint) (gs : List ResolvedGoal) (
   part_answer (Satisfied bytes) s text h a = absurd h
   part_answer (Blamed budget order) s text h a = absurd h
 
--- ---- the record
+-- ---- the journal
 
 rounds_of : (s : Subject) (p : Situation) (es : List Event) (ts : List Finding) (rounds : List Round) (text : List ℕ) → AreAnswered s p es ts rounds text → All (IsRoundOf s.budget) rounds × (map told_by rounds ≡ ts)
 rounds_of s p [] [] [] text h = (All-nil (IsRoundOf s.budget), refl)

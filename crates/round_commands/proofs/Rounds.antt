@@ -1,4 +1,4 @@
--- What holds of the record's rounds, whatever is known of files.
+-- What holds of the journal's rounds, whatever is known of files.
 use Rattle.std.proofs.Common.{◌≡◌, ◌∙◌, true, List, [], Option, None, Some, slice_index_or, refl, sym, subst, ap, ℕ}
 use Rattle.branch_choice.specs.declared.split.Order.TheVariants as orders
 use Rattle.class_table.specs.Outline.{Outline}
@@ -19,7 +19,7 @@ use Rattle.model_rounds.specs.Runs.{HasRun, is_open}
 use Rattle.model_rounds.specs.Finding.{Finding}
 use Rattle.model_rounds.specs.Finding.TheVariants as findings
 use Rattle.proof_log.specs.Rounds.{Journal}
-use Rattle.proof_log.specs.declared.record.Round.{Round}
+use Rattle.proof_log.specs.declared.journal.Round.{Round}
 use Rattle.reconfigure.specs.declared.repair.Repair.{Repair}
 use Rattle.round_commands.specs.Answer.{searched_status}
 use Rattle.round_commands.specs.Recorded.{HasBlamed, IsRoundOf}
@@ -27,8 +27,8 @@ use Rattle.run_finder.specs.declared.outcome.Outcome.{Outcome}
 use Rattle.run_finder.specs.declared.outcome.Outcome.TheVariants as outcomes
 use Rattle.run_status.specs.declared.status.Status.{Status}
 use Rattle.run_status.specs.declared.status.Status.TheVariants as status
-use Rattle.search_run.specs.Decisions.{MayDecide}
-use Rattle.search_run.specs.Replay.{is_run}
+use Rattle.run_law.specs.Decisions.{MayDecide}
+use Rattle.run_law.specs.Replay.{is_run}
 
 some_ground : (g h : Ground) → Some g ≡ Some h → g ≡ h
 some_ground g h e = cc

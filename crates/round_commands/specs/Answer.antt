@@ -1,12 +1,12 @@
--- What answers that which is asked of a model. What a reader believes after this file: what the text
--- that is printed and the status say of the model, and what the record holds that shows it.
+-- What answers that which is asked of a model. What a reader believes after this file: what the
+-- text that is printed and the status say of the model, and what the journal holds that shows it.
 use Rattle.std.specs.Prelude.{◌≡◌, ◌≤◌, [], List, length, Option, None, Some, IsSome, map, true, slice_index_or, ℕ, ℤ}
-use Rattle.answer_text.specs.Texts.{check_text, gen_text, generated_budget, satisfied_text, solve_text}
+use Rattle.answer_text.specs.Texts.{check_text, gen_text, satisfied_text, solve_text}
 use Rattle.branch_choice.specs.declared.split.Order.{Order}
 use Rattle.branch_choice.specs.declared.split.Order.TheVariants as orders
 use Rattle.class_table.specs.Outline.{Outline}
 use Rattle.conf_eval.specs.Satisfying.{Satisfies}
-use Rattle.conf_events.specs.Limits.{events_bytes}
+use Rattle.command_limits.specs.Limits.{events_bytes, generated_budget}
 use Rattle.conf_events.specs.Texts.{bad_line, events_of}
 use Rattle.conf_events.specs.declared.event.Event.{Event}
 use Rattle.conf_syntax.specs.declared.tree.Program.{Program}
@@ -54,7 +54,7 @@ checked_status (findings.Open last) = status.Done
 abbrev pub order_at : List Order → ℕ → Order
 order_at os k = slice_index_or os k orders.Own
 
--- a search over the model, or over a repair of it, tells something of it, and the record shows it
+-- a search over the model, or over a repair of it, tells something of it, and the journal shows it
 pub record IsSearched (o : Outline) (ks : List ResolvedConstraint) (gs : List ResolvedGoal)
     (r : Option Repair) (order : Order) (budget : ℕ) (journal : Journal) (s : Status)
     (text : Finding → List ℕ) (printed : List ℕ) : Type 0 where
@@ -63,8 +63,8 @@ pub record IsSearched (o : Outline) (ks : List ResolvedConstraint) (gs : List Re
   pub status_is : s ≡ searched_status budget told
   pub text_is : printed ≡ text told
 
--- the record's problem is that of the model or of the repair, the bytes are lines that are accepted
--- against it, and what they show is told of the model
+-- the journal's problem is that of the model or of the repair, the bytes are lines that are
+-- accepted against it, and what they show is told of the model
 pub record IsChecked (o : Outline) (ks : List ResolvedConstraint) (gs : List ResolvedGoal)
     (r : Option Repair) (bytes : List ℕ) (journal : Journal) (s : Status)
     (printed : List ℕ) : Type 0 where
@@ -124,7 +124,7 @@ pub record IsDay (o : Outline) (before bytes : List ℕ)
   pub holds : P (situation repair.former []) (events_of o bytes)
 
 -- the text that was printed, with the status, answers what is asked of a model; the orders are
--- those of the choosers, and the journal is what the record holds
+-- those of the choosers, and the journal is what the journal holds
 abbrev pub IsModelAnswer : Outline → List ResolvedConstraint → List ResolvedGoal → List Order
     → Journal → Asked → Status → List ℕ → Type 0
 IsModelAnswer o ks gs os journal (Best former budget order) s text =
@@ -158,7 +158,7 @@ IsModelBegun o ks gs os journal (Satisfied bytes) s text =
 IsModelBegun o ks gs os journal (Blamed budget order) s text =
     IsModelAnswer o ks gs os journal (Blamed budget order) s text
 
--- memory failed among the searches for what to blame: those of the record are over parts of the
+-- memory failed among the searches for what to blame: those of the journal are over parts of the
 -- model, the first over all of it
 abbrev pub IsModelSearched : Outline → List ResolvedConstraint → Journal → Asked → Type 0
 IsModelSearched o ks journal (Blamed budget order) = IsSearchedSoFar o ks budget journal.rounds

@@ -51,8 +51,8 @@ pub data Asked : Type 0 where
   -- the best repair behind each event of a text, from a former text on, within a budget of
   -- decisions each and by the order of the chooser of a number
   Held : List ℕ → List ℕ → ℕ → ℕ → Asked
-  -- what to blame where it has no configuration, within a budget of decisions for each search and by
-  -- the order of the chooser of a number
+  -- what to blame where it has no configuration, within a budget of decisions for each search and
+  -- by the order of the chooser of a number
   Blamed : ℕ → ℕ → Asked
 
 -- where files are told, P holds of what a request asks of its model that has a log checked, and
@@ -100,7 +100,7 @@ is_session (Gen n) = false
 is_session (Session model former events budget order) = true
 is_session (Core model budget order) = false
 
--- the searches of the request are rounds of the record
+-- the searches of the request are rounds of the journal
 abbrev pub closes_rounds : Request → Bool
 closes_rounds (Solve model budget log order) = false
 closes_rounds (Reconfigure model former failed budget log order) = false

@@ -19,11 +19,11 @@ pub record Outside : Type 0 where
 abbrev pub outside : Option Files → Option (List ℕ) → Outside
 outside files printed = record { files = files; printed = printed }
 
--- the text of the lines that are needed of the record's
+-- the text of the lines that are needed of the journal's
 abbrev pub log_text : Ground → Journal → List ℕ
 log_text g journal = lines_text (trimmed g journal.lines)
 
--- the file of this name, where there is one, holds the record's log, and the others are as before
+-- the file of this name, where there is one, holds the journal's log, and the others are as before
 abbrev pub IsLoggedIn : Option (List ℕ) → Journal → Option Files → Option Files → Type 0
 IsLoggedIn None journal before now = now ≡ before
 IsLoggedIn (Some name) journal before now =

@@ -34,7 +34,7 @@ OfRequest told words P =
 
 -- ---- steps of a run
 
--- what a run has to do with: the request, the choosers' orders and the record; the outside before
+-- what a run has to do with: the request, the choosers' orders and the journal; the outside before
 -- and now, and the counts of failed reads and writes
 pub record Trace : Type 0 where
   pub request : Request
@@ -77,8 +77,8 @@ Breaks t asked p =
 abbrev pub Searches : Trace → Asked → Program → Type 0
 Searches t asked p = IsAnswerSearched t.journal asked p
 
--- whatever is known of the model's text: the record holds what the answer rests on, and its log was
--- written
+-- whatever is known of the model's text: the journal holds what the answer rests on, and its log
+-- was written
 pub record Delivers (t : Trace) (s : Status) : Type 0 where
   pub recorded : IsRecorded t.orders t.request s t.journal
   pub logged : IsLogged t.request t.journal t.before.files t.now.files

@@ -3,7 +3,7 @@
 use Rattle.std.specs.Prelude.{◌≡◌, ◌⊎◌, ◌≤◌, List, [], Option, None, IsSome, length, ℕ}
 use Rattle.std.specs.List.{All}
 use Rattle.class_table.specs.Outline.{Outline}
-use Rattle.conf_events.specs.Limits.{events_bytes}
+use Rattle.command_limits.specs.Limits.{events_bytes}
 use Rattle.conf_events.specs.Texts.{bad_line, events_of}
 use Rattle.conf_request.specs.declared.request.Request.{Request}
 use Rattle.conf_request.specs.declared.request.Request.TheVariants.{Session}

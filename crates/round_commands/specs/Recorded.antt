@@ -1,4 +1,4 @@
--- What the record holds behind an answer, whatever is known of files. What a reader believes after
+-- What the journal holds behind an answer, whatever is known of files. What a reader believes after
 -- this file: a ground problem and the lines of a search over it, which are a run, are accepted, and
 -- show what the status says.
 use Rattle.std.specs.Prelude.{◌≡◌, [], ◌∷◌, Bool, true, false, List, Option, None, Some, map, replicate, ℕ, ℤ}
@@ -14,14 +14,14 @@ use Rattle.model_rounds.specs.Rounds.{told_by}
 use Rattle.model_rounds.specs.Findings.{finding}
 use Rattle.model_rounds.specs.Runs.{is_open}
 use Rattle.proof_log.specs.Rounds.{Journal, empty}
-use Rattle.proof_log.specs.declared.record.Round.{Round}
+use Rattle.proof_log.specs.declared.journal.Round.{Round}
 use Rattle.run_status.specs.declared.status.Status.{Status}
-use Rattle.search_run.specs.Decisions.{decisions, MayDecide}
-use Rattle.search_run.specs.Ordered.{IsOrdered}
-use Rattle.search_run.specs.Replay.{is_run}
+use Rattle.run_law.specs.Decisions.{decisions, MayDecide}
+use Rattle.run_law.specs.Ordered.{IsOrdered}
+use Rattle.run_law.specs.Replay.{is_run}
 use Rattle.session_run.specs.Sessions.{session_status}
 use Rattle.round_commands.specs.Answer.{searched_status, order_at}
-use Rattle.answer_text.specs.Texts.{generated_budget}
+use Rattle.command_limits.specs.Limits.{generated_budget}
 
 -- of a search by this order within this budget; but for a repair it had no values to go by
 pub record HasSearched (repaired : Bool) (order : Order) (budget : ℕ) (s : Status)

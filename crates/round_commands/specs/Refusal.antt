@@ -3,7 +3,7 @@
 use Rattle.std.specs.Prelude.{◌≡◌, ◌⊎◌, ◌+◌, ◌<◌, ◌≤◌, List, [], Option, None, Some, IsSome, length, take, ℕ, ℤ}
 use Rattle.class_table.specs.Outline.{Outline}
 use Rattle.conf_eval.specs.Breaking.{IsWrongConstraint}
-use Rattle.conf_events.specs.Limits.{events_bytes}
+use Rattle.command_limits.specs.Limits.{events_bytes, log_bytes}
 use Rattle.conf_events.specs.Texts.{bad_line}
 use Rattle.conf_syntax.specs.declared.tree.Program.{Program}
 use Rattle.conf_types.specs.Programs.{ResolvedConstraint, ResolvedGoal}
@@ -12,7 +12,6 @@ use Rattle.config_json.specs.Reading.{value_read, IsOther}
 use Rattle.desk_io.specs.Desk.{Files}
 use Rattle.ground_form.specs.declared.ground.Ground.{Ground}
 use Rattle.log_check.specs.Fed.{FailsAt, HasTaken, Left}
-use Rattle.log_file.specs.Limits.{log_bytes}
 use Rattle.model_limits.specs.Limits.{config_bytes, model_bytes}
 use Rattle.model_rounds.specs.Problems.{IsProblemOf}
 use Rattle.object_alloc.specs.Paths.{path}
@@ -56,7 +55,7 @@ pub record IsBroken (o : Outline) (ks : List ResolvedConstraint) (bytes : List �
   pub is : IsConfigOf o bytes config
   pub broken : IsBrokenAt o ks config place path_text
 
--- the record holds the problem of the model or of the repair alone, and P holds of it
+-- the journal holds the problem of the model or of the repair alone, and P holds of it
 pub record HasProblem (o : Outline) (ks : List ResolvedConstraint) (gs : List ResolvedGoal)
     (r : Option Repair) (journal : Journal) (P : Ground → Type 0) : Type 0 where
   pub ground : Ground

@@ -9,7 +9,7 @@ use crate::finder::{Resources, Searching};
 use bound_search::Limits;
 use core_run::{Answer, blame};
 use model_reader::Built;
-use proof_log::Record;
+use proof_log::Journal;
 use rule_law::Kit;
 use std::alloc::AllocError;
 
@@ -21,7 +21,7 @@ pub fn blame_model(
     budget: u32,
     order: u8,
     kit: &mut Kit,
-    journal: &mut Record,
+    journal: &mut Journal,
 ) -> Result<Answer, AllocError>
     requires ready { IsReady built.table.now built.objects.now built.model.now.constraints
         built.model.now.goals }

@@ -4,7 +4,7 @@ ghost use Rattle.std.specs.Prelude.{◌≡◌};
 use bound_search::Limits;
 use branch_choice::Chooser;
 use ground_form::Ground;
-use proof_log::Record;
+use proof_log::Journal;
 use rule_law::Kit;
 use run_finder::{Finder, Outcome};
 use search_finder::find;
@@ -37,7 +37,7 @@ impl<'a> Finder for Searching<'a> {
         &mut self,
         g: Ground,
         hints: &[Option<i64>],
-        journal: &mut Record,
+        journal: &mut Journal,
     ) -> Result<Outcome, AllocError> {
         find(self.limits, self.kit, self.chooser, g, hints, journal)
     }

@@ -1,5 +1,5 @@
-//! What a run of the command promises, and the parts of it that stand on the former configuration
-//! or on several searches.
+//! What a run promises; former texts, `session`, `core`, and their finder. Former texts, sessions
+//! and cores are the parts of a run that stand on the former configuration or on several searches.
 //!
 //! - `former`: the text of a configuration as it was or is to be: its file, what it is read as, and
 //!   the repair that one asks for.
@@ -9,7 +9,7 @@
 //!
 //! What a run promises, as definitions:
 //! - `specs/Asking`: which text is that of a request's model, and what is asked of it.
-//! - `specs/Answer`: what answers it; `specs/Recorded`: what the record then holds.
+//! - `specs/Answer`: what answers it; `specs/Recorded`: what the journal then holds.
 //! - `specs/Refusal`: why it is refused; `specs/Unreadable`: or why a file gave nothing.
 //! - `specs/Delivery`: what is printed and written; `specs/Ending`: how a run ends, by stages.
 //!

@@ -2,7 +2,7 @@
 ghost use Rattle.std.specs.Prelude.{map, ◌≡◌, ◌⊎◌, ◌≤◌, ◌^◌, IsTrue, IsSome, List, [], None, Some, true, length, IfOk, IfErr, OnErr, OnOk, IsErrOf, ℕ};
 ghost use Rattle.std.specs.List.{All};
 ghost use Rattle.class_table.specs.Outline.{Outline};
-ghost use Rattle.conf_events.specs.Limits.{events_bytes};
+ghost use Rattle.command_limits.specs.Limits.{events_bytes};
 ghost use Rattle.conf_events.specs.Texts.{bad_line, events_of};
 ghost use Rattle.conf_request.specs.Words.{IsLawful};
 ghost use Rattle.conf_syntax.specs.Trees.{program_tokens, nesting};
@@ -16,7 +16,7 @@ ghost use Rattle.model_reader.specs.Ready.{IsReady};
 ghost use Rattle.model_rounds.specs.Problems.{IsProblemOf};
 ghost use Rattle.object_alloc.specs.Hints.{AreHints};
 ghost use Rattle.object_alloc.specs.Named.{object_named};
-ghost use Rattle.proof_log.specs.Rounds.{Journal, empty};
+ghost use Rattle.proof_log.specs.Rounds.{Journal as AJournal, empty};
 ghost use Rattle.session_run.specs.Holding.{StandsAt, situation_of};
 ghost use Rattle.session_run.specs.Sessions.{situation, subject};
 ghost use Rattle.run_status.specs.Stages.{Denied};
@@ -30,7 +30,8 @@ ghost use Rattle.round_commands.specs.Unreadable.{Unreadable};
 use crate::finder::{Resources, Searching};
 use crate::former::{config_bytes, repair_in};
 use bound_search::Limits;
-use conf_events::{EVENTS_BYTES, Events, EventsError, read_events};
+use command_limits::EVENTS_BYTES;
+use conf_events::{Events, EventsError, read_events};
 use conf_request::{FileName, Request};
 use conf_session::Session;
 use conf_syntax::Program;
@@ -39,7 +40,7 @@ use ground_form::Ground;
 use ground_model::ground;
 use model_reader::{Built, objects_of, table_of, typed_model};
 use object_alloc::{Hints, Objects};
-use proof_log::Record;
+use proof_log::Journal;
 use rule_law::Kit;
 use run_status::{LimitKind, Status};
 use session_run::{Setting, hold_session};
@@ -234,7 +235,7 @@ fn session_asked<D: Desk>(
         built.entry.model.now.constraints built.entry.model.now.goals x) }
     ensures budget { IfOk result (λ x. HasBudget request.now x.budget) }
     ensures refused { IfErr result (λ s. Unreadable (D.read_faults desk.old)
-        (D.read_faults desk.new) s ((journal : Journal) → IsDenied (D.files desk.old) request.now
+        (D.read_faults desk.new) s ((journal : AJournal) → IsDenied (D.files desk.old) request.now
         journal s built.entry.objects.now built.entry.model.now.constraints
         built.entry.model.now.goals)) }
     ensures files { D.files desk.new ≡ D.files desk.old }
@@ -273,7 +274,7 @@ fn hold_opened<D: Desk>(
     built: Built<'_>,
     opened: Opened,
     kit: &mut Kit,
-    journal: &mut Record,
+    journal: &mut Journal,
 ) -> Result<Status, WriteError>
     requires ready { IsReady built.table.now built.objects.now built.model.now.constraints
         built.model.now.goals }
@@ -326,7 +327,7 @@ fn held_built<D: Desk>(
     request: &Request,
     built: Built<'_>,
     kit: &mut Kit,
-    journal: &mut Record,
+    journal: &mut Journal,
 ) -> Result<Result<Status, WriteError>, Status>
     requires may_read { (name : List ℕ) → IsFurther request.now name
         → IsTrue (D.may_read desk.old name) }
@@ -352,7 +353,7 @@ fn held_built<D: Desk>(
     ensures fault { IfOk result (λ r. IsErrOf r WriteError.WriteFault
         → HasRisen (D.write_faults desk.old) (D.write_faults desk.new)) }
     ensures refused { IfErr result (λ s. Unreadable (D.read_faults desk.old)
-        (D.read_faults desk.new) s ((j : Journal) → IsDenied (D.files desk.old) request.now j s
+        (D.read_faults desk.new) s ((j : AJournal) → IsDenied (D.files desk.old) request.now j s
         built.entry.objects.now built.entry.model.now.constraints
         built.entry.model.now.goals)) }
     ensures same { OnErr result (outside (D.files desk.new) (D.printed desk.new)
@@ -374,7 +375,7 @@ fn held<D: Desk>(
     program: &Program,
     request: &Request,
     kit: &mut Kit,
-    journal: &mut Record,
+    journal: &mut Journal,
 ) -> Result<Result<Status, WriteError>, Status>
     requires words { AreWords (program_tokens program.now) }
     requires nested { nesting program.now ≤ most_nesting }
@@ -424,7 +425,7 @@ pub fn hold_model<D: Desk>(
     program: &Program,
     request: &Request,
     kit: &mut Kit,
-    journal: &mut Record,
+    journal: &mut Journal,
 ) -> Status
     requires words { AreWords (program_tokens program.now) }
     requires nested { nesting program.now ≤ most_nesting }

@@ -9,3 +9,10 @@ pub mod Twice
 pub mod UpTo
 pub mod AllVars
 pub mod CutToLaws
+pub mod ClauseQuiet
+pub mod SingleBoxes
+pub mod ProbedEnds
+pub mod Determined
+pub mod Narrowed
+pub mod Defined
+pub mod Fixpoint

@@ -4,3 +4,4 @@ pub mod Reasons
 pub mod Plans
 pub mod Repeats
 pub mod CutTo
+pub mod Singles

@@ -1,4 +1,4 @@
-//! The face of propagators, and what they share: clauses made of reasons, plain probing, and kits.
+//! The face of propagators, and what they share: explanations, plain probing, kits.
 //!
 //! A propagator finds a clause that a constraint justifies and that takes something away, or says
 //! that the constraint is quiet. What refutes, justifies and is quiet is told by the rules of the
@@ -13,9 +13,24 @@
 //! - `probing`: probing that explains what it finds, for every kind.
 //! - `variables`: the variables of a constraint. `repeats`: whether one stands twice in it, and
 //!   what is kept of that.
+//! - `clause`: what a clause says that is a constraint: itself, where it is false in the boxes or
+//!   unit, or nothing. Its propagator and the queue, which watches clauses, both rest on this.
+//! - `fixpoint`: the law of fixpoints, as the contract of a function that does nothing: what boxes
+//!   are in which every constraint is quiet and the searched variables have single values.
+//!
+//! A search decides the first variables of a ground problem and asks propagators until they have
+//! nothing more to say. The law of fixpoints is why it has found a solution then: all other
+//! variables have single values too, and all these values together make every constraint true. So a
+//! search may write down the values that it finds without a look at the constraints, whichever
+//! propagators it asked and however the boxes came about. It rests on two things. In boxes of
+//! single values a constraint is refuted exactly where it is false. And a definition is true at one
+//! value of its variable alone, while both ends of that variable's box are probed; so the ends are
+//! the same, variable after variable in their order.
 #![tactic(auto)]
 
+mod clause;
 mod explain;
+mod fixpoint;
 mod kit;
 mod narrow;
 mod plan;
@@ -30,7 +45,9 @@ pub use box_rules::{
     justified, quiet, quiet_looks_at_variables, refuted_is_false, refutes, some_interval_is_crowded,
 };
 pub use box_view::is_rest_within;
+pub use clause::{own_reason, prune_clause};
 pub use explain::{keep_out, pruning};
+pub use fixpoint::fixpoint_is_solution;
 pub use kit::{Kit, MissingKind};
 pub use narrow::{cut_says_the_same, cut_to};
 pub use plan::{planned_pruning, truth};

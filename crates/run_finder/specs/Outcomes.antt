@@ -5,7 +5,7 @@ use Rattle.ground_form.specs.declared.ground.Ground.{Ground}
 use Rattle.log_form.specs.declared.line.Line.{Line}
 use Rattle.log_check.specs.declared.verdict.VerdictKind.TheVariants as kinds
 use Rattle.log_check.specs.Verdicts.{ending, kind_of, shown_of}
-use Rattle.search_run.specs.Decisions.{decisions, MayDecide}
+use Rattle.run_law.specs.Decisions.{decisions, MayDecide}
 use Rattle.run_finder.specs.declared.outcome.Outcome.{Outcome}
 use Rattle.run_finder.specs.declared.outcome.Outcome.TheVariants as outcomes
 

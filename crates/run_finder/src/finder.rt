@@ -1,12 +1,12 @@
 //! `Finder`, who finds a best solution of a ground problem and leaves a run behind.
 ghost use Rattle.std.specs.Prelude.{◌≡◌, [], ℕ, true, None, Some, length, IfOk, OnOk};
 ghost use Rattle.ground_form.specs.WellMade.{IsWellMade};
-ghost use Rattle.search_run.specs.Replay.{is_run};
+ghost use Rattle.run_law.specs.Replay.{is_run};
 ghost use Rattle.run_finder.specs.Outcomes.{OutcomeOf};
 
 use crate::outcome::Outcome;
 use ground_form::Ground;
-use proof_log::Record;
+use proof_log::Journal;
 use std::alloc::AllocError;
 
 /// Something that finds a best solution of a ground problem within a budget of decisions.
@@ -18,9 +18,9 @@ pub trait Finder {
     fn budget(&self) -> u32
         ensures { result ≡ allowed self.now };
 
-    /// Searches for a best solution, and leaves problem and run in the present round of the record.
-    /// The round has neither yet, and `hints` has a value, or none, for each searched variable.
-    /// The rounds before it stay as they are, after want of memory too.
+    /// Searches for a best solution, and leaves problem and run in the present round of the
+    /// journal. The round has neither yet, and `hints` has a value, or none, for each searched
+    /// variable. The rounds before it stay as they are, after want of memory too.
     ///
     /// # Errors
     /// Want of memory; the present round then has some lines of a run, and may lack the problem.
@@ -28,7 +28,7 @@ pub trait Finder {
         &mut self,
         g: Ground,
         hints: &[Option<i64>],
-        journal: &mut Record,
+        journal: &mut Journal,
     ) -> Result<Outcome, AllocError>
         requires well_made { IsWellMade g }
         requires problem { journal.old.ground ≡ None }

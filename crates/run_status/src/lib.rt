@@ -1,4 +1,4 @@
-//! How a run ends: its status, the number with which the program ends, and the line that tells it.
+//! How a run ends: its status, the status's number, and the line that tells it.
 //!
 //! `status` has the types and the number, `line` the text. What they are for a status stands in
 //! `specs/Status`.

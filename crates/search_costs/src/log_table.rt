@@ -1,12 +1,12 @@
-//! How fast logs are checked: lines of axioms, and chains of steps over clauses of 30 literals.
+//! How fast logs are checked: axioms, and chains of steps over long clauses.
 //!
 //! Of short logs it is printed what `check` and `feed` say, of long ones how many lines a second
 //! each takes.
 use crate::log_timing::{answers, speeds};
 use crate::logs::{KINDS, Log, nth_log, problem};
-use ground_check::is_search_well_made;
 use ground_form::Ground;
 use std::io;
+use test_well_made::is_search_well_made;
 
 /// Prints a line of the table.
 fn show(rt: &HostRuntime, g: &Ground, log: &Log, timed: bool) -> io::Result<()> {

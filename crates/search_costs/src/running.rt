@@ -7,7 +7,6 @@ use crate::problems::Problem;
 use bound_search::{Ended, Limits, search};
 use branch_choice::Chooser;
 use ground_build::Builder;
-use ground_check::is_search_well_made;
 use ground_form::{Goals, Ground, GroundGoal};
 use log_check::{CheckError, Verdict, VerdictKind, check};
 use log_form::Line;
@@ -16,6 +15,7 @@ use rule_law::Kit;
 use std::alloc::{AllocError, Global};
 use std::rt::Runtime;
 use test_clock::Clock;
+use test_well_made::is_search_well_made;
 
 /// How many lines of each kind there are.
 #[derive(Clone, Copy)]

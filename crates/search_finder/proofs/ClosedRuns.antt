@@ -5,8 +5,8 @@ use Rattle.log_form.specs.declared.line.Line.{Line}
 use Rattle.log_form.specs.Acceptance.{has_empty, made, shown_by, FailsFirst}
 use Rattle.log_check.specs.declared.verdict.VerdictKind.TheVariants as kinds
 use Rattle.log_check.specs.Verdicts.{ending, kind_of, shown_of}
-use Rattle.search_run.specs.Replay.{is_run}
-use Rattle.search_run.proofs.Fronts.{run_accepted, run_front}
+use Rattle.run_law.specs.Replay.{is_run}
+use Rattle.run_law.proofs.Fronts.{run_accepted, run_front}
 
 -- no line of a run fails
 pub run_is_taken : (g : Ground) (ls : List Line) (n : ℕ) → is_run g ls ≡ true →

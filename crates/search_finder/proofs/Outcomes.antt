@@ -1,8 +1,8 @@
--- What was said of lines that were read, of the lines that the record keeps.
+-- What was said of lines that were read, of the lines that the journal keeps.
 use Rattle.std.proofs.Common.{◌≡◌, ℕ, List, subst, sym}
 use Rattle.ground_form.specs.declared.ground.Ground.{Ground}
 use Rattle.log_form.specs.declared.line.Line.{Line}
-use Rattle.search_run.specs.Decisions.{decisions, MayDecide}
+use Rattle.run_law.specs.Decisions.{decisions, MayDecide}
 use Rattle.bound_search.specs.declared.solving.Ended.{Ended}
 use Rattle.bound_search.specs.declared.solving.Ended.TheVariants as ended
 use Rattle.run_finder.specs.declared.outcome.Outcome.{Outcome}

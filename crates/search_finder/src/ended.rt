@@ -3,8 +3,8 @@ ghost use Rattle.std.specs.Prelude.{◌≡◌, ℕ, true, IfOk};
 ghost use Rattle.ground_form.specs.WellMade.{IsWellMade};
 ghost use Rattle.log_form.specs.Acceptance.{has_empty, made};
 ghost use Rattle.log_check.specs.Verdicts.{ending, kind_of, shown_of};
-ghost use Rattle.search_run.specs.Replay.{is_run};
-ghost use Rattle.search_run.specs.Decisions.{decisions, MayDecide};
+ghost use Rattle.run_law.specs.Replay.{is_run};
+ghost use Rattle.run_law.specs.Decisions.{decisions, MayDecide};
 ghost use Rattle.bound_search.specs.declared.solving.Ended.TheVariants as ended;
 ghost use Rattle.run_finder.specs.Outcomes.{OutcomeOf};
 

@@ -2,19 +2,19 @@
 ghost use Rattle.std.specs.Prelude.{◌≡◌, [], true, None, Some, length, IfOk, OnOk};
 ghost use Rattle.ground_form.specs.WellMade.{IsWellMade};
 ghost use Rattle.run_finder.specs.Outcomes.{OutcomeOf};
-ghost use Rattle.search_run.specs.Replay.{is_run};
+ghost use Rattle.run_law.specs.Replay.{is_run};
 
 use crate::ended::outcome_of;
 use bound_search::{Limits, search};
 use branch_choice::Chooser;
 use ground_form::Ground;
-use proof_log::Record;
+use proof_log::Journal;
 use rule_law::Kit;
 use run_finder::Outcome;
 use std::alloc::AllocError;
 
-/// Searches for a best solution, and leaves problem and run in the present round of the record: all
-/// that `Finder::find` has to do, for a finder that has a kit and a chooser at hand.
+/// Searches for a best solution, and leaves problem and run in the present round of the journal:
+/// all that `Finder::find` has to do, for a finder that has a kit and a chooser at hand.
 ///
 /// # Errors
 /// Want of memory; the present round then has some lines of a run, and may lack the problem.
@@ -24,7 +24,7 @@ pub fn find(
     chooser: &Chooser,
     g: Ground,
     hints: &[Option<i64>],
-    journal: &mut Record,
+    journal: &mut Journal,
 ) -> Result<Outcome, AllocError>
     requires well_made { IsWellMade g }
     requires lines { journal.old.lines ≡ [] }

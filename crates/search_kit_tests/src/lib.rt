@@ -1,5 +1,5 @@
-//! Tests of the parts of a search that ask constraints, with the propagators that come with the
-//! product, on generated problems. There is no code here.
+//! Tests of the parts of a search that ask constraints, on generated problems. There is no code
+//! here.
 //!
 //! - `problems`: generated problems over all kinds of constraints.
 //! - `queue_tests`: the queue of constraints, against a scan of all of them.

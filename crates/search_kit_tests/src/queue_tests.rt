@@ -8,8 +8,8 @@ use given_problems::Random;
 use ground_form::copy_sets;
 use linear_prop::LinearProp;
 use pack_prop::PackProp;
-use queue_check::Queued;
 use rule_law::{Kit, Propagator};
+use search_checks::Queued;
 use signed_clause::{Clause, IntSet};
 use std::alloc::{AllocError, Global};
 

@@ -4,9 +4,9 @@ use crate::given::{Numbers, clause_of, equal_boxes, set_of_bits};
 use conflict_check::has_boxes;
 use ground_form::copy_sets;
 use numbered_clauses::Clauses;
+use search_checks::Watched;
 use signed_clause::{ClauseHandle, IntSet};
 use std::alloc::{AllocError, Global};
-use watch_check::Watched;
 
 /// How many variables there are.
 const VARIABLES: u32 = 6;

@@ -1,7 +1,7 @@
 //! What random problems are to have, some of them.
 use ground_form::{Con, Ground, Kind, kind_of};
-use small_problems::problem;
 use std::alloc::{AllocError, Global};
+use test_small_problems::problem;
 
 /// Something that a problem may have.
 #[derive(Clone, Copy, Debug)]

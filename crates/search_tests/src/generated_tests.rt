@@ -2,8 +2,8 @@
 use crate::features::{Feature, count_with};
 use crate::series::{Budgets, Series, Source, Tally, run, run_plainly};
 use ground_form::Kind;
-use plain_runs::Way;
 use std::alloc::AllocError;
+use test_plain_runs::Way;
 
 /// So many random problems from a seed on, searched in one way with enough decisions.
 fn series(first: u64, count: u64, way: Way) -> Series {

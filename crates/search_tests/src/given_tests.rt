@@ -4,9 +4,9 @@ use crate::given::{
     OPPOSED, OVERFULL, SECOND_GOAL, TWO_GOALS, UNEQUAL,
 };
 use crate::series::{Budgets, Series, Source, Tally, run, run_plainly};
-use plain_runs::Way;
-use small_problems::{Row, least_value};
 use std::alloc::AllocError;
+use test_plain_runs::Way;
+use test_small_problems::{Row, least_value};
 
 /// What is to be found last: the values of the first variables.
 #[derive(Clone, Copy, Debug)]

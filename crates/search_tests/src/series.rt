@@ -10,16 +10,16 @@ use crate::trial::{Case, Report, Seen, Tools, try_once};
 use bool_prop::BoolProp;
 use branch_choice::{Chooser, Order, Pick, Split, first, former, small};
 use element_prop::ElementProp;
-use given_problems::Prober;
-use ground_check::is_problem_well_made;
 use ground_form::Ground;
 use linear_prop::LinearProp;
 use pack_prop::PackProp;
-use plain_runs::Way;
 use rule_law::{Kit, Propagator};
 use signed_clause::IntSet;
-use small_problems::{Row, best_point, boxes_of, hints, problem, size};
 use std::alloc::{AllocError, Global};
+use test_plain_runs::Way;
+use test_problems::Prober;
+use test_small_problems::{Row, best_point, boxes_of, hints, problem, size};
+use test_well_made::is_problem_well_made;
 
 /// Where problems come from.
 #[derive(Clone, Copy, Debug)]

@@ -8,11 +8,11 @@ use branch_choice::Chooser;
 use ground_form::Ground;
 use log_check::{Verdict, VerdictKind, check, trim};
 use log_form::Line;
-use plain_runs::{Deciding, Mode, Run, Way};
-use proof_log::Record;
+use proof_log::Journal;
 use rule_law::Kit;
-use small_problems::{Row, is_better, is_solution, point_of};
 use std::alloc::{AllocError, Global};
+use test_plain_runs::{Deciding, Mode, Run, Way};
+use test_small_problems::{Row, is_better, is_solution, point_of};
 
 /// What was seen of a search.
 #[derive(Clone, Copy, Debug, PartialEq, Eq)]
@@ -245,7 +245,7 @@ pub(crate) fn try_once(tools: &mut Tools, case: &Case, budget: u32) -> Result<Re
     requires hints { case.now.ground.search ≤ length case.now.hints.items }
 {
     let alloc = tools.alloc;
-    let mut record = Record::new(alloc);
+    let mut record = Journal::new(alloc);
     tools.kit.begin();
     let limits = Limits { alloc, budget };
     let hints = case.hints.as_slice();

@@ -10,7 +10,7 @@ use Rattle.desk_io.specs.Desk.{with_printed}
 use Rattle.desk_io.specs.Whole.{PrintsFront}
 use Rattle.model_rounds.specs.Runs.{is_open}
 use Rattle.model_rounds.specs.Finding.{Finding}
-use Rattle.proof_log.specs.declared.record.Round.{Round}
+use Rattle.proof_log.specs.declared.journal.Round.{Round}
 use Rattle.session_run.proofs.Stepping.{situation_is, nothing_printed}
 use Rattle.session_run.specs.Holding.{StandsAt, situation_of, IsTold, IsCut, IsUpTo}
 use Rattle.session_run.specs.Sessions.{Subject, Situation, situation_behind, situation_after, is_none_told, IsAnswered, AreAnswered, AreBegun}

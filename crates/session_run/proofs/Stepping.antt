@@ -21,7 +21,7 @@ use Rattle.model_rounds.specs.Finding.{Finding}
 use Rattle.model_rounds.specs.Finding.TheVariants as findings
 use Rattle.object_alloc.specs.Hints.{AreHints}
 use Rattle.proof_log.specs.Rounds.{Journal}
-use Rattle.proof_log.specs.declared.record.Round.{Round}
+use Rattle.proof_log.specs.declared.journal.Round.{Round}
 use Rattle.reconfigure.specs.Failing.{unknown_word}
 use Rattle.reconfigure.specs.declared.repair.Repair.{Repair}
 use Rattle.run_finder.specs.declared.outcome.Outcome.{Outcome}

@@ -16,11 +16,11 @@ use Rattle.model_rounds.specs.Finding.{Finding}
 use Rattle.model_rounds.specs.Finding.TheVariants as findings
 use Rattle.object_alloc.specs.Hints.{AreHints}
 use Rattle.proof_log.specs.Rounds.{Journal}
-use Rattle.proof_log.specs.declared.record.Round.{Round}
+use Rattle.proof_log.specs.declared.journal.Round.{Round}
 use Rattle.reconfigure.specs.declared.repair.Repair.{Repair}
 use Rattle.run_finder.specs.Outcomes.{OutcomeOf}
 use Rattle.run_finder.specs.declared.outcome.Outcome.{Outcome}
-use Rattle.search_run.specs.Replay.{is_run}
+use Rattle.run_law.specs.Replay.{is_run}
 use Rattle.session_run.specs.Sessions.{Subject, Situation, situation, situation_behind, situation_after, is_none_told, IsAnswered, AreAnswered}
 
 -- the session stands at this situation, over the problem of the model
@@ -50,8 +50,8 @@ pub record IsBetween (journal : Journal) : Type 0 where
   pub ground : journal.ground ≡ None
   pub lines : journal.lines ≡ []
 
--- behind a step the record has one round more, by a run that ended so over the problem of a repair,
--- and the session stands behind what the round tells
+-- behind a step the journal has one round more, by a run that ended so over the problem of a
+-- repair, and the session stands behind what the round tells
 pub record HasStepped (s : Subject) (p : Situation) (e : Event) (repair : Repair)
     (rounds now : List Round) (st : Option Standing) (end : Outcome) : Type 0 where
   pub round : Round
@@ -64,14 +64,14 @@ pub record HasStepped (s : Subject) (p : Situation) (e : Event) (repair : Repair
       → told ≡ finding round.ground (ending round.ground round.lines)
       → IsHinted s.outline told → StandsAt s (situation_behind p e told) st
 
--- the record has one round more, which answers an event
+-- the journal has one round more, which answers an event
 pub record HasRound (s : Subject) (p : Situation) (e : Event) (rounds now : List Round)
     (told : Finding) (text : List ℕ) : Type 0 where
   pub round : Round
   pub answered : IsAnswered s p e round told text
   pub more : now ≡ rounds ++ round ∷ []
 
--- the record has one round more, which answers an event, and the text of the answer was printed
+-- the journal has one round more, which answers an event, and the text of the answer was printed
 pub record IsTold (s : Subject) (p : Situation) (e : Event) (rounds now : List Round)
     (told : Finding)
     (printed printed_now : Option (List ℕ)) : Type 0 where

@@ -22,7 +22,7 @@ use desk_io::{Desk, WriteError, print_all};
 use model_reader::Built;
 use model_rounds::{Finding, Question, last_round, round_is_run};
 use object_alloc::Hints;
-use proof_log::{Record, Round};
+use proof_log::{Journal, Round};
 use reconfigure::Repair;
 use run_finder::{Finder, Outcome};
 use std::alloc::{AllocError, Global};
@@ -73,7 +73,7 @@ fn stepped<F: Finder>(
     event: &Event,
     repair: &Repair,
     finder: &mut F,
-    journal: &mut Record,
+    journal: &mut Journal,
 ) -> Result<Outcome, AllocError>
     requires at { StandsAt (subject with.built.objects.now
         with.built.model.now.constraints with.built.model.now.goals with.budget)
@@ -129,13 +129,13 @@ fn answer_by(
     Ok(Answer { told, text })
 }
 
-/// The answer to an event. Behind it the record has one round more.
+/// The answer to an event. Behind it the journal has one round more.
 fn answered<F: Finder>(
     with: Setting<'_>,
     session: &mut Session,
     event: &Event,
     finder: &mut F,
-    journal: &mut Record,
+    journal: &mut Journal,
 ) -> Result<Answer, AllocError>
     requires ready { IsReady with.built.table.now with.built.objects.now
         with.built.model.now.constraints with.built.model.now.goals }
@@ -178,7 +178,7 @@ pub(crate) fn answer_event<D: Desk, F: Finder>(
     session: &mut Session,
     event: &Event,
     finder: &mut F,
-    journal: &mut Record,
+    journal: &mut Journal,
 ) -> Result<Finding, WriteError>
     requires ready { IsReady with.built.table.now with.built.objects.now
         with.built.model.now.constraints with.built.model.now.goals }

@@ -16,7 +16,7 @@ use conf_events::Event;
 use conf_session::Session;
 use desk_io::{Desk, WriteError};
 use model_rounds::Finding;
-use proof_log::Record;
+use proof_log::Journal;
 use run_finder::Finder;
 use run_status::Status;
 
@@ -69,7 +69,7 @@ fn end_of(budget: u32, undecided: bool, lacking: bool) -> Status
 }
 
 /// Answers each event, one after the other, and prints each answer as soon as it is found. The
-/// record, which has no round yet, then has one round for each event.
+/// journal, which has no round yet, then has one round for each event.
 ///
 /// # Errors
 ///
@@ -81,7 +81,7 @@ pub fn hold_session<D: Desk, F: Finder>(
     session: Session,
     events: &[Event],
     finder: &mut F,
-    journal: &mut Record,
+    journal: &mut Journal,
 ) -> Result<Status, WriteError>
     requires ready { IsReady with.built.table.now with.built.objects.now
         with.built.model.now.constraints with.built.model.now.goals }

@@ -1,4 +1,4 @@
-//! A session over a model, event by event: what answers each, printed as soon as it is found.
+//! A session over a model: what answers each event, printed as soon as it is found.
 //!
 //! - `holding`: `hold_session`, the loop over the events.
 //! - `answer`: the answer to one event, and its text.

@@ -1,4 +1,4 @@
-//! Finite sets of integers, and signed clauses over them.
+//! Finite sets of integers, signed clauses over them, resolution and its chains.
 //!
 //! - `int_set`: a set of values of 64 bits, kept as ranges.
 //! - `range`: what two single ranges say of one another.

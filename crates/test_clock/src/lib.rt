@@ -1,4 +1,4 @@
-//! What programs that measure share.
+//! A clock, what times come to, and the words of programs that measure.
 //!
 //! - `clock`: how long something takes.
 //! - `figures`: what times come to, a mean or how many a second.

@@ -1,5 +1,4 @@
-//! The leaves of a configuration that was read from JSON: their paths, in order, and how a path and
-//! a value are spelled.
+//! The leaves of a configuration in JSON, in order; how path and value are spelled.
 #![tactic(auto)]
 
 mod leaf;

@@ -1,4 +1,4 @@
-//! The picture of a placement: who stands where, and what the guests of a holder come to.
+//! The picture of a placement: who stands where, and what a holder's guests sum to.
 #![tactic(auto)]
 
 mod holding;

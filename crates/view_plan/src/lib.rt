@@ -1,4 +1,4 @@
-//! The plan of a repair: the leaves in which two configurations differ, one line for each.
+//! The plan of a repair: the leaves in which two configurations differ, a line each.
 #![tactic(auto)]
 
 mod change;

@@ -4,7 +4,7 @@ use Rattle.ground_form.specs.declared.ground.GroundGoal.{GroundGoal}
 use Rattle.rule_law.specs.Answers.{AreBoxesWithin}
 use Rattle.log_form.specs.declared.line.Line.TheVariants.{Bound, Found}
 use Rattle.log_form.specs.Acceptance.{bounds_of}
-use Rattle.search_run.specs.Replay.{Going}
+use Rattle.run_law.specs.Replay.{Going}
 use Rattle.bound_search.specs.BoundLists.{values_of}
 use Rattle.bound_search.specs.Engines.{IsBounded}
 use Rattle.bound_search.proofs.MoreLines.{boxes_at}

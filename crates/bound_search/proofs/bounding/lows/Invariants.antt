@@ -1,5 +1,5 @@
 use Rattle.std.proofs.Common.{◌≡◌, ◌++◌, drop}
-use Rattle.fixpoint_law.specs.Singles.{least_values}
+use Rattle.rule_law.specs.Singles.{least_values}
 use Rattle.bound_search.proofs.bounding.lows.Given as goal
 
 abbrev pub invariant-loop-set : goal.invariant-loop-set

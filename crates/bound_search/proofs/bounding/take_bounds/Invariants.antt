@@ -2,7 +2,7 @@ use Rattle.std.proofs.Common.{◌≡◌, ◌++◌, drop, length}
 use Rattle.ground_form.specs.declared.ground.Ground.{Ground}
 use Rattle.fd_store.specs.Levels.{Stack}
 use Rattle.prop_queue.specs.Work.{Work}
-use Rattle.search_run.specs.Replay.{first_false}
+use Rattle.run_law.specs.Replay.{first_false}
 use Rattle.bound_search.specs.BoundLists.{numbered_from, first_or}
 use Rattle.bound_search.specs.Boards.{IsBoard}
 use Rattle.bound_search.proofs.bounding.take_bounds.Given as goal

@@ -2,7 +2,7 @@ use Rattle.std.proofs.Common.{◌∙◌, ◌++◌, ◌∷◌, [], ℕ, refl, ap,
 use Rattle.signed_clause.specs.Clauses.{Literals}
 use Rattle.fd_store.specs.Levels.{reacted}
 use Rattle.log_form.specs.declared.line.Line.TheVariants.{Axiom}
-use Rattle.search_run.specs.Replay.{mode_by}
+use Rattle.run_law.specs.Replay.{mode_by}
 use Rattle.bound_search.proofs.UseAxiom.{IsStep, axiom_step, axiom_kept}
 use Rattle.bound_search.proofs.engine.add_axiom.Goals as goal
 

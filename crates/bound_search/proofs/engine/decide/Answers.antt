@@ -1,6 +1,6 @@
 use Rattle.std.proofs.Common.{◌∙◌, ◌++◌, ◌∷◌, [], List, ℤ, refl, ap, arith}
 use Rattle.log_form.specs.declared.line.Line.TheVariants.{Decide}
-use Rattle.search_run.specs.Decisions.{decisions}
+use Rattle.run_law.specs.Decisions.{decisions}
 use Rattle.bound_search.proofs.Steps.{decisions-behind}
 use Rattle.bound_search.proofs.Learning.{decide_step, decide_kept}
 use Rattle.bound_search.proofs.engine.decide.Goals as goal

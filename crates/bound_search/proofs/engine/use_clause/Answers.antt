@@ -1,6 +1,6 @@
 use Rattle.std.proofs.Common.{◌≡◌, refl, sym, subst, true}
 use Rattle.signed_clause.specs.Clauses.{Literals, IsWithinBoxes}
-use Rattle.search_run.specs.Replay.{acts}
+use Rattle.run_law.specs.Replay.{acts}
 use Rattle.bound_search.proofs.Steps.{known_clause}
 use Rattle.bound_search.proofs.UseAxiom.{IsStep, use_step, use_kept}
 use Rattle.bound_search.proofs.engine.use_clause.Goals as goal

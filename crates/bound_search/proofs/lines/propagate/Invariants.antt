@@ -1,6 +1,6 @@
 use Rattle.std.proofs.Common.{◌≡◌, length}
-use Rattle.search_run.specs.Replay.{Going}
-use Rattle.search_run.specs.Decisions.{decisions}
+use Rattle.run_law.specs.Replay.{Going}
+use Rattle.run_law.specs.Decisions.{decisions}
 use Rattle.bound_search.specs.Engines.{Shows, IsKept, total}
 use Rattle.bound_search.proofs.lines.propagate.Given as goal
 

@@ -1,4 +1,4 @@
-use Rattle.search_run.specs.Replay.{Going}
+use Rattle.run_law.specs.Replay.{Going}
 use Rattle.bound_search.proofs.MoreLines.{boxes_at}
 use Rattle.bound_search.proofs.lines.turn.Goals as goal
 

@@ -1,5 +1,5 @@
 use Rattle.std.proofs.Common.{◌≡◌, ◌+◌, ◌*◌, ◌≤◌, length}
-use Rattle.search_run.specs.Decisions.{decisions}
+use Rattle.run_law.specs.Decisions.{decisions}
 use Rattle.bound_search.specs.Modes.{rank}
 use Rattle.bound_search.specs.Engines.{Reached, IsKept}
 use Rattle.bound_search.proofs.settling.settle.Given as goal

@@ -2,7 +2,7 @@ use Rattle.std.proofs.Common.{◌∙◌, refl, sym, ap, subst, length, arith}
 use Rattle.signed_clause.specs.SetAlgebra.{meet}
 use Rattle.signed_clause.specs.Clauses.{Boxes, box_of}
 use Rattle.branch_choice.specs.Picks.{half_of}
-use Rattle.search_run.specs.Ordered.{IsDecidedBy}
+use Rattle.run_law.specs.Ordered.{IsDecidedBy}
 use Rattle.bound_search.specs.Standing.{IsDecision}
 use Rattle.bound_search.proofs.Splits.{due_decision, due_order}
 use Rattle.bound_search.proofs.solving.decide_split.Goals as goal

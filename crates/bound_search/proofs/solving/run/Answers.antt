@@ -1,6 +1,6 @@
 use Rattle.std.proofs.Common.{Option, ap, subst, arith, rules}
 use Rattle.branch_choice.specs.declared.split.Split.{Split}
-use Rattle.search_run.specs.Decisions.{decisions}
+use Rattle.run_law.specs.Decisions.{decisions}
 use Rattle.bound_search.specs.Engines.{SettledOf, IsDue}
 use Rattle.bound_search.proofs.Splits.{due_may_decide}
 use Rattle.bound_search.proofs.solving.run.Goals as goal

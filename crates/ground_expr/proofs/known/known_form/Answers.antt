@@ -1,5 +1,5 @@
 use Rattle.std.proofs.Common.{subst}
-use Rattle.attribute_forms.specs.Attributes.{IsAttributeForm}
+use Rattle.reference_forms.specs.Attributes.{IsAttributeForm}
 use Rattle.ground_expr.proofs.KnownLaws.{number_known, truth_known}
 use Rattle.ground_expr.proofs.known.known_form.Goals as goal
 

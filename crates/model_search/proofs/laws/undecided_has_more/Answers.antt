@@ -1,5 +1,5 @@
 use Rattle.std.proofs.Common.{◌+◌, ◌≤◌, subst}
-use Rattle.search_run.specs.Decisions.{decisions}
+use Rattle.run_law.specs.Decisions.{decisions}
 use Rattle.model_search.proofs.Sizes.{problem_size}
 use Rattle.model_search.proofs.laws.undecided_has_more.Goals as goal
 

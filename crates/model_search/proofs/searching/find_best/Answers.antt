@@ -2,7 +2,7 @@ use Rattle.std.proofs.Common.{◌≡◌, ◌∙◌, ◌+◌, ◌≤◌, subst, s
 use Rattle.std.specs.Prelude.{option_copied}
 use Rattle.log_check.specs.Verdicts.{ending}
 use Rattle.object_alloc.specs.Counts.{configuration_count}
-use Rattle.search_run.specs.Decisions.{decisions, MayDecide}
+use Rattle.run_law.specs.Decisions.{decisions, MayDecide}
 use Rattle.model_search.specs.Findings.{finding}
 use Rattle.model_search.specs.Runs.{values_for}
 use Rattle.model_search.specs.Searching.{HasSearched}

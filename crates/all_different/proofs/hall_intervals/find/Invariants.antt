@@ -1,6 +1,0 @@
-use Rattle.std.proofs.Common.{drop}
-use Rattle.all_different.specs.Intervals.{AreAtFixpoint}
-use Rattle.all_different.proofs.hall_intervals.find.Given as goal
-
-abbrev pub invariant-loop-x : goal.invariant-loop-x
-invariant-loop-x l = AreAtFixpoint (drop l.x-index l.vars) l.vars l.boxes → AreAtFixpoint l.vars l.vars l.boxes

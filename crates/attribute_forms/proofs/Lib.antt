@@ -1,4 +1,0 @@
-pub mod CellLaws
-pub mod BoxFacts
-pub mod MemberLists
-pub mod Shapes

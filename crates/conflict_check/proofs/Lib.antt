@@ -1,2 +1,0 @@
-pub mod WithinDomains
-pub mod WalkBack

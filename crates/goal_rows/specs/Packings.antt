@@ -1,0 +1,48 @@
+-- Packings with constant sizes and one room. What a reader believes after this file: where a
+-- packing holds, no place has more than the room.
+use Rattle.std.specs.Prelude.{◌≡◌, ℕ, ◌^◌, ◌<◌, ◌≤◌, true, List, [], ◌∷◌, ℤ, pos, length}
+use Rattle.std.specs.List.{All}
+use Rattle.std.specs.Ordering.{int_eq}
+use Rattle.signed_clause.specs.Ranges.{Ranges, has}
+use Rattle.signed_clause.specs.Clauses.{Boxes, box_of}
+use Rattle.ground_form.specs.declared.ground.Ground.{Ground}
+use Rattle.form_build.specs.Worlds.{IsWorld, AllHold}
+use Rattle.goal_rows.specs.declared.packing.Packing.{Packing}
+use Rattle.goal_rows.specs.Loads.{sizes_where, size_of}
+
+-- the variable has this value alone
+pub record IsConstant (boxes : Boxes) (x k : ℕ) : Type 0 where
+  pub exists : x < length boxes
+  pub box : box_of boxes x ≡ (pos k, pos k) ∷ []
+
+-- the item has this place, this constant size and this constant room
+pub record IsItemOf (boxes : Boxes) (room : ℕ) (i : ℕ × ℕ × ℕ) (s : ℕ × ℕ) : Type 0 where
+  pub place : s.0 ≡ i.0
+  pub exists : i.0 < length boxes
+  pub size : IsConstant boxes i.1 s.1
+  pub fits : IsConstant boxes i.2 room
+
+-- the items have these places and sizes, in order, and all have this room
+abbrev pub AreItemsOf : Boxes → ℕ → List (ℕ × ℕ × ℕ) → List (ℕ × ℕ) → Type 0
+AreItemsOf boxes room [] [] = Unit {0}
+AreItemsOf boxes room [] (s ∷ ss) = ⊥
+AreItemsOf boxes room (i ∷ is) [] = ⊥
+AreItemsOf boxes room (i ∷ is) (s ∷ ss) = IsItemOf boxes room i s × AreItemsOf boxes room is ss
+
+-- the values that the item's place may have are among these
+abbrev pub IsUsed : Boxes → Ranges → ℕ × ℕ → Type 0
+IsUsed boxes used s = (v : ℤ) → has (box_of boxes s.0) v ≡ true → has used v ≡ true
+
+-- where all constraints hold no place has more than the room
+abbrev pub AreFitting : Ground → ℕ → List (ℕ × ℕ) → Type 0
+AreFitting g room ss =
+    (a : List ℤ) → IsWorld g a → AllHold g a → (v : ℤ) → sizes_where (λ w. int_eq w v) ss a ≤ room
+
+-- the packing's places exist, its sizes are small, and where all constraints hold no place has more
+-- than its room
+pub record IsPacking (g : Ground) (p : Packing) : Type 0 where
+  pub exist : All (λ s. s.0 < length g.domains) p.items.items
+  pub whole : p.whole ≡ size_of p.items.items
+  pub light : p.whole ≤ 2 ^ 38
+  pub used : All (IsUsed g.domains p.used) p.items.items
+  pub fits : AreFitting g p.room p.items.items

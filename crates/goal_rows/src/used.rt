@@ -1,0 +1,205 @@
+//! Rows of a packing for a goal that counts places in use.
+ghost use Rattle.std.specs.Prelude.{◌≡◌, ◌<◌, ◌≤◌, ◌^◌, ◌+ℤ◌, ◌*ℤ◌, ℤ, pos, not, ◌&&◌, List, length, IfOk, IfSome, OnOk};
+ghost use Rattle.std.specs.List.{All};
+ghost use Rattle.signed_clause.specs.Ranges.{has, in_range};
+ghost use Rattle.signed_clause.specs.Clauses.{box_of};
+ghost use Rattle.ground_form.specs.Meaning.{value_of};
+ghost use Rattle.ground_form.specs.Bounds.{reach_of};
+ghost use Rattle.form_build.specs.Forms.{linear_at};
+ghost use Rattle.form_build.specs.Worlds.{IsWorld, Defines};
+ghost use Rattle.form_build.specs.Sums.{IsLinear};
+ghost use Rattle.goal_rows.specs.Hosts.{IsHost, IsTaken};
+ghost use Rattle.goal_rows.specs.Packings.{IsPacking};
+ghost use Rattle.goal_rows.specs.Rows.{IsNought};
+
+use crate::amounts::{amount, amount_less, less_amount, signed};
+use crate::choice::{distinct, factor};
+use crate::hosts::{Host, host_of};
+use crate::packing::Packing;
+use crate::rows::state_multiples;
+use crate::shares::room_in;
+use crate::weights::is_light;
+use form_build::{Linear, Maker, variable};
+use signed_clause::IntSet;
+use std::alloc::AllocError;
+
+/// What places have room for, and the places that are left.
+#[derive(Drop)]
+pub(crate) struct Taken {
+    /// What those that were taken have room for, as a sum of their flags.
+    pub sum: Linear,
+    /// The places that are left.
+    pub rest: IntSet,
+}
+
+/// What a place has room for, by its flag.
+fn share_of(maker: &Maker, h: &Host) -> Result<Linear, AllocError>
+    requires exists { h.now.flag < length maker.now.domains }
+    requires near { reach_of (box_of maker.now.domains h.now.flag) ≤ 1 }
+    requires stays { h.now.stays ≤ 2 ^ 38 }
+    requires more { h.now.more ≤ 2 ^ 38 }
+    ensures value { IfOk result (λ r. (a : List ℤ) → IsWorld maker.now a → linear_at r a
+        ≡ pos h.now.stays +ℤ (pos h.now.more *ℤ value_of a h.now.flag)) }
+    ensures linear { IfOk result (λ r. IsLinear (2 ^ 39) maker.now.domains r) }
+{
+    let stays = amount(maker.alloc(), h.stays);
+    let own = variable(maker, h.flag)?;
+    let more = own.times(maker.alloc(), signed(h.more))?;
+    let r = more.plus(maker.alloc(), &stays)?;
+    Ok(r)
+}
+
+/// The places without one.
+fn without(maker: &Maker, rest: &IntSet, place: u64) -> Result<IntSet, AllocError>
+    requires { place ≤ 2 ^ 38 }
+    ensures { IfOk result (λ s. (v : ℤ) → has s v
+        ≡ (has rest.now v && not (in_range (pos place, pos place) v))) }
+{
+    let v = signed(place);
+    let one = IntSet::range(maker.alloc(), v, v);
+    let left = rest.less(&one)?;
+    Ok(left)
+}
+
+/// One place more is taken, where the numbers stay small.
+fn take_host(maker: &Maker, p: &Packing, t: Taken, h: &Host) -> Result<Option<Taken>, AllocError>
+    requires packing { IsPacking maker.now p.now }
+    requires taken { IsTaken maker.now p.now t }
+    requires host { IsHost maker.now p.now h.now }
+    ensures { IfOk result (λ o. IfSome o (λ r. IsTaken maker.now p.now r)) }
+{
+    let share = share_of(maker, h)?;
+    let sum = t.sum.plus(maker.alloc(), &share)?;
+    let rest = without(maker, &t.rest, h.place)?;
+    if is_light(maker, &sum) {
+        Ok(Some(Taken { sum, rest }))
+    } else {
+        Ok(None)
+    }
+}
+
+/// No place is taken.
+fn none_taken(maker: &Maker, p: &Packing) -> Result<Taken, AllocError>
+    requires { IsPacking maker.now p.now }
+    ensures { IfOk result (λ t. IsTaken maker.now p.now t) }
+{
+    let sum = amount(maker.alloc(), 0);
+    let rest = p.used.copy()?;
+    Ok(Taken { sum, rest })
+}
+
+/// All of these places are taken, where the numbers stay small.
+fn take_all(maker: &Maker, p: &Packing, hosts: &[Host]) -> Result<Option<Taken>, AllocError>
+    requires packing { IsPacking maker.now p.now }
+    requires hosts { All (IsHost maker.now p.now) hosts.now }
+    ensures { IfOk result (λ o. IfSome o (λ t. IsTaken maker.now p.now t)) }
+{
+    let mut t = none_taken(maker, p)?;
+    for h in hosts {
+        match take_host(maker, p, t, h)? {
+            Some(more) => t = more,
+            None => return Ok(None),
+        }
+    }
+    Ok(Some(t))
+}
+
+/// The places of which flags tell that are terms of the sum, with this coefficient.
+fn hosts_of(
+    maker: &Maker,
+    places: &[usize],
+    p: &Packing,
+    number: &Linear,
+    rises: bool,
+) -> Result<Vec<Host>, AllocError>
+    requires { IsPacking maker.now p.now }
+    ensures { IfOk result (λ hosts. All (IsHost maker.now p.now) hosts.items) }
+{
+    let mut hosts = Vec::new(maker.alloc());
+    for t in number.terms.items() {
+        if t.0 == factor(rises) {
+            push_host(maker, places, p, &mut hosts, t.1)?;
+        }
+    }
+    Ok(hosts)
+}
+
+/// Adds the place of which the flag tells, where it is one.
+fn push_host(
+    maker: &Maker,
+    places: &[usize],
+    p: &Packing,
+    hosts: &mut Vec<Host>,
+    flag: u32,
+) -> Result<(), AllocError>
+    requires packing { IsPacking maker.now p.now }
+    requires hosts { All (IsHost maker.now p.now) hosts.old.items }
+    ensures { OnOk result (All (IsHost maker.now p.now) hosts.new.items) }
+{
+    if let Some(h) = host_of(maker, places, p, flag)? {
+        hosts.push(h)?;
+    }
+    Ok(())
+}
+
+/// The multiples that are added for places: the distinct numbers of what they have room for
+/// besides.
+fn multiples(maker: &Maker, hosts: &[Host]) -> Result<Vec<u64>, AllocError> {
+    let mut numbers = Vec::new(maker.alloc());
+    for h in hosts {
+        numbers.push(h.more)?;
+    }
+    numbers.sort_unstable();
+    let out = distinct(maker.alloc(), numbers.as_slice())?;
+    Ok(out)
+}
+
+/// States that all items fit into the places, with multiples of what is 0.
+fn state_used(
+    maker: &mut Maker,
+    zero: &Linear,
+    p: &Packing,
+    t: &Taken,
+    sizes: &[u64],
+    rises: bool,
+) -> Result<(), AllocError>
+    requires zero { IsLinear (2 ^ 20) maker.old.domains zero.now }
+    requires nought { IsNought maker.old zero.now }
+    requires packing { IsPacking maker.old p.now }
+    requires taken { IsTaken maker.old p.now t.now }
+    ensures { OnOk result (Defines maker.old maker.new) }
+{
+    let Some(most) = room_in(p, &t.rest) else {
+        return Ok(());
+    };
+    let outside = amount_less(maker, p.whole, &t.sum)?;
+    let row = less_amount(maker, &outside, most)?;
+    state_multiples(maker, &row, zero, sizes, rises)?;
+    Ok(())
+}
+
+/// Adds the rows of a packing for the places of which flags tell that are terms of the goal's sum.
+pub(crate) fn add_used(
+    maker: &mut Maker,
+    zero: &Linear,
+    p: &Packing,
+    places: &[usize],
+    number: &Linear,
+    rises: bool,
+) -> Result<(), AllocError>
+    requires zero { IsLinear (2 ^ 20) maker.old.domains zero.now }
+    requires nought { IsNought maker.old zero.now }
+    requires packing { IsPacking maker.old p.now }
+    ensures { OnOk result (Defines maker.old maker.new) }
+{
+    let hosts = hosts_of(maker, places, p, number, rises)?;
+    if hosts.is_empty() {
+        return Ok(());
+    }
+    let sizes = multiples(maker, hosts.as_slice())?;
+    let Some(t) = take_all(maker, p, hosts.as_slice())? else {
+        return Ok(());
+    };
+    state_used(maker, zero, p, &t, sizes.as_slice(), rises)?;
+    Ok(())
+}

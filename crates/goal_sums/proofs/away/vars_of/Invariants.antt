@@ -1,6 +1,0 @@
-use Rattle.std.proofs.Common.{take}
-use Rattle.goal_sums.specs.Hosts.{ArePartsAway}
-use Rattle.goal_sums.proofs.away.vars_of.Given as goal
-
-abbrev pub invariant-loop-part : goal.invariant-loop-part
-invariant-loop-part l = ArePartsAway l.maker (take l.part-index l.parts) l.place l.vars.items

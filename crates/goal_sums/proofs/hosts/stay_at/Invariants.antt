@@ -1,6 +1,0 @@
-use Rattle.std.proofs.Common.{take}
-use Rattle.goal_sums.specs.Hosts.{StayAt}
-use Rattle.goal_sums.proofs.hosts.stay_at.Given as goal
-
-abbrev pub invariant-loop-s : goal.invariant-loop-s
-invariant-loop-s l = StayAt l.boxes l.vars l.place (take l.s-index l.items) l.sum

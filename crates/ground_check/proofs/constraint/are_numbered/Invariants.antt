@@ -1,6 +1,0 @@
-use Rattle.std.proofs.Common.{◌≡◌, drop}
-use Rattle.ground_check.specs.Numbered.{numbered}
-use Rattle.ground_check.proofs.constraint.are_numbered.Given as goal
-
-abbrev pub invariant-loop-i : goal.invariant-loop-i
-invariant-loop-i l = numbered l.i (drop l.i l.items) ≡ numbered 0 l.items

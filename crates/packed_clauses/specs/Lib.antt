@@ -1,3 +1,0 @@
-pub mod Numbers
-pub mod Coded
-pub mod Packed

@@ -1,7 +1,0 @@
-use Rattle.std.proofs.Common.{◌<◌, drop, length, All}
-use Rattle.queue_check.proofs.scan.has_boxes.Given as goal
-
-abbrev pub invariant-loop-l : goal.invariant-loop-l
-invariant-loop-l l =
-    All (λ x. x.0 < length l.boxes) (drop l.l-index l.literals) →
-    All (λ x. x.0 < length l.boxes) l.literals

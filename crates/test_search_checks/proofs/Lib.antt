@@ -1,0 +1,4 @@
+pub mod WithinDomains
+pub mod WalkBack
+pub mod WiderBoxes
+pub mod Fitted
