@@ -10,7 +10,7 @@ use ground_build::Builder;
 use ground_form::{Goals, Ground, GroundGoal};
 use log_check::{CheckError, Verdict, VerdictKind, check};
 use log_form::Line;
-use proof_log::Record;
+use proof_log::Journal;
 use rule_law::Kit;
 use std::alloc::{AllocError, Global};
 use std::rt::Runtime;
@@ -169,7 +169,7 @@ pub(crate) fn searched<R: Runtime>(
         return Ok(None);
     };
     let hints = no_hints(alloc, g.search)?;
-    let mut journal = Record::new(alloc);
+    let mut journal = Journal::new(alloc);
     let clock = Clock::start(rt);
     let ended = search(limits, &g, kit, chooser, hints.as_slice(), &mut journal)?;
     let search_time = clock.passed(rt);
