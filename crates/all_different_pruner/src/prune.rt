@@ -57,13 +57,22 @@ fn prune_different(
 }
 
 /// Prunes by places that differ.
-#[derive(Drop)]
 pub struct AllDifferent {
     alloc: Global,
     /// Counters for a sweep.
     counters: Counters,
     /// Which variables of a constraint stand twice.
     repeats: Repeats,
+}
+
+impl Drop for AllDifferent {
+    fn drop(self) {
+        let AllDifferent {
+            alloc: _,
+            counters: _,
+            repeats: _,
+        } = self;
+    }
 }
 
 impl AllDifferent {

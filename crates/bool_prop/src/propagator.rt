@@ -17,10 +17,18 @@ use std::alloc::{AllocError, Global};
 /// The propagator of conjunctions, memberships and clauses. The boxes of a flag and of the first
 /// parts tell at once that there is nothing to say, and so do two literals of a clause; what is kept
 /// is which conjunctions have a variable that stands twice.
-#[derive(Drop)]
 pub struct BoolProp {
     alloc: Global,
     repeats: Repeats,
+}
+
+impl Drop for BoolProp {
+    fn drop(self) {
+        let BoolProp {
+            alloc: _,
+            repeats: _,
+        } = self;
+    }
 }
 
 impl BoolProp {

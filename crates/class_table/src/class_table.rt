@@ -33,7 +33,6 @@ use std::alloc::Global;
 use std::marker::Model;
 
 /// The table of a model in which the declarations have no fault. It is seen as the model's outline.
-#[derive(Drop)]
 pub struct ClassTable {
     names: Space,
     classes: Vec<Class>,
@@ -45,6 +44,20 @@ pub struct ClassTable {
     counts: Vec<u32>,
     /// An order of the classes in which each stands behind its parent.
     order: Vec<State>,
+}
+
+impl Drop for ClassTable {
+    fn drop(self) {
+        let ClassTable {
+            names: _,
+            classes: _,
+            enumerations: _,
+            roots: _,
+            paths: _,
+            counts: _,
+            order: _,
+        } = self;
+    }
 }
 
 impl Model for ClassTable {

@@ -22,9 +22,14 @@ use std::alloc::{AllocError, Global};
 use std::marker::Model;
 
 /// Clauses that are looked at only where they may have become unit or false.
-#[derive(Drop)]
 pub struct Watches {
     table: Table,
+}
+
+impl Drop for Watches {
+    fn drop(self) {
+        let Watches { table: _ } = self;
+    }
 }
 
 impl Model for Watches {

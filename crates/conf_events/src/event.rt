@@ -13,9 +13,15 @@ pub struct Event {
 }
 
 /// Events, in order.
-#[derive(Debug, Drop)]
+#[derive(Debug)]
 pub struct Events {
     items: Vec<Event>,
+}
+
+impl Drop for Events {
+    fn drop(self) {
+        let Events { items: _ } = self;
+    }
 }
 
 impl Model for Events {

@@ -4,9 +4,15 @@ ghost use Rattle.std.specs.Prelude.{◌≡◌, string_bytes};
 use std::marker::Model;
 
 /// The name of a file, as it stands among the words.
-#[derive(Debug, Drop)]
+#[derive(Debug)]
 pub struct FileName {
     name: String,
+}
+
+impl Drop for FileName {
+    fn drop(self) {
+        let FileName { name: _ } = self;
+    }
 }
 
 impl Model for FileName {

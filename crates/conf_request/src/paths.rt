@@ -5,9 +5,15 @@ use conf_syntax::PathText;
 use std::marker::Model;
 
 /// Paths of objects, in order.
-#[derive(Debug, Drop)]
+#[derive(Debug)]
 pub struct Paths {
     items: Vec<PathText>,
+}
+
+impl Drop for Paths {
+    fn drop(self) {
+        let Paths { items: _ } = self;
+    }
 }
 
 impl Model for Paths {

@@ -20,9 +20,14 @@ use std::alloc::{AllocError, Global};
 
 /// A session: the problem of a model with the clauses that were kept, the former values, and what
 /// stands as failed. After want of memory in a step it is void, and has none of these.
-#[derive(Drop)]
 pub struct Session {
     state: Option<State>,
+}
+
+impl Drop for Session {
+    fn drop(self) {
+        let Session { state: _ } = self;
+    }
 }
 
 /// The state behind an event.

@@ -5,9 +5,15 @@ use crate::{Expr, Ident, Item, Member};
 use std::marker::Model;
 
 /// The values of an enumeration, in order.
-#[derive(Debug, Drop)]
+#[derive(Debug)]
 pub struct Idents {
     items: Vec<Ident>,
+}
+
+impl Drop for Idents {
+    fn drop(self) {
+        let Idents { items: _ } = self;
+    }
 }
 
 impl Model for Idents {
@@ -36,9 +42,14 @@ impl Idents {
 }
 
 /// Expressions, in order.
-#[derive(Drop)]
 pub struct Exprs {
     items: Vec<Expr>,
+}
+
+impl Drop for Exprs {
+    fn drop(self) {
+        let Exprs { items: _ } = self;
+    }
 }
 
 impl Model for Exprs {
@@ -71,9 +82,14 @@ impl Exprs {
 }
 
 /// The members of a class, in order.
-#[derive(Drop)]
 pub struct Members {
     items: Vec<Member>,
+}
+
+impl Drop for Members {
+    fn drop(self) {
+        let Members { items: _ } = self;
+    }
 }
 
 impl Model for Members {
@@ -106,9 +122,14 @@ impl Members {
 }
 
 /// The items of a model, in order.
-#[derive(Drop)]
 pub struct Items {
     items: Vec<Item>,
+}
+
+impl Drop for Items {
+    fn drop(self) {
+        let Items { items: _ } = self;
+    }
 }
 
 impl Model for Items {

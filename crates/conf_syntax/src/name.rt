@@ -11,9 +11,15 @@ use std::hash::{Hash, Hasher};
 use std::marker::Model;
 
 /// The bytes of a word.
-#[derive(Debug, Drop)]
+#[derive(Debug)]
 pub struct Name {
     bytes: Vec<u8>,
+}
+
+impl Drop for Name {
+    fn drop(self) {
+        let Name { bytes: _ } = self;
+    }
 }
 
 impl Model for Name {
@@ -66,9 +72,15 @@ impl Hash for Name {
 }
 
 /// The bytes of a path to an object or to a leaf, as `home.hosts[0].cpu`.
-#[derive(Debug, Drop)]
+#[derive(Debug)]
 pub struct PathText {
     bytes: Vec<u8>,
+}
+
+impl Drop for PathText {
+    fn drop(self) {
+        let PathText { bytes: _ } = self;
+    }
 }
 
 impl Model for PathText {

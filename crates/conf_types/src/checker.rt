@@ -19,10 +19,18 @@ use conf_syntax::{Expr, GoalDecl, Item, Member, Program};
 use std::alloc::{AllocError, Global};
 
 /// A model in which the expressions have no fault: its constraints and objectives, resolved.
-#[derive(Drop)]
 pub struct TypedModel {
     constraints: Constraints,
     goals: Goals,
+}
+
+impl Drop for TypedModel {
+    fn drop(self) {
+        let TypedModel {
+            constraints: _,
+            goals: _,
+        } = self;
+    }
 }
 
 impl TypedModel {

@@ -5,9 +5,14 @@ use crate::{Constraint, Goal};
 use std::marker::Model;
 
 /// Constraints, in order of place.
-#[derive(Drop)]
 pub struct Constraints {
     items: Vec<Constraint>,
+}
+
+impl Drop for Constraints {
+    fn drop(self) {
+        let Constraints { items: _ } = self;
+    }
 }
 
 impl Model for Constraints {
@@ -40,9 +45,14 @@ impl Constraints {
 }
 
 /// Objectives, in order of place.
-#[derive(Drop)]
 pub struct Goals {
     items: Vec<Goal>,
+}
+
+impl Drop for Goals {
+    fn drop(self) {
+        let Goals { items: _ } = self;
+    }
 }
 
 impl Model for Goals {

@@ -8,10 +8,15 @@ use std::marker::Model;
 
 /// A resolved expression with its place.
 #[cycle(resolved)]
-#[derive(Drop)]
 pub struct RExpr {
     pub at: u32,
     pub node: RNode,
+}
+
+impl Drop for RExpr {
+    fn drop(self) {
+        let RExpr { at: _, node: _ } = self;
+    }
 }
 
 /// What a resolved expression is made of.
@@ -42,7 +47,6 @@ pub enum RNode {
 
 /// A resolved quantifier.
 #[cycle(resolved)]
-#[derive(Drop)]
 pub struct RQuant {
     pub kind: QuantKind,
     pub over: RExpr,
@@ -50,13 +54,33 @@ pub struct RQuant {
     pub body: Vec<RExpr>,
 }
 
+impl Drop for RQuant {
+    fn drop(self) {
+        let RQuant {
+            kind: _,
+            over: _,
+            filter: _,
+            body: _,
+        } = self;
+    }
+}
+
 /// A constraint: the class for whose objects it is stated, or none at the top level, and the place
 /// of its first token.
-#[derive(Drop)]
 pub struct Constraint {
     pub class: Option<u32>,
     pub place: u32,
     pub expr: RExpr,
+}
+
+impl Drop for Constraint {
+    fn drop(self) {
+        let Constraint {
+            class: _,
+            place: _,
+            expr: _,
+        } = self;
+    }
 }
 
 impl Model for Constraint {
@@ -72,10 +96,15 @@ impl Model for Constraint {
 }
 
 /// An objective.
-#[derive(Drop)]
 pub struct Goal {
     pub max: bool,
     pub expr: RExpr,
+}
+
+impl Drop for Goal {
+    fn drop(self) {
+        let Goal { max: _, expr: _ } = self;
+    }
 }
 
 impl Model for Goal {

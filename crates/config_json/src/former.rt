@@ -7,9 +7,14 @@ use serde_json::Value;
 use std::alloc::Global;
 
 /// A JSON value that was read from a former text. Clauses see it as that value, by `json_of`.
-#[derive(Drop)]
 pub struct Former {
     pub(crate) value: Value,
+}
+
+impl Drop for Former {
+    fn drop(self) {
+        let Former { value: _ } = self;
+    }
 }
 
 /// Why a former text is refused.

@@ -18,10 +18,18 @@ use std::alloc::{AllocError, Global};
 /// The propagator of elements, equalities and conditionals. Of equalities and conditionals the
 /// boxes of three variables tell at once whether there is something to say. What is kept is which
 /// variables of an element stand twice.
-#[derive(Drop)]
 pub struct ElementProp {
     alloc: Global,
     repeats: Repeats,
+}
+
+impl Drop for ElementProp {
+    fn drop(self) {
+        let ElementProp {
+            alloc: _,
+            repeats: _,
+        } = self;
+    }
 }
 
 impl ElementProp {

@@ -31,10 +31,15 @@ pub enum Applied {
 }
 
 /// Boxes in levels, and how they came to be.
-#[derive(Drop)]
 pub struct Store {
     boxes: Vec<IntSet>,
     trail: Vec<Moved>,
+}
+
+impl Drop for Store {
+    fn drop(self) {
+        let Store { boxes: _, trail: _ } = self;
+    }
 }
 
 impl Model for Store {

@@ -27,11 +27,20 @@ use std::alloc::{AllocError, Global};
 use std::marker::Model;
 
 /// A problem in the making, and where its definitions stand.
-#[derive(Drop)]
 pub struct Maker {
     builder: Builder,
     sharing: Sharing,
     alloc: Global,
+}
+
+impl Drop for Maker {
+    fn drop(self) {
+        let Maker {
+            builder: _,
+            sharing: _,
+            alloc: _,
+        } = self;
+    }
 }
 
 impl Model for Maker {
@@ -70,7 +79,12 @@ impl Maker {
     pub fn into_builder(self) -> Builder
         ensures { result ≡ self }
     {
-        self.builder
+        let Maker {
+            builder,
+            sharing: _,
+            alloc: _,
+        } = self;
+        builder
     }
 
     /// Where memory comes from.

@@ -31,11 +31,20 @@ use std::alloc::{AllocError, Global};
 use std::marker::Model;
 
 /// A ground problem in the making, without goals.
-#[derive(Drop)]
 pub struct Builder {
     domains: Vec<IntSet>,
     search: u32,
     cons: Vec<Con>,
+}
+
+impl Drop for Builder {
+    fn drop(self) {
+        let Builder {
+            domains: _,
+            search: _,
+            cons: _,
+        } = self;
+    }
 }
 
 impl Model for Builder {
@@ -320,10 +329,15 @@ impl Builder {
         ensures problem { result ≡ with_goals self goals }
         ensures well_made { IsWellMade result }
     {
+        let Builder {
+            domains,
+            search,
+            cons,
+        } = self;
         Ground {
-            domains: Domains::of(self.domains),
-            search: self.search,
-            cons: Cons::of(self.cons),
+            domains: Domains::of(domains),
+            search,
+            cons: Cons::of(cons),
             goals,
         }
     }

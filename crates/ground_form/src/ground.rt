@@ -30,9 +30,14 @@ pub struct Ground {
 }
 
 /// Constraints.
-#[derive(Drop)]
 pub struct Cons {
     items: Vec<Con>,
+}
+
+impl Drop for Cons {
+    fn drop(self) {
+        let Cons { items: _ } = self;
+    }
 }
 
 impl Model for Cons {
@@ -71,14 +76,20 @@ impl Cons {
     pub fn into_items(self) -> Vec<Con>
         ensures { result.items ≡ self }
     {
-        self.items
+        let Cons { items } = self;
+        items
     }
 }
 
 /// Goals, the one that counts most first.
-#[derive(Drop)]
 pub struct Goals {
     items: Vec<GroundGoal>,
+}
+
+impl Drop for Goals {
+    fn drop(self) {
+        let Goals { items: _ } = self;
+    }
 }
 
 impl Model for Goals {
@@ -117,7 +128,8 @@ impl Goals {
     pub fn into_items(self) -> Vec<GroundGoal>
         ensures { result.items ≡ self }
     {
-        self.items
+        let Goals { items } = self;
+        items
     }
 }
 

@@ -12,9 +12,14 @@ use std::marker::Model;
 
 /// A sum: terms, each a coefficient and a variable. In `ElementDef` items, each a value of the
 /// index and a variable.
-#[derive(Drop)]
 pub struct Terms {
     items: Vec<(i64, u32)>,
+}
+
+impl Drop for Terms {
+    fn drop(self) {
+        let Terms { items: _ } = self;
+    }
 }
 
 impl Model for Terms {
@@ -59,14 +64,20 @@ impl Terms {
     pub fn into_items(self) -> Vec<(i64, u32)>
         ensures { result.items ≡ self }
     {
-        self.items
+        let Terms { items } = self;
+        items
     }
 }
 
 /// Variables of a conjunction, each with the truth that it wants.
-#[derive(Drop)]
 pub struct Parts {
     items: Vec<(u32, bool)>,
+}
+
+impl Drop for Parts {
+    fn drop(self) {
+        let Parts { items: _ } = self;
+    }
 }
 
 impl Model for Parts {
@@ -111,14 +122,20 @@ impl Parts {
     pub fn into_items(self) -> Vec<(u32, bool)>
         ensures { result.items ≡ self }
     {
-        self.items
+        let Parts { items } = self;
+        items
     }
 }
 
 /// Variables.
-#[derive(Drop)]
 pub struct VarList {
     items: Vec<u32>,
+}
+
+impl Drop for VarList {
+    fn drop(self) {
+        let VarList { items: _ } = self;
+    }
 }
 
 impl Model for VarList {
@@ -163,14 +180,20 @@ impl VarList {
     pub fn into_items(self) -> Vec<u32>
         ensures { result.items ≡ self }
     {
-        self.items
+        let VarList { items } = self;
+        items
     }
 }
 
 /// Items to be packed: each item's variables of place, size and room.
-#[derive(Drop)]
 pub struct PackItems {
     items: Vec<(u32, u32, u32)>,
+}
+
+impl Drop for PackItems {
+    fn drop(self) {
+        let PackItems { items: _ } = self;
+    }
 }
 
 impl Model for PackItems {
@@ -215,14 +238,20 @@ impl PackItems {
     pub fn into_items(self) -> Vec<(u32, u32, u32)>
         ensures { result.items ≡ self }
     {
-        self.items
+        let PackItems { items } = self;
+        items
     }
 }
 
 /// The domain of each variable.
-#[derive(Drop)]
 pub struct Domains {
     items: Vec<IntSet>,
+}
+
+impl Drop for Domains {
+    fn drop(self) {
+        let Domains { items: _ } = self;
+    }
 }
 
 impl Model for Domains {
@@ -261,7 +290,8 @@ impl Domains {
     pub fn into_items(self) -> Vec<IntSet>
         ensures { result.items ≡ self }
     {
-        self.items
+        let Domains { items } = self;
+        items
     }
 }
 

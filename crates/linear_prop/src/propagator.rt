@@ -22,10 +22,18 @@ use std::alloc::{AllocError, Global};
 /// A constraint in which no variable stands twice is answered by its rows: a walk over the terms,
 /// and two for a sum that defines a variable or an open flag; another by plain probing. That no
 /// variable stands twice is kept.
-#[derive(Drop)]
 pub struct LinearProp {
     alloc: Global,
     repeats: Repeats,
+}
+
+impl Drop for LinearProp {
+    fn drop(self) {
+        let LinearProp {
+            alloc: _,
+            repeats: _,
+        } = self;
+    }
 }
 
 impl LinearProp {

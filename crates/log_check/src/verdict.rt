@@ -17,10 +17,18 @@ pub enum VerdictKind {
 }
 
 /// The verdict of accepted lines. Only the checker makes one.
-#[derive(Drop)]
 pub struct Verdict {
     closed: bool,
     found: Option<Values>,
+}
+
+impl Drop for Verdict {
+    fn drop(self) {
+        let Verdict {
+            closed: _,
+            found: _,
+        } = self;
+    }
 }
 
 impl Model for Verdict {

@@ -7,9 +7,14 @@ use std::alloc::AllocError;
 use std::marker::Model;
 
 /// Values, one for each variable or for each goal.
-#[derive(Drop)]
 pub struct Values {
     items: Vec<i64>,
+}
+
+impl Drop for Values {
+    fn drop(self) {
+        let Values { items: _ } = self;
+    }
 }
 
 impl Model for Values {
@@ -47,14 +52,20 @@ impl Values {
     pub fn into_items(self) -> Vec<i64>
         ensures { result.items ≡ self }
     {
-        self.items
+        let Values { items } = self;
+        items
     }
 }
 
 /// Indexes of parts of a model.
-#[derive(Drop)]
 pub struct Indexes {
     items: Vec<u32>,
+}
+
+impl Drop for Indexes {
+    fn drop(self) {
+        let Indexes { items: _ } = self;
+    }
 }
 
 impl Model for Indexes {
@@ -84,14 +95,20 @@ impl Indexes {
     pub fn into_items(self) -> Vec<u32>
         ensures { result.items ≡ self }
     {
-        self.items
+        let Indexes { items } = self;
+        items
     }
 }
 
 /// Lines of a log, in order.
-#[derive(Drop)]
 pub struct Lines {
     items: Vec<Line>,
+}
+
+impl Drop for Lines {
+    fn drop(self) {
+        let Lines { items: _ } = self;
+    }
 }
 
 impl Model for Lines {
@@ -122,6 +139,7 @@ impl Lines {
     pub fn into_items(self) -> Vec<Line>
         ensures { result.items ≡ self }
     {
-        self.items
+        let Lines { items } = self;
+        items
     }
 }

@@ -9,9 +9,14 @@ use std::alloc::AllocError;
 use std::marker::Model;
 
 /// The steps of a chain: each a variable, and the number of the clause that is resolved with on it.
-#[derive(Drop)]
 pub struct ChainSteps {
     items: Vec<(u32, u64)>,
+}
+
+impl Drop for ChainSteps {
+    fn drop(self) {
+        let ChainSteps { items: _ } = self;
+    }
 }
 
 impl Model for ChainSteps {
@@ -49,15 +54,21 @@ impl ChainSteps {
     pub fn into_items(self) -> Vec<(u32, u64)>
         ensures { result.items ≡ self }
     {
-        self.items
+        let ChainSteps { items } = self;
+        items
     }
 }
 
 /// Where a derivation begins, and its steps.
-#[derive(Drop)]
 pub struct Chain {
     /// The number of the clause that it begins with.
     pub first: u64,
     /// Its steps, in order.
     pub steps: ChainSteps,
+}
+
+impl Drop for Chain {
+    fn drop(self) {
+        let Chain { first: _, steps: _ } = self;
+    }
 }

@@ -12,9 +12,14 @@ use std::alloc::{AllocError, Global};
 use std::marker::Model;
 
 /// Numbered clauses.
-#[derive(Drop)]
 pub struct Clauses {
     items: Vec<ClauseHandle>,
+}
+
+impl Drop for Clauses {
+    fn drop(self) {
+        let Clauses { items: _ } = self;
+    }
 }
 
 impl Model for Clauses {

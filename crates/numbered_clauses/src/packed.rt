@@ -20,10 +20,18 @@ use std::marker::Model;
 const MOST_BYTES: usize = 1 << 30;
 
 /// Packed clauses.
-#[derive(Drop)]
 pub struct PackedClauses {
     bytes: Vec<u8>,
     places: Vec<u64>,
+}
+
+impl Drop for PackedClauses {
+    fn drop(self) {
+        let PackedClauses {
+            bytes: _,
+            places: _,
+        } = self;
+    }
 }
 
 impl Model for PackedClauses {

@@ -54,9 +54,15 @@ pub struct Cell {
 }
 
 /// Objects, by their numbers.
-#[derive(Debug, Drop)]
+#[derive(Debug)]
 pub struct ObjectList {
     items: Vec<u32>,
+}
+
+impl Drop for ObjectList {
+    fn drop(self) {
+        let ObjectList { items: _ } = self;
+    }
 }
 
 impl Model for ObjectList {
@@ -84,9 +90,15 @@ impl ObjectList {
 }
 
 /// A configuration: one value for each cell, in order.
-#[derive(Debug, Drop)]
+#[derive(Debug)]
 pub struct Config {
     values: Vec<i64>,
+}
+
+impl Drop for Config {
+    fn drop(self) {
+        let Config { values: _ } = self;
+    }
 }
 
 impl Model for Config {
@@ -114,9 +126,15 @@ impl Config {
 }
 
 /// For each cell, in order, the value that it had before, if it had one.
-#[derive(Debug, Drop)]
+#[derive(Debug)]
 pub struct Hints {
     values: Vec<Option<i64>>,
+}
+
+impl Drop for Hints {
+    fn drop(self) {
+        let Hints { values: _ } = self;
+    }
 }
 
 impl Model for Hints {

@@ -49,10 +49,15 @@ impl Kept {
 }
 
 /// Prunes by places that differ and by items to be packed.
-#[derive(Drop)]
 pub struct PackProp {
     alloc: Global,
     kept: Kept,
+}
+
+impl Drop for PackProp {
+    fn drop(self) {
+        let PackProp { alloc: _, kept: _ } = self;
+    }
 }
 
 impl PackProp {

@@ -15,7 +15,6 @@ use std::marker::Model;
 use std::mem;
 
 /// A closed round.
-#[derive(Drop)]
 pub struct Round {
     /// The ground problem.
     pub ground: Ground,
@@ -25,13 +24,33 @@ pub struct Round {
     pub part: Indexes,
 }
 
+impl Drop for Round {
+    fn drop(self) {
+        let Round {
+            ground: _,
+            lines: _,
+            part: _,
+        } = self;
+    }
+}
+
 /// The journal of a search.
-#[derive(Drop)]
 pub struct Journal {
     alloc: Global,
     ground: Option<Ground>,
     lines: Vec<Line>,
     rounds: Vec<Round>,
+}
+
+impl Drop for Journal {
+    fn drop(self) {
+        let Journal {
+            alloc: _,
+            ground: _,
+            lines: _,
+            rounds: _,
+        } = self;
+    }
 }
 
 impl Model for Journal {

@@ -30,12 +30,22 @@ use std::marker::Model;
 
 /// The constraints that are still to be looked at. Clauses come first, and then those that cost
 /// little.
-#[derive(Drop)]
 pub struct Queue {
     listing: Listing,
     rows: Rows,
     others: Vec<u32>,
     clauses: Watches,
+}
+
+impl Drop for Queue {
+    fn drop(self) {
+        let Queue {
+            listing: _,
+            rows: _,
+            others: _,
+            clauses: _,
+        } = self;
+    }
 }
 
 impl Model for Queue {

@@ -204,10 +204,18 @@ pub struct MissingKind {
 }
 
 /// Propagators of which each kind has one.
-#[derive(Drop)]
 pub struct Kit {
     list: Vec<Box<dyn Propagator>>,
     members: [usize; 11],
+}
+
+impl Drop for Kit {
+    fn drop(self) {
+        let Kit {
+            list: _,
+            members: _,
+        } = self;
+    }
 }
 
 impl Kit {

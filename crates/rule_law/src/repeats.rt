@@ -234,11 +234,20 @@ pub fn has_var(vars: &[u32], x: u32) -> bool
 
 /// What was found of constraints, each under its number: their variables, and those that stand
 /// twice.
-#[derive(Drop)]
 pub struct Repeats {
     alloc: Global,
     places: Vec<usize>,
     known: Vec<Known>,
+}
+
+impl Drop for Repeats {
+    fn drop(self) {
+        let Repeats {
+            alloc: _,
+            places: _,
+            known: _,
+        } = self;
+    }
 }
 
 impl Repeats {

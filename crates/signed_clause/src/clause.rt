@@ -18,9 +18,14 @@ use std::alloc::AllocError;
 use std::marker::Model;
 
 /// Literals, each a variable and a set: variables ascend, no set is empty.
-#[derive(Drop)]
 pub struct Clause {
     lits: Vec<(u32, IntSet)>,
+}
+
+impl Drop for Clause {
+    fn drop(self) {
+        let Clause { lits: _ } = self;
+    }
 }
 
 impl Model for Clause {

@@ -11,9 +11,14 @@ use std::marker::Model;
 use std::rc::Rc;
 
 /// One owner of a clause.
-#[derive(Drop)]
 pub struct ClauseHandle {
     clause: Rc<Clause>,
+}
+
+impl Drop for ClauseHandle {
+    fn drop(self) {
+        let ClauseHandle { clause: _ } = self;
+    }
 }
 
 impl Model for ClauseHandle {

@@ -26,9 +26,14 @@ use std::marker::Model;
 const LONG: usize = 16;
 
 /// A finite set of integers of 64 bits.
-#[derive(Drop)]
 pub struct IntSet {
     ranges: RangeList,
+}
+
+impl Drop for IntSet {
+    fn drop(self) {
+        let IntSet { ranges: _ } = self;
+    }
 }
 
 impl Model for IntSet {

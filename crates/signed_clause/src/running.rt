@@ -24,10 +24,15 @@ use std::marker::Model;
 use std::mem;
 
 /// A clause as a table of sets by variable, empty where there is no literal.
-#[derive(Drop)]
 pub struct RunningClause {
     sets: Vec<IntSet>,
     used: Vec<u32>,
+}
+
+impl Drop for RunningClause {
+    fn drop(self) {
+        let RunningClause { sets: _, used: _ } = self;
+    }
 }
 
 impl Model for RunningClause {
