@@ -100,15 +100,10 @@ pub struct Bound {
 
 /// An expression with its place.
 #[cycle(tree)]
+#[derive(Drop)]
 pub struct Expr {
     pub at: u32,
     pub node: Node,
-}
-
-impl Drop for Expr {
-    fn drop(self) {
-        let Expr { at: _, node: _ } = self;
-    }
 }
 
 /// What an expression is made of.
@@ -129,24 +124,13 @@ pub enum Node {
 
 /// A quantifier: `forall VAR in OVER where FILTER { BODY; .. }` and its kin.
 #[cycle(tree)]
+#[derive(Drop)]
 pub struct Quant {
     pub kind: QuantKind,
     pub var: Ident,
     pub over: Expr,
     pub filter: Option<Expr>,
     pub body: Vec<Expr>,
-}
-
-impl Drop for Quant {
-    fn drop(self) {
-        let Quant {
-            kind: _,
-            var: _,
-            over: _,
-            filter: _,
-            body: _,
-        } = self;
-    }
 }
 
 /// Which quantifier it is.

@@ -8,15 +8,10 @@ use std::marker::Model;
 
 /// A resolved expression with its place.
 #[cycle(resolved)]
+#[derive(Drop)]
 pub struct RExpr {
     pub at: u32,
     pub node: RNode,
-}
-
-impl Drop for RExpr {
-    fn drop(self) {
-        let RExpr { at: _, node: _ } = self;
-    }
 }
 
 /// What a resolved expression is made of.
@@ -47,22 +42,12 @@ pub enum RNode {
 
 /// A resolved quantifier.
 #[cycle(resolved)]
+#[derive(Drop)]
 pub struct RQuant {
     pub kind: QuantKind,
     pub over: RExpr,
     pub filter: Option<RExpr>,
     pub body: Vec<RExpr>,
-}
-
-impl Drop for RQuant {
-    fn drop(self) {
-        let RQuant {
-            kind: _,
-            over: _,
-            filter: _,
-            body: _,
-        } = self;
-    }
 }
 
 /// A constraint: the class for whose objects it is stated, or none at the top level, and the place
