@@ -5,11 +5,11 @@ ghost use Rattle.signed_clause.specs.Clauses.{IsWithinBoxes};
 ghost use Rattle.ground_form.specs.Meaning.{vars_of};
 ghost use Rattle.ground_form.specs.Bounds.{IsBounded};
 
-use ground_check::is_constraint_well_made;
 use ground_form::Con;
 use rule_law::all_vars;
 use signed_clause::{Clause, IntSet};
 use std::alloc::{AllocError, Global};
+use test_well_made::is_constraint_well_made;
 
 /// Whether each number is below the count.
 fn are_below(vars: &[u32], count: usize) -> bool

@@ -5,12 +5,12 @@
 ghost use Rattle.std.specs.Prelude.{IfOk};
 ghost use Rattle.ground_form.specs.WellMade.{IsWellMade};
 
-use case_files::{Case, Subject, push_word};
-use given_problems::sets_text;
 use ground_build::Builder;
 use ground_form::{Con, Goals, Ground, GroundGoal, kind_of};
 use signed_clause::{Clause, IntSet};
 use std::alloc::{AllocError, Global};
+use test_case_files::{Case, Subject, push_word};
+use test_problems::sets_text;
 
 /// What is asked of problems that are built.
 #[derive(Drop)]

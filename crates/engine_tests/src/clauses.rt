@@ -9,28 +9,19 @@
 //!   its unit.
 //! - `cut CLAUSE | DOMAIN ..`: the clause cut to the domains.
 use crate::bounds::has_boxes;
+use crate::given::{answer_of, literal_text, two_lists};
 use crate::sets::{count_agreeing, count_long_agreeing};
-use case_files::{Case, Subject, words_of};
-use given_problems::{
+use rule_law::cut_to;
+use signed_clause::{Clause, resolve};
+use std::alloc::{AllocError, Global};
+use test_case_files::{Case, Subject, words_of};
+use test_problems::{
     Unread, clause_of, clause_text, literals_of, number, set_of, set_text, sets_of,
 };
-use rule_law::cut_to;
-use signed_clause::{Clause, IntSet, resolve};
-use std::alloc::{AllocError, Global};
 
 /// What is asked of sets and clauses.
 #[derive(Drop)]
 pub(crate) struct Clauses;
-
-/// The words before and behind the bar of a text.
-pub(crate) fn two_lists(alloc: Global, text: &[u8]) -> Result<(Vec<&str>, Vec<&str>), Unread> {
-    let Some((left, right)) = str::from_utf8(text).unwrap_or("").split_once('|') else {
-        return Err(Unread::Form);
-    };
-    let left = words_of(alloc, left.as_bytes())?;
-    let right = words_of(alloc, right.as_bytes())?;
-    Ok((left, right))
-}
 
 /// How many numbers a set has.
 fn count(alloc: Global, words: &[&str]) -> Result<String, Unread> {
@@ -52,21 +43,16 @@ fn less(alloc: Global, words: &[&str]) -> Result<String, Unread> {
     Ok(set_text(alloc, &left)?)
 }
 
-/// How many pairs are as their lists.
-fn lists(alloc: Global, words: &[&str]) -> Result<String, Unread> {
+/// How many pairs of small sets or of long ones are as their lists.
+fn pairs(alloc: Global, ask: &str, words: &[&str]) -> Result<String, Unread> {
     let [first] = words else {
         return Err(Unread::Form);
     };
-    let count = count_agreeing(alloc, number(first)?)?;
-    Ok(format!(in alloc; "{count}")?)
-}
-
-/// How many pairs of long sets are as their lists.
-fn long(alloc: Global, words: &[&str]) -> Result<String, Unread> {
-    let [first] = words else {
-        return Err(Unread::Form);
+    let first = number(first)?;
+    let count = match ask {
+        "lists" => count_agreeing(alloc, first)?,
+        _ => count_long_agreeing(alloc, first)?,
     };
-    let count = count_long_agreeing(alloc, number(first)?)?;
     Ok(format!(in alloc; "{count}")?)
 }
 
@@ -103,17 +89,6 @@ fn resolved(alloc: Global, one: &[&str], other: &[&str]) -> Result<String, Unrea
     }
 }
 
-/// A literal as a text.
-fn literal_text(alloc: Global, literal: &Option<(u32, IntSet)>) -> Result<String, AllocError> {
-    match literal {
-        Some((x, set)) => {
-            let set = set_text(alloc, set)?;
-            format!(in alloc; "{x}:{set}")
-        }
-        None => String::from_str(alloc, "none"),
-    }
-}
-
 /// What a clause is in boxes.
 fn in_boxes(alloc: Global, clause: &[&str], boxes: &[&str]) -> Result<String, Unread> {
     let clause = clause_of(alloc, clause)?;
@@ -121,7 +96,10 @@ fn in_boxes(alloc: Global, clause: &[&str], boxes: &[&str]) -> Result<String, Un
     if !has_boxes(&clause, &boxes) {
         return Err(Unread::Form);
     }
-    let unit = literal_text(alloc, &clause.unit(&boxes)?)?;
+    let unit = match clause.unit(&boxes)? {
+        Some((x, set)) => literal_text(alloc, x, &set)?,
+        None => String::from_str(alloc, "none")?,
+    };
     let (is_false, acts) = (clause.is_false(&boxes), clause.acts(&boxes));
     Ok(format!(in alloc; "{is_false} {acts} {unit}")?)
 }
@@ -149,21 +127,11 @@ fn told_of_two(alloc: Global, ask: &str, text: &[u8]) -> Result<String, Unread> 
 fn told(alloc: Global, ask: &str, text: &[u8]) -> Result<String, Unread> {
     let words = words_of(alloc, text)?;
     match ask {
-        "lists" => lists(alloc, &words),
-        "long" => long(alloc, &words),
+        "lists" | "long" => pairs(alloc, ask, &words),
         "less" => less(alloc, &words),
         "count" => count(alloc, &words),
         "clause" => made(alloc, &words),
         _ => told_of_two(alloc, ask, text),
-    }
-}
-
-/// What came, or that the text is unread.
-pub(crate) fn answer_of(alloc: Global, told: Result<String, Unread>) -> Result<String, AllocError> {
-    match told {
-        Ok(text) => Ok(text),
-        Err(Unread::Form) => String::from_str(alloc, "unread"),
-        Err(Unread::Memory) => Err(AllocError),
     }
 }
 

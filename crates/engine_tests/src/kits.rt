@@ -3,22 +3,48 @@
 //! back, or whether the kit is complete. `prunes BOX .. | BOX ..` asks a kit of plain probing for
 //! its clause of the problem that is given in the first boxes, and in the second ones once it has
 //! begun anew.
-use crate::clauses::{answer_of, two_lists};
+use crate::given::{answer_of, said_text, two_lists};
+use crate::harness::{ASKED, is_askable, problem_of};
 use bool_prop::BoolProp;
-use case_files::{Case, Subject, push_word, words_of};
 use element_prop::ElementProp;
-use given_problems::{Prober, Unread, clause_text, constraint_of, sets_of};
-use ground_check::is_search_well_made;
-use ground_form::{Cons, Domains, Goals, Ground};
+use ground_form::{Ground, Kind};
 use linear_prop::LinearProp;
 use pack_prop::PackProp;
 use rule_law::{Kit, Propagator, are_boxes_within};
 use signed_clause::IntSet;
 use std::alloc::{AllocError, Global};
+use test_case_files::{Case, Subject, push_word, words_of};
+use test_problems::{Prober, Unread, sets_of};
 
 /// What is asked of kits.
 #[derive(Drop)]
 pub(crate) struct Kits;
+
+/// All kinds.
+const KINDS: [Kind; 11] = [
+    Kind::LinLe,
+    Kind::LinDef,
+    Kind::ReifLe,
+    Kind::AndDef,
+    Kind::MemberDef,
+    Kind::EqDef,
+    Kind::ElementDef,
+    Kind::CondDef,
+    Kind::ClauseCon,
+    Kind::AllDiff,
+    Kind::Pack,
+];
+
+/// The kinds that the propagator handles.
+pub(crate) fn handled_kinds<P: Propagator>(alloc: Global, p: &P) -> Result<String, AllocError> {
+    let mut text = String::new(alloc);
+    for kind in KINDS {
+        if p.handles(kind) {
+            push_word(&mut text, &format!(in alloc; "{kind:?}")?)?;
+        }
+    }
+    Ok(text)
+}
 
 /// Which kinds are missing of kits with the first members.
 fn missing_kinds(alloc: Global, names: &[&str]) -> Result<String, AllocError> {
@@ -51,32 +77,12 @@ fn missing_kinds(alloc: Global, names: &[&str]) -> Result<String, AllocError> {
     Ok(text)
 }
 
-/// The problem of a text.
-fn problem_of(alloc: Global, text: &[u8]) -> Result<Ground, Unread> {
-    let (domains, constraint) = two_lists(alloc, text)?;
-    let domains = sets_of(alloc, &domains)?;
-    let con = constraint_of(alloc, &constraint)?;
-    let search = domains.len().min(1_000_000) as u32;
-    Ok(Ground {
-        domains: Domains::of(domains),
-        search,
-        cons: Cons::of(vec![in alloc; con]?),
-        goals: Goals::of(Vec::new(alloc)),
-    })
-}
-
 /// The clause of the kit in the boxes.
 fn pruned(alloc: Global, kit: &mut Kit, g: &Ground, boxes: &[IntSet]) -> Result<String, Unread> {
-    if g.cons.items().is_empty() || !is_search_well_made(g, alloc)? {
+    if !is_askable(g, alloc)? || !are_boxes_within(g.domains.items(), boxes) {
         return Err(Unread::Form);
     }
-    if !are_boxes_within(g.domains.items(), boxes) {
-        return Err(Unread::Form);
-    }
-    match kit.prune(g, 0, boxes)? {
-        Some(clause) => Ok(clause_text(alloc, &clause)?),
-        None => Ok(String::from_str(alloc, "nothing")?),
-    }
+    Ok(said_text(alloc, &kit.prune(g, ASKED, boxes)?)?)
 }
 
 /// The clauses of a kit of plain probing in two rows of boxes.
@@ -98,7 +104,7 @@ fn prunes(
 
 /// The clauses in the boxes of a text.
 fn prunes_text(alloc: Global, given: &[u8], text: &[u8]) -> Result<String, Unread> {
-    let g = problem_of(alloc, given)?;
+    let (_, g) = problem_of(alloc, given)?;
     let (first, second) = two_lists(alloc, text)?;
     let first = sets_of(alloc, &first)?;
     let second = sets_of(alloc, &second)?;

@@ -5,12 +5,12 @@ ghost use Rattle.std.specs.Prelude.{◌≡◌, IfOk};
 ghost use Rattle.ground_form.specs.Bounds.{singles};
 
 use crate::bounds::{is_bounded, is_named};
-use crate::clauses::answer_of;
-use case_files::{Case, Subject, numbers_of, words_of};
-use given_problems::{Unread, constraint_of};
+use crate::given::answer_of;
 use ground_form::{Con, holds_at, kind_of};
 use signed_clause::IntSet;
 use std::alloc::{AllocError, Global};
+use test_case_files::{Case, Subject, numbers_of, words_of};
+use test_problems::{Unread, constraint_of};
 
 /// What is asked of meaning.
 #[derive(Drop)]

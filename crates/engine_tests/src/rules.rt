@@ -2,13 +2,13 @@
 //! refute it, or it is quiet there, and `justified CLAUSE | DOMAIN ..` whether it justifies the
 //! clause over the domains.
 use crate::bounds::{is_bounded, is_named};
-use crate::clauses::{answer_of, two_lists};
-use case_files::{Case, Subject, words_of};
-use given_problems::{Unread, clause_of, constraint_of, sets_of};
+use crate::given::{answer_of, two_lists};
 use ground_form::Con;
 use rule_law::{justified, quiet, refutes};
 use signed_clause::{Clause, IntSet};
 use std::alloc::{AllocError, Global};
+use test_case_files::{Case, Subject, words_of};
+use test_problems::{Unread, clause_of, constraint_of, sets_of};
 
 /// What is asked of rules.
 #[derive(Drop)]

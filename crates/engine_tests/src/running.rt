@@ -6,11 +6,11 @@
 //!   it has once the clause is loaded, and then once it is cleared.
 //! - `owners CLAUSE`: the clause, where two owners have it and the second becomes its one owner
 //!   once the first is gone.
-use crate::clauses::{answer_of, two_lists};
-use case_files::{Case, Subject, push_word, words_of};
-use given_problems::{Unread, clause_of, clause_text, variable};
+use crate::given::{answer_of, two_lists};
 use signed_clause::{Clause, ClauseHandle, RunningClause, resolve};
 use std::alloc::{AllocError, Global};
+use test_case_files::{Case, Subject, push_word, words_of};
+use test_problems::{Unread, clause_of, clause_text, variable};
 
 /// One table of six variables.
 #[derive(Drop)]

@@ -1,1 +1,2 @@
 pub mod TwoNumbers
+pub mod ValueRows

@@ -2,10 +2,10 @@
 //! one. `fault MODEL` asks for the fault; the others ask about the model that is given: `classes`,
 //! `derives A B` whether a class is another one or derives from it, `parent A`, `attribute A K`
 //! and `variable K` at the top level, by their numbers.
-use case_files::{Case, Subject, number_at, words_of};
-use class_table::ClassTable;
-use given_models::{model_of, table_of};
+use class_table::{Attribute, ClassTable};
 use std::alloc::{AllocError, Global};
+use test_case_files::{Case, Subject, number_at, words_of};
+use test_models::{model_of, table_of};
 
 /// What is asked of a table.
 #[derive(Drop)]
@@ -42,15 +42,19 @@ fn parent(alloc: Global, table: &ClassTable, a: u32) -> Result<String, AllocErro
     }
 }
 
+/// A name and a shape.
+fn named_shape(alloc: Global, attribute: &Attribute<'_>) -> Result<String, AllocError> {
+    let name = String::from_utf8_lossy(alloc, attribute.name.as_bytes())?;
+    let shape = attribute.shape;
+    format!(in alloc; "{name} {shape:?}")
+}
+
 /// The name and the shape of an attribute.
 fn attribute(alloc: Global, table: &ClassTable, a: u32, k: u32) -> Result<String, AllocError> {
     if a >= table.class_count() || k >= table.attribute_count(a) {
         return String::from_str(alloc, "none");
     }
-    let attribute = table.attribute(a, k);
-    let name = String::from_utf8_lossy(alloc, attribute.name.as_bytes())?;
-    let shape = attribute.shape;
-    format!(in alloc; "{name} {shape:?}")
+    named_shape(alloc, &table.attribute(a, k))
 }
 
 /// The name and the shape of a variable of the top level.
@@ -58,10 +62,7 @@ fn variable(alloc: Global, table: &ClassTable, k: u32) -> Result<String, AllocEr
     if k >= table.root_count() {
         return String::from_str(alloc, "none");
     }
-    let root = table.root(k);
-    let name = String::from_utf8_lossy(alloc, root.name.as_bytes())?;
-    let shape = root.shape;
-    format!(in alloc; "{name} {shape:?}")
+    named_shape(alloc, &table.root(k))
 }
 
 /// What is asked of the table of a model.

@@ -7,11 +7,12 @@
 ghost use Rattle.std.specs.Prelude.{◌≡◌};
 
 use crate::paths::path_of;
-use case_files::{Case, Subject, number_at, push_word, words_of};
+use crate::trees::numbers_text;
 use class_table::{ClassTable, Resolved};
-use given_models::table_of;
 use object_alloc::{Objects, allocate};
 use std::alloc::{AllocError, Global};
+use test_case_files::{Case, Subject, number_at, words_of};
+use test_models::table_of;
 
 /// What is asked of objects.
 #[derive(Drop)]
@@ -28,26 +29,18 @@ fn fault_of(alloc: Global, text: &[u8]) -> Result<String, AllocError> {
     }
 }
 
-/// Classes K1 to Kn, each but the last with an attribute of the next one, and an object of K1.
-fn nested(alloc: Global, n: u32) -> Result<String, AllocError> {
+/// Classes K1 to Kn, each but the last with an attribute of the next one, or with two of them, and
+/// an object of K1: n objects, or more than 2^(n-1).
+fn contained(alloc: Global, n: u32, twice: bool) -> Result<String, AllocError> {
     let mut text = String::new(alloc);
     for k in 1..n {
         let next = k + 1;
-        text.push_str(&format!(in alloc; "class K{k} {{ var k as K{next}; }} ")?)?;
-    }
-    text.push_str(&format!(in alloc; "class K{n} {{ }} var k as K1;")?)?;
-    Ok(text)
-}
-
-/// Classes K1 to Kn, each but the last with two attributes of the next one, and an object of K1:
-/// more than 2^(n-1) objects.
-fn doubled(alloc: Global, n: u32) -> Result<String, AllocError> {
-    let mut text = String::new(alloc);
-    for k in 1..n {
-        let next = k + 1;
-        text.push_str(&format!(in alloc;
-            "class K{k} {{ var a as K{next}; var b as K{next}; }} "
-        )?)?;
+        let class = if twice {
+            format!(in alloc; "class K{k} {{ var a as K{next}; var b as K{next}; }} ")?
+        } else {
+            format!(in alloc; "class K{k} {{ var k as K{next}; }} ")?
+        };
+        text.push_str(&class)?;
     }
     text.push_str(&format!(in alloc; "class K{n} {{ }} var k as K1;")?)?;
     Ok(text)
@@ -129,12 +122,7 @@ fn extent(
     if class >= table.class_count() {
         return String::from_str(alloc, "no class");
     }
-    let extent = objects.extent(alloc, class)?;
-    let mut text = String::new(alloc);
-    for number in extent.items() {
-        push_word(&mut text, &format!(in alloc; "{number}")?)?;
-    }
-    Ok(text)
+    numbers_text(alloc, objects.extent(alloc, class)?.items())
 }
 
 /// A cell: its owner, its attribute, its element and its domain.
@@ -225,8 +213,11 @@ impl Subject for ObjectsOfTexts {
         let words = words_of(alloc, &case.text)?;
         match case.ask {
             "fault" => fault_of(alloc, &case.text),
-            "nested" => fault_of(alloc, nested(alloc, number_at(&words, 0))?.as_bytes()),
-            "doubled" => fault_of(alloc, doubled(alloc, number_at(&words, 0))?.as_bytes()),
+            "nested" | "doubled" => {
+                let twice = case.ask == "doubled";
+                let text = contained(alloc, number_at(&words, 0), twice)?;
+                fault_of(alloc, text.as_bytes())
+            }
             _ => told_of_given(alloc, &case.given, case.ask, &words),
         }
     }

@@ -1,10 +1,10 @@
 //! Parts of a typed model. `part A B` asks for the model that is given with the constraints A and
 //! B alone: the places of its constraints, how many whole constraints the bodies of its quantifiers
 //! with a filter have, and how many objectives it has.
-use case_files::{Case, Subject, number_at, words_of};
 use conf_types::{RNode, TypedModel};
-use given_models::typed_of;
 use std::alloc::{AllocError, Global};
+use test_case_files::{Case, Subject, number_at, words_of};
+use test_models::typed_of;
 
 /// What is asked of a typed model.
 #[derive(Drop)]

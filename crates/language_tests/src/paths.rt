@@ -1,9 +1,9 @@
 //! Paths, from objects and back to them. `back COUNT` asks how many of the first objects the path
 //! of leads back to them, and `path PATH` for the object of a path and its own path.
-use case_files::{Case, Subject, number_at, words_of};
-use given_models::table_of;
 use object_alloc::{Objects, allocate};
 use std::alloc::{AllocError, Global};
+use test_case_files::{Case, Subject, number_at, words_of};
+use test_models::table_of;
 
 /// What is asked of paths.
 #[derive(Drop)]

@@ -4,10 +4,10 @@
 ghost use Rattle.std.specs.Prelude.{◌≤◌, length};
 ghost use Rattle.model_limits.specs.Limits.{model_bytes};
 
-use case_files::{Case, Subject, push_word};
 use conf_parse::lex;
 use conf_syntax::{Placed, Token};
 use std::alloc::{AllocError, Global};
+use test_case_files::{Case, Subject, push_word};
 
 /// What is asked of the lexer.
 #[derive(Drop)]

@@ -2,13 +2,13 @@
 //! one for each token; the token with number k stands at the place 2 * k. `outcome ROW` asks
 //! whether it is a model, `nested OPEN COUNT BEHIND` the same of a `where` with so many times the
 //! first text, and `places ROW` for the places of its declarations.
-use case_files::{Case, Subject, number_at, push_word, words_of};
 use conf_parse::{ParseError, parse};
 use conf_syntax::{
     ClassDecl, EnumDecl, Item, Key, Mark, Member, Name, Placed, Program, Shape, Token, VarDecl,
     WhereDecl,
 };
 use std::alloc::{AllocError, Global};
+use test_case_files::{Case, Subject, number_at, push_word, words_of};
 
 /// What is asked of the parser.
 #[derive(Drop)]
@@ -204,7 +204,7 @@ fn places(alloc: Global, text: &[u8]) -> Result<Vec<u32>, AllocError> {
 }
 
 /// Numbers, separated by spaces.
-fn text_of(alloc: Global, numbers: &[u32]) -> Result<String, AllocError> {
+pub(crate) fn numbers_text(alloc: Global, numbers: &[u32]) -> Result<String, AllocError> {
     let mut text = String::new(alloc);
     for number in numbers {
         push_word(&mut text, &format!(in alloc; "{number}")?)?;
@@ -217,7 +217,7 @@ impl Subject for Trees {
         let text = case.text.as_slice();
         match case.ask {
             "outcome" => outcome(alloc, text),
-            "places" => text_of(alloc, &places(alloc, text)?),
+            "places" => numbers_text(alloc, &places(alloc, text)?),
             _ => outcome_of_nested(alloc, &words_of(alloc, text)?),
         }
     }

@@ -1,49 +1,17 @@
 //! A table of splits: what choosers of each order pick of given boxes and hints, one of them with a
 //! function of the test's own.
 ghost use Rattle.std.specs.Prelude.{◌≡◌, ◌<◌, true, false, length};
-ghost use Rattle.std.specs.List.{All};
-ghost use Rattle.signed_clause.specs.Ranges.{has, is_nil, IsValid};
+ghost use Rattle.signed_clause.specs.Ranges.{has, is_nil};
 ghost use Rattle.signed_clause.specs.Clauses.{box_of};
 ghost use Rattle.signed_clause.specs.SetAlgebra.{is_disjoint, is_within};
 ghost use Rattle.branch_choice.specs.declared.split.Order.TheVariants as orders;
 ghost use Rattle.branch_choice.specs.Picks.{half_of, is_single, IsAsked, IsPick};
 
-use crate::given::set_of_bits;
+use crate::choosing::is_asked;
+use crate::given::sets_of_bits;
 use branch_choice::{Chooser, Order, Pick, Split, first, former, small};
 use signed_clause::IntSet;
 use std::alloc::{AllocError, Global};
-
-/// Whether the boxes are sets, which their type says.
-fn are_sets(boxes: &[IntSet]) -> bool
-    ensures { result ≡ true → All (λ s. IsValid s) boxes.now }
-{
-    for s in boxes {
-        s.ranges();
-    }
-    true
-}
-
-/// Whether each box has values.
-fn have_values(boxes: &[IntSet]) -> bool
-    ensures { result ≡ true → All (λ s. is_nil s ≡ false) boxes.now }
-{
-    for s in boxes {
-        if s.is_empty() {
-            return false;
-        }
-    }
-    true
-}
-
-/// Whether a chooser may be asked about the boxes.
-fn is_asked(boxes: &[IntSet], hints: &[Option<i64>], search: u32) -> bool
-    ensures { result ≡ true → IsAsked boxes.now hints.now search }
-{
-    are_sets(boxes)
-        && have_values(boxes)
-        && search as usize <= boxes.len()
-        && search as usize <= hints.len()
-}
 
 /// The box of `x`.
 fn box_at(boxes: &[IntSet], x: u32) -> &IntSet
@@ -117,10 +85,7 @@ struct Row<'a> {
 
 /// What the chooser picks of the row, where it is asked and takes one value alone.
 fn picked(alloc: Global, chooser: &Chooser, row: &Row) -> Result<Option<Value>, AllocError> {
-    let mut boxes = Vec::new(alloc);
-    for bits in row.boxes {
-        boxes.push(set_of_bits(alloc, *bits)?)?;
-    }
+    let boxes = sets_of_bits(alloc, row.boxes)?;
     if !is_asked(boxes.as_slice(), row.hints, row.search) {
         return Ok(None);
     }

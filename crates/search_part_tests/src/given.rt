@@ -1,34 +1,7 @@
-//! Random numbers, sets, clauses and boxes.
-ghost use Rattle.std.specs.Prelude.{◌<◌};
-
+//! Sets, clauses and boxes of bits.
 use ground_form::{Cons, Domains, Goals, Ground};
 use signed_clause::{Clause, IntSet};
 use std::alloc::{AllocError, Global};
-
-/// Numbers that look random and are the same in each run.
-#[derive(Drop)]
-pub(crate) struct Numbers {
-    state: u64,
-}
-
-impl Numbers {
-    /// The numbers of a seed.
-    pub(crate) fn of(seed: u64) -> Numbers {
-        Numbers { state: seed }
-    }
-
-    /// One below `count`, which isn't 0.
-    pub(crate) fn below(&mut self, count: u32) -> u32
-        requires { 0 < count }
-        ensures { result < count }
-    {
-        self.state = self
-            .state
-            .wrapping_mul(6_364_136_223_846_793_005)
-            .wrapping_add(1_442_695_040_888_963_407);
-        ((self.state >> 33) % (count as u64)) as u32
-    }
-}
 
 /// The set of the values whose bits are 1, where bit 0 is the value 0.
 pub(crate) fn set_of_bits(alloc: Global, bits: u32) -> Result<IntSet, AllocError> {
@@ -39,6 +12,15 @@ pub(crate) fn set_of_bits(alloc: Global, bits: u32) -> Result<IntSet, AllocError
         }
     }
     Ok(set)
+}
+
+/// The sets of these bits.
+pub(crate) fn sets_of_bits(alloc: Global, list: &[u32]) -> Result<Vec<IntSet>, AllocError> {
+    let mut sets = Vec::new(alloc);
+    for bits in list {
+        sets.push(set_of_bits(alloc, *bits)?)?;
+    }
+    Ok(sets)
 }
 
 /// So many boxes of the values from 0 to `last`.

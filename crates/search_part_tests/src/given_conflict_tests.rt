@@ -1,9 +1,9 @@
 //! Given decisions and clauses, and what their conflict shows.
-use crate::given::{are_same, clause_of, problem_of, set_of_bits};
-use conflict_check::{has_boxes, may_analyse};
+use crate::given::{are_same, clause_of, problem_of, set_of_bits, sets_of_bits};
+use crate::moves::{apply, decide, learn, push};
 use fd_store::{Applied, Store};
-use learn_clauses::{Clauses, Learnt, analyse};
-use signed_clause::{Clause, ClauseHandle, IntSet, RunningClause};
+use learn_clauses::Clauses;
+use signed_clause::IntSet;
 use std::alloc::{AllocError, Global};
 
 /// A step of a store, and what it comes to.
@@ -41,48 +41,13 @@ struct Row<'a> {
     boxes: &'a [u32],
 }
 
-/// The sets of these bits.
-fn sets_of(alloc: Global, bits: &[u32]) -> Result<Vec<IntSet>, AllocError> {
-    let mut sets = Vec::new(alloc);
-    for b in bits {
-        sets.push(set_of_bits(alloc, *b)?)?;
-    }
-    Ok(sets)
-}
-
 /// The clauses of these rows.
 fn clauses_of(alloc: Global, rows: &[&[Literal]]) -> Result<Clauses, AllocError> {
     let mut clauses = Clauses::new(alloc);
     for row in rows {
-        match ClauseHandle::of(alloc, clause_of(alloc, row)?) {
-            Ok(handle) => {
-                clauses.push(handle)?;
-            }
-            Err(_) => return Err(AllocError),
-        }
+        push(alloc, &mut clauses, clause_of(alloc, row)?)?;
     }
     Ok(clauses)
-}
-
-/// Decides, and whether that could be done.
-fn decide(store: &mut Store, x: u32, half: &IntSet) -> Result<bool, AllocError> {
-    let boxes = store.boxes();
-    if x as usize >= boxes.len() || half.is_empty() || store.level() >= 1000 {
-        return Ok(false);
-    }
-    if !half.within(&boxes[x as usize]) || boxes[x as usize].within(half) {
-        return Ok(false);
-    }
-    store.decide(x, half)?;
-    Ok(true)
-}
-
-/// What the clause of the number does, where there is one over the boxes.
-fn apply(store: &mut Store, clauses: &Clauses, number: u64) -> Result<Option<Applied>, AllocError> {
-    match clauses.get(number) {
-        Some(clause) if has_boxes(clause, store.boxes()) => Ok(Some(store.apply(number, clause)?)),
-        _ => Ok(None),
-    }
 }
 
 /// Whether the box of `x` has these bits.
@@ -115,24 +80,9 @@ fn take(
     }
 }
 
-/// What the conflict shows, where it is one that may be analysed.
-fn learn(
-    alloc: Global,
-    store: &Store,
-    clauses: &Clauses,
-    conflict: u64,
-) -> Result<Option<Learnt>, AllocError> {
-    let count = store.boxes().len();
-    if count >= 1_000_000 || !may_analyse(alloc, store, clauses, conflict)? {
-        return Ok(None);
-    }
-    let mut running = RunningClause::new(alloc, count as u32)?;
-    Ok(Some(analyse(alloc, &mut running, store, clauses, conflict)?))
-}
-
 /// Whether the row's steps come to what it says, and its conflict shows what it says.
 fn is_as_said(alloc: Global, row: &Row) -> Result<bool, AllocError> {
-    let g = problem_of(alloc, sets_of(alloc, row.domains)?);
+    let g = problem_of(alloc, sets_of_bits(alloc, row.domains)?);
     let clauses = clauses_of(alloc, row.clauses)?;
     let mut store = Store::new(alloc, &g)?;
     for s in row.steps {
@@ -160,7 +110,7 @@ fn is_as_said(alloc: Global, row: &Row) -> Result<bool, AllocError> {
             && learnt.clause.same(&clause_of(alloc, row.learnt)?)
             && learnt.level == row.level
             && store.level() == level
-            && are_same(store.boxes(), &sets_of(alloc, row.boxes)?),
+            && are_same(store.boxes(), &sets_of_bits(alloc, row.boxes)?),
     )
 }
 

@@ -1,11 +1,13 @@
 //! A store against boxes that are copied whole: after each step the boxes and the level are the
 //! same. The steps are decisions, clauses and undos.
-use crate::given::{Numbers, are_same, clause_of, equal_boxes, problem_of, set_of_bits};
-use conflict_check::has_boxes;
+use crate::given::{are_same, clause_of, equal_boxes, problem_of, set_of_bits};
+use crate::moves;
 use fd_store::{Applied, Store};
 use ground_form::copy_sets;
 use signed_clause::{Clause, IntSet};
 use std::alloc::{AllocError, Global};
+use test_problems::Random;
+use test_search_checks::has_boxes;
 
 /// How many variables there are.
 const VARIABLES: u32 = 6;
@@ -46,17 +48,11 @@ fn decide(
     half: &IntSet,
     alloc: Global,
 ) -> Result<(), AllocError> {
-    let boxes = store.boxes();
-    if x as usize >= boxes.len() || half.is_empty() || store.level() >= 1000 {
-        return Ok(());
+    if moves::decide(store, x, half)? {
+        let next = copy_sets(alloc, top(copies))?;
+        copies.levels.push(next)?;
+        set_box(copies, x, half.copy()?);
     }
-    if !half.within(&boxes[x as usize]) || boxes[x as usize].within(half) {
-        return Ok(());
-    }
-    store.decide(x, half)?;
-    let next = copy_sets(alloc, top(copies))?;
-    copies.levels.push(next)?;
-    set_box(copies, x, half.copy()?);
     Ok(())
 }
 
@@ -92,7 +88,7 @@ fn undo(store: &mut Store, copies: &mut Copies, level: u32) {
 fn step(
     store: &mut Store,
     copies: &mut Copies,
-    numbers: &mut Numbers,
+    numbers: &mut Random,
     alloc: Global,
 ) -> Result<bool, AllocError> {
     let x = numbers.below(VARIABLES);
@@ -124,7 +120,7 @@ fn stores_agree_with_copied_boxes(rt: HostRuntime) -> Result<(), AllocError> {
     let alloc = rt.alloc();
     let g = problem_of(alloc, equal_boxes(alloc, VARIABLES + 1, 7)?);
     for seed in 0..20u64 {
-        let mut numbers = Numbers::of(seed);
+        let mut numbers = Random::of(seed);
         let mut store = Store::new(alloc, &g)?;
         let mut copies = Copies {
             levels: vec![in alloc; copy_sets(alloc, g.domains.items())?]?,

@@ -1,12 +1,13 @@
 //! Watches against a scan of all clauses: each finds something exactly where the other does. The
 //! steps are narrowed boxes, undos and clauses that are added.
-use crate::given::{Numbers, clause_of, equal_boxes, set_of_bits};
-use conflict_check::has_boxes;
+use crate::given::{clause_of, equal_boxes, set_of_bits};
+use crate::moves::{acts, first_acting};
 use ground_form::copy_sets;
 use numbered_clauses::Clauses;
-use search_checks::Watched;
 use signed_clause::{ClauseHandle, IntSet};
 use std::alloc::{AllocError, Global};
+use test_problems::Random;
+use test_search_checks::{Watched, has_boxes};
 
 /// How many variables there are.
 const VARIABLES: u32 = 6;
@@ -19,30 +20,12 @@ struct Bench {
     levels: Vec<Vec<IntSet>>,
 }
 
-/// Whether the clause of the number is false or unit.
-fn acts(clauses: &Clauses, number: u64, boxes: &[IntSet]) -> bool {
-    match clauses.get(number) {
-        Some(clause) => has_boxes(clause, boxes) && clause.acts(boxes),
-        None => false,
-    }
-}
-
-/// Whether some clause is.
-fn some_acts(clauses: &Clauses, boxes: &[IntSet]) -> bool {
-    for k in 0..clauses.count() {
-        if acts(clauses, k, boxes) {
-            return true;
-        }
-    }
-    false
-}
-
 /// Whether watches and scan agree, and what the watches find.
 fn found(bench: &mut Bench) -> Result<(bool, Option<u64>), AllocError> {
     let found = bench.watched.next()?;
     let agree = match found {
         Some(number) => acts(&bench.clauses, number, bench.watched.boxes()),
-        None => !some_acts(&bench.clauses, bench.watched.boxes()),
+        None => first_acting(&bench.clauses, bench.watched.boxes()).is_none(),
     };
     Ok((agree, found))
 }
@@ -90,7 +73,7 @@ fn prune(bench: &mut Bench, number: u64) -> Result<(), AllocError> {
 }
 
 /// One step, and whether watches and scan agree behind it.
-fn step(bench: &mut Bench, numbers: &mut Numbers, alloc: Global) -> Result<bool, AllocError> {
+fn step(bench: &mut Bench, numbers: &mut Random, alloc: Global) -> Result<bool, AllocError> {
     let x = numbers.below(VARIABLES - 2);
     let bits = numbers.below(256);
     match numbers.below(8) {
@@ -122,7 +105,7 @@ fn watches_find_what_a_scan_finds(rt: HostRuntime) -> Result<(), AllocError> {
     let alloc = rt.alloc();
     let domains = equal_boxes(alloc, VARIABLES, 7)?;
     for seed in 0..20u64 {
-        let mut numbers = Numbers::of(seed);
+        let mut numbers = Random::of(seed);
         let mut bench = Bench {
             watched: Watched::new(alloc, &domains)?,
             clauses: Clauses::new(alloc),

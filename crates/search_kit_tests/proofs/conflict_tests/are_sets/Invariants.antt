@@ -1,7 +1,0 @@
-use Rattle.std.proofs.Common.{drop, All}
-use Rattle.signed_clause.specs.Ranges.{IsValid}
-use Rattle.search_kit_tests.proofs.conflict_tests.are_sets.Given as goal
-
-abbrev pub invariant-loop-s : goal.invariant-loop-s
-invariant-loop-s l =
-    All (λ s. IsValid s) (drop l.s-index l.boxes) → All (λ s. IsValid s) l.boxes
