@@ -1,4 +1,4 @@
-//! Branch and bound, the journal of which is a run.
+//! Branch and bound over the parts of a search; the lines that it writes are a run.
 //!
 //! - `engine`: what goes with the lines, and one function for each kind of line.
 //! - `solving`: from the beginning to the end.

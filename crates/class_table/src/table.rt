@@ -37,15 +37,9 @@ pub struct Variable {
 }
 
 /// Variables, in order of declaration.
-#[derive(Debug)]
+#[derive(Debug, Drop)]
 pub struct Variables {
     items: Vec<Variable>,
-}
-
-impl Drop for Variables {
-    fn drop(self) {
-        let Variables { items: _ } = self;
-    }
 }
 
 impl Model for Variables {
@@ -74,14 +68,9 @@ impl Variables {
 }
 
 /// The values of an enumeration, in order of declaration. They are found by their names.
+#[derive(Drop)]
 pub struct Values {
     names: IndexSet<Name>,
-}
-
-impl Drop for Values {
-    fn drop(self) {
-        let Values { names: _ } = self;
-    }
 }
 
 impl Model for Values {
@@ -142,31 +131,16 @@ impl Values {
 }
 
 /// A class: its name, the number of its parent, and its own attributes.
-#[derive(Debug)]
+#[derive(Debug, Drop)]
 pub struct Class {
     pub name: Name,
     pub parent: Option<u32>,
     pub own: Variables,
 }
 
-impl Drop for Class {
-    fn drop(self) {
-        let Class {
-            name: _,
-            parent: _,
-            own: _,
-        } = self;
-    }
-}
-
 /// An enumeration: its name and its values.
+#[derive(Drop)]
 pub struct Enumeration {
     pub name: Name,
     pub values: Values,
-}
-
-impl Drop for Enumeration {
-    fn drop(self) {
-        let Enumeration { name: _, values: _ } = self;
-    }
 }

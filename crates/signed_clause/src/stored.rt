@@ -19,16 +19,11 @@ enum Place {
 }
 
 /// A list of ranges that doesn't change.
+#[derive(Drop)]
 pub struct RangeList {
     /// What gives the list its memory.
     pub alloc: Global,
     place: Place,
-}
-
-impl Drop for RangeList {
-    fn drop(self) {
-        let RangeList { alloc: _, place: _ } = self;
-    }
 }
 
 impl Model for RangeList {
