@@ -107,7 +107,7 @@ class Desk:
         for name, text in FILES.items():
             with open(name, "w") as file:
                 file.write(text)
-        data = os.path.join(TOP, "crates", "command_cases", "data")
+        data = os.path.join(TOP, "crates", "command_tests", "data")
         for name in ("site.conf", "site.json"):
             shutil.copy(os.path.join(data, name), name)
         self.plain(["solve", "--log", "least.log", "least.conf"])

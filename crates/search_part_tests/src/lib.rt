@@ -7,6 +7,7 @@
 //! - `given_conflict_tests`: given decisions and clauses, and what their conflict shows.
 //! - `watch_tests`: watched clauses, against a scan of all of them.
 //! - `choice_tests`: splits that choosers pick of given boxes and hints.
+//! - `excess_tests`: what of a packing takes too much room.
 //! - `queue_tests`: the queue of constraints, against a scan of all of them.
 //! - `walks`: the walk back from a conflict, written out with whole boxes.
 //! - `conflict_tests`: conflicts that propagators make, and what they show, against those walks.
@@ -18,6 +19,8 @@ mod choice_tests;
 mod choosing;
 #[cfg(test)]
 mod conflict_tests;
+#[cfg(test)]
+mod excess_tests;
 #[cfg(test)]
 mod given;
 #[cfg(test)]

@@ -1,14 +1,12 @@
-//! What no clause says: that what `tight` finds to take too much room does so. Where it didn't, the
-//! packing would be probed, so no answer of `prune` tells.
+//! That what is found to take too much room of a packing does so, which no clause says. Where it
+//! didn't, the packing would be probed, so no answer of `prune` tells.
 ghost use Rattle.std.specs.Prelude.{◌≡◌};
 ghost use Rattle.ground_form.specs.declared.con.Con.TheVariants.{Pack};
 ghost use Rattle.ground_form.specs.WellMade.{IsWellMadeCon};
 ghost use Rattle.rule_law.specs.Answers.{AreBoxesWithin};
 
-use crate::best_rooms::BestRooms;
-use crate::tight::find_excess;
-use crate::unplaceable::part_of;
 use ground_form::{Con, PackItems};
+use pack_prop::{BestRooms, find_excess, part_of};
 use rule_law::are_boxes_within;
 use signed_clause::IntSet;
 use std::alloc::{AllocError, Global};
@@ -72,7 +70,7 @@ fn is_too_much(items: &[(u32, u32, u32)], boxes: &[IntSet], x: u32, part: &IntSe
 }
 
 /// Whether what is found to take too much room does so, where something is found.
-#[tactic(auto, using(crate::proofs::Slack::pack_named))]
+#[tactic(auto, using(pack_prop::proofs::Slack::pack_named))]
 fn is_found_right(
     alloc: Global,
     con: &Con,
