@@ -15,7 +15,7 @@
 //!   what is kept of that.
 //! - `clause`: what a clause says that is a constraint: itself, where it is false in the boxes or
 //!   unit, or nothing. Its propagator and the queue, which watches clauses, both rest on this.
-//! - `fixpoint`: the law of fixpoints, as the contract of a function that does nothing: what boxes
+//! - `fixpoints`: the law of fixpoints, as the contract of a function that does nothing: what boxes
 //!   are in which every constraint is quiet and the searched variables have single values.
 //!
 //! A search decides the first variables of a ground problem and asks propagators until they have
@@ -30,7 +30,7 @@
 
 mod clause;
 mod explain;
-mod fixpoint;
+mod fixpoints;
 mod kit;
 mod narrow;
 mod plan;
@@ -47,7 +47,7 @@ pub use box_rules::{
 pub use box_view::is_rest_within;
 pub use clause::{own_reason, prune_clause};
 pub use explain::{keep_out, pruning};
-pub use fixpoint::fixpoint_is_solution;
+pub use fixpoints::fixpoint_is_solution;
 pub use kit::{Kit, MissingKind};
 pub use narrow::{cut_says_the_same, cut_to};
 pub use plan::{planned_pruning, truth};

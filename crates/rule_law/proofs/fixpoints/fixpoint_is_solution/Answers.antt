@@ -1,5 +1,5 @@
 use Rattle.rule_law.proofs.Fixpoint.{fixpoint_solved}
-use Rattle.rule_law.proofs.fixpoint.fixpoint_is_solution.Goals as goal
+use Rattle.rule_law.proofs.fixpoints.fixpoint_is_solution.Goals as goal
 
 pub returns : goal.returns
 returns c =
