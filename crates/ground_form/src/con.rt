@@ -12,6 +12,7 @@ use signed_clause::{Clause, ClauseHandle, IntSet};
 use std::alloc::{AllocError, Global};
 
 /// A constraint over the values of variables.
+#[derive(Drop)]
 pub enum Con {
     /// The sum of the terms is at most the bound.
     LinLe {
@@ -96,48 +97,6 @@ pub enum Con {
         /// The items.
         items: PackItems,
     },
-}
-
-impl Drop for Con {
-    fn drop(self) {
-        match self {
-            Con::LinLe { terms: _, bound: _ } => {}
-            Con::LinDef {
-                out: _,
-                terms: _,
-                offset: _,
-            } => {}
-            Con::ReifLe {
-                flag: _,
-                terms: _,
-                bound: _,
-            } => {}
-            Con::AndDef { flag: _, parts: _ } => {}
-            Con::MemberDef {
-                flag: _,
-                var: _,
-                set: _,
-            } => {}
-            Con::EqDef {
-                flag: _,
-                left: _,
-                right: _,
-            } => {}
-            Con::ElementDef {
-                out: _,
-                index: _,
-                items: _,
-            } => {}
-            Con::CondDef {
-                out: _,
-                flag: _,
-                item: _,
-            } => {}
-            Con::ClauseCon { clause: _ } => {}
-            Con::AllDiff { vars: _ } => {}
-            Con::Pack { items: _ } => {}
-        }
-    }
 }
 
 impl Con {
