@@ -1,4 +1,4 @@
-"""Files of cases, as crates/test_case_files/src/cases.rt reads them, and runs of a program on files.
+"""Files of cases, as crates/test_case_files/src/cases.rt reads them, and runs of a program.
 
 A text stands for bytes: each of its characters is one of them, from 0 to 255.
 """
