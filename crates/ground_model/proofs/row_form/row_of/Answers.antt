@@ -4,7 +4,7 @@ use Rattle.form_build.proofs.Growth.{defines_more}
 use Rattle.expr_forms.proofs.Configured.{cells_still}
 use Rattle.quantifier_forms.specs.declared.part.Part.{Part}
 use Rattle.packed_rows.specs.declared.row.Row.{Row}
-use Rattle.ground_model.specs.declared.rows.Summands.{Summands}
+use Rattle.ground_model.specs.declared.row_form.Summands.{Summands}
 use Rattle.ground_model.specs.Adding.{shares_of, counts, AddsUp, IsRowOf}
 use Rattle.ground_model.proofs.SumRows.{some_weaker, row_is}
 use Rattle.ground_model.proofs.row_form.row_of.Goals as goal
