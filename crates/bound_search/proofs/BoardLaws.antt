@@ -1,29 +1,36 @@
 -- What a change of a box and a way back leave of a board.
-use Rattle.std.proofs.Common.{◌≡◌, ℕ, suc, ◌<◌, true, false, not, ◌&&◌, cond, List, [], ◌∷◌, length, refl, sym, ap, ◌∙◌, arith, subst, slice_set, nat_lt, Option, Some, None, length-set, map}
+use Rattle.std.proofs.Common.{◌≡◌, ℕ, suc, ◌<◌, ◌≤◌, inl, inr, true, false, cond, List, [], ◌∷◌, length, refl, sym, ap, ◌∙◌, arith, subst, slice_set, nat_lt, Option, Some, None, length-set, map}
 use Rattle.std.proofs.lemmas.List.{length-map}
 use Rattle.std.proofs.lemmas.Bool.{lt-ltb}
-use Rattle.signed_clause.specs.Ranges.{Ranges}
-use Rattle.signed_clause.specs.SetAlgebra.{is_disjoint, is_within, meet}
-use Rattle.signed_clause.specs.Clauses.{Boxes, Literals, box_of, false_in, unit_of, alone_of}
+use Rattle.std.specs.List.{All}
+use Rattle.std.proofs.lemmas.Bool.{cases_eq}
+use Rattle.signed_clause.specs.Ranges.{Ranges, has, is_nil, IsValid}
+use Rattle.signed_clause.specs.SetAlgebra.{is_within}
+use Rattle.signed_clause.specs.Clauses.{Boxes, Literals, box_of, false_in, unit_of, IsClause}
+use Rattle.signed_clause.specs.Running.{AreValid}
+use Rattle.signed_clause.proofs.SetFacts.{within_law}
 use Rattle.ground_form.specs.declared.ground.Ground.{Ground}
 use Rattle.fd_store.specs.declared.store.Applied.{Applied}
 use Rattle.fd_store.specs.declared.store.Applied.TheVariants.{Pruned, Conflict}
-use Rattle.fd_store.specs.Levels.{Level, Stack, bottom, moved, applied, applied_by, reacted, pruned_by, dropped_from, dropped}
+use Rattle.fd_store.specs.Levels.{Level, Stack, bottom, moved, applied, applied_by, reacted, pruned_by, dropped_from, dropped, IsWiderAt, AreWider}
+use Rattle.fd_store.proofs.StackLaws.{dropped_from-none}
+use Rattle.learn_clauses.proofs.WithinLaws.{valid_boxes}
 use Rattle.prop_queue.specs.Work as queue
 use Rattle.prop_queue.specs.Work.{Work, IsOver, AreAllQuiet}
-use Rattle.clause_watches.specs.Watching as watches
 use Rattle.clause_watches.specs.declared.rest.Rest.{Rest}
-use Rattle.clause_watches.specs.Watching.{Watching, AreWider, IsKnown, clause_of, rest_of}
-use Rattle.run_law.proofs.Units.{some_same, none_some, exists_from_meets, box-set_other}
+use Rattle.clause_watches.specs.Watching.{Watching, NarrowsAt, WidensAt, IsKnown, clause_of, rest_of}
+use Rattle.run_law.proofs.Units.{unit_is, box-set_same, box-set_other, AreValid-set}
+use Rattle.run_law.proofs.LevelFacts.{IsPart, unit_part}
 use Rattle.bound_search.specs.Boards.{IsBoard, IsBelow, AreLower}
 
 -- ---- the first board
 
 pub new_board : (g : Ground) (s : Stack) (w : Work) (v : Watching) → s ≡ bottom g.domains →
     IsOver g w → ((boxes : Boxes) → queue.Fits g w boxes) → v.variables ≡ length g.domains →
-    v.added ≡ [] → v.rests ≡ [] → IsBoard g s w v
-new_board g s w v e over fits variables a r = record {
+    v.added ≡ [] → v.rests ≡ [] → All (λ d. IsValid d) g.domains → IsBoard g s w v
+new_board g s w v e over fits variables a r sets = record {
   size = ap (λ (k : Stack). length k.top.now) e;
+  valid = subst (λ (k : Stack). AreValid k.top.now) (sym e) (valid_boxes g.domains sets);
   over = over;
   listed = fits s.top.now;
   variables = variables;
@@ -39,79 +46,77 @@ pub moved_now : (from : Option ℕ) (x : ℕ) (set : Ranges) (s : Stack) →
 moved_now None x set s = refl
 moved_now (Some j) x set s = refl
 
--- as many boxes, the same but for that of x, in the words of the queue and of the watches
+-- as many boxes, valid ones, and that of x is a part of the one before
 pub record IsChange (x : ℕ) (a b : Boxes) : Type 0 where
   pub size : length b ≡ length a
-  pub listed : queue.DifferAt x a b
-  pub watched : watches.DifferAt x a b
+  pub valid : AreValid b
+  pub narrows : NarrowsAt x a b
 
-set_changes : (x : ℕ) (set : Ranges) (boxes : Boxes) → IsChange x boxes (slice_set boxes x set)
-set_changes x set boxes = record {
-  size = length-set boxes x set;
-  listed = record {
-    size = sym (length-set boxes x set);
-    others = λ y ne. sym (box-set_other boxes x y set ne);
-  };
-  watched = λ y ne. sym (box-set_other boxes x y set ne);
-}
+set_changes : (x : ℕ) (set : Ranges) (boxes : Boxes) → x < length boxes → AreValid boxes →
+    IsPart (box_of boxes x) set → IsChange x boxes (slice_set boxes x set)
+set_changes x set boxes lt valid part =
+    let at = box-set_same boxes x set lt in record {
+      size = length-set boxes x set;
+      valid = AreValid-set boxes x set lt valid part.valid;
+      narrows = record {
+        others = λ y ne. sym (box-set_other boxes x y set ne);
+        before_valid = valid x;
+        after_valid = subst IsValid (sym at) part.valid;
+        some = subst (λ (s : Ranges). is_nil s ≡ false) (sym at) part.some;
+        within = λ v h. part.within v (subst (λ (s : Ranges). has s v ≡ true) at h);
+      };
+    }
 
 pub move_changes : (from : Option ℕ) (x : ℕ) (set : Ranges) (s t : Stack) → t ≡ moved from x set s →
+    x < length s.top.now → AreValid s.top.now → IsPart (box_of s.top.now x) set →
     IsChange x s.top.now t.top.now
-move_changes from x set s t e =
+move_changes from x set s t e lt valid part =
     let now : t.top.now ≡ slice_set s.top.now x set =
     ap (λ (k : Stack). k.top.now) e ∙ moved_now from x set s in
-    subst (IsChange x s.top.now) (sym now) (set_changes x set s.top.now)
+    subst (IsChange x s.top.now) (sym now) (set_changes x set s.top.now lt valid part)
+
+-- what a decision leaves of a box
+pub half_part : (box half : Ranges) → IsValid box → IsValid half → is_nil half ≡ false →
+    is_within half box ≡ true → IsPart box half
+half_part box half f g some w =
+    record { valid = g; within = (within_law half box g f).0 w; some = some }
 
 -- ---- a clause that prunes
-
-alone_there : (boxes : Boxes) (l : ℕ × Ranges) (c : Literals) (u : ℕ × Ranges) →
-    is_disjoint l.1 (box_of boxes l.0) ≡ false → alone_of boxes l c ≡ Some u → u.0 < length boxes
-alone_there boxes l c u m h =
-    (elim (false_in boxes c && not (is_within (box_of boxes l.0) l.1)) as (λ b.
-    cond b (Some (l.0, meet l.1 (box_of boxes l.0))) None ≡ Some u → u.0 < length boxes) [
-      | true ↦ λ e. subst (λ (u : ℕ × Ranges). u.0 < length boxes) (some_same _ u e)
-          (exists_from_meets boxes l.0 l.1 m)
-      | false ↦ λ e. absurd (none_some u e)
-    ]) h
-
--- its variable has a box
-pub unit_there : (c : Literals) (boxes : Boxes) (u : ℕ × Ranges) → unit_of boxes c ≡ Some u →
-    u.0 < length boxes
-unit_there [] boxes u h = absurd (none_some u h)
-unit_there (l ∷ c) boxes u h =
-    (elim (is_disjoint l.1 (box_of boxes l.0)) as (λ b. is_disjoint l.1 (box_of boxes l.0) ≡ b →
-    cond b (unit_of boxes c) (alone_of boxes l c) ≡ Some u → u.0 < length boxes) [
-      | true ↦ λ m e. unit_there c boxes u e
-      | false ↦ λ m e. alone_there boxes l c u m e
-    ]) refl h
 
 -- the clause of the number was unit, and x got what is left
 pub record HasPruned (n : ℕ) (c : Literals) (x : ℕ) (s t : Stack) : Type 0 where
   pub set : Ranges
   pub there : x < length s.top.now
+  pub part : IsPart (box_of s.top.now x) set
   pub moves : t ≡ moved (Some n) x set s
 
 pruned_same : (x y : ℕ) → Pruned x ≡ Pruned y → x ≡ y
 pruned_same x y e = cc
 
 pruned_unit : (n : ℕ) (c : Literals) (x : ℕ) (s : Stack) (o : Option (ℕ × Ranges)) →
-    unit_of s.top.now c ≡ o → applied_by o ≡ Pruned x → HasPruned n c x s (pruned_by n o s)
-pruned_unit n c x s None e h = absurd cc
-pruned_unit n c x s (Some u) e h =
+    AreValid s.top.now → IsClause c → unit_of s.top.now c ≡ o → applied_by o ≡ Pruned x → HasPruned n c x s (pruned_by n o s)
+pruned_unit n c x s None a f e h = absurd cc
+pruned_unit n c x s (Some u) a f e h =
+    let w = unit_is c 0 s.top.now u f e in
     let here : HasPruned n c u.0 s (moved (Some n) u.0 u.1 s) =
-    record { set = u.1; there = unit_there c s.top.now u e; moves = refl } in
+    record {
+      set = u.1;
+      there = w.1.exists;
+      part = unit_part s.top.now u w.0 a w.1;
+      moves = refl;
+    } in
     subst (λ (y : ℕ). HasPruned n c y s (moved (Some n) u.0 u.1 s)) (pruned_same u.0 x h) here
 
 pub pruned_so : (n : ℕ) (c : Literals) (x : ℕ) (s t : Stack) (a : Applied) →
-    a ≡ applied s.top.now c → a ≡ Pruned x → t ≡ reacted n c s → HasPruned n c x s t
-pruned_so n c x s t a e h k =
+    AreValid s.top.now → IsClause c → a ≡ applied s.top.now c → a ≡ Pruned x → t ≡ reacted n c s → HasPruned n c x s t
+pruned_so n c x s t a valid f e h k =
     let now = s.top.now in
     let u = unit_of now c in
     let it : HasPruned n c x s (reacted n c s) = (elim (false_in now c) as (λ b.
     cond b Conflict (applied_by u) ≡ Pruned x →
     HasPruned n c x s (cond b s (pruned_by n u s))) [
       | true ↦ λ h. absurd cc
-      | false ↦ λ h. pruned_unit n c x s u refl h
+      | false ↦ λ h. pruned_unit n c x s u valid f refl h
     ]) (sym e ∙ h) in
     subst (HasPruned n c x s) (sym k) it
 
@@ -124,6 +129,26 @@ still_paired w v f r a e =
     ap length r ∙ length-map w.rests f ∙ e ∙ sym (ap length a)
 
 -- ---- levels that are dropped
+
+-- in the words of the watches
+pub widens_at : (x : ℕ) (a b : Boxes) → IsWiderAt x a b → WidensAt x a b
+widens_at x a b w = record {
+  others = λ y n. sym (w.others y n);
+  before_valid = w.before_valid;
+  after_valid = w.after_valid;
+  within = (within_law (box_of a x) (box_of b x) w.before_valid w.after_valid).0 w.within;
+}
+
+pub valid_wider : (x : ℕ) (a b : Boxes) → IsWiderAt x a b → AreValid a → AreValid b
+valid_wider x a b w valid y = elim (cases_eq y x) [
+  | inl same ↦ subst (λ (z : ℕ). IsValid (box_of b z)) (sym same) w.after_valid
+  | inr other ↦ subst IsValid (sym (w.others y other)) (valid y)
+]
+
+-- nothing is dropped once no more levels stand
+pub dropped_now : (k : ℕ) (s t : Stack) → length s.below ≤ k → dropped k s ≡ dropped k t →
+    s ≡ dropped k t
+dropped_now k s t h e = sym (dropped_from-none s.below s.top k h) ∙ e
 
 wider_still : (a b c : Boxes) → AreWider a b → AreWider b c → AreWider a c
 wider_still a b c f h = record {

@@ -227,6 +227,7 @@ board_added g s work w v p b vars added rests =
     IsKnown s.top.now (clause_of ps i) (rest_of (w.rests ++ Listed ∷ []) i)) (sym added) known in
     record {
       size = b.size;
+      valid = b.valid;
       over = b.over;
       listed = b.listed;
       variables = vars ∙ b.variables;

@@ -3,16 +3,18 @@
 -- below stands at a fixpoint of the constraints.
 use Rattle.std.specs.Prelude.{◌≡◌, List, [], ◌∷◌, length}
 use Rattle.signed_clause.specs.Clauses.{Boxes}
+use Rattle.signed_clause.specs.Running.{AreValid}
 use Rattle.ground_form.specs.declared.ground.Ground.{Ground}
-use Rattle.fd_store.specs.Levels.{Level, Stack}
+use Rattle.fd_store.specs.Levels.{Level, Stack, AreWider}
 use Rattle.prop_queue.specs.Work as queue
 use Rattle.prop_queue.specs.Work.{Work, IsOver, AreAllQuiet}
 use Rattle.clause_watches.specs.Watching as watches
-use Rattle.clause_watches.specs.Watching.{Watching, AreWider}
+use Rattle.clause_watches.specs.Watching.{Watching}
 
 -- levels, queue and watches belong together
 pub record IsBoard (g : Ground) (levels : Stack) (work : Work) (watching : Watching) : Type 0 where
   pub size : length levels.top.now ≡ length g.domains
+  pub valid : AreValid levels.top.now
   pub over : IsOver g work
   pub listed : queue.Fits g work levels.top.now
   pub variables : watching.variables ≡ length g.domains

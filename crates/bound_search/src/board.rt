@@ -71,6 +71,7 @@ impl Board {
             (IsBoard g.now self.new.store self.new.queue self.new.watches) }
         ensures added { self.new.watches.added ≡ self.old.watches.added }
     {
+        c.literals();
         match self.store.apply(number, c)? {
             Applied::Conflict => {
                 if c.is_empty() {
@@ -80,8 +81,8 @@ impl Board {
                 }
             }
             Applied::Pruned(x) => {
-                self.queue.note_change(x);
-                self.watches.note_change(x);
+                self.queue.note_narrower(x);
+                self.watches.note_narrower(x);
                 Ok(After::Going)
             }
             Applied::Nothing => Ok(After::Going),
@@ -105,9 +106,10 @@ impl Board {
             (IsBoard g.now self.new.store self.new.queue self.new.watches) }
         ensures added { self.new.watches.added ≡ self.old.watches.added }
     {
+        half.ranges();
         self.store.decide(x, half)?;
-        self.queue.note_change(x);
-        self.watches.note_change(x);
+        self.queue.note_narrower(x);
+        self.watches.note_narrower(x);
         Ok(())
     }
 
@@ -122,9 +124,13 @@ impl Board {
         ensures lower { AreLower g.now self.new.store.top.now self.new.store.below }
         ensures added { self.new.watches.added ≡ self.old.watches.added }
     {
-        self.store.undo_to(level);
+        while self.store.level() > level {
+            if let Some(x) = self.store.undo_last() {
+                self.queue.note_wider(x);
+                self.watches.note_wider(x);
+            }
+        }
         self.queue.note_return();
-        self.watches.note_undo();
     }
 
     /// A constraint that has something to say in the boxes, and what it says, cut to the domains;

@@ -6,7 +6,7 @@ use Rattle.clause_watches.specs.declared.rest.Rest.{Rest}
 use Rattle.clause_watches.specs.declared.rest.Rest.TheVariants.{Listed, Half, On, Held}
 use Rattle.clause_watches.specs.Watching.{Meets, IsKnown}
 use Rattle.clause_watches.specs.Marks.{is_marked}
-use Rattle.clause_watches.specs.Rows.{names, holds, differ, seen}
+use Rattle.clause_watches.specs.Rows.{names, differ, seen}
 use Rattle.clause_watches.specs.Sound.{IsUnmarked}
 
 unmarked_same : (x : ℕ) (before after : List Bool) → IsUnmarked x before after →
@@ -32,10 +32,10 @@ on_second boxes c a b false n h k = record { differ = n; one = k; other = h }
 -- x is looked at again, and meets where the rest names it
 pub known_again : (boxes : Boxes) (c : Literals) (x : ℕ) (r : Rest) (before after : List Bool) →
     is_marked before x ≡ true → IsUnmarked x before after → differ r ≡ true →
-    (names r x ≡ true → Meets boxes c x) → (names r x ≡ true → holds r x ≡ false) →
+    (names r x ≡ true → Meets boxes c x) →
     IsKnown boxes c (seen before r) → IsKnown boxes c (seen after r)
-known_again boxes c x Listed before after on u d meets free k = tt
-known_again boxes c x (Half a) before after on u d meets free k = elim (cases_eq a x) [
+known_again boxes c x Listed before after on u d meets k = tt
+known_again boxes c x (Half a) before after on u d meets k = elim (cases_eq a x) [
   | inl same ↦ let off : is_marked after a ≡ false =
       subst (λ (y : ℕ). is_marked after y ≡ false) (sym same) (unmarked_same x before after u) in
       let met : Meets boxes c a =
@@ -44,12 +44,8 @@ known_again boxes c x (Half a) before after on u d meets free k = elim (cases_eq
   | inr other ↦ subst (λ (m : Bool). IsKnown boxes c (cond m Listed (Half a)))
       (sym (unmarked_other x a before after u other)) k
 ]
-known_again boxes c x (Held a) before after on u d meets free k = elim (cases_eq a x) [
-  | inl same ↦ let yes : (a == x) ≡ true = grind arith in let no = free yes in absurd (cc)
-  | inr other ↦ subst (λ (m : Bool). IsKnown boxes c (cond m Listed (Held a)))
-      (sym (unmarked_other x a before after u other)) k
-]
-known_again boxes c x (On a b) before after on u d meets free k =
+known_again boxes c x (Held a) before after on u d meets k = k
+known_again boxes c x (On a b) before after on u d meets k =
     let apart : a ≢ b = λ e. let yes : (a == b) ≡ true = grind arith in
     let no : not (a == b) ≡ false = rw yes refl in absurd (cc) in
     elim (cases_eq a x) [

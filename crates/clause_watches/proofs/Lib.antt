@@ -7,6 +7,7 @@ pub mod KnownLaws
 pub mod SettleLaws
 pub mod ActLaws
 pub mod LinkLaws
+pub mod HeldLaws
 pub mod LookLaws
 pub mod WatchingLaws
 pub mod TestLaws

@@ -11,10 +11,9 @@ use Rattle.clause_watches.specs.declared.rest.Rest.{Rest}
 use Rattle.clause_watches.specs.declared.rest.Rest.TheVariants.{Listed, Half, On, Held}
 use Rattle.clause_watches.specs.declared.watch.Link.{Link}
 use Rattle.clause_watches.specs.declared.watch.Watch.{Watch}
-use Rattle.clause_watches.specs.Marks.{is_marked}
-use Rattle.clause_watches.specs.Watching.{clause_of, rest_of, Meets}
-use Rattle.clause_watches.specs.Rows.{names, holds, differ, has_watch, AreBelow, AreRight, IsTrueOf}
-use Rattle.clause_watches.specs.Sound.{row_of, least_at, sets_at, AreClauses, AreLinked}
+use Rattle.clause_watches.specs.Watching.{clause_of, rest_of, holds, Meets}
+use Rattle.clause_watches.specs.Rows.{names, differ, has_watch, AreBelow, AreRight, IsTrueOf}
+use Rattle.clause_watches.specs.Sound.{row_of, held_of, stands, least_at, sets_at, AreClauses, AreLinked}
 use Rattle.clause_watches.specs.Looking.{IsMeeting, IsLink, linked}
 use Rattle.clause_watches.proofs.ActLaws.{set_at}
 use Rattle.clause_watches.proofs.RestLaws.{rest_set_same, rest_set_other}
@@ -94,7 +93,7 @@ has_still (v ∷ vs) w i e = or_more (v.clause == i) (has_watch i vs) _ (λ h. h
 
 -- one row has a watch more, and the clause's rest names its variable
 pub linked_more : (added : List (ℕ × Literals)) (rests : List Rest) (rows rows' : List (List Watch))
-    (leasts : List ℤ) (held : List Bool) (l : Link) →
+    (leasts : List ℤ) (held : List (List ℕ)) (l : Link) →
     AreLinked added rests rows leasts held → l.watch.clause < length rests →
     names (rest_of rests l.watch.clause) l.variable ≡ false →
     IsTrueOf (least_at leasts l.variable) (sets_at added l.variable l.watch.clause)
@@ -150,10 +149,10 @@ linked_more added rests rows rows' leasts held l fit there unnamed right others 
             subst (λ (row : List Watch). AreRight (least_at leasts y) (sets_at added y) row)
             (sym (others y other)) (fit.right y)
       ];
-      held_marked =
-          λ j y. rest_cases rests i (linked x r) (λ k q. holds q y ≡ true → is_marked held y ≡ true)
-          there
-          (λ h. fit.held_marked i y (linked_holds x y r h)) (λ k h. fit.held_marked k y h) j;
+      held_listed =
+          λ j y. rest_cases rests i (linked x r)
+          (λ k q. holds q y ≡ true → stands k (held_of held y) ≡ true) there
+          (λ h. fit.held_listed i y (linked_holds x y r h)) (λ k h. fit.held_listed k y h) j;
     }
 
 -- ---- a clause more, of which nothing is known
@@ -179,9 +178,9 @@ right_added added a least x n row e below right k d h =
     subst (λ (c : Literals). IsTrueOf least (set_of c x) w.witness)
     (sym (clause_added added a w.clause there)) (right k d h)
 
--- rests, rows and marks still fit together
+-- rests, rows and lists still fit together
 pub linked_added : (added : List (ℕ × Literals)) (rests : List Rest) (rows : List (List Watch))
-    (leasts : List ℤ) (held : List Bool) (a : ℕ × Literals) →
+    (leasts : List ℤ) (held : List (List ℕ)) (a : ℕ × Literals) →
     AreLinked added rests rows leasts held →
     AreLinked (added ++ a ∷ []) (rests ++ Listed ∷ []) rows leasts held
 linked_added added rests rows leasts held a fit = record {
@@ -192,8 +191,8 @@ linked_added added rests rows leasts held a fit = record {
       omega arith;
   right = λ x. right_added added a (least_at leasts x) x (length rests) (row_of rows x) fit.size
       (fit.below x) (fit.right x);
-  held_marked = λ i x h.
-      fit.held_marked i x (subst (λ (r : Rest). holds r x ≡ true) (rest_added rests i) h);
+  held_listed = λ i x h.
+      fit.held_listed i x (subst (λ (r : Rest). holds r x ≡ true) (rest_added rests i) h);
 }
 
 pub clauses_added : (n : ℕ) (added : List (ℕ × Literals)) (a : ℕ × Literals) → IsClause a.1 →

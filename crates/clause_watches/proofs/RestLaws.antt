@@ -1,11 +1,12 @@
 -- What becomes of a rest, step by step.
-use Rattle.std.proofs.Common.{◌≡◌, ◌≢◌, ℕ, ◌<◌, ◌==◌, Bool, true, false, cond, List, length, arith, refl, sym, ap, ◌∙◌, subst, slice_set}
-use Rattle.std.proofs.lemmas.List.{get_or-set_same, get_or-set_other, set-get_or}
+use Rattle.std.proofs.Common.{◌≡◌, ◌≢◌, ℕ, ◌<◌, ◌==◌, Bool, true, false, cond, List, length, arith, refl, sym, subst, slice_set}
+use Rattle.std.proofs.lemmas.List.{get_or-set_same, get_or-set_other}
+use Rattle.signed_clause.specs.Clauses.{Boxes, Literals}
 use Rattle.clause_watches.specs.declared.rest.Rest.{Rest}
 use Rattle.clause_watches.specs.declared.rest.Rest.TheVariants.{Listed, Half, On, Held}
-use Rattle.clause_watches.specs.Watching.{rest_of, touched}
+use Rattle.clause_watches.specs.Watching.{rest_of, holds, IsKnown}
 use Rattle.clause_watches.specs.Marks.{is_marked}
-use Rattle.clause_watches.specs.Rows.{names, holds, differ, seen, raised, IsStep}
+use Rattle.clause_watches.specs.Rows.{names, differ, seen, forgotten, IsStep}
 
 pub rest_set_same : (rests : List Rest) (i : ℕ) (r : Rest) → i < length rests →
     rest_of (slice_set rests i r) i ≡ r
@@ -17,83 +18,67 @@ rest_set_other rests i j r n = get_or-set_other rests i j r Listed n
 
 pub step_none : (x : ℕ) (r : Rest) → IsStep x r r
 step_none x r =
-    record { named = λ y h. h; unseen = λ changed h. refl; unheld = λ y h. h; apart = λ h. h }
+    record { named = λ y h. h; known = λ boxes c changed h k. k; unheld = λ y h. h; apart = λ h. h }
 
 pub step_then : (x : ℕ) (a b c : Rest) → IsStep x a b → IsStep x b c → IsStep x a c
 step_then x a b c f g = record {
   named = λ y h. f.named y (g.named y h);
-  unseen = λ changed h. g.unseen changed h ∙ f.unseen changed h;
+  known = λ boxes d changed h k. g.known boxes d changed h (f.known boxes d changed h k);
   unheld = λ y h. f.unheld y (g.unheld y h);
   apart = λ h. g.apart (f.apart h);
 }
 
-pub touched_names : (x : ℕ) (r : Rest) → names (touched x r) x ≡ false
-touched_names x Listed = refl
-touched_names x (Half a) = grind arith
-touched_names x (On a b) = grind arith
-touched_names x (Held a) = grind arith
+pub forgotten_names : (x : ℕ) (r : Rest) → names (forgotten x r) x ≡ false
+forgotten_names x Listed = refl
+forgotten_names x (Half a) = grind arith
+forgotten_names x (On a b) = grind arith
+forgotten_names x (Held a) = grind arith
 
-touched_named : (x : ℕ) (r : Rest) (y : ℕ) → names (touched x r) y ≡ true → names r y ≡ true
-touched_named x Listed y h = h
-touched_named x (Half a) y h = grind arith
-touched_named x (On a b) y h = grind arith
-touched_named x (Held a) y h = grind arith
+forgotten_named : (x : ℕ) (r : Rest) (y : ℕ) → names (forgotten x r) y ≡ true → names r y ≡ true
+forgotten_named x Listed y h = h
+forgotten_named x (Half a) y h = grind arith
+forgotten_named x (On a b) y h = grind arith
+forgotten_named x (Held a) y h = grind arith
 
-touched_unseen : (x : ℕ) (r : Rest) (changed : List Bool) → is_marked changed x ≡ true →
-    seen changed (touched x r) ≡ seen changed r
-touched_unseen x Listed changed h = refl
-touched_unseen x (Half a) changed h = grind arith
-touched_unseen x (On a b) changed h = grind arith
-touched_unseen x (Held a) changed h = grind arith
+half_unseen : (x a : ℕ) (changed : List Bool) → is_marked changed x ≡ true →
+    seen changed (forgotten x (Half a)) ≡ seen changed (Half a)
+half_unseen x a changed h = grind arith
 
-touched_unheld : (x : ℕ) (r : Rest) (y : ℕ) → holds (touched x r) y ≡ true → holds r y ≡ true
-touched_unheld x Listed y h = h
-touched_unheld x (Half a) y h = grind arith
-touched_unheld x (On a b) y h = grind arith
-touched_unheld x (Held a) y h = grind arith
+on_unseen : (x a b : ℕ) (changed : List Bool) → is_marked changed x ≡ true →
+    seen changed (forgotten x (On a b)) ≡ seen changed (On a b)
+on_unseen x a b changed h = grind arith
 
-touched_apart : (x : ℕ) (r : Rest) → differ r ≡ true → differ (touched x r) ≡ true
-touched_apart x Listed h = refl
-touched_apart x (Half a) h = grind arith
-touched_apart x (On a b) h = grind arith
-touched_apart x (Held a) h = grind arith
+held_known : (boxes : Boxes) (c : Literals) (a : ℕ) (m : Bool) (changed : List Bool) →
+    IsKnown boxes c (Held a) → IsKnown boxes c (seen changed (cond m Listed (Held a)))
+held_known boxes c a true changed k = tt
+held_known boxes c a false changed k = k
 
-pub step_touched : (x : ℕ) (r : Rest) → IsStep x r (touched x r)
-step_touched x r = record {
-  named = touched_named x r;
-  unseen = touched_unseen x r;
-  unheld = touched_unheld x r;
-  apart = touched_apart x r;
+forgotten_known : (x : ℕ) (r : Rest) (boxes : Boxes) (c : Literals) (changed : List Bool) →
+    is_marked changed x ≡ true → IsKnown boxes c (seen changed r) →
+    IsKnown boxes c (seen changed (forgotten x r))
+forgotten_known x Listed boxes c changed h k = k
+forgotten_known x (Half a) boxes c changed h k =
+    subst (λ (r : Rest). IsKnown boxes c r) (sym (half_unseen x a changed h)) k
+forgotten_known x (On a b) boxes c changed h k =
+    subst (λ (r : Rest). IsKnown boxes c r) (sym (on_unseen x a b changed h)) k
+forgotten_known x (Held a) boxes c changed h k = held_known boxes c a (x == a) changed k
+
+forgotten_unheld : (x : ℕ) (r : Rest) (y : ℕ) → holds (forgotten x r) y ≡ true → holds r y ≡ true
+forgotten_unheld x Listed y h = h
+forgotten_unheld x (Half a) y h = grind arith
+forgotten_unheld x (On a b) y h = grind arith
+forgotten_unheld x (Held a) y h = grind arith
+
+forgotten_apart : (x : ℕ) (r : Rest) → differ r ≡ true → differ (forgotten x r) ≡ true
+forgotten_apart x Listed h = refl
+forgotten_apart x (Half a) h = grind arith
+forgotten_apart x (On a b) h = grind arith
+forgotten_apart x (Held a) h = grind arith
+
+pub step_forgotten : (x : ℕ) (r : Rest) → IsStep x r (forgotten x r)
+step_forgotten x r = record {
+  named = forgotten_named x r;
+  known = forgotten_known x r;
+  unheld = forgotten_unheld x r;
+  apart = forgotten_apart x r;
 }
-
-step_half : (x a : ℕ) (b : Bool) → (a == x) ≡ b → IsStep x (Held a) (cond b (Half x) (Held a))
-step_half x a true e = let is : a ≡ x = grind arith in
-    subst (λ (y : ℕ). IsStep x (Held y) (Half x)) (sym is) (record {
-      named = λ y h. h;
-      unseen = λ changed h. grind arith;
-      unheld = λ y h. absurd (cc);
-      apart = λ h. refl;
-    })
-step_half x a false e = step_none x (Held a)
-
-pub step_raised : (x : ℕ) (r : Rest) → IsStep x r (raised x r)
-step_raised x Listed = step_none x Listed
-step_raised x (Half a) = step_none x (Half a)
-step_raised x (On a b) = step_none x (On a b)
-step_raised x (Held a) = step_half x a (a == x) refl
-
-half_unheld : (x a : ℕ) (b : Bool) → (a == x) ≡ b → holds (cond b (Half x) (Held a)) x ≡ false
-half_unheld x a true e = refl
-half_unheld x a false e = e
-
-pub raised_unheld : (x : ℕ) (r : Rest) → holds (raised x r) x ≡ false
-raised_unheld x Listed = refl
-raised_unheld x (Half a) = refl
-raised_unheld x (On a b) = refl
-raised_unheld x (Held a) = half_unheld x a (a == x) refl
-
-pub raised_none : (rests : List Rest) (i x : ℕ) → holds (rest_of rests i) x ≡ false →
-    slice_set rests i (raised x (rest_of rests i)) ≡ rests
-raised_none rests i x h =
-    let same : raised x (rest_of rests i) ≡ rest_of rests i = rw h refl in
-    ap (λ (r : Rest). slice_set rests i r) same ∙ set-get_or rests i Listed

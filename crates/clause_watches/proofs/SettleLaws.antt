@@ -1,40 +1,36 @@
 -- The table once a row was walked.
-use Rattle.std.proofs.Common.{◌≡◌, ◌≢◌, ℕ, zero, suc, ◌<◌, ◌==◌, Bool, true, false, List, [], ◌∷◌, inl, inr, length, take, ℤ, arith, refl, sym, ap, ◌∙◌, subst, slice_set}
+use Rattle.std.proofs.Common.{◌≡◌, ◌≢◌, ℕ, zero, suc, ◌==◌, Bool, true, false, List, [], ◌∷◌, inl, inr, length, take, ℤ, arith, refl, sym, ap, ◌∙◌, subst}
 use Rattle.std.specs.List.{All}
-use Rattle.std.proofs.lemmas.Bool.{cases_eq, false_from_ne_true}
+use Rattle.std.proofs.lemmas.Bool.{cases_eq}
 use Rattle.std.proofs.lemmas.List.Elements.{All-nil, All-tail}
 use Rattle.signed_clause.specs.Ranges.{Ranges, IsValid}
+use Rattle.signed_clause.specs.SetAlgebra.{is_disjoint}
 use Rattle.signed_clause.specs.Clauses.{Boxes, Literals, box_of, IsClause}
 use Rattle.signed_clause.proofs.ResolventLaws.{set_valid}
 use Rattle.clause_watches.specs.declared.rest.Rest.{Rest}
-use Rattle.clause_watches.specs.declared.rest.Rest.TheVariants.{Listed, Half, On, Held}
 use Rattle.clause_watches.specs.declared.watch.Watch.{Watch}
 use Rattle.clause_watches.specs.declared.watch.Site.{Site}
-use Rattle.clause_watches.specs.Watching.{rest_of, clause_of, IsKnown}
+use Rattle.clause_watches.specs.Watching.{rest_of, clause_of}
 use Rattle.clause_watches.specs.Marks.{is_marked}
-use Rattle.clause_watches.specs.Rows.{names, holds, differ, has_watch, AreBelow, AreRight, IsMet, IsWalked}
+use Rattle.clause_watches.specs.Rows.{names, differ, has_watch, AreBelow, AreRight, IsWalked}
 use Rattle.clause_watches.specs.Sound.{row_of, least_at, sets_at, AreClauses, AreLinked, AreKnown, IsUnmarked}
 use Rattle.clause_watches.proofs.RestLaws.{step_none}
-use Rattle.clause_watches.proofs.MarkLaws.{marked_other}
 use Rattle.clause_watches.proofs.KnownLaws.{known_again}
 use Rattle.clause_watches.proofs.TestLaws.{or_other}
 
 -- the walk begins
 pub walk_begins : (added : List (ℕ × Literals)) (rests : List Rest) (rows : List (List Watch))
-    (leasts : List ℤ) (held : List Bool) (at : Ranges) (s : Site) →
+    (leasts : List ℤ) (held : List (List ℕ)) (at : Ranges) (s : Site) →
     AreLinked added rests rows leasts held → s.least ≡ least_at leasts s.variable →
-    s.holds ≡ is_marked held s.variable →
     IsWalked (sets_at added s.variable) at s rests rests (row_of rows s.variable) 0
-walk_begins added rests rows leasts held at s fit least marked = record {
+walk_begins added rests rows leasts held at s fit least = record {
   steps = λ i. step_none s.variable (rest_of rests i);
   linked = λ i n. fit.linked i s.variable n;
   right = subst (λ (v : ℤ). AreRight v (sets_at added s.variable) (row_of rows s.variable))
       (sym least) (fit.right s.variable);
-  unheld = λ e i. false_from_ne_true _
-      (λ t. let yes = fit.held_marked i s.variable t in let no = marked in absurd (cc));
   met = All-nil
       (λ w. names (rest_of rests w.clause) s.variable ≡ true →
-      IsMet (sets_at added s.variable w.clause) at s.variable (rest_of rests w.clause));
+      is_disjoint (sets_at added s.variable w.clause) at ≡ false);
 }
 
 found : (row : List Watch) (i : ℕ) (Q : ℕ → Type 0) → All (λ w. Q w.clause) row →
@@ -53,33 +49,28 @@ take_whole (x ∷ xs) = ap (λ l. x ∷ l) (take_whole xs)
 -- at the end each clause of the row was met
 met_at : (sets : ℕ → Ranges) (at : Ranges) (s : Site) (before rests : List Rest) (row : List Watch)
     (i : ℕ) → IsWalked sets at s before rests row (length row) →
-    names (rest_of rests i) s.variable ≡ true → IsMet (sets i) at s.variable (rest_of rests i)
+    names (rest_of rests i) s.variable ≡ true → is_disjoint (sets i) at ≡ false
 met_at sets at s before rests row i walked n =
     found row i (λ j. names (rest_of rests j) s.variable ≡ true →
-    IsMet (sets j) at s.variable (rest_of rests j))
+    is_disjoint (sets j) at ≡ false)
     (subst (λ (l : List Watch). All
     (λ w. names (rest_of rests w.clause) s.variable ≡ true →
-    IsMet (sets w.clause) at s.variable (rest_of rests w.clause)) l)
+    is_disjoint (sets w.clause) at ≡ false) l)
     (take_whole row) walked.met)
     (walked.linked i n) n
 
-pub holds_names : (r : Rest) (x : ℕ) → holds r x ≡ true → names r x ≡ true
-holds_names Listed x h = absurd (cc)
-holds_names (Half a) x h = absurd (cc)
-holds_names (On a b) x h = absurd (cc)
-holds_names (Held a) x h = h
-
 -- the walk ends
 pub linked_after : (added : List (ℕ × Literals)) (rests news : List Rest)
-    (rows rows' : List (List Watch)) (leasts : List ℤ) (held : List Bool) (at : Ranges) (s : Site) →
+    (rows rows' : List (List Watch)) (leasts : List ℤ) (held : List (List ℕ)) (at : Ranges)
+    (s : Site) →
     AreLinked added rests rows leasts held → s.least ≡ least_at leasts s.variable →
-    s.variable < length held → length news ≡ length rests →
+    length news ≡ length rests →
     ((y : ℕ) → y ≢ s.variable → row_of rows' y ≡ row_of rows y) →
     AreBelow (length news) (row_of rows' s.variable) →
     IsWalked (sets_at added s.variable) at s rests news (row_of rows' s.variable)
     (length (row_of rows' s.variable)) →
-    AreLinked added news rows' leasts (slice_set held s.variable false)
-linked_after added rests news rows rows' leasts held at s fit least there size others below walked =
+    AreLinked added news rows' leasts held
+linked_after added rests news rows rows' leasts held at s fit least size others below walked =
     let x = s.variable in record {
       size = size ∙ fit.size;
       apart = λ i. (walked.steps i).apart (fit.apart i);
@@ -102,14 +93,7 @@ linked_after added rests news rows rows' leasts held at s fit least there size o
         | inr other ↦ subst (λ (l : List Watch). AreRight (least_at leasts y) (sets_at added y) l)
             (sym (others y other)) (fit.right y)
       ];
-      held_marked = λ i y h. elim (cases_eq y x) [
-        | inl same ↦ let at_x : holds (rest_of news i) x ≡ true =
-            subst (λ (z : ℕ). holds (rest_of news i) z ≡ true) same h in
-            let free = (met_at (sets_at added x) at s rests news (row_of rows' x) i walked
-            (holds_names (rest_of news i) x at_x)).unheld in absurd (cc)
-        | inr other ↦ marked_other held x y false other
-            ∙ fit.held_marked i y ((walked.steps i).unheld y h)
-      ];
+      held_listed = λ i y h. fit.held_listed i y ((walked.steps i).unheld y h);
     }
 
 -- what is known once x counts as unchanged
@@ -124,9 +108,7 @@ known_after boxes added rests news row s before after on unmarked apart walked k
     let met = λ (n : names (rest_of news i) x ≡ true). met_at (sets_at added x)
     (box_of boxes x) s rests news row i walked n in
     known_again boxes (clause_of added i) x (rest_of news i) before after on unmarked (apart i)
-    (λ n. (met n).meets) (λ n. (met n).unheld)
-    (subst (λ (r : Rest). IsKnown boxes (clause_of added i) r)
-    (sym ((walked.steps i).unseen before on)) (known i))
+    met ((walked.steps i).known boxes (clause_of added i) before on (known i))
 
 pub clause_form : (added : List (ℕ × Literals)) (i : ℕ) → All (λ a. IsClause a.1) added →
     IsClause (clause_of added i)

@@ -5,13 +5,14 @@ use Rattle.std.specs.Int.{bit_at}
 use Rattle.std.specs.List.{All, list_any}
 use Rattle.signed_clause.specs.Ranges.{Ranges, has}
 use Rattle.signed_clause.specs.SetAlgebra.{is_disjoint}
+use Rattle.signed_clause.specs.Clauses.{Boxes, Literals}
 use Rattle.clause_watches.specs.declared.rest.Rest.{Rest}
 use Rattle.clause_watches.specs.declared.rest.Rest.TheVariants.{Listed, Half, On, Held}
 use Rattle.clause_watches.specs.declared.watch.Watch.{Watch}
 use Rattle.clause_watches.specs.declared.watch.Site.{Site}
 use Rattle.clause_watches.specs.declared.watch.Witness.{Witness}
 use Rattle.clause_watches.specs.declared.watch.Witness.TheVariants.{Mask, Value}
-use Rattle.clause_watches.specs.Watching.{rest_of, without}
+use Rattle.clause_watches.specs.Watching.{rest_of, without, holds, IsKnown}
 use Rattle.clause_watches.specs.Marks.{is_marked}
 
 -- ---- rests and variables
@@ -23,13 +24,6 @@ names (Half y) x = y == x
 names (On y z) x = y == x || z == x
 names (Held y) x = y == x
 
--- it rests by the literal of x alone
-abbrev pub holds : Rest → ℕ → Bool
-holds Listed x = false
-holds (Half y) x = false
-holds (On y z) x = false
-holds (Held y) x = y == x
-
 -- two variables that are named are different
 abbrev pub differ : Rest → Bool
 differ Listed = true
@@ -37,7 +31,7 @@ differ (Half y) = true
 differ (On y z) = not (y == z)
 differ (Held y) = true
 
--- what is seen of a rest where the marked variables may have changed
+-- what is seen of a rest where the boxes of the marked variables may have become narrower
 abbrev pub seen : List Bool → Rest → Rest
 seen changed r = without (is_marked changed) r
 
@@ -66,22 +60,22 @@ has_watch i row = list_any (λ w. w.clause == i) row
 
 -- ---- a walk along a row
 
--- of a clause that rests by x alone, only that x meets is kept
-abbrev pub raised : ℕ → Rest → Rest
-raised x r = cond (holds r x) (Half x) r
+-- what is left of a rest once x is named no longer
+abbrev pub forgotten : ℕ → Rest → Rest
+forgotten x Listed = Listed
+forgotten x (Half y) = cond (x == y) Listed (Half y)
+forgotten x (On y z) =
+    cond (x == y) (cond (x == z) Listed (Half z)) (cond (x == z) (Half y) (On y z))
+forgotten x (Held y) = cond (x == y) Listed (Held y)
 
--- a rest may become the other: it names no more, and where x may have changed nothing is seen of it
+-- a rest may become the other: it names no more, and what was seen of it where x may have changed
+-- tells what is seen then
 pub record IsStep (x : ℕ) (before after : Rest) : Type 0 where
   pub named : (y : ℕ) → names after y ≡ true → names before y ≡ true
-  pub unseen : (changed : List Bool) → is_marked changed x ≡ true →
-      seen changed after ≡ seen changed before
+  pub known : (boxes : Boxes) (c : Literals) (changed : List Bool) → is_marked changed x ≡ true →
+      IsKnown boxes c (seen changed before) → IsKnown boxes c (seen changed after)
   pub unheld : (y : ℕ) → holds after y ≡ true → holds before y ≡ true
   pub apart : differ before ≡ true → differ after ≡ true
-
--- the set meets the box, and the clause doesn't rest by x alone
-pub record IsMet (set at : Ranges) (x : ℕ) (r : Rest) : Type 0 where
-  pub meets : is_disjoint set at ≡ false
-  pub unheld : holds r x ≡ false
 
 -- a walk has come to the k-th watch
 pub record IsWalked (sets : ℕ → Ranges) (at : Ranges) (s : Site) (before rests : List Rest)
@@ -89,6 +83,11 @@ pub record IsWalked (sets : ℕ → Ranges) (at : Ranges) (s : Site) (before res
   pub steps : (i : ℕ) → IsStep s.variable (rest_of before i) (rest_of rests i)
   pub linked : (i : ℕ) → names (rest_of rests i) s.variable ≡ true → has_watch i row ≡ true
   pub right : AreRight s.least sets row
-  pub unheld : s.holds ≡ false → (i : ℕ) → holds (rest_of rests i) s.variable ≡ false
   pub met : All (λ w. names (rest_of rests w.clause) s.variable ≡ true
-      → IsMet (sets w.clause) at s.variable (rest_of rests w.clause)) (take k row)
+      → is_disjoint (sets w.clause) at ≡ false) (take k row)
+
+-- ---- boxes become wider
+
+-- of a clause that rests by x alone, only that x meets is kept
+abbrev pub freed : ℕ → Rest → Rest
+freed x r = cond (holds r x) (Half x) r

@@ -1,19 +1,27 @@
 -- What watches keep. What a reader believes after this file: every clause is a clause over the
--- variables, every variable that a rest names has the clause in its row, and what a watch says of
--- its clause is true.
+-- variables, every variable that a rest names has the clause in its row, the variable that holds a
+-- clause has it in its list, and what a watch says of its clause is true.
 use Rattle.std.specs.Prelude.{◌≡◌, ℕ, ◌<◌, Bool, true, false, cond, ◌==◌, List, [], ℤ, pos, length, map, slice_index_or}
-use Rattle.std.specs.List.{All}
+use Rattle.std.specs.List.{All, list_any}
 use Rattle.signed_clause.specs.Clauses.{Boxes, Literals, set_of, IsClause}
 use Rattle.clause_watches.specs.declared.rest.Rest.{Rest}
 use Rattle.clause_watches.specs.declared.watch.Watch.{Watch}
 use Rattle.clause_watches.specs.declared.table.Table.{Table}
-use Rattle.clause_watches.specs.Watching.{Watching, clause_of, rest_of, IsKnown}
+use Rattle.clause_watches.specs.Watching.{Watching, clause_of, rest_of, holds, IsKnown}
 use Rattle.clause_watches.specs.Marks.{is_marked}
-use Rattle.clause_watches.specs.Rows.{names, holds, differ, seen, has_watch, AreBelow, AreRight}
+use Rattle.clause_watches.specs.Rows.{names, differ, seen, has_watch, AreBelow, AreRight}
 
 -- the row of a variable
 abbrev pub row_of : List (List Watch) → ℕ → List Watch
 row_of rows x = slice_index_or rows x []
+
+-- the clauses that came to rest by its literal alone
+abbrev pub held_of : List (List ℕ) → ℕ → List ℕ
+held_of held x = slice_index_or held x []
+
+-- the number stands in the list
+abbrev pub stands : ℕ → List ℕ → Bool
+stands i list = list_any (λ j. j == i) list
 
 -- the least value of its domain
 abbrev pub least_at : List ℤ → ℕ → ℤ
@@ -28,25 +36,27 @@ pub record AreClauses (n : ℕ) (added : List (ℕ × Literals)) : Type 0 where
   pub forms : All (λ a. IsClause a.1) added
   pub within : All (λ a. All (λ l. l.0 < n) a.1) added
 
--- rests, rows and marks fit together
+-- rests, rows and lists fit together
 pub record AreLinked (added : List (ℕ × Literals)) (rests : List Rest) (rows : List (List Watch))
-    (leasts : List ℤ) (held : List Bool) : Type 0 where
+    (leasts : List ℤ) (held : List (List ℕ)) : Type 0 where
   pub size : length rests ≡ length added
   pub apart : (i : ℕ) → differ (rest_of rests i) ≡ true
   pub linked : (i x : ℕ) → names (rest_of rests i) x ≡ true → has_watch i (row_of rows x) ≡ true
   pub below : (x : ℕ) → AreBelow (length rests) (row_of rows x)
   pub right : (x : ℕ) → AreRight (least_at leasts x) (sets_at added x) (row_of rows x)
-  pub held_marked : (i x : ℕ) → holds (rest_of rests i) x ≡ true → is_marked held x ≡ true
+  pub held_listed : (i x : ℕ) → holds (rest_of rests i) x ≡ true →
+      stands i (held_of held x) ≡ true
 
 -- all of it
 pub record IsSound (t : Table) : Type 0 where
   pub leasts_size : length t.leasts.items ≡ length t.rows.items
-  pub holds_size : length t.holds.items ≡ length t.rows.items
+  pub held_size : length t.held.items ≡ length t.rows.items
   pub changed_size : length t.changed ≡ length t.rows.items
   pub clauses : AreClauses (length t.rows.items) t.added.items
-  pub fit : AreLinked t.added.items t.rests t.rows.items t.leasts.items t.holds.items
+  pub fit : AreLinked t.added.items t.rests t.rows.items t.leasts.items t.held.items
 
--- what is known of each clause is true in the boxes, where the marked variables may have changed
+-- what is known of each clause is true in the boxes, where those of the marked variables may have
+-- become narrower
 abbrev pub AreKnown : Boxes → List (ℕ × Literals) → List Rest → List Bool → Type 0
 AreKnown boxes added rests changed =
     (i : ℕ) → IsKnown boxes (clause_of added i) (seen changed (rest_of rests i))

@@ -3,10 +3,9 @@
 -- one literal holds its whole box; such a clause is neither unit nor false. Watches fit boxes where
 -- what they know of each clause is true there.
 use Rattle.std.specs.Prelude.{◌≡◌, ◌≢◌, ℕ, ◌<◌, Bool, true, false, ◌||◌, ◌==◌, cond, List, [], is_some, length, slice_index_or}
-use Rattle.signed_clause.specs.Ranges.{IsSubset}
+use Rattle.signed_clause.specs.Ranges.{IsValid, IsSubset, is_nil}
 use Rattle.signed_clause.specs.SetAlgebra.{is_disjoint, is_within}
 use Rattle.signed_clause.specs.Clauses.{Boxes, Literals, box_of, set_of, false_in, unit_of}
-use Rattle.signed_clause.specs.Running.{AreValid}
 use Rattle.clause_watches.specs.declared.rest.Rest.{Rest}
 use Rattle.clause_watches.specs.declared.rest.Rest.TheVariants.{Listed, Half, On, Held}
 
@@ -66,35 +65,44 @@ Fits boxes w = (i : ℕ) → IsKnown boxes (clause_of w.added i) (rest_of w.rest
 
 -- ---- when boxes change
 
--- what is still known of a clause where some variables may have changed
+-- the rest is by the literal of x alone
+abbrev pub holds : Rest → ℕ → Bool
+holds Listed x = false
+holds (Half y) x = false
+holds (On y z) x = false
+holds (Held y) x = y == x
+
+-- what is still known of a clause where some boxes may have become narrower: that a literal meets
+-- its box may be over, that it holds its whole box stays
 abbrev pub without : (ℕ → Bool) → Rest → Rest
 without gone Listed = Listed
 without gone (Half x) = cond (gone x) Listed (Half x)
 without gone (On x y) =
     cond (gone x) (cond (gone y) Listed (Half y)) (cond (gone y) (Half x) (On x y))
-without gone (Held x) = cond (gone x) Listed (Held x)
+without gone (Held x) = Held x
 
--- where x may have changed
+-- where that of x may have
 abbrev pub touched : ℕ → Rest → Rest
 touched x r = without (λ y. x == y) r
-
--- where boxes may have become wider: that one literal holds its box may be over, that it meets
--- stays
-abbrev pub widened : Rest → Rest
-widened Listed = Listed
-widened (Half x) = Half x
-widened (On x y) = On x y
-widened (Held x) = Half x
 
 -- the boxes are the same but for that of x
 abbrev pub DifferAt : ℕ → Boxes → Boxes → Type 0
 DifferAt x a b = (y : ℕ) → y ≢ x → box_of a y ≡ box_of b y
 
--- valid boxes, each of which has the values of the other's
-pub record AreWider (small large : Boxes) : Type 0 where
-  pub small_valid : AreValid small
-  pub large_valid : AreValid large
-  pub within : (x : ℕ) → IsSubset (box_of small x) (box_of large x)
+-- the box of x became narrower, and has values left; the others are the same
+pub record NarrowsAt (x : ℕ) (a b : Boxes) : Type 0 where
+  pub others : DifferAt x a b
+  pub before_valid : IsValid (box_of a x)
+  pub after_valid : IsValid (box_of b x)
+  pub some : is_nil (box_of b x) ≡ false
+  pub within : IsSubset (box_of b x) (box_of a x)
+
+-- it became wider
+pub record WidensAt (x : ℕ) (a b : Boxes) : Type 0 where
+  pub others : DifferAt x a b
+  pub before_valid : IsValid (box_of a x)
+  pub after_valid : IsValid (box_of b x)
+  pub within : IsSubset (box_of a x) (box_of b x)
 
 -- ---- what is answered
 

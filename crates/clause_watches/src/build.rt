@@ -6,6 +6,7 @@ ghost use Rattle.clause_watches.specs.Marks.{is_marked};
 ghost use Rattle.clause_watches.specs.Sound.{row_of, IsSound};
 
 use crate::counts::Counts;
+use crate::held::HeldBy;
 use crate::rest::Rest;
 use crate::rests::Rests;
 use crate::row::Row;
@@ -24,14 +25,14 @@ pub(crate) fn empty_table(alloc: Global, domains: &[IntSet]) -> Result<Table, Al
     let n = domains.len();
     let rows = empty_rows(alloc, n)?;
     let leasts = leasts_of(alloc, domains)?;
-    let holds = no_marks(alloc, n)?;
+    let held = none_held(alloc, n)?;
     let changed = empty_list(alloc, n)?;
     Ok(Table {
         added: Vec::new(alloc),
         rests: Rests::new(alloc),
         rows,
         leasts,
-        holds,
+        held,
         changed,
         counts: Counts { met: 0, opened: 0 },
     })
@@ -60,15 +61,15 @@ fn leasts_of(alloc: Global, domains: &[IntSet]) -> Result<Vec<i64>, AllocError>
     Ok(leasts)
 }
 
-/// So many marks, none of them set.
-fn no_marks(alloc: Global, n: usize) -> Result<Vec<bool>, AllocError>
-    ensures size { IfOk result (λ marks. length marks.items ≡ n) }
+/// So many lists of clauses, all of them empty.
+fn none_held(alloc: Global, n: usize) -> Result<Vec<HeldBy>, AllocError>
+    ensures size { IfOk result (λ held. length held.items ≡ n) }
 {
-    let mut marks = Vec::with_capacity(alloc, n)?;
+    let mut held = Vec::with_capacity(alloc, n)?;
     for _ in 0..n {
-        marks.push(false)?;
+        held.push(HeldBy::new(alloc))?;
     }
-    Ok(marks)
+    Ok(held)
 }
 
 /// A list in which all numbers below `n` may wait, and none does.

@@ -4,7 +4,7 @@
 //! - `table`: all that is kept of them; `build`: how it begins and grows.
 //! - `next`: the search for a clause, in two halves: `settle` walks the rows of changed variables,
 //!   `search` opens listed clauses.
-//! - `look`, `link`: what is found in a clause, and what is written down then.
+//! - `look`, `link`, `held`: what is found in a clause, and what is written down then.
 //! - `rest`, `steps`: why a clause needs no look, and what becomes of that.
 //! - `rests`: what is known of each added clause, with lists of those that need a look.
 //! - `watch`, `row`: the clauses that a variable watches, and a walk along them.
@@ -15,6 +15,7 @@
 
 mod build;
 mod counts;
+mod held;
 mod link;
 mod look;
 mod mask;

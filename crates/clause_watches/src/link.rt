@@ -1,5 +1,5 @@
 //! What is written down once a clause was looked at.
-ghost use Rattle.std.specs.Prelude.{◌≡◌, ◌≢◌, ◌<◌, ◌++◌, ◌∷◌, [], ℕ, false, true, slice_set, length, OnOk, OnErr};
+ghost use Rattle.std.specs.Prelude.{◌≡◌, ◌≢◌, ◌<◌, ◌++◌, ◌∷◌, [], ℕ, false, slice_set, length, OnOk, OnErr};
 ghost use Rattle.clause_watches.specs.Watching.{rest_of};
 ghost use Rattle.clause_watches.specs.Rows.{names, IsTrueOf};
 ghost use Rattle.clause_watches.specs.Sound.{row_of, least_at, sets_at, IsSound};
@@ -50,20 +50,4 @@ fn push_watch(rows: &mut Vec<Row>, link: Link) -> Result<(), AllocError>
 {
     rows[link.variable as usize].push(link.watch)?;
     Ok(())
-}
-
-/// Says that clause `i` rests by the literal of `x` alone.
-pub(crate) fn hold(table: &mut Table, i: u32, x: u32)
-    requires sound { IsSound table.old }
-    requires row { x < length table.old.rows.items }
-    requires there { i < length table.old.rests }
-    requires named { rest_of table.old.rests i ≡ Rest.Half x }
-    ensures sound { IsSound table.new }
-    ensures added { table.new.added ≡ table.old.added }
-    ensures count { length table.new.rows.items ≡ length table.old.rows.items }
-    ensures changed { table.new.changed ≡ table.old.changed }
-    ensures rests { table.new.rests ≡ slice_set table.old.rests i (Rest.Held x) }
-{
-    table.rests.set(i, Rest::Held(x));
-    table.holds[x as usize] = true;
 }

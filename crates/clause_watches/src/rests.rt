@@ -1,15 +1,15 @@
-//! `Rests`, what is known of each added clause, and lists of those that need a look.
+//! `Rests`, what is known of each added clause, and a list of those that need a look.
 //!
-//! Two work lists stand beside the rests: one has all clauses that are still to be looked at, the
-//! other all that rest by one literal. Either may also have clauses that are no longer so; those
-//! are passed over when their turn comes. Only `push` takes memory. Contracts see the rests alone.
-ghost use Rattle.std.specs.Prelude.{◌≡◌, ◌<◌, ◌≤◌, ◌^◌, ℕ, [], ◌∷◌, ◌++◌, true, false, cond, ◌==◌, slice_set, length, OnOk, OnErr, IfNone, IfSome};
-ghost use Rattle.clause_watches.specs.Marks.{is_marked, count_marked};
-ghost use Rattle.clause_watches.specs.Watching.{rest_of, is_listed, widened};
-ghost use Rattle.clause_watches.specs.Keeping.{is_held, IsCovered};
+//! A work list stands beside the rests, with all clauses that are still to be looked at. It may also
+//! have clauses that are so no longer; those are passed over when their turn comes. Only `push`
+//! takes memory. Contracts see the rests alone.
+ghost use Rattle.std.specs.Prelude.{◌≡◌, ◌<◌, ◌^◌, ℕ, [], ◌∷◌, ◌++◌, true, false, slice_set, length, OnOk, OnErr, IfNone, IfSome};
+ghost use Rattle.clause_watches.specs.Marks.{is_marked};
+ghost use Rattle.clause_watches.specs.Watching.{rest_of, is_listed};
+ghost use Rattle.clause_watches.specs.Keeping.{IsCovered};
 
 use crate::rest::Rest;
-use crate::steps::{is_held, is_listed, widened};
+use crate::steps::is_listed;
 use crate::work_list::WorkList;
 use std::alloc::{AllocError, Global};
 use std::marker::Model;
@@ -19,7 +19,6 @@ use std::marker::Model;
 pub(crate) struct Rests {
     rests: Vec<Rest>,
     listed: WorkList,
-    parked: WorkList,
 }
 
 impl Model for Rests {
@@ -31,7 +30,7 @@ impl Model for Rests {
 
     ghost view = { λ r. r.rests.items };
 
-    ghost invariant = { λ r. IsCovered r.rests.items r.listed r.parked };
+    ghost invariant = { λ r. IsCovered r.rests.items r.listed };
 }
 
 impl Rests {
@@ -42,11 +41,10 @@ impl Rests {
         Rests {
             rests: Vec::new(alloc),
             listed: WorkList::new(alloc),
-            parked: WorkList::new(alloc),
         }
     }
 
-    /// One clause more, of which nothing is known, and room for it in both lists.
+    /// One clause more, of which nothing is known, and room for it in the list.
     pub(crate) fn push(&mut self) -> Result<(), AllocError>
         requires { length self.old < 2 ^ 32 }
         ensures ok { OnOk result (self.new ≡ self.old ++ Rest.Listed ∷ []) }
@@ -54,7 +52,6 @@ impl Rests {
     {
         let n = self.rests.len();
         self.listed.reach(n + 1)?;
-        self.parked.reach(n + 1)?;
         self.rests.push(Rest::Listed)?;
         self.listed.add(n as u32);
         Ok(())
@@ -84,9 +81,6 @@ impl Rests {
         if is_listed(rest) {
             self.listed.add(i);
         }
-        if is_held(rest) {
-            self.parked.add(i);
-        }
     }
 
     /// A clause that is still to be looked at, the one that was listed last. It stays listed.
@@ -98,14 +92,6 @@ impl Rests {
             → is_listed (rest_of self.old i) ≡ false) }
     {
         find_listed(&self.rests, &mut self.listed)
-    }
-
-    /// Lists every clause that rests by one literal, since boxes have become wider.
-    pub(crate) fn widen(&mut self)
-        ensures size { length self.new ≡ length self.old }
-        ensures rests { (i : ℕ) → rest_of self.new i ≡ widened (rest_of self.old i) }
-    {
-        widen_parked(&mut self.rests, &mut self.listed, &mut self.parked);
     }
 }
 
@@ -137,33 +123,4 @@ fn has_listed(rests: &[Rest], i: u32) -> bool
 {
     let i = i as usize;
     i < rests.len() && is_listed(rests[i])
-}
-
-/// Lists every parked clause that still rests by one literal, and parks none any longer.
-fn widen_parked(rests: &mut Vec<Rest>, listed: &mut WorkList, parked: &mut WorkList)
-    requires { IsCovered rests.old.items listed.old parked.old }
-    ensures covered { IsCovered rests.new.items listed.new parked.new }
-    ensures size { length rests.new.items ≡ length rests.old.items }
-    ensures rests { (i : ℕ) → rest_of rests.new.items i ≡ widened (rest_of rests.old.items i) }
-{
-    while let Some(i) = parked.take() {
-        widen_one(rests, listed, i);
-    }
-}
-
-/// Lists clause `i` if it rests by one literal.
-fn widen_one(rests: &mut Vec<Rest>, listed: &mut WorkList, i: u32)
-    requires { length rests.old.items ≤ length listed.old }
-    ensures size { length rests.new.items ≡ length rests.old.items }
-    ensures list_size { length listed.new ≡ length listed.old }
-    ensures rests { (j : ℕ) → rest_of rests.new.items j
-        ≡ cond (i == j) (widened (rest_of rests.old.items j)) (rest_of rests.old.items j) }
-    ensures listed { (j : ℕ) → is_marked listed.old j ≡ true → is_marked listed.new j ≡ true }
-    ensures held { is_held (rest_of rests.old.items i) ≡ true → is_marked listed.new i ≡ true }
-{
-    let at = i as usize;
-    if at < rests.len() && is_held(rests[at]) {
-        rests[at] = widened(rests[at]);
-        listed.add(i);
-    }
 }

@@ -9,12 +9,12 @@ ghost use Rattle.signed_clause.specs.Ranges.{Ranges, IsValid};
 ghost use Rattle.signed_clause.specs.SetAlgebra.{is_disjoint};
 ghost use Rattle.clause_watches.specs.declared.watch.Watch.{Watch};
 ghost use Rattle.clause_watches.specs.declared.rest.Rest.{Rest};
-ghost use Rattle.clause_watches.specs.Watching.{rest_of, touched};
-ghost use Rattle.clause_watches.specs.Rows.{AreBelow, IsMaskOf, IsTrueOf, IsWalked, holds, raised};
+ghost use Rattle.clause_watches.specs.Watching.{rest_of};
+ghost use Rattle.clause_watches.specs.Rows.{AreBelow, IsMaskOf, IsTrueOf, IsWalked, forgotten};
 
 use crate::rest::Rest;
 use crate::rests::Rests;
-use crate::steps::{holds, touched};
+use crate::steps::forgotten;
 use crate::watch::{Site, Watch, Witness};
 use signed_clause::IntSet;
 use std::alloc::{AllocError, Global};
@@ -82,9 +82,10 @@ impl Row {
     }
 }
 
-/// Walks the row of a variable whose box may have changed. A watch whose witness shows that its
-/// literal meets the box stays, and its clause isn't looked at. Any other goes, and of its clause
-/// nothing is known of this variable any longer. It looks at each watch once, and takes no memory.
+/// Walks the row of a variable whose box may have become narrower. A watch whose witness shows that
+/// its literal meets the box stays, and its clause isn't looked at. Any other goes, and of its
+/// clause nothing is known of this variable any longer. It looks at each watch once, and takes no
+/// memory.
 pub(crate) fn walk(row: &mut Row, rests: &mut Rests, at: &IntSet, site: Site)
     requires { AreBelow (length rests.old) row.old }
     ensures size { length rests.new ≡ length rests.old }
@@ -115,26 +116,12 @@ fn visit(row: &mut Row, k: usize, rests: &mut Rests, at: &IntSet, site: Site) ->
 {
     let watch = row.get(k);
     if is_met(watch.witness, at, site.mask) {
-        raise(rests, watch.clause, site);
         return k + 1;
     }
     row.remove(k);
     let rest = rests.get(watch.clause);
-    rests.set(watch.clause, touched(rest, site.variable));
+    rests.set(watch.clause, forgotten(rest, site.variable));
     k
-}
-
-/// Lists the clause if it rests by the literal of the walk's variable alone.
-#[tactic(auto, using(crate::proofs::RestLaws::raised_none))]
-fn raise(rests: &mut Rests, i: u32, site: Site)
-    requires { i < length rests.old }
-    ensures size { length rests.new ≡ length rests.old }
-    ensures rest { (site.holds ≡ false → holds (rest_of rests.old i) site.variable ≡ false)
-        → rests.new ≡ slice_set rests.old i (raised site.variable (rest_of rests.old i)) }
-{
-    if site.holds && holds(rests.get(i), site.variable) {
-        rests.set(i, Rest::Half(site.variable));
-    }
 }
 
 /// Whether a witness shows that the literal meets the box, whose values the mask has as bits.

@@ -6,7 +6,8 @@ ghost use Rattle.clause_watches.specs.Watching.{acts, clause_of, rest_of, is_lis
 ghost use Rattle.clause_watches.specs.Sound.{IsSound};
 ghost use Rattle.clause_watches.specs.Looking.{AreKnownNow, left_in};
 
-use crate::link::{add_link, hold};
+use crate::held::hold;
+use crate::link::add_link;
 use crate::look::find_link;
 use crate::rest::Rest;
 use crate::table::Table;
@@ -67,7 +68,7 @@ fn look(table: &mut Table, i: u32, boxes: &[IntSet]) -> Result<bool, AllocError>
         }
         None => match find_holding(table, i, boxes) {
             Some(x) => {
-                hold(table, i, x);
+                hold(table, i, x)?;
                 Ok(false)
             }
             None => Ok(true),

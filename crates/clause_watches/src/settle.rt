@@ -1,4 +1,4 @@
-//! The first half of a search for a clause: rows of variables that may have changed are walked.
+//! The first half of a search for a clause: rows of variables that were noted are walked.
 ghost use Rattle.std.specs.Prelude.{◌≡◌, ◌≢◌, ◌<◌, ℕ, Bool, List, false, true, length, slice_index_or};
 ghost use Rattle.signed_clause.specs.Ranges.{Ranges, IsValid};
 ghost use Rattle.signed_clause.specs.Clauses.{box_of};
@@ -14,7 +14,7 @@ use crate::table::Table;
 use crate::watch::Site;
 use signed_clause::IntSet;
 
-/// Walks the rows of all variables that may have changed. It takes no memory, and costs the watches
+/// Walks the rows of all variables that were noted. It takes no memory, and costs the watches
 /// of those rows.
 #[tactic(auto, using(crate::proofs::MarkLaws::marked_below))]
 pub(crate) fn settle_all(table: &mut Table, boxes: &[IntSet])
@@ -62,23 +62,20 @@ fn walk_row(rows: &mut Vec<Row>, rests: &mut Rests, at: &IntSet, site: Site)
 /// What a walk along the row of `x` asks of its box.
 fn site_of(table: &Table, at: &IntSet, x: u32) -> Site
     requires leasts { x < length table.now.leasts.items }
-    requires holds { x < length table.now.holds.items }
     ensures variable { result.variable ≡ x }
     ensures least { result.least ≡ least_at table.now.leasts.items result.variable }
     ensures mask { IsMaskOf result.least at.now result.mask }
     ensures valid { IsValid at.now }
-    ensures holds { result.holds ≡ is_marked table.now.holds.items result.variable }
 {
     let least = table.leasts[x as usize];
     Site {
         variable: x,
         least,
         mask: mask_of(at, least),
-        holds: table.holds[x as usize],
     }
 }
 
-/// Walks the row of a variable that may have changed and isn't noted any longer.
+/// Walks the row of a variable that was noted and isn't any longer.
 fn settle(table: &mut Table, boxes: &[IntSet], x: u32)
     requires sound { IsSound table.old }
     requires there { x < length table.old.rows.items }
@@ -97,7 +94,6 @@ fn settle(table: &mut Table, boxes: &[IntSet], x: u32)
     let site = site_of(table, at, x);
     table.counts.met = table.counts.met.saturating_add(row_len(&table.rows, x));
     walk_row(&mut table.rows, &mut table.rests, at, site);
-    table.holds[site.variable as usize] = false;
 }
 
 /// How many watches the row of `x` has.

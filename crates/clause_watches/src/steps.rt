@@ -1,8 +1,7 @@
 //! What is still known of a clause, step by step.
 ghost use Rattle.std.specs.Prelude.{◌≡◌, ◌==◌};
-ghost use Rattle.clause_watches.specs.Watching.{is_listed, touched, widened};
-ghost use Rattle.clause_watches.specs.Keeping.{is_held};
-ghost use Rattle.clause_watches.specs.Rows.{names, holds};
+ghost use Rattle.clause_watches.specs.Watching.{is_listed, holds};
+ghost use Rattle.clause_watches.specs.Rows.{names, forgotten};
 ghost use Rattle.clause_watches.specs.Looking.{linked};
 
 use crate::rest::Rest;
@@ -17,35 +16,15 @@ pub(crate) fn is_listed(rest: Rest) -> bool
     }
 }
 
-/// Whether the clause rests by one literal.
-pub(crate) fn is_held(rest: Rest) -> bool
-    ensures { result ≡ is_held rest }
-{
-    match rest {
-        Rest::Held(_) => true,
-        _ => false,
-    }
-}
-
-/// What is still known where `x` may have changed.
-pub(crate) fn touched(rest: Rest, x: u32) -> Rest
-    ensures { result ≡ touched x rest }
+/// What is left of a rest once `x` is named no longer.
+pub(crate) fn forgotten(rest: Rest, x: u32) -> Rest
+    ensures { result ≡ forgotten x rest }
 {
     match rest {
         Rest::Half(y) | Rest::Held(y) if x == y => Rest::Listed,
         Rest::On(y, z) if x == y && x == z => Rest::Listed,
         Rest::On(y, z) if x == y => Rest::Half(z),
         Rest::On(y, z) if x == z => Rest::Half(y),
-        kept => kept,
-    }
-}
-
-/// What is still known where boxes may have become wider.
-pub(crate) fn widened(rest: Rest) -> Rest
-    ensures { result ≡ widened rest }
-{
-    match rest {
-        Rest::Held(x) => Rest::Half(x),
         kept => kept,
     }
 }

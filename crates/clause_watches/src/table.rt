@@ -1,6 +1,7 @@
 //! `Table`, all that watches keep.
 
 use crate::counts::Counts;
+use crate::held::HeldBy;
 use crate::rests::Rests;
 use crate::row::Row;
 use crate::work_list::WorkList;
@@ -17,8 +18,8 @@ pub(crate) struct Table {
     pub(crate) rows: Vec<Row>,
     /// For each variable the least value of its domain.
     pub(crate) leasts: Vec<i64>,
-    /// For each variable whether some clause may rest by its literal alone.
-    pub(crate) holds: Vec<bool>,
+    /// For each variable the clauses that came to rest by its literal alone.
+    pub(crate) held: Vec<HeldBy>,
     /// The variables that were noted and whose rows weren't walked since.
     pub(crate) changed: WorkList,
     /// What has been done.

@@ -27,8 +27,6 @@ pub(crate) struct Site {
     pub(crate) least: i64,
     /// The values of its box as bits.
     pub(crate) mask: u64,
-    /// Whether some clause may rest by this variable's literal alone.
-    pub(crate) holds: bool,
 }
 
 /// A watch and the variable in whose row it belongs.

@@ -1,19 +1,20 @@
 //! `Watches`, clauses that are looked at only where they may have become unit or false.
 //!
 //! A clause rests by two literals that meet their boxes, or by one whose box lies within its set;
-//! the rows of their variables have it. When a variable is noted as changed, its row is walked at
-//! the next search. A watch carries values of its literal's set, so most clauses aren't opened
-//! then; only those are that lose a watch, and those that were added, answered or freed by an undo.
-//! So a search costs the watches of changed variables and the clauses that lost one, however many
-//! clauses there are. Contracts see the clauses, and why each of them rests
-//! (`specs/Watching.antt`).
-ghost use Rattle.std.specs.Prelude.{◌≡◌, ◌<◌, ◌++◌, ◌∷◌, [], ℕ, false, map, length, IfOk, OnOk, OnErr, IfNone, IfSome};
+//! the rows of their variables have it. Where the box of a variable becomes narrower, its row is
+//! walked at the next search. A watch carries values of its literal's set, so most clauses aren't
+//! opened then; only those are that lose a watch, and those that were added or answered. Where a box
+//! becomes wider, those are that rest by it alone. So a search costs the watches of changed
+//! variables and the clauses that lost one, however many clauses there are. Contracts see the
+//! clauses, and why each of them rests (`specs/Watching.antt`).
+ghost use Rattle.std.specs.Prelude.{◌≡◌, ◌<◌, ◌++◌, ◌∷◌, [], ℕ, true, false, map, length, IfOk, OnOk, OnErr, IfNone, IfSome};
 ghost use Rattle.std.specs.List.{All};
 ghost use Rattle.signed_clause.specs.Clauses.{Boxes};
-ghost use Rattle.clause_watches.specs.Watching.{acts, clause_of, rest_of, is_listed, touched, widened, Fits, DifferAt, AreWider, IsActing};
+ghost use Rattle.clause_watches.specs.Watching.{acts, clause_of, rest_of, is_listed, holds, touched, Fits, NarrowsAt, WidensAt, IsActing};
 
 use crate::build::{add_clause, empty_table};
 use crate::counts::Counts;
+use crate::held::free_all;
 use crate::next::next_acting;
 use crate::rest::Rest;
 use crate::table::Table;
@@ -72,27 +73,34 @@ impl Watches {
         add_clause(&mut self.table, number, clause)
     }
 
-    /// Notes that the box of `x` may have changed. It takes no memory and costs the same however
-    /// many clauses there are.
-    pub fn note_change(&mut self, x: u32)
+    /// Notes that the box of `x` may have become narrower; it has values left. A clause that rests
+    /// by the literal of `x` alone stays at rest. It takes no memory and costs the same however many
+    /// clauses there are.
+    pub fn note_narrower(&mut self, x: u32)
         requires { x < self.old.variables }
         ensures variables { self.new.variables ≡ self.old.variables }
         ensures added { self.new.added ≡ self.old.added }
         ensures rests { self.new.rests ≡ map (touched x) self.old.rests }
-        ensures fits { (a b : Boxes) → Fits a self.old → DifferAt x a b → Fits b self.new }
+        ensures fits { (a b : Boxes) → Fits a self.old → NarrowsAt x a b → Fits b self.new }
     {
         self.table.changed.add(x);
     }
 
-    /// Notes that boxes may have become wider, as after an undo. It takes no memory and costs the
-    /// clauses that rested by one literal since the last undo.
-    pub fn note_undo(&mut self)
+    /// Notes that the box of `x` may have become wider, as where an entry of the trail is taken
+    /// back. Only clauses that rest by the literal of `x` alone are to be looked at again. It takes
+    /// no memory and costs those that came to rest so since the box of `x` became wider last.
+    pub fn note_wider(&mut self, x: u32)
+        requires { x < self.old.variables }
         ensures variables { self.new.variables ≡ self.old.variables }
         ensures added { self.new.added ≡ self.old.added }
-        ensures rests { self.new.rests ≡ map widened self.old.rests }
-        ensures fits { (a b : Boxes) → Fits a self.old → AreWider a b → Fits b self.new }
+        ensures size { length self.new.rests ≡ length self.old.rests }
+        ensures others { (i : ℕ) → holds (rest_of self.old.rests i) x ≡ false
+            → rest_of self.new.rests i ≡ rest_of self.old.rests i }
+        ensures freed { (i : ℕ) → holds (rest_of self.old.rests i) x ≡ true
+            → is_listed (rest_of self.new.rests i) ≡ true }
+        ensures fits { (a b : Boxes) → Fits a self.old → WidensAt x a b → Fits b self.new }
     {
-        self.table.rests.widen();
+        free_all(&mut self.table, x);
     }
 
     /// The number of a clause that is false in the boxes or unit; None only where no clause is so.

@@ -1,6 +1,6 @@
 -- The levels of a trail, with an entry more and with an entry less.
-use Rattle.std.proofs.Common.{◌≡◌, not, ◌&&◌, ℕ, suc, ◌<◌, ◌≤◌, true, false, cond, List, [], ◌∷◌, length, refl, sym, ap, ◌∙◌, arith, subst, slice_set, Option, Some, None, set-set, length-set, reverse, ◌++◌, IfSome}
-use Rattle.std.proofs.lemmas.List.{set-get_or, get_or-set_same, reverse-append}
+use Rattle.std.proofs.Common.{◌≡◌, ◌≢◌, not, ◌&&◌, ℕ, suc, ◌<◌, ◌≤◌, true, false, cond, List, [], ◌∷◌, length, refl, sym, ap, ◌∙◌, arith, subst, slice_set, Option, Some, None, set-set, length-set, reverse, ◌++◌, IfSome}
+use Rattle.std.proofs.lemmas.List.{set-get_or, get_or-set_same, get_or-set_other, reverse-append}
 use Rattle.std.proofs.lemmas.List.Elements.{All-set, All-get_or}
 use Rattle.std.proofs.lemmas.Bool.{lt-ltb, le-ltb, and_parts}
 use Rattle.std.specs.List.{All}
@@ -10,8 +10,8 @@ use Rattle.signed_clause.specs.Clauses.{Boxes, Literals, box_of, false_in, unit_
 use Rattle.signed_clause.proofs.RangeSteps.{IsValid-meet, has-meet_valid}
 use Rattle.signed_clause.proofs.CountLaws.{within_from_has}
 use Rattle.fd_store.specs.declared.trail.Moved.{Moved}
-use Rattle.fd_store.specs.Levels.{Entry, Level, Stack, with_entry, moved, dropped_from, dropped}
-use Rattle.fd_store.specs.Trails.{entry_of, stack_of, level_of, level_after, IsTrail, IsStore, IsNarrowing, undone, older}
+use Rattle.fd_store.specs.Levels.{Entry, Level, Stack, with_entry, moved, dropped_from, dropped, back_by, taken_back, entries_in, IsWiderAt}
+use Rattle.fd_store.specs.Trails.{entry_of, stack_of, level_of, level_after, IsTrail, IsStore, IsNarrowing, IsNewest, undone, older}
 
 -- ---- what the levels show of the trail
 
@@ -229,3 +229,88 @@ pub narrows_if : (c : Literals) (boxes : Boxes) (u : Option (ℕ × Ranges)) →
     IfSome u (λ l. IsNarrowing boxes l.0 l.1)
 narrows_if c boxes None f sets w h = tt
 narrows_if c boxes (Some u) f sets w h = unit_narrows c 0 boxes u f sets w (sym h)
+
+-- ---- what was done last is taken back
+
+with_back : (from : Option ℕ) (boxes : Boxes) (e : Entry) (s : Stack) → e.from ≡ from →
+    s.top.now ≡ slice_set boxes e.var e.before → taken_back (with_entry from boxes e s) ≡ s
+with_back None boxes e s is now =
+    ap (λ (f : Option ℕ). back_by f e []
+    (record {
+      top = record { first = boxes; now = boxes; entries = e ∷ [] };
+      below = s.top ∷ s.below;
+    })) is
+with_back (Some j) boxes e s is now =
+    ap (λ (f : Option ℕ). back_by f e s.top.entries
+    (record {
+      top = record { first = s.top.first; now = boxes; entries = e ∷ s.top.entries };
+      below = s.below;
+    })) is
+    ∙ ap (λ (b : Boxes). record {
+      top = record {
+        first = s.top.first;
+        now = b;
+        entries = s.top.entries;
+      };
+      below = s.below;
+    }) (sym now)
+
+pub stack_back : (ms : List Moved) (boxes : Boxes) →
+    stack_of (undone boxes ms) (older ms) ≡ taken_back (stack_of boxes ms)
+stack_back [] boxes = refl
+stack_back (m ∷ ms) boxes =
+    let before = slice_set boxes m.var m.before in
+    sym (with_back m.from boxes (entry_of m) (stack_of before ms) refl (stack-now ms before))
+
+with_count : (from : Option ℕ) (boxes : Boxes) (e : Entry) (s : Stack) →
+    entries_in (with_entry from boxes e s) ≡ suc (entries_in s)
+with_count None boxes e s = omega arith
+with_count (Some j) boxes e s = omega arith
+
+pub stack_count : (ms : List Moved) (boxes : Boxes) → entries_in (stack_of boxes ms) ≡ length ms
+stack_count [] boxes = refl
+stack_count (m ∷ ms) boxes =
+    let before = slice_set boxes m.var m.before in
+    with_count m.from boxes (entry_of m) (stack_of before ms) ∙ ap suc (stack_count ms before)
+
+back_other : (boxes : Boxes) (x y : ℕ) (set : Ranges) → y ≢ x →
+    box_of (slice_set boxes x set) y ≡ box_of boxes y
+back_other boxes x y set n = get_or-set_other boxes x y set [] n
+
+entry_wider : (boxes : Boxes) (m : Moved) (ms : List Moved) → IsStore boxes (m ∷ ms) →
+    IsWiderAt m.var boxes (slice_set boxes m.var m.before)
+entry_wider boxes m ms k =
+    let e = k.trail.0 in
+    let same = get_or-set_same boxes m.var m.before [] e.exists in record {
+      size = length-set boxes m.var m.before;
+      exists = e.exists;
+      others = λ y n. back_other boxes m.var y m.before n;
+      before_valid = All-get_or (λ s. IsValid s) boxes m.var [] e.exists k.sets;
+      after_valid = subst IsValid (sym same) e.valid;
+      within = subst (λ (s : Ranges). is_within (box_of boxes m.var) s ≡ true) (sym same) e.narrows;
+    }
+
+-- what a store shows once the newest entry is taken back
+pub newest_wider : (ms : List Moved) (boxes now : Boxes) (x : ℕ) → IsStore boxes ms →
+    IsNewest x ms → now ≡ undone boxes ms → IsWiderAt x boxes now
+newest_wider ms boxes now x k newest is =
+    let m = newest.entry in
+    let at : IsStore boxes (m ∷ newest.earlier) =
+    subst (λ (l : List Moved). IsStore boxes l) newest.is k in
+    let here : now ≡ slice_set boxes m.var m.before =
+    is ∙ ap (λ (l : List Moved). undone boxes l) newest.is in
+    subst (λ (y : ℕ). IsWiderAt y boxes now) newest.var
+    (subst (λ (b : Boxes). IsWiderAt m.var boxes b) (sym here)
+    (entry_wider boxes m newest.earlier at))
+
+stack_fewer : (ms : List Moved) (boxes : Boxes) (m : Moved) (rest : List Moved) → ms ≡ m ∷ rest →
+    suc (entries_in (stack_of (undone boxes ms) (older ms))) ≡ entries_in (stack_of boxes ms)
+stack_fewer ms boxes m rest is =
+    ap suc (stack_count (older ms) (undone boxes ms))
+    ∙ ap (λ (l : List Moved). suc (length (older l))) is
+    ∙ sym (ap (λ (l : List Moved). length l) is) ∙ sym (stack_count ms boxes)
+
+pub newest_fewer : (ms : List Moved) (boxes : Boxes) (x : ℕ) → IsNewest x ms →
+    suc (entries_in (stack_of (undone boxes ms) (older ms))) ≡ entries_in (stack_of boxes ms)
+newest_fewer ms boxes x newest =
+    stack_fewer ms boxes newest.entry newest.earlier newest.is

@@ -67,3 +67,10 @@ undone boxes (m ∷ ms) = slice_set boxes m.var m.before
 abbrev pub older : List Moved → List Moved
 older [] = []
 older (m ∷ ms) = ms
+
+-- the newest entry is of x
+pub record IsNewest (x : ℕ) (ms : List Moved) : Type 0 where
+  pub entry : Moved
+  pub earlier : List Moved
+  pub is : ms ≡ entry ∷ earlier
+  pub var : entry.var ≡ x

@@ -5,15 +5,15 @@
 //! each variable, and for each change an entry of the trail, which owns the box before. So a change
 //! costs one entry, and going back costs the entries that are taken back, whatever the number of
 //! variables. Contracts see the levels (`specs/Levels`).
-ghost use Rattle.std.specs.Prelude.{◌≡◌, ◌<◌, ◌≤◌, true, false, reverse, length, IfOk, IfSome, OnOk, OnErr};
+ghost use Rattle.std.specs.Prelude.{◌≡◌, ◌<◌, ◌≤◌, ℕ, suc, true, false, reverse, length, IfOk, IfSome, IfNone, OnOk, OnErr};
 ghost use Rattle.std.specs.List.{All};
 ghost use Rattle.signed_clause.specs.Ranges.{is_nil, IsValid};
 ghost use Rattle.signed_clause.specs.SetAlgebra.{is_within};
 ghost use Rattle.signed_clause.specs.Clauses.{box_of, unit_of, IsWithinBoxes};
-ghost use Rattle.fd_store.specs.Levels.{bottom, moved, dropped, applied, reacted};
+ghost use Rattle.fd_store.specs.Levels.{bottom, moved, dropped, taken_back, entries_in, IsWiderAt, applied, reacted};
 ghost use Rattle.fd_store.specs.Trails.{stack_of, IsStore, IsNarrowing};
 
-use crate::trail::{Moved, last_level, narrow, undo};
+use crate::trail::{Moved, last_level, narrow, undo, undo_last};
 use ground_form::{Ground, copy_sets};
 use signed_clause::{Clause, IntSet};
 use std::alloc::{AllocError, Global};
@@ -159,6 +159,19 @@ impl Store {
         ensures { self.new ≡ dropped level self.old }
     {
         undo(&mut self.boxes, &mut self.trail, level);
+    }
+
+    /// Takes back what was done last, and answers its variable, whose box is then as it was before;
+    /// None where nothing was done. It takes no memory.
+    pub fn undo_last(&mut self) -> Option<u32>
+        ensures stack { self.new ≡ taken_back self.old }
+        ensures wider { IfSome result (λ x. IsWiderAt x self.old.top.now self.new.top.now) }
+        ensures fewer { IfSome result (λ _. suc (entries_in self.new) ≡ entries_in self.old) }
+        ensures none { IfNone result (self.old ≡ bottom self.old.top.now) }
+        ensures dropped { (k : ℕ) → k < length self.old.below
+            → dropped k self.new ≡ dropped k self.old }
+    {
+        undo_last(&mut self.boxes, &mut self.trail)
     }
 }
 

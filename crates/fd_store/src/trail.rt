@@ -3,12 +3,12 @@
 //! An entry owns the box as it was before, which is moved there when the box is narrowed and moved
 //! back when the entry is undone, so no set is ever copied. Functions here work on boxes and
 //! entries as two lists; contracts see the levels that these stand for (`stack_of`).
-ghost use Rattle.std.specs.Prelude.{◌≡◌, ◌<◌, ◌≤◌, ◌-◌, ◌∷◌, true, reverse, length, slice_set, OnOk, OnErr};
+ghost use Rattle.std.specs.Prelude.{◌≡◌, ◌<◌, ◌≤◌, ◌-◌, ◌∷◌, [], true, reverse, length, slice_set, OnOk, OnErr, IfSome, IfNone};
 ghost use Rattle.signed_clause.specs.Ranges.{IsValid};
 ghost use Rattle.signed_clause.specs.SetAlgebra.{is_within};
 ghost use Rattle.signed_clause.specs.Clauses.{box_of};
 ghost use Rattle.fd_store.specs.Levels.{moved, dropped};
-ghost use Rattle.fd_store.specs.Trails.{stack_of, level_of, level_after, IsStore, undone, older};
+ghost use Rattle.fd_store.specs.Trails.{stack_of, level_of, level_after, IsStore, IsNewest, undone, older};
 
 use signed_clause::IntSet;
 use std::alloc::AllocError;
@@ -91,14 +91,16 @@ pub(crate) fn undo(boxes: &mut Vec<IntSet>, trail: &mut Vec<Moved>, level: u32)
     }
 }
 
-/// Takes back the newest entry.
-fn undo_last(boxes: &mut Vec<IntSet>, trail: &mut Vec<Moved>)
+/// Takes back the newest entry, and answers its variable; None where there is no entry.
+pub(crate) fn undo_last(boxes: &mut Vec<IntSet>, trail: &mut Vec<Moved>) -> Option<u32>
     requires { IsStore boxes.old.items (reverse trail.old.items) }
     ensures boxes { boxes.new.items ≡ undone boxes.old.items (reverse trail.old.items) }
     ensures older { reverse trail.new.items ≡ older (reverse trail.old.items) }
     ensures shorter { length trail.new.items ≤ length trail.old.items - 1 }
+    ensures some { IfSome result (λ x. IsNewest x (reverse trail.old.items)) }
+    ensures none { IfNone result (reverse trail.old.items ≡ []) }
 {
-    if let Some(m) = trail.pop() {
-        boxes[m.var as usize] = m.before;
-    }
+    let m = trail.pop()?;
+    boxes[m.var as usize] = m.before;
+    Some(m.var)
 }

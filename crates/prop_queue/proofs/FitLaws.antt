@@ -17,8 +17,8 @@ use Rattle.rule_law.specs.Answers.{AreBoxesWithin}
 use Rattle.rule_law.proofs.ClauseQuiet.{clause_quiet, named_here}
 use Rattle.clause_watches.specs.declared.rest.Rest.{Rest}
 use Rattle.clause_watches.specs.declared.rest.Rest.TheVariants.{Listed}
-use Rattle.clause_watches.specs.Watching.{acts, clause_of, IsKnown}
-use Rattle.prop_queue.specs.Work.{Work, is_clause, literals_of, listed_vars, clauses_from, others_from, is_marked, row_of, IsOver, FitsMarks, AreAllQuiet, DifferAt}
+use Rattle.clause_watches.specs.Watching.{acts, clause_of, IsKnown, DifferAt}
+use Rattle.prop_queue.specs.Work.{Work, is_clause, literals_of, listed_vars, clauses_from, others_from, is_marked, row_of, IsOver, FitsMarks, AreAllQuiet}
 use Rattle.prop_queue.specs.Lists.{IsFilled}
 use Rattle.prop_queue.proofs.ClauseLaws.{is_it, listed_plain, other_listed, HasEntry, has_entry}
 
@@ -35,7 +35,7 @@ agree_else (y ∷ ys) x a b d h =
     let parts = or_false (y == x) (has_number x ys) h in
     let other : (y ≡ x → ⊥) =
     λ e. let yes : (y == x) ≡ true = grind arith in let no = parts.0 in cc in
-    (d.others y other, agree_else ys x a b d parts.1)
+    (d y other, agree_else ys x a b d parts.1)
 
 pub con_at : (cons : List Con) (domains : Boxes) (k : ℕ) (con : Con) →
     All (λ c. IsWellMadeCon domains c) cons →
@@ -53,8 +53,8 @@ named_below n m xs e h = subst (λ (z : ℕ). All (λ x. x < z) xs) e h
 pub fits_changed : (g : Ground) (w : Work) (ms : List Bool) (x : ℕ) (a b : Boxes) →
     ((k : ℕ) → is_marked ms k ≡ (is_marked w.marks k || has_number k (row_of w.rows x))) →
     IsWellMade g → IsOver g w → length a ≡ length g.domains → FitsMarks g w.marks a →
-    DifferAt x a b → FitsMarks g ms b
-fits_changed g w ms x a b marks made over size fits d k con at plain off =
+    length a ≡ length b → DifferAt x a b → FitsMarks g ms b
+fits_changed g w ms x a b marks made over size fits same_size d k con at plain off =
     let parts = or_false (is_marked w.marks k) (has_number k (row_of w.rows x))
     (sym (marks k) ∙ off) in
     let listed : has_number x (listed_vars con) ≡ false = sym (over.named x k con at) ∙ parts.1 in
@@ -62,7 +62,7 @@ fits_changed g w ms x a b marks made over size fits d k con at plain off =
     subst (λ (z : List ℕ). has_number x z ≡ false) (listed_plain con plain) listed in
     let named = (con_at g.cons g.domains k con made.constraints at).named in
     let first = named_below _ _ (vars_of con) (sym size) named in
-    let second = named_below _ _ (vars_of con) (sym size ∙ d.size) named in
+    let second = named_below _ _ (vars_of con) (sym size ∙ same_size) named in
     let same = agree_quiet con a b first second (agree_else (vars_of con) x a b d apart) in
     sym same ∙ fits k con at plain parts.0
 

@@ -102,10 +102,14 @@ abbrev pub FitsMarks : Ground → List Bool → Boxes → Type 0
 FitsMarks g marks boxes = (k : ℕ) (con : Con) → slice_get g.cons k ≡ Some con
     → is_clause con ≡ false → is_marked marks k ≡ false → quiet con boxes ≡ true
 
--- and what the watches know of the clauses is true
+-- what the watches know of the clauses is true
+abbrev pub AreKnown : Boxes → Watching → Type 0
+AreKnown boxes clauses = watches.Fits boxes clauses
+
+-- both
 pub record Fits (g : Ground) (w : Work) (boxes : Boxes) : Type 0 where
   pub others : FitsMarks g w.marks boxes
-  pub clauses : watches.Fits boxes w.clauses
+  pub clauses : AreKnown boxes w.clauses
 
 -- every constraint is quiet
 abbrev pub AreAllQuiet : Ground → Boxes → Type 0
@@ -116,10 +120,3 @@ pub record IsActingAt (cons : List Con) (boxes : Boxes) (n : ℕ) : Type 0 where
   pub clause : Literals
   pub at : slice_get cons n ≡ Some (ClauseCon clause)
   pub acting : watches.acts boxes clause ≡ true
-
--- ---- changes
-
--- as many boxes, the same but for that of x
-pub record DifferAt (x : ℕ) (a b : Boxes) : Type 0 where
-  pub size : length a ≡ length b
-  pub others : (y : ℕ) → (y ≡ x → ⊥) → box_of a y ≡ box_of b y

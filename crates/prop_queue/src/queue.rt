@@ -12,8 +12,8 @@ ghost use Rattle.ground_form.specs.WellMade.{IsWellMade};
 ghost use Rattle.rule_law.specs.Answers.{AreBoxesWithin, IsPruning};
 ghost use Rattle.rule_law.specs.Reasons.{has_number};
 ghost use Rattle.clause_watches.specs.declared.rest.Rest.TheVariants as rest;
-ghost use Rattle.clause_watches.specs.Watching.{rest_of, touched, widened, AreWider, IsActing};
-ghost use Rattle.prop_queue.specs.Work.{is_marked, row_of, IsOver, Fits, AreAllQuiet, DifferAt};
+ghost use Rattle.clause_watches.specs.Watching.{rest_of, touched, NarrowsAt, WidensAt, IsActing};
+ghost use Rattle.prop_queue.specs.Work.{is_marked, row_of, IsOver, AreKnown, Fits, AreAllQuiet};
 
 use crate::clauses::{reason_of, watch_all};
 use crate::listing::{Listing, list_none, list_row};
@@ -92,9 +92,9 @@ impl Queue {
         })
     }
 
-    /// Lists the constraints of the variable, whose box has changed, and notes that to the watches.
-    /// It costs a look at each of the constraints, clauses aside, and takes no memory.
-    pub fn note_change(&mut self, x: u32)
+    /// Lists the constraints of the variable, whose box has become narrower, and notes that to the
+    /// watches. It costs a look at each of the constraints, clauses aside, and takes no memory.
+    pub fn note_narrower(&mut self, x: u32)
         requires { x < length self.old.rows }
         ensures size { length self.new.marks ≡ length self.old.marks }
         ensures rows { self.new.rows ≡ self.old.rows }
@@ -103,42 +103,56 @@ impl Queue {
             ≡ (is_marked self.old.marks k || has_number k (row_of self.old.rows x)) }
         ensures clauses { self.new.clauses.rests ≡ map (touched x) self.old.clauses.rests }
         ensures fits { (g : Ground) (a b : Boxes) → IsWellMade g → IsOver g self.old
-            → length a ≡ length g.domains → Fits g self.old a → DifferAt x a b → Fits g self.new b }
+            → length a ≡ length g.domains → length a ≡ length b → Fits g self.old a
+            → NarrowsAt x a b → Fits g self.new b }
     {
         list_row(&mut self.listing, self.rows.row(x));
-        self.clauses.note_change(x);
+        self.clauses.note_narrower(x);
     }
 
-    /// Lists every constraint, after boxes have become wider; of a clause the watches know whether
-    /// it needs a look. It costs as many steps, and takes no memory.
+    /// Notes to the watches that the box of the variable has become wider, as where an entry of the
+    /// trail is taken back. The lists stay as they are: behind the last of such changes the caller
+    /// notes the return. It takes no memory, and costs the clauses that rested by the variable
+    /// alone.
+    pub fn note_wider(&mut self, x: u32)
+        requires { x < length self.old.rows }
+        ensures marks { self.new.marks ≡ self.old.marks }
+        ensures rows { self.new.rows ≡ self.old.rows }
+        ensures over { (g : Ground) → IsOver g self.old → IsOver g self.new }
+        ensures clauses { (a b : Boxes) → AreKnown a self.old.clauses → WidensAt x a b
+            → AreKnown b self.new.clauses }
+    {
+        self.clauses.note_wider(x);
+    }
+
+    /// Lists every constraint, after boxes have become wider, each of which was noted; of a clause
+    /// the watches know whether it needs a look. It costs as many steps, and takes no memory.
     pub fn note_undo(&mut self)
         ensures size { length self.new.marks ≡ length self.old.marks }
         ensures rows { self.new.rows ≡ self.old.rows }
         ensures over { (g : Ground) → IsOver g self.old → IsOver g self.new }
         ensures marks { (k : ℕ) → has_number k self.new.others ≡ true
             → is_marked self.new.marks k ≡ true }
-        ensures clauses { self.new.clauses.rests ≡ map widened self.old.clauses.rests }
-        ensures fits { (g : Ground) (a b : Boxes) → IsOver g self.old → Fits g self.old a
-            → AreWider a b → Fits g self.new b }
+        ensures clauses { self.new.clauses ≡ self.old.clauses }
+        ensures fits { (g : Ground) (b : Boxes) → IsOver g self.old → AreKnown b self.old.clauses
+            → Fits g self.new b }
     {
         list_row(&mut self.listing, self.others.as_slice());
-        self.clauses.note_undo();
     }
 
-    /// Takes every constraint off the list, after a return to wider boxes in which all were quiet.
-    /// It costs as many steps as there are listed ones, and the clauses that rested by one literal
-    /// since the last; it takes no memory.
+    /// Takes every constraint off the list, after a return to wider boxes in which all were quiet,
+    /// each of which was noted. It costs as many steps as there are listed ones, and takes no
+    /// memory.
     pub fn note_return(&mut self)
         ensures size { length self.new.marks ≡ length self.old.marks }
         ensures rows { self.new.rows ≡ self.old.rows }
         ensures over { (g : Ground) → IsOver g self.old → IsOver g self.new }
         ensures marks { (k : ℕ) → is_marked self.new.marks k ≡ false }
-        ensures clauses { self.new.clauses.rests ≡ map widened self.old.clauses.rests }
-        ensures fits { (g : Ground) (a b : Boxes) → Fits g self.old a → AreWider a b
+        ensures clauses { self.new.clauses ≡ self.old.clauses }
+        ensures fits { (g : Ground) (b : Boxes) → AreKnown b self.old.clauses
             → AreAllQuiet g b → Fits g self.new b }
     {
         list_none(&mut self.listing);
-        self.clauses.note_undo();
     }
 
     /// A constraint that has something to say, by its number, and what it says: a clause that the

@@ -1,9 +1,11 @@
 //! `Queued`, a problem, boxes of its variables, and a queue that fits them.
-ghost use Rattle.std.specs.Prelude.{◌≡◌, ◌<◌, length, slice_set};
-ghost use Rattle.prop_queue.specs.Work.{DifferAt};
+ghost use Rattle.std.specs.Prelude.{◌≡◌, ◌<◌, ◌^◌, length};
+ghost use Rattle.ground_form.specs.declared.ground.Ground.{Ground};
+ghost use Rattle.fd_store.specs.Levels.{AreWider};
+ghost use Rattle.prop_queue.specs.Work.{IsOver, AreKnown};
 
 use crate::quiet::{are_all_quiet, is_pruning, is_quiet};
-use crate::wider::are_wider;
+use crate::wider::{are_wider, is_part, set_box};
 use ground_form::{Ground, copy_sets};
 use prop_queue::Queue;
 use rule_law::{Kit, are_boxes_within};
@@ -31,14 +33,23 @@ impl Model for Queued {
     ghost invariant = { λ q. IsFitting q.ground q.boxes.items q.queue };
 }
 
-/// Gives a variable another box.
-#[tactic(auto, using(crate::proofs::Fitted::differ_set))]
-fn set_box(boxes: &mut Vec<IntSet>, x: u32, set: IntSet)
-    requires { x < length boxes.old.items }
-    ensures differ { DifferAt x boxes.old.items boxes.new.items }
-    ensures boxes { boxes.new.items ≡ slice_set boxes.old.items x set }
+/// Takes over wider boxes one after the other, each of which is noted.
+fn take_over(queue: &mut Queue, boxes: &mut Vec<IntSet>, wider: Vec<IntSet>)
+    requires wider { AreWider boxes.old.items wider.items }
+    requires size { length boxes.old.items ≡ length wider.items }
+    requires few { length boxes.old.items < 2 ^ 32 }
+    requires rows { length queue.old.rows ≡ length boxes.old.items }
+    requires known { AreKnown boxes.old.items queue.old.clauses }
+    ensures boxes { boxes.new.items ≡ wider.items }
+    ensures over { (g : Ground) → IsOver g queue.old → IsOver g queue.new }
+    ensures known { AreKnown boxes.new.items queue.new.clauses }
 {
-    boxes[x as usize] = set;
+    let mut wider = wider;
+    while let Some(set) = wider.pop() {
+        let x = wider.len() as u32;
+        set_box(boxes, x, set);
+        queue.note_wider(x);
+    }
 }
 
 impl Queued {
@@ -73,20 +84,11 @@ impl Queued {
         self.boxes.as_slice()
     }
 
-    /// Gives a variable another box, where the set has values and lies within its domain; else
-    /// nothing changes.
-    #[tactic(auto, using(crate::proofs::Fitted::within_set))]
+    /// Gives a variable a part of its box, where that has values; else nothing changes.
     pub fn change(&mut self, x: u32, set: IntSet) {
-        let domains = self.ground.domains.items();
-        let at = x as usize;
-        set.ranges();
-        if at < self.boxes.len()
-            && at < domains.len()
-            && set.within(&domains[at])
-            && !set.is_empty()
-        {
+        if is_part(self.boxes.as_slice(), x, &set) {
             set_box(&mut self.boxes, x, set);
-            self.queue.note_change(x);
+            self.queue.note_narrower(x);
         }
     }
 
@@ -98,7 +100,7 @@ impl Queued {
         {
             return false;
         }
-        self.boxes = boxes;
+        take_over(&mut self.queue, &mut self.boxes, boxes);
         self.queue.note_undo();
         true
     }
@@ -113,7 +115,7 @@ impl Queued {
         {
             return false;
         }
-        self.boxes = boxes;
+        take_over(&mut self.queue, &mut self.boxes, boxes);
         self.queue.note_return();
         true
     }

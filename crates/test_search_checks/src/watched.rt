@@ -1,5 +1,5 @@
 //! `Watched`, watches with boxes that they fit.
-use crate::wider::{are_below, are_wider, set_box};
+use crate::wider::{are_below, are_wider, has_box, is_part, set_box};
 use clause_watches::{Counts, Watches};
 use ground_form::copy_sets;
 use signed_clause::{ClauseHandle, IntSet};
@@ -52,11 +52,20 @@ impl Watched {
         Ok(())
     }
 
-    /// Gives a variable another box, where it has one; else nothing changes.
+    /// Gives a variable a part of its box, where that has values; else nothing changes.
     pub fn change(&mut self, x: u32, set: IntSet) {
-        if (x as usize) < self.boxes.len() {
+        if is_part(self.boxes.as_slice(), x, &set) {
             set_box(&mut self.boxes, x, set);
-            self.watches.note_change(x);
+            self.watches.note_narrower(x);
+        }
+    }
+
+    /// Gives a variable a box with all values of its own and perhaps others; where it isn't so
+    /// nothing changes.
+    fn widen_at(&mut self, x: u32, set: IntSet) {
+        if has_box(self.boxes.as_slice(), x, &set) {
+            set_box(&mut self.boxes, x, set);
+            self.watches.note_wider(x);
         }
     }
 
@@ -66,8 +75,12 @@ impl Watched {
         if !are_wider(self.boxes.as_slice(), boxes.as_slice()) {
             return false;
         }
-        self.boxes = boxes;
-        self.watches.note_undo();
+        let mut boxes = boxes;
+        while let Some(set) = boxes.pop() {
+            if let Ok(x) = u32::try_from(boxes.len()) {
+                self.widen_at(x, set);
+            }
+        }
         true
     }
 

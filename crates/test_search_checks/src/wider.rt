@@ -1,8 +1,10 @@
 //! Boxes of which one is changed, and boxes that are wider than others.
-ghost use Rattle.std.specs.Prelude.{◌≡◌, ◌<◌, true, length};
+ghost use Rattle.std.specs.Prelude.{◌≡◌, ◌<◌, true, false, length, slice_set};
 ghost use Rattle.std.specs.List.{All};
-ghost use Rattle.signed_clause.specs.Ranges.{IsValid};
-ghost use Rattle.clause_watches.specs.Watching.{DifferAt, AreWider};
+ghost use Rattle.signed_clause.specs.Ranges.{IsValid, is_nil};
+ghost use Rattle.signed_clause.specs.SetAlgebra.{is_within};
+ghost use Rattle.signed_clause.specs.Clauses.{box_of};
+ghost use Rattle.fd_store.specs.Levels.{AreWider};
 
 use signed_clause::{Clause, IntSet};
 
@@ -46,12 +48,52 @@ pub fn are_wider(small: &[IntSet], large: &[IntSet]) -> bool
     true
 }
 
+/// The box of a variable.
+fn box_at(boxes: &[IntSet], x: u32) -> &IntSet
+    requires { x < length boxes.now }
+    ensures value { result.now ≡ box_of boxes.now x }
+    ensures valid { IsValid result.now }
+{
+    let at = &boxes[x as usize];
+    at.ranges();
+    at
+}
+
+/// Whether the variable has a box, and the set is a part of it and has values.
+pub(crate) fn is_part(boxes: &[IntSet], x: u32, set: &IntSet) -> bool
+    ensures there { result ≡ true → x < length boxes.now }
+    ensures some { result ≡ true → is_nil set.now ≡ false }
+    ensures within { result ≡ true → is_within set.now (box_of boxes.now x) ≡ true }
+    ensures box_valid { result ≡ true → IsValid (box_of boxes.now x) }
+    ensures set_valid { result ≡ true → IsValid set.now }
+{
+    if x as usize >= boxes.len() {
+        return false;
+    }
+    let at = box_at(boxes, x);
+    set.ranges();
+    !set.is_empty() && set.within(at)
+}
+
+/// Whether the variable has a box, and the set has all of its values.
+pub(crate) fn has_box(boxes: &[IntSet], x: u32, set: &IntSet) -> bool
+    ensures there { result ≡ true → x < length boxes.now }
+    ensures within { result ≡ true → is_within (box_of boxes.now x) set.now ≡ true }
+    ensures box_valid { result ≡ true → IsValid (box_of boxes.now x) }
+    ensures set_valid { result ≡ true → IsValid set.now }
+{
+    if x as usize >= boxes.len() {
+        return false;
+    }
+    let at = box_at(boxes, x);
+    set.ranges();
+    at.within(set)
+}
+
 /// Gives a variable another box.
-#[tactic(auto, using(crate::proofs::WiderBoxes::differ_set))]
 pub(crate) fn set_box(boxes: &mut Vec<IntSet>, x: u32, set: IntSet)
     requires { x < length boxes.old.items }
-    ensures size { length boxes.new.items ≡ length boxes.old.items }
-    ensures differ { DifferAt x boxes.old.items boxes.new.items }
+    ensures { boxes.new.items ≡ slice_set boxes.old.items x set }
 {
     boxes[x as usize] = set;
 }

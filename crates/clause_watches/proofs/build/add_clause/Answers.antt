@@ -16,15 +16,15 @@ returns-clause-sound c =
     let clauses =
     clauses_added (length t.rows.items) t.added.items a c.check_form.ensures c.requires.within
     sound.clauses in
-    let fit = linked_added t.added.items t.rests t.rows.items t.leasts.items t.holds.items a
+    let fit = linked_added t.added.items t.rests t.rows.items t.leasts.items t.held.items a
     sound.fit in record {
       leasts_size = sound.leasts_size;
-      holds_size = sound.holds_size;
+      held_size = sound.held_size;
       changed_size = sound.changed_size;
       clauses = subst (λ (l : List (ℕ × Literals)). AreClauses (length t.rows.items) l)
           (sym added) clauses;
       fit = subst (λ (l : List (ℕ × Literals)). AreLinked l c.push.new.self t.rows.items
-          t.leasts.items t.holds.items) (sym added)
+          t.leasts.items t.held.items) (sym added)
           (subst (λ (q : List Rest). AreLinked (t.added.items ++ a ∷ []) q t.rows.items
-          t.leasts.items t.holds.items) (sym c.in_ok-push.ensures.ok) fit);
+          t.leasts.items t.held.items) (sym c.in_ok-push.ensures.ok) fit);
     }

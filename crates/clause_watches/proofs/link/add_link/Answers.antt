@@ -16,13 +16,13 @@ returns-clause-sound c =
     c.set.ensures ∙ ap (λ (r : Rest). slice_set t.rests l.watch.clause r)
     (c.linked.ensures ∙ ap (λ (r : Rest). linked l.variable r) c.get-rest.ensures) in
     let rows = c.push_watch.new.rows.items in
-    let more = linked_more t.added.items t.rests t.rows.items rows t.leasts.items t.holds.items l
+    let more = linked_more t.added.items t.rests t.rows.items rows t.leasts.items t.held.items l
     sound.fit c.requires.there c.requires.unnamed c.requires.right c.in_ok-push_watch.ensures.others
     c.in_ok-push_watch.ensures.ok in record {
       leasts_size = search rules;
-      holds_size = search rules;
+      held_size = search rules;
       changed_size = search rules;
       clauses = search rules;
       fit = subst (λ (rests : List Rest). AreLinked t.added.items rests rows t.leasts.items
-          t.holds.items) (sym news) more;
+          t.held.items) (sym news) more;
     }

@@ -1,10 +1,9 @@
-use Rattle.std.proofs.Common.{rules, ◌≡◌, ◌+◌, ◌∷◌, ◌∙◌, List, length, subst, sym, ap, slice_set}
+use Rattle.std.proofs.Common.{rules, ◌≡◌, ◌∷◌, ◌∙◌, List, length, subst, sym, ap, slice_set}
 use Rattle.std.specs.List.Sorted.{IsPermutation}
 use Rattle.clause_watches.specs.declared.rest.Rest.{Rest}
 use Rattle.clause_watches.specs.declared.watch.Watch.{Watch}
-use Rattle.clause_watches.specs.Watching.{rest_of, touched}
-use Rattle.clause_watches.specs.Rows.{IsWalked, IsTrueOf, raised}
-use Rattle.clause_watches.proofs.RestLaws.{step_raised, raised_unheld}
+use Rattle.clause_watches.specs.Watching.{rest_of}
+use Rattle.clause_watches.specs.Rows.{IsWalked, IsTrueOf, forgotten}
 use Rattle.clause_watches.proofs.WalkLaws.{walked_on, walked_out, below_out, below_at}
 use Rattle.clause_watches.proofs.row.visit.Goals as goal
 
@@ -12,22 +11,13 @@ pub returns-then-is_met-clause-walked : goal.returns-then-is_met-clause-walked
 returns-then-is_met-clause-walked c = λ sets before mask at valid walked.
     let s = c.args.site in
     let w = c.get-watch.result in
-    let rests = c.args.rests.now in
-    let row = c.args.row.now in
-    let r = raised s.variable (rest_of rests w.clause) in
-    let below = below_at (length rests) c.args.k row w c.requires.below c.requires.there
-    c.get-watch.ensures.watch in
     let right = subst (λ (v : Watch). IsTrueOf s.least (sets v.clause) v.witness)
     (sym (c.get-watch.ensures.watch w))
     (walked.right c.args.k w c.requires.there) in
     let meets = c.is_met.ensures c.if-is_met.true s.least (sets w.clause) mask right
     (valid w.clause) at in
-    let on = walked_on sets c.args.at.now s before rests row c.args.k w r c.requires.there
-    c.get-watch.ensures.watch below
-    (step_raised s.variable (rest_of rests w.clause))
-    (raised_unheld s.variable (rest_of rests w.clause)) meets walked in
-    subst (λ (l : List Rest). IsWalked sets c.args.at.now s before l row (c.args.k + 1))
-    (sym (c.raise.ensures.rest (λ e. walked.unheld e w.clause))) on
+    walked_on sets c.args.at.now s before c.args.rests.now c.args.row.now c.args.k w
+    c.requires.there c.get-watch.ensures.watch meets walked
 
 pub returns-clause-below : goal.returns-clause-below
 returns-clause-below c =
@@ -49,8 +39,8 @@ returns-clause-walked c = λ sets before mask at valid walked.
     let out = walked_out sets c.args.at.now s before rests row c.remove.new.self c.args.k w below
     c.remove.ensures.before moved walked in
     let news : c.set.new.self ≡ slice_set rests w.clause
-    (touched s.variable (rest_of rests w.clause)) =
+    (forgotten s.variable (rest_of rests w.clause)) =
     c.set.ensures ∙ ap (λ (r : Rest). slice_set rests w.clause r)
-    (c.touched.ensures ∙ ap (λ (r : Rest). touched s.variable r) c.get-rest.ensures) in
+    (c.forgotten.ensures ∙ ap (λ (r : Rest). forgotten s.variable r) c.get-rest.ensures) in
     subst (λ (l : List Rest). IsWalked sets c.args.at.now s before l c.remove.new.self c.args.k)
     (sym news) out

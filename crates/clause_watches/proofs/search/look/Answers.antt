@@ -18,11 +18,11 @@ returns-in_ok-add_link-in-Some-clause-less c = λ _.
     (linked l.variable (rest_of rests k))) same is in
     subst (λ (q : List Rest). left_in q < left_in rests) (sym news) less
 
-pub returns-in-Some-find_holding-clause-less : goal.returns-in-Some-find_holding-clause-less
-returns-in-Some-find_holding-clause-less c = λ _.
+pub returns-in_ok-hold-in-Some-find_holding-clause-less : goal.returns-in_ok-hold-in-Some-find_holding-clause-less
+returns-in_ok-hold-in-Some-find_holding-clause-less c = λ _.
     let rests = c.args.table.now.rests in
     let x = c.in-Some-find_holding.x in
-    subst (λ (q : List Rest). left_in q < left_in rests) (sym c.hold.ensures.rests)
+    subst (λ (q : List Rest). left_in q < left_in rests) (sym c.in_ok-hold-in-Some-find_holding.ensures.ok)
     (left_held rests c.args.i x c.requires.there c.in-Some-find_holding.ensures.some)
 
 pub returns-in-None-find_holding-clause-acts : goal.returns-in-None-find_holding-clause-acts

@@ -1,4 +1,4 @@
-use Rattle.std.proofs.Common.{rules, ◌≡◌, ◌<◌, ℕ, length, true, subst, sym}
+use Rattle.std.proofs.Common.{rules, ◌≡◌, ℕ, length, true, subst, sym}
 use Rattle.signed_clause.specs.Ranges.{Ranges}
 use Rattle.signed_clause.specs.Clauses.{box_of}
 use Rattle.clause_watches.specs.Marks.{is_marked}
@@ -12,22 +12,22 @@ returns-clause-sound c =
     let t = c.args.table.now in
     let s = c.site_of-site.result in
     let sound = c.requires.sound in
-    let begin = walk_begins t.added.items t.rests t.rows.items t.leasts.items t.holds.items
+    let begin = walk_begins t.added.items t.rests t.rows.items t.leasts.items t.held.items
     c.box_at-at.result.now s
-    sound.fit c.site_of-site.ensures.least c.site_of-site.ensures.holds in
+    sound.fit c.site_of-site.ensures.least in
     let walked =
     c.walk_row.ensures.walked (sets_at t.added.items s.variable) t.rests
     c.site_of-site.ensures.mask
     c.site_of-site.ensures.valid (λ i. sets_valid _ t.added.items s.variable i sound.clauses) begin
     in
-    let there : s.variable < length t.holds.items = search rules in record {
+    record {
       leasts_size = search rules;
-      holds_size = search rules;
+      held_size = search rules;
       changed_size = search rules;
       clauses = search rules;
       fit = linked_after t.added.items t.rests c.walk_row.new.rests t.rows.items
-          c.walk_row.new.rows.items t.leasts.items t.holds.items
-          c.box_at-at.result.now s sound.fit c.site_of-site.ensures.least there
+          c.walk_row.new.rows.items t.leasts.items t.held.items
+          c.box_at-at.result.now s sound.fit c.site_of-site.ensures.least
           c.walk_row.ensures.size c.walk_row.ensures.others c.walk_row.ensures.below walked;
     }
 
@@ -39,8 +39,8 @@ returns-clause-known c = λ before on unmarked known.
     let at = c.box_at-at.result.now in
     let news = c.walk_row.new.rests in
     let row = row_of c.walk_row.new.rows.items s.variable in
-    let begin = walk_begins t.added.items t.rests t.rows.items t.leasts.items t.holds.items at s
-    sound.fit c.site_of-site.ensures.least c.site_of-site.ensures.holds in
+    let begin = walk_begins t.added.items t.rests t.rows.items t.leasts.items t.held.items at s
+    sound.fit c.site_of-site.ensures.least in
     let walked =
     c.walk_row.ensures.walked (sets_at t.added.items s.variable) t.rests
     c.site_of-site.ensures.mask

@@ -5,9 +5,9 @@ use Rattle.prop_queue.proofs.FitLaws.{fits_quiet}
 use Rattle.prop_queue.proofs.queue.Queue.note_return.Goals as goal
 
 pub returns-clause-fits : goal.returns-clause-fits
-returns-clause-fits c g a b fits wide quiet =
-    let known = subst (λ (w : Work). watches.Fits a w.clauses) (sym c.self.view_is) fits.clauses in
+returns-clause-fits c g b known quiet =
     record {
       others = fits_quiet g c.list_none.new.listing.marks b quiet;
-      clauses = c.note_undo.ensures.fits a b known wide;
+      clauses =
+          subst (λ (w : Work). watches.Fits b w.clauses) (sym c.self.view_is) known;
     }
