@@ -15,7 +15,7 @@ ghost use Rattle.conf_parse.specs.Parts.{IsPart, Errs};
 use crate::cursor::{Next, first_at, split, word_at};
 use crate::operand::{Bounds, Part, operand};
 use crate::stop::Stop;
-use crate::table::{Going, dotted, goes, op_level, right_level, way_on};
+use conf_grammar::{Going, dotted, goes, op_level, right_level, way_on};
 use conf_syntax::{Expr, Ident, Name, Node, Op, Placed};
 use std::alloc::Global;
 

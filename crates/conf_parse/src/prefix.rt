@@ -10,16 +10,17 @@ ghost use Rattle.conf_syntax.specs.Plain.{begin_by};
 ghost use Rattle.conf_syntax.specs.Views.{tree_of};
 ghost use Rattle.conf_grammar.specs.Machine.{Need};
 ghost use Rattle.conf_grammar.specs.Leads.{Leads, at};
+ghost use Rattle.conf_grammar.specs.Operators.{sign_of};
 ghost use Rattle.conf_parse.specs.Cursor.{Splits};
-ghost use Rattle.conf_parse.specs.Readers.{sign_of};
 ghost use Rattle.conf_parse.specs.Reads.{Reads, SignReads};
 ghost use Rattle.conf_parse.specs.Parts.{IsPart, Errs};
 
+use crate::begin::{Begin, beginning};
 use crate::cursor::{Next, after_mark, split};
 use crate::operand::{Bounds, Part, operand};
 use crate::quantifier::quant;
 use crate::stop::Stop;
-use crate::table::{Begin, Sign, beginning, sign_level};
+use conf_grammar::{Sign, sign_level};
 use conf_syntax::{Expr, Mark, Node, Placed};
 use std::alloc::{AllocError, Global};
 

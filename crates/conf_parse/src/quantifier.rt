@@ -17,7 +17,7 @@ ghost use Rattle.conf_parse.specs.Parts.{IsPart, Errs, IsItem, ItemErrs, opening
 use crate::cursor::{Next, after_key, after_mark, word_at};
 use crate::operand::{Bounds, Part, operand};
 use crate::stop::Stop;
-use crate::table::{PATH, may_end, may_filter, may_more, semicolons};
+use conf_grammar::{PATH, may_end, may_filter, may_more, semicolons};
 use conf_syntax::{Expr, Ident, Key, Mark, Name, Node, Placed, Quant, QuantKind};
 use std::alloc::{AllocError, Global};
 

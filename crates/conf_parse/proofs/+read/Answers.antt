@@ -1,6 +1,6 @@
 use Rattle.std.proofs.Common.{rules, arith, ◌≡◌, ◌<◌, sym, subst, ap, ◌∙◌, List, [], ◌∷◌, ℕ, Bool, true, length, length-append}
 use Rattle.conf_parse.specs.Cursor.{Names}
-use Rattle.conf_parse.specs.Readers.{sign_of}
+use Rattle.conf_grammar.specs.Operators.{sign_of}
 use Rattle.conf_syntax.specs.Plain.{Then, nest, semicolons, part, quant, bodies, may_more}
 use Rattle.conf_syntax.specs.Views.{tree_of, chain, closed}
 use Rattle.conf_parse.specs.Parts.{opening_tree}
