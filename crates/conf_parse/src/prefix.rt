@@ -25,7 +25,7 @@ use conf_syntax::{Expr, Mark, Node, Placed};
 use std::alloc::{AllocError, Global};
 
 /// Reads what stands before any operator.
-#[tactic(auto, using(crate::proofs::Parts::leaf_part, crate::proofs::Parts::leaf_wrong, crate::proofs::Parts::first_nothing, crate::proofs::Parts::first_wrong, crate::proofs::Parts::memory_error))]
+#[tactic(auto, using(crate::proofs::Parts::first_wrong))]
 #[cycle(read)]
 pub(crate) fn first(
     alloc: Global,
@@ -100,7 +100,7 @@ fn leaf<'a>(
 }
 
 /// Reads an expression in parentheses.
-#[tactic(auto, using(crate::proofs::Parts::paren_part, crate::proofs::Parts::paren_error, crate::proofs::Parts::paren_wrong, crate::proofs::Parts::paren_deep, crate::proofs::Parts::paren_open, crate::proofs::Placing::paren_reads))]
+#[tactic(auto, using(crate::proofs::Parts::paren_part))]
 #[cycle(read)]
 fn paren<'a>(alloc: Global, next: Next<'a>, bounds: Bounds) -> Result<(Part, &'a [Placed]), Stop>
     requires room { 1 ≤ bounds.room }

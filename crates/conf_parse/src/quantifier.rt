@@ -32,7 +32,7 @@ struct Opening {
 }
 
 /// Reads a quantifier's keyword, its variable and its path.
-#[tactic(auto, using(crate::proofs::Quants::head_part, crate::proofs::Quants::head_error, crate::proofs::Quants::head_wrong, crate::proofs::Quants::head_deep, crate::proofs::Quants::head_unnamed, crate::proofs::Quants::head_bare, crate::proofs::Placing::head_reads))]
+#[tactic(auto, using(crate::proofs::Placing::head_reads))]
 #[cycle(read)]
 fn head<'a>(
     alloc: Global,
@@ -75,7 +75,7 @@ fn head<'a>(
 }
 
 /// Reads a quantifier up to its first body.
-#[tactic(auto, using(crate::proofs::Quants::filter_part, crate::proofs::Quants::filter_error, crate::proofs::Quants::filter_open, crate::proofs::Quants::filter_never, crate::proofs::Quants::plain_part, crate::proofs::Quants::plain_wrong, crate::proofs::Placing::filter_opens, crate::proofs::Placing::plain_opens))]
+#[tactic(auto, using(crate::proofs::Placing::plain_opens))]
 #[cycle(read)]
 fn before_body<'a>(
     alloc: Global,
@@ -140,7 +140,6 @@ fn before_body<'a>(
 }
 
 /// Reads a body with its semicolon.
-#[tactic(auto, using(crate::proofs::Quants::item_part, crate::proofs::Quants::item_error, crate::proofs::Quants::item_open, crate::proofs::Placing::item_reads))]
 #[cycle(read)]
 fn item(alloc: Global, tokens: &[Placed], room: u32) -> Result<(Part, &[Placed]), Stop>
     requires room { 2 ≤ room }
@@ -211,7 +210,6 @@ pub(crate) fn quant<'a>(
 }
 
 /// Reads the one body of a quantifier whose body has no semicolon.
-#[tactic(auto, using(crate::proofs::Quants::single_part, crate::proofs::Quants::single_error, crate::proofs::Quants::single_open, crate::proofs::Placing::one_body, crate::proofs::Placing::quant_reads))]
 #[cycle(read)]
 fn single<'a>(
     alloc: Global,
@@ -260,7 +258,7 @@ fn single<'a>(
 }
 
 /// Reads the bodies of a quantifier whose bodies have semicolons.
-#[tactic(auto, using(crate::proofs::Quants::first_item, crate::proofs::Quants::first_error, crate::proofs::Quants::next_item, crate::proofs::Quants::next_error, crate::proofs::Quants::next_wrong, crate::proofs::Quants::end_wrong, crate::proofs::Quants::body_end, crate::proofs::Quants::chain_one, crate::proofs::Quants::chain_then, crate::proofs::Placing::no_bodies, crate::proofs::Placing::more_bodies, crate::proofs::Placing::quant_reads))]
+#[tactic(auto, using(crate::proofs::Quants::first_item, crate::proofs::Quants::chain_one, crate::proofs::Placing::no_bodies, crate::proofs::Placing::more_bodies))]
 #[cycle(read)]
 fn many<'a>(
     alloc: Global,
