@@ -20,7 +20,7 @@ use conf_syntax::{Expr, Ident, Name, Node, Op, Placed};
 use std::alloc::Global;
 
 /// One operator or name more behind an operand that stands at the head of `start`, or none.
-#[tactic(auto, using(crate::proofs::Parts::grow_stops, crate::proofs::Parts::grow_ends, crate::proofs::Parts::grow_deeper))]
+#[tactic(auto, using(crate::proofs::Parts::grow_stops))]
 #[cycle(read)]
 pub(crate) fn grow<'a>(
     alloc: Global,

@@ -157,7 +157,6 @@ fn under(alloc: Global, sign: Sign, place: u32, inner: Expr) -> Result<Expr, All
 }
 
 /// Reads an operand behind `-` or `not`.
-#[tactic(auto, using(crate::proofs::Parts::sign_part, crate::proofs::Parts::sign_error, crate::proofs::Parts::sign_wrong, crate::proofs::Parts::sign_deeper, crate::proofs::Placing::sign_reads))]
 #[cycle(read)]
 fn signed<'a>(
     alloc: Global,

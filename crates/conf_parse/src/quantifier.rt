@@ -32,7 +32,6 @@ struct Opening {
 }
 
 /// Reads a quantifier's keyword, its variable and its path.
-#[tactic(auto, using(crate::proofs::Placing::head_reads))]
 #[cycle(read)]
 fn head<'a>(
     alloc: Global,

@@ -8,9 +8,9 @@ use Rattle.conf_parse.specs.Parts.{Errs, opening_tree}
 use Rattle.conf_parse.proofs.Quants.{head_wrong, head_deep, head_unnamed, head_bare, head_error, head_part, opening_head, filter_never, filter_error, filter_open, filter_part, plain_wrong, plain_part, item_part, item_error, item_open, single_open, single_part, single_error, first_error, next_item, next_error, next_wrong, end_wrong, body_end, chain_then}
 use Rattle.conf_parse.proofs.Placing.{filter_opens, head_reads, item_reads, pair_reads, paren_reads, sign_reads, quant_reads, one_body, more_bodies}
 use Rattle.conf_syntax.specs.declared.tree.QuantKind.{QuantKind}
-use Rattle.conf_parse.proofs.Parts.{first_nothing, memory_error, same_place, paren_wrong, paren_deep, paren_error, paren_open, pair_error, sign_wrong, sign_deeper, sign_error, sign_part}
+use Rattle.conf_parse.proofs.Parts.{first_nothing, grow_deeper, grow_ends, grow_stops, memory_error, same_place, paren_wrong, paren_deep, paren_error, paren_open, pair_error, sign_wrong, sign_deeper, sign_error, sign_part}
 use Rattle.conf_syntax.specs.Places.{bare}
-use Rattle.conf_grammar.specs.Machine.{Need}
+use Rattle.conf_grammar.specs.Machine.{Need, goes}
 use Rattle.conf_grammar.specs.Leads.{at}
 use Rattle.conf_parse.proofs.+read.Goals as goal
 
@@ -226,3 +226,20 @@ quantifier::many-returns-in-Some-clause-read t c =
 
 pub quantifier::many-returns-in-Some-clause-places : goal.quantifier::many-returns-in-Some-clause-places
 quantifier::many-returns-in-Some-clause-places t c = quant_reads c.args.next.tokens.now c.args.inside.now c.body.rest.now c.in-Some.behind.now c.args.next.token.now.at c.args.start c.body.body.items c.in_ok-tree.tree c.requires.place c.requires.places c.body.invariant.places c.in-Some.ensures c.in_ok-tree.ensures.places
+
+pub quantifier::head-returns-clause-places : goal.quantifier::head-returns-clause-places
+quantifier::head-returns-clause-places t c = head_reads c.args.next.tokens.now c.args.next.token.now c.args.next.after.now c.in-Some.behind.now c.in-Some-after_key.path.now c.in-Ok.found.1.now c.in-Some.name.now c.in_ok-name.name c.in-Some.at c.in-Ok.found.0.tree c.requires.tokens c.in-Some.ensures c.in-Some-after_key.ensures c.in-Ok.ensures.places
+
+pub growth::grow-returns-then-left-bounds-clause-read : goal.growth::grow-returns-then-left-bounds-clause-read
+growth::grow-returns-then-left-bounds-clause-read t c =
+    let g : goes c.args.bounds.least c.args.left.level c.in-Some.token.now.token ≡ true = search rules in
+    let p = c.requires.left in
+    grow_deeper c.args.bounds.least c.args.bounds.room c.args.tokens.now c.in-Some.token.now c.in-Some.after.now (tree_of c.args.left.tree.node) c.args.left.level c.in-Some.ensures p.level_is g (omega (arith, p.nest_is))
+
+pub growth::grow-returns-then-not-goes-clause-stops : goal.growth::grow-returns-then-not-goes-clause-stops
+growth::grow-returns-then-not-goes-clause-stops t c =
+    let g : goes c.args.bounds.least c.args.left.level c.in-Some.token.now.token ≡ false = search rules in
+    λ e. grow_stops c.args.bounds.least c.args.left.level c.args.tokens.now c.in-Some.token.now c.in-Some.after.now c.in-Some.ensures g
+
+pub growth::grow-returns-in_default-clause-stops : goal.growth::grow-returns-in_default-clause-stops
+growth::grow-returns-in_default-clause-stops t c = λ e. grow_ends c.args.bounds.least c.args.left.level c.args.tokens.now c.in_default.ensures
