@@ -22,13 +22,52 @@ use conf_syntax::{Expr, Ident, Key, Mark, Name, Node, Placed, Quant, QuantKind};
 use std::alloc::{AllocError, Global};
 
 /// What stands before a quantifier's bodies.
-#[derive(Drop)]
 struct Opening {
     kind: QuantKind,
     var: Ident,
     over: Expr,
     filter: Option<Expr>,
     nest: u32,
+}
+
+impl Drop for Opening {
+    fn drop(self) {
+        let Opening {
+            kind: _,
+            var: _,
+            over: _,
+            filter: _,
+            nest: _,
+        } = self;
+    }
+}
+
+impl Opening {
+    /// The quantifier with these bodies.
+    fn made(self, alloc: Global, place: u32, body: Vec<Expr>) -> Result<Expr, AllocError>
+        ensures tree { IfOk result (λ x. tree_of x.node ≡ closed (plain.semicolons self.kind)
+            (chain (opening_tree self) body.items)) }
+        ensures places { IfOk result (λ x. QuantReads place self body.items x) }
+    {
+        let Opening {
+            kind,
+            var,
+            over,
+            filter,
+            nest: _,
+        } = self;
+        let quant = Quant {
+            kind,
+            var,
+            over,
+            filter,
+            body,
+        };
+        Ok(Expr {
+            at: place,
+            node: Node::Quant(Box::new(alloc, quant)?),
+        })
+    }
 }
 
 /// Reads a quantifier's keyword, its variable and its path.
@@ -159,25 +198,6 @@ fn item(alloc: Global, tokens: &[Placed], room: u32) -> Result<(Part, &[Placed])
     Ok((part, rest))
 }
 
-/// The quantifier with these bodies.
-fn made(alloc: Global, place: u32, start: Opening, body: Vec<Expr>) -> Result<Expr, AllocError>
-    ensures tree { IfOk result (λ x. tree_of x.node ≡ closed (plain.semicolons start.kind)
-        (chain (opening_tree start) body.items)) }
-    ensures places { IfOk result (λ x. QuantReads place start body.items x) }
-{
-    let quant = Quant {
-        kind: start.kind,
-        var: start.var,
-        over: start.over,
-        filter: start.filter,
-        body,
-    };
-    Ok(Expr {
-        at: place,
-        node: Node::Quant(Box::new(alloc, quant)?),
-    })
-}
-
 /// Reads a quantifier.
 #[cycle(read)]
 pub(crate) fn quant<'a>(
@@ -245,7 +265,7 @@ fn single<'a>(
     let nest = start.nest.max(only.nest) + 1;
     let mut body = Vec::new(alloc);
     body.push(only.tree)?;
-    let tree = made(alloc, next.token.at, start, body)?;
+    let tree = start.made(alloc, next.token.at, body)?;
     Ok((
         Part {
             tree,
@@ -298,7 +318,7 @@ fn many<'a>(
             if !may_end(kind, body.len()) {
                 return Err(Stop::Syntax(rest.len()));
             }
-            let tree = made(alloc, next.token.at, start, body)?;
+            let tree = start.made(alloc, next.token.at, body)?;
             return Ok((
                 Part {
                     tree,
