@@ -1,6 +1,6 @@
 use Rattle.conf_syntax.specs.Views.{end_of}
 use Rattle.conf_parse.proofs.Shapes.{high_number, high_number_miss, high_minus, high_minus_miss, high_none}
-use Rattle.conf_parse.proofs.Standing.{high_stands}
+use Rattle.conf_parse.proofs.Standing.{high_minus_stands, high_stands}
 use Rattle.conf_parse.proofs.declaration.high_end.Goals as goal
 
 pub returns-in-Ok-clause-places : goal.returns-in-Ok-clause-places
@@ -20,3 +20,6 @@ returns-in-Ok-numbered-clause-read c = high_minus (end_of c.args.low) c.in-Ok-nu
 
 pub returns-in-Err-numbered-clause-read : goal.returns-in-Err-numbered-clause-read
 returns-in-Err-numbered-clause-read c = high_minus_miss (end_of c.args.low) c.in-Err-numbered.left c.args.tokens.now c.in-Some-after_mark.after.now c.in-Some-after_mark.ensures c.in-Err-numbered.ensures
+
+pub returns-in-Ok-numbered-clause-places : goal.returns-in-Ok-numbered-clause-places
+returns-in-Ok-numbered-clause-places c = high_minus_stands c.args.low c.in-Ok-numbered.value _ c.first_at.result c.args.tokens.now c.in-Some-after_mark.after.now c.in-Ok-numbered.rest.now c.in-Some-after_mark.ensures c.in-Ok-numbered.ensures c.first_at.ensures

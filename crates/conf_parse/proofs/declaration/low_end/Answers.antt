@@ -1,5 +1,5 @@
 use Rattle.conf_parse.proofs.Shapes.{low_number, low_number_miss, low_minus, low_minus_miss, low_none}
-use Rattle.conf_parse.proofs.Standing.{low_stands}
+use Rattle.conf_parse.proofs.Standing.{low_minus_stands, low_stands}
 use Rattle.conf_parse.proofs.declaration.low_end.Goals as goal
 
 pub returns-in-Ok-clause-places : goal.returns-in-Ok-clause-places
@@ -19,3 +19,6 @@ returns-in-Ok-numbered-clause-read c = low_minus c.in-Ok-numbered.value _ c.args
 
 pub returns-in-Err-numbered-clause-read : goal.returns-in-Err-numbered-clause-read
 returns-in-Err-numbered-clause-read c = low_minus_miss c.in-Err-numbered.left c.args.tokens.now c.in-Some-after_mark.after.now c.in-Some-after_mark.ensures c.in-Err-numbered.ensures
+
+pub returns-in-Ok-numbered-clause-places : goal.returns-in-Ok-numbered-clause-places
+returns-in-Ok-numbered-clause-places c = low_minus_stands c.in-Ok-numbered.value _ c.first_at.result c.args.tokens.now c.in-Some-after_mark.after.now c.in-Ok-numbered.rest.now c.in-Some-after_mark.ensures c.in-Ok-numbered.ensures c.first_at.ensures
