@@ -1,3 +1,4 @@
 pub mod Machine
+pub mod Operators
 pub mod Fronts
 pub mod Leads

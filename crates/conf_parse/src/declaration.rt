@@ -40,7 +40,6 @@ fn counted_shape(is_ref: bool, ident: Ident, count: u32) -> Shape
 }
 
 /// Reads what stands behind the name of a shape.
-#[tactic(auto, using(crate::proofs::Shapes::count_plain, crate::proofs::Shapes::count_many, crate::proofs::Shapes::count_miss, crate::proofs::Shapes::count_none, crate::proofs::Standing::plain_stands, crate::proofs::Standing::many_stands))]
 fn counted(is_ref: bool, ident: Ident, tokens: &[Placed]) -> Result<(Shape, &[Placed]), Stop>
     ensures places { IfOk result (λ x. CountReads is_ref ident tokens.now x.0 x.1.now) }
     ensures read { MatchResult result (λ x. Turns naming_low (count_at is_ref ident.name)
@@ -61,7 +60,6 @@ fn counted(is_ref: bool, ident: Ident, tokens: &[Placed]) -> Result<(Shape, &[Pl
 }
 
 /// Reads the high end of a range.
-#[tactic(auto, using(crate::proofs::Shapes::high_number, crate::proofs::Shapes::high_number_miss, crate::proofs::Shapes::high_minus, crate::proofs::Shapes::high_minus_miss, crate::proofs::Shapes::high_none, crate::proofs::Standing::high_stands, crate::proofs::Standing::high_minus_stands))]
 fn high_end(low: Bound, tokens: &[Placed]) -> Result<(Shape, &[Placed]), Stop>
     ensures places { IfOk result (λ x. HighReads low tokens.now x.0 x.1.now) }
     ensures read { MatchResult result (λ x. Turns naming_low (high_at (end_of low))
@@ -97,7 +95,6 @@ fn high_end(low: Bound, tokens: &[Placed]) -> Result<(Shape, &[Placed]), Stop>
 }
 
 /// Reads the low end of a range and the points behind it; no other shape begins here.
-#[tactic(auto, using(crate::proofs::Shapes::low_number, crate::proofs::Shapes::low_number_miss, crate::proofs::Shapes::low_minus, crate::proofs::Shapes::low_minus_miss, crate::proofs::Shapes::low_none, crate::proofs::Standing::low_stands, crate::proofs::Standing::low_minus_stands))]
 fn low_end(tokens: &[Placed]) -> Result<(Bound, &[Placed]), Stop>
     requires word { IsNotWord (bare tokens.now) }
     requires int { IsNot (Token.Key Key.Int) (bare tokens.now) }
@@ -179,7 +176,7 @@ fn worded<'a>(
 }
 
 /// Reads a shape and its semicolon.
-#[tactic(auto, using(crate::proofs::Shapes::int_part, crate::proofs::Shapes::int_miss, crate::proofs::Shapes::bool_part, crate::proofs::Shapes::bool_miss, crate::proofs::Shapes::range_part, crate::proofs::Shapes::range_error, crate::proofs::Standing::int_stands, crate::proofs::Standing::bool_stands, crate::proofs::Standing::range_stands))]
+#[tactic(auto, using(crate::proofs::Shapes::range_part, crate::proofs::Shapes::range_error, crate::proofs::Standing::range_stands))]
 fn shape(alloc: Global, tokens: &[Placed]) -> Result<(Shape, &[Placed]), Stop>
     ensures places { IfOk result (λ x. ShapeReads tokens.now x.0 x.1.now) }
     ensures read { MatchResult result (λ x. Turns naming_low shape_at (bare tokens.now)
@@ -213,7 +210,6 @@ fn shape(alloc: Global, tokens: &[Placed]) -> Result<(Shape, &[Placed]), Stop>
 }
 
 /// Reads the variable behind `var`.
-#[tactic(auto, using(crate::proofs::Shapes::var_part, crate::proofs::Shapes::var_error, crate::proofs::Shapes::var_miss))]
 pub fn var_decl<'a>(
     alloc: Global,
     tokens: &'a [Placed],

@@ -15,12 +15,12 @@ ghost use Rattle.conf_parse.specs.Parts.{IsPart, Errs};
 use crate::cursor::{Next, first_at, split, word_at};
 use crate::operand::{Bounds, Part, operand};
 use crate::stop::Stop;
-use crate::table::{Going, dotted, goes, op_level, right_level, way_on};
+use conf_grammar::{Going, dotted, goes, op_level, right_level, way_on};
 use conf_syntax::{Expr, Ident, Name, Node, Op, Placed};
 use std::alloc::Global;
 
 /// One operator or name more behind an operand that stands at the head of `start`, or none.
-#[tactic(auto, using(crate::proofs::Parts::grow_stops, crate::proofs::Parts::grow_ends, crate::proofs::Parts::same_place, crate::proofs::Parts::grow_deeper))]
+#[tactic(auto, using(crate::proofs::Parts::grow_stops))]
 #[cycle(read)]
 pub(crate) fn grow<'a>(
     alloc: Global,
@@ -116,7 +116,7 @@ fn named<'a>(
 }
 
 /// Reads the right operand of an operator.
-#[tactic(auto, using(crate::proofs::Parts::pair_part, crate::proofs::Parts::pair_error, crate::proofs::Placing::pair_reads))]
+#[tactic(auto, using(crate::proofs::Parts::pair_part))]
 #[cycle(read)]
 fn pair<'a>(
     alloc: Global,

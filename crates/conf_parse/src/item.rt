@@ -24,7 +24,7 @@ use conf_syntax::{
 use std::alloc::Global;
 
 /// Reads the enumeration behind `enum`.
-#[tactic(auto, using(crate::proofs::Items::enum_miss, crate::proofs::Items::enum_first_miss, crate::proofs::Items::enum_begun, crate::proofs::Items::value_next, crate::proofs::Items::value_missed, crate::proofs::Items::values_other, crate::proofs::Items::enum_ended))]
+#[tactic(auto, using(crate::proofs::Items::enum_begun, crate::proofs::Items::enum_ended))]
 fn enum_decl<'a>(
     alloc: Global,
     tokens: &'a [Placed],
@@ -233,7 +233,6 @@ fn abstract_decl<'a>(
 }
 
 /// Reads an item.
-#[tactic(auto, using(crate::proofs::Items::alone_part, crate::proofs::Items::alone_error, crate::proofs::Items::item_none, crate::proofs::StandingItems::item_enum, crate::proofs::StandingItems::item_class, crate::proofs::StandingItems::item_var, crate::proofs::StandingItems::item_where, crate::proofs::StandingItems::item_goal))]
 pub fn item(alloc: Global, tokens: &[Placed]) -> Result<(Item, &[Placed]), Stop>
     requires { length tokens.now ≢ 0 }
     ensures places { IfOk result (λ x. TopLevelReads tokens.now x.0 x.1.now) }

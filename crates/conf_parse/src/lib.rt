@@ -4,12 +4,13 @@
 //! that it cannot pass; `token`, `run`, `keyword`, `mark` and `literal` each read one thing for it.
 //! `parser` has `parse`: the tree of a model, or the first place that no model has there. `item`,
 //! `declaration` and `statement` read what stands at the top level and in classes, `operand` reads
-//! expressions by way of `prefix`, `growth` and `quantifier`, `table` says how tightly operators
-//! bind, `row` reads straight rows, and `cursor` takes tokens one by one. What is proved of each
-//! reader is what the machine of `conf_grammar` does with the same tokens, whatever stands around
-//! them.
+//! expressions by way of `begin`, `prefix`, `growth` and `quantifier`, `row` reads straight rows,
+//! and `cursor` takes tokens one by one. How tightly operators bind says `conf_grammar`. What is
+//! proved of each reader is what the machine of that crate does with the same tokens, whatever
+//! stands around them.
 #![tactic(auto)]
 
+mod begin;
 mod cursor;
 mod declaration;
 mod growth;
@@ -26,7 +27,6 @@ mod row;
 mod run;
 mod statement;
 mod stop;
-mod table;
 mod token;
 
 pub use lexer::{LexError, lex};

@@ -10,21 +10,22 @@ ghost use Rattle.conf_syntax.specs.Plain.{begin_by};
 ghost use Rattle.conf_syntax.specs.Views.{tree_of};
 ghost use Rattle.conf_grammar.specs.Machine.{Need};
 ghost use Rattle.conf_grammar.specs.Leads.{Leads, at};
+ghost use Rattle.conf_grammar.specs.Operators.{sign_of};
 ghost use Rattle.conf_parse.specs.Cursor.{Splits};
-ghost use Rattle.conf_parse.specs.Readers.{sign_of};
 ghost use Rattle.conf_parse.specs.Reads.{Reads, SignReads};
 ghost use Rattle.conf_parse.specs.Parts.{IsPart, Errs};
 
+use crate::begin::{Begin, beginning};
 use crate::cursor::{Next, after_mark, split};
 use crate::operand::{Bounds, Part, operand};
 use crate::quantifier::quant;
 use crate::stop::Stop;
-use crate::table::{Begin, Sign, beginning, sign_level};
+use conf_grammar::{Sign, sign_level};
 use conf_syntax::{Expr, Mark, Node, Placed};
 use std::alloc::{AllocError, Global};
 
 /// Reads what stands before any operator.
-#[tactic(auto, using(crate::proofs::Parts::leaf_part, crate::proofs::Parts::leaf_wrong, crate::proofs::Parts::first_nothing, crate::proofs::Parts::first_wrong, crate::proofs::Parts::memory_error))]
+#[tactic(auto, using(crate::proofs::Parts::first_wrong))]
 #[cycle(read)]
 pub(crate) fn first(
     alloc: Global,
@@ -99,7 +100,7 @@ fn leaf<'a>(
 }
 
 /// Reads an expression in parentheses.
-#[tactic(auto, using(crate::proofs::Parts::paren_part, crate::proofs::Parts::paren_error, crate::proofs::Parts::paren_wrong, crate::proofs::Parts::paren_deep, crate::proofs::Parts::paren_open, crate::proofs::Placing::paren_reads))]
+#[tactic(auto, using(crate::proofs::Parts::paren_part))]
 #[cycle(read)]
 fn paren<'a>(alloc: Global, next: Next<'a>, bounds: Bounds) -> Result<(Part, &'a [Placed]), Stop>
     requires room { 1 ≤ bounds.room }
@@ -156,7 +157,6 @@ fn under(alloc: Global, sign: Sign, place: u32, inner: Expr) -> Result<Expr, All
 }
 
 /// Reads an operand behind `-` or `not`.
-#[tactic(auto, using(crate::proofs::Parts::sign_part, crate::proofs::Parts::sign_error, crate::proofs::Parts::sign_wrong, crate::proofs::Parts::sign_deeper, crate::proofs::Placing::sign_reads))]
 #[cycle(read)]
 fn signed<'a>(
     alloc: Global,

@@ -17,12 +17,11 @@ ghost use Rattle.conf_parse.specs.Parts.{IsPart, Errs, IsItem, ItemErrs, opening
 use crate::cursor::{Next, after_key, after_mark, word_at};
 use crate::operand::{Bounds, Part, operand};
 use crate::stop::Stop;
-use crate::table::{PATH, may_end, may_filter, may_more, semicolons};
+use conf_grammar::{PATH, may_end, may_filter, may_more, semicolons};
 use conf_syntax::{Expr, Ident, Key, Mark, Name, Node, Placed, Quant, QuantKind};
 use std::alloc::{AllocError, Global};
 
 /// What stands before a quantifier's bodies.
-#[derive(Drop)]
 struct Opening {
     kind: QuantKind,
     var: Ident,
@@ -31,8 +30,47 @@ struct Opening {
     nest: u32,
 }
 
+impl Drop for Opening {
+    fn drop(self) {
+        let Opening {
+            kind: _,
+            var: _,
+            over: _,
+            filter: _,
+            nest: _,
+        } = self;
+    }
+}
+
+impl Opening {
+    /// The quantifier with these bodies.
+    fn made(self, alloc: Global, place: u32, body: Vec<Expr>) -> Result<Expr, AllocError>
+        ensures tree { IfOk result (λ x. tree_of x.node ≡ closed (plain.semicolons self.kind)
+            (chain (opening_tree self) body.items)) }
+        ensures places { IfOk result (λ x. QuantReads place self body.items x) }
+    {
+        let Opening {
+            kind,
+            var,
+            over,
+            filter,
+            nest: _,
+        } = self;
+        let quant = Quant {
+            kind,
+            var,
+            over,
+            filter,
+            body,
+        };
+        Ok(Expr {
+            at: place,
+            node: Node::Quant(Box::new(alloc, quant)?),
+        })
+    }
+}
+
 /// Reads a quantifier's keyword, its variable and its path.
-#[tactic(auto, using(crate::proofs::Quants::head_part, crate::proofs::Quants::head_error, crate::proofs::Quants::head_wrong, crate::proofs::Quants::head_deep, crate::proofs::Quants::head_unnamed, crate::proofs::Quants::head_bare, crate::proofs::Placing::head_reads))]
 #[cycle(read)]
 fn head<'a>(
     alloc: Global,
@@ -75,7 +113,7 @@ fn head<'a>(
 }
 
 /// Reads a quantifier up to its first body.
-#[tactic(auto, using(crate::proofs::Quants::filter_part, crate::proofs::Quants::filter_error, crate::proofs::Quants::filter_open, crate::proofs::Quants::filter_never, crate::proofs::Quants::plain_part, crate::proofs::Quants::plain_wrong, crate::proofs::Placing::filter_opens, crate::proofs::Placing::plain_opens))]
+#[tactic(auto, using(crate::proofs::Placing::plain_opens))]
 #[cycle(read)]
 fn before_body<'a>(
     alloc: Global,
@@ -140,7 +178,6 @@ fn before_body<'a>(
 }
 
 /// Reads a body with its semicolon.
-#[tactic(auto, using(crate::proofs::Quants::item_part, crate::proofs::Quants::item_error, crate::proofs::Quants::item_open, crate::proofs::Placing::item_reads))]
 #[cycle(read)]
 fn item(alloc: Global, tokens: &[Placed], room: u32) -> Result<(Part, &[Placed]), Stop>
     requires room { 2 ≤ room }
@@ -159,25 +196,6 @@ fn item(alloc: Global, tokens: &[Placed], room: u32) -> Result<(Part, &[Placed])
         return Err(Stop::Syntax(behind.len()));
     };
     Ok((part, rest))
-}
-
-/// The quantifier with these bodies.
-fn made(alloc: Global, place: u32, start: Opening, body: Vec<Expr>) -> Result<Expr, AllocError>
-    ensures tree { IfOk result (λ x. tree_of x.node ≡ closed (plain.semicolons start.kind)
-        (chain (opening_tree start) body.items)) }
-    ensures places { IfOk result (λ x. QuantReads place start body.items x) }
-{
-    let quant = Quant {
-        kind: start.kind,
-        var: start.var,
-        over: start.over,
-        filter: start.filter,
-        body,
-    };
-    Ok(Expr {
-        at: place,
-        node: Node::Quant(Box::new(alloc, quant)?),
-    })
 }
 
 /// Reads a quantifier.
@@ -211,7 +229,6 @@ pub(crate) fn quant<'a>(
 }
 
 /// Reads the one body of a quantifier whose body has no semicolon.
-#[tactic(auto, using(crate::proofs::Quants::single_part, crate::proofs::Quants::single_error, crate::proofs::Quants::single_open, crate::proofs::Placing::one_body, crate::proofs::Placing::quant_reads))]
 #[cycle(read)]
 fn single<'a>(
     alloc: Global,
@@ -248,7 +265,7 @@ fn single<'a>(
     let nest = start.nest.max(only.nest) + 1;
     let mut body = Vec::new(alloc);
     body.push(only.tree)?;
-    let tree = made(alloc, next.token.at, start, body)?;
+    let tree = start.made(alloc, next.token.at, body)?;
     Ok((
         Part {
             tree,
@@ -260,7 +277,7 @@ fn single<'a>(
 }
 
 /// Reads the bodies of a quantifier whose bodies have semicolons.
-#[tactic(auto, using(crate::proofs::Quants::first_item, crate::proofs::Quants::first_error, crate::proofs::Quants::next_item, crate::proofs::Quants::next_error, crate::proofs::Quants::next_wrong, crate::proofs::Quants::end_wrong, crate::proofs::Quants::body_end, crate::proofs::Quants::chain_one, crate::proofs::Quants::chain_then, crate::proofs::Placing::no_bodies, crate::proofs::Placing::more_bodies, crate::proofs::Placing::quant_reads))]
+#[tactic(auto, using(crate::proofs::Quants::first_item, crate::proofs::Quants::chain_one, crate::proofs::Placing::no_bodies, crate::proofs::Placing::more_bodies))]
 #[cycle(read)]
 fn many<'a>(
     alloc: Global,
@@ -301,7 +318,7 @@ fn many<'a>(
             if !may_end(kind, body.len()) {
                 return Err(Stop::Syntax(rest.len()));
             }
-            let tree = made(alloc, next.token.at, start, body)?;
+            let tree = start.made(alloc, next.token.at, body)?;
             return Ok((
                 Part {
                     tree,

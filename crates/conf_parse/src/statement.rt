@@ -39,7 +39,7 @@ fn statement(alloc: Global, tokens: &[Placed]) -> Result<(Part, &[Placed]), Stop
 }
 
 /// Reads the constraints in braces behind `where`.
-#[tactic(auto, using(crate::proofs::Wheres::braces_start, crate::proofs::Wheres::braces_more, crate::proofs::Wheres::braces_error, crate::proofs::Wheres::braces_end, crate::proofs::Wheres::braces_nest, crate::proofs::Wheres::braces_none, crate::proofs::Standing::row_begins))]
+#[tactic(auto, using(crate::proofs::Wheres::braces_start, crate::proofs::Wheres::braces_end, crate::proofs::Wheres::braces_none, crate::proofs::Standing::row_begins))]
 fn braces<'a>(
     alloc: Global,
     tokens: &'a [Placed],

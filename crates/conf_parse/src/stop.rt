@@ -2,7 +2,7 @@
 use std::alloc::{AllocError, AllocFailed};
 
 /// Why a reader stops, with the number of tokens that are left.
-#[derive(Debug, Drop)]
+#[derive(Drop)]
 pub enum Stop {
     Syntax(usize),
     TooDeep(usize),

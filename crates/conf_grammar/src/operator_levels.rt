@@ -2,15 +2,13 @@
 //!
 //! `->` is 1, `or` 2, `and` 3, `not` 4, a comparison 5, a sum 6, a product 7, unary minus 8,
 //! `.name` 9, all else 10; a path, which may stand behind `in`, is 11.
-ghost use Rattle.std.specs.Prelude.{◌≡◌, ◌≤◌, IfOk, IfErr};
-ghost use Rattle.conf_syntax.specs.Plain.{right_level, sign_level, dotted, semicolons, may_more, may_end};
-ghost use Rattle.conf_syntax.specs.Trees.{op_level, left_level, may_filter};
+ghost use Rattle.std.specs.Prelude.{◌≡◌, ◌≤◌};
+ghost use Rattle.conf_syntax.specs.Plain.{right_level, sign_level, dotted};
+ghost use Rattle.conf_syntax.specs.Trees.{op_level, left_level};
 ghost use Rattle.conf_grammar.specs.Machine.{goes_by, going};
-ghost use Rattle.conf_parse.specs.Readers.{sign_of, going_of, IsBegin};
+ghost use Rattle.conf_grammar.specs.Operators.{sign_of, going_of};
 
-use crate::stop::Stop;
-use conf_syntax::{Key, Mark, Name, Node, Op, QuantKind, Token};
-use std::alloc::Global;
+use conf_syntax::{Key, Mark, Op, Token};
 
 /// The level of a path.
 pub const PATH: u32 = 11;
@@ -27,16 +25,6 @@ pub enum Sign {
 pub enum Going {
     Pair(Op),
     Dot,
-    Nothing,
-}
-
-/// How a token begins an operand: as a leaf with its level, a sign, a parenthesis or a quantifier.
-#[derive(Drop)]
-pub enum Begin {
-    Leaf(Node, u32),
-    Sign(Sign),
-    Paren,
-    Quant(QuantKind),
     Nothing,
 }
 
@@ -152,89 +140,5 @@ pub fn sign_level(sign: Sign) -> u32
     match sign {
         Sign::Minus => 8,
         Sign::Not => 4,
-    }
-}
-
-/// How a keyword begins an operand.
-fn begin_key(key: Key) -> Begin
-    ensures { IsBegin (Token.Key key) result }
-{
-    match key {
-        Key::True => Begin::Leaf(Node::Truth(true), 10),
-        Key::False => Begin::Leaf(Node::Truth(false), 10),
-        Key::This => Begin::Leaf(Node::This, PATH),
-        Key::Not => Begin::Sign(Sign::Not),
-        Key::Forall => Begin::Quant(QuantKind::Forall),
-        Key::Exists => Begin::Quant(QuantKind::Exists),
-        Key::Sum => Begin::Quant(QuantKind::Sum),
-        Key::Count => Begin::Quant(QuantKind::Count),
-        Key::AllDifferent => Begin::Quant(QuantKind::AllDifferent),
-        Key::Pack => Begin::Quant(QuantKind::Pack),
-        _ => Begin::Nothing,
-    }
-}
-
-/// How a mark begins an operand.
-fn begin_mark(mark: Mark) -> Begin
-    ensures { IsBegin (Token.Mark mark) result }
-{
-    match mark {
-        Mark::Minus => Begin::Sign(Sign::Minus),
-        Mark::OpenParen => Begin::Paren,
-        _ => Begin::Nothing,
-    }
-}
-
-/// How a token begins an operand.
-pub fn beginning(alloc: Global, token: &Token) -> Result<Begin, Stop>
-    ensures begin { IfOk result (λ b. IsBegin token.now b) }
-    ensures memory { IfErr result (λ e. e ≡ Stop.Memory) }
-{
-    match token {
-        Token::Number(n) => Ok(Begin::Leaf(Node::Number(*n), 10)),
-        Token::Word(name) => Ok(Begin::Leaf(Node::Named(Name::of(alloc, name.as_bytes())?), PATH)),
-        Token::Key(key) => Ok(begin_key(*key)),
-        Token::Mark(mark) => Ok(begin_mark(*mark)),
-    }
-}
-
-/// Whether the bodies of a quantifier end with semicolons.
-pub fn semicolons(kind: QuantKind) -> bool
-    ensures { result ≡ semicolons kind }
-{
-    match kind {
-        QuantKind::Forall | QuantKind::Exists | QuantKind::Pack => true,
-        QuantKind::Sum | QuantKind::Count | QuantKind::AllDifferent => false,
-    }
-}
-
-/// Whether a quantifier may have a filter.
-pub fn may_filter(kind: QuantKind) -> bool
-    ensures { result ≡ may_filter kind }
-{
-    match kind {
-        QuantKind::Forall | QuantKind::Exists | QuantKind::Sum => true,
-        QuantKind::Count | QuantKind::AllDifferent | QuantKind::Pack => false,
-    }
-}
-
-/// Whether one more body may follow so many.
-pub fn may_more(kind: QuantKind, count: usize) -> bool
-    ensures { result ≡ may_more kind count }
-{
-    match kind {
-        QuantKind::Forall | QuantKind::Exists => true,
-        QuantKind::Pack => count <= 2,
-        QuantKind::Sum | QuantKind::Count | QuantKind::AllDifferent => false,
-    }
-}
-
-/// Whether so many bodies, at least one, are enough.
-pub fn may_end(kind: QuantKind, count: usize) -> bool
-    ensures { result ≡ may_end kind count }
-{
-    match kind {
-        QuantKind::Pack => count == 3,
-        _ => true,
     }
 }
