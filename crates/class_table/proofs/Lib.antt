@@ -1,5 +1,6 @@
 pub mod FaultLaws
 pub mod ListLaws
+pub mod ItemLaws
 pub mod NameLaws
 pub mod ResolveLaws
 pub mod GraphLaws

@@ -264,9 +264,9 @@ fn count_along(alloc: Global, family: &Family<'_>) -> Result<Vec<u32>, TableFaul
     ensures fault { IfErr result (λ fault. OnFault fault (IsRepeated family.now.classes.now
         (pointed family.now.decls.now))) }
 {
+    let counts = zeros(alloc, family.decls.len())?;
     let mut walk = Walk::new(alloc, family.graph)?;
     let names = Values::new(alloc);
-    let counts = zeros(alloc, family.decls.len())?;
     let mut scope = Scope { names, counts };
     match visit_all(alloc, family, &mut walk, &mut scope) {
         Ok(()) => Ok(scope.counts),

@@ -65,6 +65,7 @@ fn class_named(names: &Space, ident: &Ident) -> Result<u32, TableFault>
 }
 
 /// The class of which an object is declared, where it isn't abstract.
+#[tactic(auto, using(crate::proofs::ResolveLaws::abstract_at))]
 fn object_class(decls: &[&ClassDecl], ident: &Ident, class: u32) -> Result<u32, TableFault>
     requires within { class < length decls.now }
     ensures class { IfOk result (λ c. c ≡ class) }
@@ -73,20 +74,11 @@ fn object_class(decls: &[&ClassDecl], ident: &Ident, class: u32) -> Result<u32, 
     ensures fault { IfErr result (λ fault. abstract_object (is_abstract (pointed decls.now) class)
         ident.now.at ≡ fault ∷ []) }
 {
-    if is_abstract(decls, class) {
+    if decls[class as usize].is_abstract {
         Err(TableFault::AbstractObject(ident.at))
     } else {
         Ok(class)
     }
-}
-
-/// Whether a class is abstract.
-#[tactic(auto, using(crate::proofs::ResolveLaws::abstract_at))]
-fn is_abstract(decls: &[&ClassDecl], class: u32) -> bool
-    requires within { class < length decls.now }
-    ensures { result ≡ is_abstract (pointed decls.now) class }
-{
-    decls[class as usize].is_abstract
 }
 
 /// The shape `NAME`.

@@ -1,5 +1,5 @@
 -- Quantifiers' variables, one by one.
-use Rattle.std.proofs.Common.{◌≡◌, ℕ, zero, suc, ◌+◌, ◌-◌, ◌<◌, ◌≤◌, cond, List, [], ◌∷◌, ◌++◌, Some, length, get_or, drop, take, refl, ap, sym, ◌∙◌, subst, arith}
+use Rattle.std.proofs.Common.{◌≡◌, ℕ, zero, suc, ◌+◌, ◌-◌, ◌<◌, ◌≤◌, cond, List, [], ◌∷◌, ◌++◌, Some, length, get_or, drop, take, refl, ap, sym, ◌∙◌, subst, arith, length-append}
 use Rattle.std.proofs.lemmas.List.{take_all}
 use Rattle.class_table.specs.Same.{same_name}
 use Rattle.conf_types.specs.declared.scope.Local.{Local}
@@ -36,6 +36,16 @@ nearer xs i x w found next h e is =
 
 pub left_more : (xs : List Local) (i n : ℕ) (x : Local) → i < length xs → x ≡ get_or xs i x → AreLocals n (drop i xs) → (x.class < n) × AreLocals n (drop (i + 1) xs)
 left_more xs i n x h e a = subst (AreLocals n) (drop_next xs i x h e) a
+
+pub copied : (xs ys zs : List Local) (i : ℕ) (x : Local) → ys ≡ take i xs → length xs ≤ i → zs ≡ ys ++ x ∷ [] → zs ≡ xs ++ x ∷ []
+copied xs ys zs i x e end grown = grown ∙ ap (λ ls. ls ++ x ∷ []) (e ∙ take_all i xs end)
+
+pub locals_more : (xs : List Local) (x : Local) → locals_of (xs ++ x ∷ []) ≡ locals_of xs ++ (x.name.now, Some x.class) ∷ []
+locals_more [] x = refl
+locals_more (y ∷ ys) x = ap (λ ls. (y.name.now, Some y.class) ∷ ls) (locals_more ys x)
+
+pub length_more : (xs zs : List Local) (x : Local) → zs ≡ xs ++ x ∷ [] → length zs ≡ length xs + 1
+length_more xs zs x e = omega (arith, ap length e, length-append xs (x ∷ []))
 
 -- all variables were copied, and one more
 pub one_more : (xs ys zs : List Local) (i n : ℕ) (x : Local) → ys ≡ take i xs → length xs ≤ i → zs ≡ ys ++ x ∷ [] → AreLocals n xs → x.class < n → AreLocals n zs

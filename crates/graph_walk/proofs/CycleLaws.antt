@@ -9,7 +9,7 @@ use Rattle.graph_walk.specs.declared.walk.Step.{Step}
 use Rattle.graph_walk.specs.declared.walk.Step.TheVariants.{Entered, Passed, Left, Closed}
 use Rattle.graph_walk.specs.Cycles.{Leads, PlainLeads, IsOnCycle, IsPlainCycle, left_at, rank, IsOrdered, NewStays, IsScanned}
 use Rattle.graph_walk.specs.Steps.{StepsBy}
-use Rattle.graph_walk.specs.Walk.{Graph, edges_at, edge_at, state_at, IsNew, IsOpen, IsDone, IsDoneBefore, IsRight, Links, IsWalk, Steps, StandsAt, Enters, HasEdge, looked_at}
+use Rattle.graph_walk.specs.Walk.{Graph, edges_at, edge_at, state_at, IsNew, IsOpen, IsDone, IsDoneBefore, IsRight, Links, IsWalk, Steps, StandsAt, Enters, IsClosed, Makes, measure, HasEdge, looked_at}
 use Rattle.graph_walk.proofs.WalkLaws.{state_same, state_other, path_front, path_last, top_on}
 
 -- What was new
@@ -34,6 +34,20 @@ pub enters_reached : (g : Graph) (ss : List State) (p : List ℕ) (time d : ℕ)
 enters_reached g ss p time d ss' p' w s new =
     let within : d < length ss = omega (arith, s.on_graph, w.size) in
     subst IsNew (ap (λ x. state_at x d) s.states ∙ state_same ss d (Open s.edges) within) new
+
+-- a step that closes no cycle leaves fewer steps to come
+pub fewer_left : (g : Graph) (ss : List State) (p : List ℕ) (time : ℕ) (ss' : List State) (p' : List ℕ) (time' : ℕ) (step : Step) → Makes g ss p time ss' p' time' step → ((d : ℕ) → step ≡ Closed d → ⊥) → measure ss' < measure ss
+fewer_left g ss p time ss' p' time' step m open_still = by m.measure_is
+  where
+    closed : (s : Step) → IsClosed s → (d : ℕ) × (s ≡ Closed d)
+    closed (Entered d) h = absurd h
+    closed Passed h = absurd h
+    closed (Left d) h = absurd h
+    closed (Closed d) h = (d, refl)
+
+    by : IsClosed step ⊎ (measure ss' < measure ss) → measure ss' < measure ss
+    by (inl h) = let at = closed step h in absurd (open_still at.0 at.1)
+    by (inr h) = h
 
 -- Orders
 
