@@ -42,13 +42,6 @@ in_first f xs ys h = on_fault f (λ g. Contains xs g) (λ g. Contains (xs ++ ys)
 pub in_rest : (f : TypeFault) (xs ys : List TypeFault) → OnFault f (λ g. Contains ys g) → OnFault f (λ g. Contains (xs ++ ys) g)
 in_rest f xs ys h = on_fault f (λ g. Contains ys g) (λ g. Contains (xs ++ ys) g) (λ g c. Contains-append_right xs ys g c) h
 
--- an expression of another type than the needed one
-pub wrong_type : (f : TypeFault) (n : Need) (x : Checked) (r : Reading) → IsRead x r → meets n x.kind ≡ false → f ≡ WrongType x.first → OnFault f (λ g. Contains (needed n r) g)
-wrong_type f n x r h unmet is =
-    let at : needs n r.type r.first ≡ WrongType x.first ∷ [] = ap (λ t. needs n t r.first) h.typed ∙ ap (λ b. wrong_unless b r.first) unmet ∙ ap (λ k. WrongType k ∷ []) (sym h.first_is) in
-    let here : Contains (needs n r.type r.first) (WrongType x.first) = subst (λ l. Contains l (WrongType x.first)) (sym at) (0, omega arith, refl) in
-    subst (λ g. OnFault g (λ y. Contains (needed n r) y)) (sym is) (Contains-append_right r.faults (needs n r.type r.first) (WrongType x.first) here)
-
 found_keeps : (at : ℕ) (r : Reading) (i : Ident) (x : Option Found) (g : TypeFault) → Contains r.faults g → Contains (found_reading at r i x).faults g
 found_keeps at r i (Some f) g c = c
 found_keeps at r i None g c = Contains-append_left r.faults (Unknown i.at ∷ []) g c

@@ -2,7 +2,6 @@ pub mod ScopeLaws
 pub mod ReadingLaws
 pub mod CheckLaws
 pub mod ProgramLaws
-pub mod ProgramSteps
 pub mod TypingLaws
 pub mod TypingTrees
 pub mod TypedParts

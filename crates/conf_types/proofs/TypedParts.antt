@@ -1,5 +1,5 @@
 -- Constraints and objectives that were read have the types that they need.
-use Rattle.std.proofs.Common.{◌≡◌, ℕ, ◌<◌, true, Option, None, Some, IfSome, List, [], ◌∷◌, ◌++◌, All, nat_lt, refl, ap, sym, subst, ◌∙◌, arith}
+use Rattle.std.proofs.Common.{◌≡◌, ℕ, ◌<◌, true, Option, None, Some, IfSome, List, [], ◌∷◌, ◌++◌, All, map, nat_lt, refl, ap, sym, subst, ◌∙◌, arith}
 use Rattle.std.specs.Option.{option_map_or}
 use Rattle.std.proofs.lemmas.Bool.{lt-ltb}
 use Rattle.std.proofs.lemmas.List.Elements.{All-push}

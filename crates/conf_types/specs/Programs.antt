@@ -1,5 +1,5 @@
 -- The constraints and objectives of a model, and the faults that stand in them.
-use Rattle.std.specs.Prelude.{ℕ, ◌+◌, List, [], ◌∷◌, ◌++◌, Option, None, Some, map, slice_index_or}
+use Rattle.std.specs.Prelude.{ℕ, ◌+◌, Bool, List, [], ◌∷◌, ◌++◌, Option, None, Some, map, slice_index_or}
 use Rattle.std.specs.List.{flat_map}
 use Rattle.class_table.specs.Outline.{Outline}
 use Rattle.conf_syntax.specs.declared.tree.Expr.{Expr}

@@ -8,7 +8,7 @@ use Rattle.conf_types.specs.Programs.{OnFault}
 use Rattle.conf_types.specs.Types.{meets}
 use Rattle.conf_types.specs.Readings.{Reading, read, needed, needs, over_reading, right_reading, alone, list_class}
 use Rattle.conf_types.specs.Scopes.{Nothing, within}
-use Rattle.conf_types.proofs.CheckLaws.{in_first, wrong_type, in_attribute, depth_at, depth_left, depth_drop, faults_left, holds_left, trees_left, in_body, all_bodies, in_left, in_right, in_quant_over, in_quant_filter, parts_are}
+use Rattle.conf_types.proofs.CheckLaws.{in_first, in_attribute, depth_at, depth_left, depth_drop, faults_left, holds_left, trees_left, in_body, all_bodies, in_left, in_right, in_quant_over, in_quant_filter, parts_are}
 use Rattle.conf_types.proofs.ReadingLaws.{quant_is, quant_depth_is}
 use Rattle.conf_types.proofs.expressions.+check.Goals as goal
 
@@ -21,11 +21,6 @@ pub check_needed-returns-in-Err-clause-fault : goal.check_needed-returns-in-Err-
 check_needed-returns-in-Err-clause-fault t c =
     let r = read c.args.table.now (scope_of c.args.scope.now) c.args.expr.now in
     in_first c.in-Err.fault r.faults (needs c.args.need r.type r.first) c.in-Err.ensures.fault
-
-pub check_needed-returns-in-Err-require-clause-fault : goal.check_needed-returns-in-Err-require-clause-fault
-check_needed-returns-in-Err-require-clause-fault t c =
-    let r = read c.args.table.now (scope_of c.args.scope.now) c.args.expr.now in
-    wrong_type c.in-Err-require.fault c.args.need c.in-Ok.x r c.in-Ok.ensures.read c.in-Err-require.ensures.unmet c.in-Err-require.ensures.fault
 
 pub check_over-returns-in-Class-clause-read : goal.check_over-returns-in-Class-clause-read
 check_over-returns-in-Class-clause-read t c =
