@@ -15,8 +15,8 @@ use signed_clause::{Clause, IntSet};
 use std::alloc::{AllocError, Global};
 
 /// The propagator of conjunctions, memberships and clauses. The boxes of a flag and of the first
-/// parts tell at once that there is nothing to say, and so do two literals of a clause; what is kept
-/// is which conjunctions have a variable that stands twice.
+/// parts tell at once that there is nothing to say, and so do two literals of a clause; what is
+/// kept is which conjunctions have a variable that stands twice.
 pub struct BoolProp {
     alloc: Global,
     repeats: Repeats,

@@ -1,8 +1,8 @@
 //! `Rests`, what is known of each added clause, and a list of those that need a look.
 //!
-//! A work list stands beside the rests, with all clauses that are still to be looked at. It may also
-//! have clauses that are so no longer; those are passed over when their turn comes. Only `push`
-//! takes memory. Contracts see the rests alone.
+//! A work list stands beside the rests, with all clauses that are still to be looked at. It may
+//! also have clauses that are so no longer; those are passed over when their turn comes. Only
+//! `push` takes memory. Contracts see the rests alone.
 ghost use Rattle.std.specs.Prelude.{◌≡◌, ◌<◌, ◌^◌, ℕ, [], ◌∷◌, ◌++◌, true, false, slice_set, length, OnOk, OnErr, IfNone, IfSome};
 ghost use Rattle.clause_watches.specs.Marks.{is_marked};
 ghost use Rattle.clause_watches.specs.Watching.{rest_of, is_listed};

@@ -3,8 +3,8 @@
 //! A clause rests by two literals that meet their boxes, or by one whose box lies within its set;
 //! the rows of their variables have it. Where the box of a variable becomes narrower, its row is
 //! walked at the next search. A watch carries values of its literal's set, so most clauses aren't
-//! opened then; only those are that lose a watch, and those that were added or answered. Where a box
-//! becomes wider, those are that rest by it alone. So a search costs the watches of changed
+//! opened then; only those are that lose a watch, and those that were added or answered. Where a
+//! box becomes wider, those are that rest by it alone. So a search costs the watches of changed
 //! variables and the clauses that lost one, however many clauses there are. Contracts see the
 //! clauses, and why each of them rests (`specs/Watching.antt`).
 ghost use Rattle.std.specs.Prelude.{◌≡◌, ◌<◌, ◌++◌, ◌∷◌, [], ℕ, true, false, map, length, IfOk, OnOk, OnErr, IfNone, IfSome};
@@ -74,8 +74,8 @@ impl Watches {
     }
 
     /// Notes that the box of `x` may have become narrower; it has values left. A clause that rests
-    /// by the literal of `x` alone stays at rest. It takes no memory and costs the same however many
-    /// clauses there are.
+    /// by the literal of `x` alone stays at rest. It takes no memory and costs the same however
+    /// many clauses there are.
     pub fn note_narrower(&mut self, x: u32)
         requires { x < self.old.variables }
         ensures variables { self.new.variables ≡ self.old.variables }

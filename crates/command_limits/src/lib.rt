@@ -1,6 +1,6 @@
 //! The limits of commands, each a constant and a definition of one name. The definitions are in
-//! `specs/Limits`, for clauses; a proof that uses both ties them to each other. The limits of models
-//! are in `model_limits`.
+//! `specs/Limits`, for clauses; a proof that uses both ties them to each other. The limits of
+//! models are in `model_limits`.
 #![tactic(auto)]
 
 /// How many bytes of a log are read.

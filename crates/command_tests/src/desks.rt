@@ -1,9 +1,9 @@
 //! What cases ask of desks, and of runs over them.
 //!
-//! - `file NAME TEXT`, `spaces NAME COUNT`, `nested NAME COUNT`, `letters NAME COUNT` and `sets NAME
-//!   COUNT`: adds a file to those of the next desk, of the text, of so many spaces, or a model: of
-//!   classes that contain one another; of 10,000 objects with an attribute of a name of so many
-//!   letters; of 10,000 objects with so many reference sets that have no cells.
+//! - `file NAME TEXT`, `spaces NAME COUNT`, `nested NAME COUNT`, `letters NAME COUNT` and `sets
+//!   NAME COUNT`: adds a file to those of the next desk, of the text, of so many spaces, or a
+//!   model: of classes that contain one another; of 10,000 objects with an attribute of a name of
+//!   so many letters; of 10,000 objects with so many reference sets that have no cells.
 //! - `load NAME`: adds a file that lies where the program runs.
 //! - `steady`, `memory STEP CALL ..` and `real`: the next desk, with the files that were added; of
 //!   `memory` a call moves at most so many bytes, where they aren't 0, and the calls of these

@@ -3,9 +3,9 @@
 //!
 //! The files lie in `data`; `cases` says how they are written, and `desks` what those ask that are
 //! about desks, limits, words and logs. `repairs.series` is what `tools/repair-cases` wrote,
-//! `sessions.series` what `tools/session-cases` did, and `cores.series` what `tools/core-cases` did,
-//! which try every configuration. A case that came out otherwise is printed with its line and what
-//! the run printed and how it ended.
+//! `sessions.series` what `tools/session-cases` did, and `cores.series` what `tools/core-cases`
+//! did, which try every configuration. A case that came out otherwise is printed with its line and
+//! what the run printed and how it ended.
 #![tactic(auto)]
 
 mod cases;

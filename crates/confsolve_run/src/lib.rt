@@ -3,8 +3,9 @@
 //! - `command`: `run`, which reads the words.
 //! - `source`: the text of the model, from its file or made for `gen`.
 //! - `answering`: from the text to what is asked of its model, and to the answer.
-//! - `searching`, `checking`, `verifying`, `blaming`: what is asked of a model: a best configuration,
-//!   what a log shows, whether a configuration satisfies it, what to blame where there is none.
+//! - `searching`, `checking`, `verifying`, `blaming`: what is asked of a model: a best
+//!   configuration, what a log shows, whether a configuration satisfies it, what to blame where
+//!   there is none.
 //! - `answer`: an answer, and what is asked of a model.
 //! - `delivering`: the log is written, and the answer printed.
 //! - `laws`: a text has one model.

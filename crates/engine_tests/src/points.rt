@@ -1,5 +1,5 @@
-//! Points at which a constraint is true, by what `test_small_problems` has written out of its meaning;
-//! and whether pruning keeps them.
+//! Points at which a constraint is true, by what `test_small_problems` has written out of its
+//! meaning; and whether pruning keeps them.
 use crate::harness::Settled;
 use ground_form::Ground;
 use signed_clause::IntSet;

@@ -6,8 +6,8 @@
 //!   the model keeps the limits.
 //! - `built`: these parts.
 //!
-//! Which tree is a text's stands in `specs/TextModel`, what it says in `specs/Models`, and what each
-//! refusal says in `specs/ModelRefusal`.
+//! Which tree is a text's stands in `specs/TextModel`, what it says in `specs/Models`, and what
+//! each refusal says in `specs/ModelRefusal`.
 #![tactic(auto)]
 
 mod building;

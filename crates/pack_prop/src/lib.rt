@@ -5,8 +5,8 @@
 //! - `packing`: items to be packed. `pack_fit` shows that they have slack, or finds an item that
 //!   doesn't fit; `unplaceable` and `overfull` say what such an item takes away, and why.
 //! - `tight` finds, where all fit, with the rooms of `best_rooms` what takes too much of all room,
-//!   and `total` says why, with rows of rooms (`room_row`). What is found wrongly is probed, so that
-//!   no answer of `prune` tells; tests ask `find_excess` and `part_of` themselves.
+//!   and `total` says why, with rows of rooms (`room_row`). What is found wrongly is probed, so
+//!   that no answer of `prune` tells; tests ask `find_excess` and `part_of` themselves.
 //! - `literals` and `collected` make the literals, `with_part` reads boxes with a part of one in
 //!   its place, `spans` tells which entries of a row a range covers.
 #![tactic(auto)]

@@ -16,8 +16,8 @@ fn ends_at(boxes: &[IntSet], x: u32) -> (i64, i64)
     ends_of(&boxes[x as usize])
 }
 
-/// What is left of so much without the greatest size of a row, where its bins lie within 0 and the last,
-/// its sizes aren't below 0, and there is enough.
+/// What is left of so much without the greatest size of a row, where its bins lie within 0 and the
+/// last, its sizes aren't below 0, and there is enough.
 fn left_without(boxes: &[IntSet], row: (u32, u32, u32), left: u64) -> Option<u64>
     requires place { row.0 < length boxes.now }
     requires size { row.1 < length boxes.now }

@@ -1,9 +1,9 @@
 //! Tests of the search, against enumeration and a plain replay of its runs. They are of what no
 //! clause says. There is no code here.
 //!
-//! Random small problems are searched, and what comes of it is compared with what plain
-//! definitions say: the answer with a look at every point (`test_small_problems`), the lines with a run
-//! whose boxes are copied whole at each level (`test_plain_runs`).
+//! Random small problems are searched, and what comes of it is compared with what plain definitions
+//! say: the answer with a look at every point (`test_small_problems`), the lines with a run whose
+//! boxes are copied whole at each level (`test_plain_runs`).
 //!
 //! - `given`: given problems. `features`: what random problems are to have.
 //! - `choosing`: a chooser by the greatest value.

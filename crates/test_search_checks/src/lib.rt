@@ -7,8 +7,8 @@
 //!   domains alone.
 //! - `watched`: watches and boxes in one. `wider`: whether boxes are wider than others, and one box
 //!   changed.
-//! - `queued`: a problem, boxes and their queue in one. `quiet`: whether constraints are quiet, each
-//!   of them looked at.
+//! - `queued`: a problem, boxes and their queue in one. `quiet`: whether constraints are quiet,
+//!   each of them looked at.
 #![tactic(auto)]
 
 mod asked;

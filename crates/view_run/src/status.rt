@@ -71,7 +71,8 @@ impl Status {
         }
     }
 
-    /// The line that says so on standard error, without its end; nothing where the run was answered.
+    /// The line that says so on standard error, without its end; nothing where the run was
+    /// answered.
     pub fn line(&self) -> &'static str
         ensures { result.now ≡ line_of self.now }
     {
