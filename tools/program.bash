@@ -4,8 +4,8 @@
 # others understand.
 #
 # Whoever reads it has set `here`, the top of the repository, and `script`, its own name. Where
-# tools/install put the scripts somewhere, `here` has a folder `programs`, and nothing is compared or
-# built: the programs lie there.
+# tools/install put the scripts somewhere, `here` has a folder `programs`: there the programs lie,
+# and nothing is compared or built.
 #
 # dist/MADE-FROM is a text that `sha256sum -c` takes: the SHA-256 and the path of HANDLES,
 # crates.txt, each file in src, specs and proofs of the programs' crates, and each program, in the
@@ -281,7 +281,7 @@ commit_here() {
     if is_installed; then
         cat -- "$here/COMMIT" 2>/dev/null
     elif [ -e "$here/.git" ] && commit=$(git -C "$here" rev-parse --short=12 HEAD 2>/dev/null); then
-        git -C "$here" diff-index --quiet HEAD -- 2>/dev/null || commit+=" with changes"
+        [ -z "$(git -C "$here" status --porcelain 2>&1)" ] || commit+=" with changes"
         echo "$commit"
     fi
 }
