@@ -15,7 +15,7 @@ _confsolve_files() {
     local file found=
     compopt -o filenames 2>/dev/null
     while IFS= read -r file; do
-        if [ -d "$file" ]; then
+        if [ -d "${file/#\~\//$HOME/}" ]; then
             COMPREPLY+=("$file")
         elif [[ $file == *"${1-}" ]]; then
             COMPREPLY+=("$file")
