@@ -4,8 +4,8 @@
 # others understand.
 #
 # Whoever reads it has set `here`, the top of the repository, and `script`, its own name. Where
-# tools/install put the scripts somewhere, `here` has a folder `programs`: there the programs lie,
-# and nothing is compared or built.
+# tools/install put the scripts somewhere, `here` has a file INSTALLED-FROM, which says from which
+# commit, and programs in dist/ that are neither compared nor built.
 #
 # dist/MADE-FROM is a text that `sha256sum -c` takes: the SHA-256 and the path of HANDLES,
 # crates.txt, each file in src, specs and proofs of the programs' crates, and each program, in the
@@ -181,19 +181,13 @@ is_marked() {
 
 # Whether this is no checkout, but what tools/install put somewhere.
 is_installed() {
-    [ -d "$here/programs" ]
+    [ -f "$here/INSTALLED-FROM" ]
 }
 
-# The file of a program that was installed, or built here, or else that of dist/.
+# The file of a program that was built here, or else that of dist/.
 program_file() {
     local built=$here/crates/$1/out/$1
-    if is_installed; then
-        echo "$here/programs/$1"
-    elif [ -x "$built" ]; then
-        echo "$built"
-    else
-        echo "$here/dist/$1"
-    fi
+    if [ -x "$built" ]; then echo "$built"; else echo "$here/dist/$1"; fi
 }
 
 # Says a line, as the script.
@@ -215,7 +209,7 @@ build_program() {
 take_program() {
     local name=$1 built=$here/crates/$1/out/$1 mark fault said newer
     if is_installed; then
-        program=$(program_file "$name")
+        program=$here/dist/$name
         [ ! -x "$program" ] || return 0
         tell "there is no $program that runs: install it anew"
         exit 70
@@ -279,7 +273,7 @@ prove_program() {
 commit_here() {
     local commit
     if is_installed; then
-        cat -- "$here/COMMIT" 2>/dev/null
+        cat -- "$here/INSTALLED-FROM"
     elif [ -e "$here/.git" ] && commit=$(git -C "$here" rev-parse --short=12 HEAD 2>/dev/null); then
         [ -z "$(git -C "$here" status --porcelain 2>&1)" ] || commit+=" with changes"
         echo "$commit"
