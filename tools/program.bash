@@ -1,9 +1,11 @@
 # Which program a script runs: one that was built here; else that of dist/, where dist/MADE-FROM
 # says that it was made from these sources; else one that is built. `confsolve` and `confsolve-view`
-# read this file, and so do tools/release and the tests, so that what one writes the others
-# understand.
+# read this file, and so do tools/release, tools/install and the tests, so that what one writes the
+# others understand.
 #
-# Whoever reads it has set `here`, the top of the repository, and `script`, its own name.
+# Whoever reads it has set `here`, the top of the repository, and `script`, its own name. Where
+# tools/install put the scripts somewhere, `here` has a file INSTALLED-FROM, which says from which
+# commit, and programs in dist/ that are neither compared nor built.
 #
 # dist/MADE-FROM is a text that `sha256sum -c` takes: the SHA-256 and the path of HANDLES,
 # crates.txt, each file in src, specs and proofs of the programs' crates, and each program, in the
@@ -177,6 +179,11 @@ is_marked() {
     return 1
 }
 
+# Whether this is no checkout, but what tools/install put somewhere.
+is_installed() {
+    [ -f "$here/INSTALLED-FROM" ]
+}
+
 # The file of a program that was built here, or else that of dist/.
 program_file() {
     local built=$here/crates/$1/out/$1
@@ -201,6 +208,12 @@ build_program() {
 # says on first use which one it is.
 take_program() {
     local name=$1 built=$here/crates/$1/out/$1 mark fault said newer
+    if is_installed; then
+        program=$here/dist/$name
+        [ ! -x "$program" ] || return 0
+        tell "there is no $program that runs: install it anew"
+        exit 70
+    fi
     ! is_marked "$name" || return 0
     if [ ! -x "$built" ]; then
         make_mark dist
@@ -235,6 +248,10 @@ take_program() {
 # it is, 1 where not, 70 where it can't be built.
 prove_program() {
     local name=$1 made=$here/dist/MADE-FROM why
+    if is_installed; then
+        tell "it is proved in a checkout, and this was installed from one"
+        exit 70
+    fi
     build_program "$name"
     if [ ! -f "$here/dist/$name" ]; then
         why="there is no dist/$name"
@@ -250,6 +267,52 @@ prove_program() {
     fi
     echo "$script: proved and built here; $why"
     exit 1
+}
+
+# The commit that the checkout is at, or from which this was installed; nothing where none is known.
+commit_here() {
+    local commit
+    if is_installed; then
+        cat -- "$here/INSTALLED-FROM"
+    elif [ -e "$here/.git" ] && commit=$(git -C "$here" rev-parse --short=12 HEAD 2>/dev/null); then
+        [ -z "$(git -C "$here" status --porcelain 2>&1)" ] || commit+=" with changes"
+        echo "$commit"
+    fi
+}
+
+# Says what there is in place of a numbered version: the commit, where one is known, and the program
+# that is there, by its sum.
+tell_version() {
+    local file commit line="$script has no numbered version"
+    file=$(program_file "$1")
+    commit=$(commit_here)
+    [ -z "$commit" ] || line+="; commit $commit"
+    if [ -f "$file" ]; then
+        line+="; ${file#"$here/"} has the SHA-256 $(sha256sum <"$file" | head -c 16).."
+    else
+        line+="; no program is there yet"
+    fi
+    echo "$line"
+}
+
+# Prints the page of the script, and says where the documents lie.
+print_help() {
+    cat -- "$here/tools/help/$script" || exit 70
+    echo "read on: man $script, and in $(readlink -f -- "$here/docs"):"
+    echo "         TUTORIAL.md, LANGUAGE.md, COMMANDS.md, MESSAGES.md, VIEW.md"
+}
+
+# Answers a word that is the script's own, where it stands alone, and ends.
+answer_own_words() {
+    local name=$1
+    shift
+    case $#:${1-} in
+        1:--prove) prove_program "$name" ;;
+        1:--version) tell_version "$name" ;;
+        1:--help) print_help ;;
+        *) return ;;
+    esac
+    exit
 }
 
 # Gives what is run no more address space than there is memory, where no smaller limit is set, so
