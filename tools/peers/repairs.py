@@ -11,6 +11,7 @@ class Repair:
     `most` is the former greatest load, where the placement has one: it's a value that may change.
     """
 
+    WEIGHT = 10000
     placement: object
     former: list
     failed: int
@@ -19,6 +20,12 @@ class Repair:
     @property
     def SENSE(self):
         return self.placement.SENSE
+
+    def changes(self, least):
+        """The changes in a weighted sum of them and the goal."""
+        if self.SENSE == "maximize":
+            return -(-least // self.WEIGHT)
+        return least // self.WEIGHT
 
     def mzn(self):
         goal = self.placement.GOAL
@@ -33,7 +40,7 @@ array[1..V] of int: former = {listed(self.former)};
 array[1..V] of var bool: moved = [host[v] != former[v] | v in 1..V];
 constraint forall(v in 1..V)(host[v] != {self.failed});
 var int: changes = {changes};
-solve :: {search} minimize 10000*changes {sign} {goal};
+solve :: {search} minimize {self.WEIGHT}*changes {sign} {goal};
 output ["OBJ \\(changes) \\({goal})\\n"];
 """
 

@@ -8,6 +8,9 @@ import subprocess
 import threading
 from dataclasses import dataclass
 
+from .linear import NotLinear, program
+from .repairs import Repair
+
 ALL_LINES = re.MULTILINE
 
 
@@ -127,7 +130,7 @@ class MiniZinc:
     def __init__(self, name, runner, solver=()):
         self.NAME, self.runner, self.solver = name, runner, solver
 
-    def answer(self, model, maximized):
+    def answer(self, model, placement):
         run = self.runner.run(["minizinc", *self.solver, "-a", model])
         found = run.numbers("OBJ")
         none = "=====UNSATISFIABLE=====" in run.out
@@ -146,17 +149,63 @@ class Clingo:
     def __init__(self, runner):
         self.runner = runner
 
-    def answer(self, model, maximized):
+    def answer(self, model, placement):
         run = self.runner.run(["clingo", "--quiet=2,1", model])
         found = run.numbers("Optimization")
         value = found[-1] if found else None
-        if value and maximized:
+        if value and placement.SENSE == "maximize":
             value = (*value[:-1], -value[-1])
         proved = "\nOPTIMUM FOUND" in run.out or "\nUNSATISFIABLE" in run.out
         failure = ""
         if "error:" in run.err:
             failure = run.err.strip().splitlines()[0][:100]
         return Answer(run.seconds, value, proved, failure)
+
+
+class Cbc:
+    """cbc, where MiniZinc doesn't have it: on the constraints that its linear library makes."""
+
+    NAME, ENDING = "cbc", ".mzn"
+
+    def __init__(self, runner):
+        self.runner = runner
+
+    def answer(self, model, placement):
+        """The seconds are those of MiniZinc and of cbc."""
+        flat, linear = model[:-4] + "-linear.fzn", model[:-4] + "-cbc.lp"
+        words = ["minizinc", "-c", "-G", "linear", "--no-output-ozn", "--fzn", flat, model]
+        made = self.runner.run(words)
+        if made.status:
+            return Answer(made.seconds, None, False, made.err.strip()[-100:])
+        with open(flat, encoding="ascii") as file:
+            text = file.read()
+        try:
+            text = program(text)
+        except NotLinear as line:
+            return Answer(made.seconds, None, False, f"not linear: {line}")
+        with open(linear, "w", encoding="ascii") as file:
+            file.write(text)
+        run = self.runner.run(["cbc", linear, "-seconds", str(self.runner.limit), "-solve"])
+        return self.read(run, made.seconds + run.seconds, placement)
+
+    def read(self, run, seconds, placement):
+        none = re.search(r"^(Result - )?Problem (proven|is) infeasible", run.out, ALL_LINES)
+        none = none is not None
+        proved = none or "Result - Optimal solution found" in run.out
+        found = re.findall(r"^Objective value: +(-?[0-9.]+)", run.out, ALL_LINES)
+        value = None
+        if found and not none:
+            value = self.value(round(float(found[-1])), placement)
+        failure = "" if "Result - " in run.out or none or run.status < 0 else run.out[-100:]
+        return Answer(seconds, value, proved, failure)
+
+    def value(self, least, placement):
+        """The value of which cbc made this as small as it could."""
+        sign = -1 if placement.SENSE == "maximize" else 1
+        if not isinstance(placement, Repair):
+            return (sign * least,)
+        changes = placement.changes(least)
+        return changes, sign * (least - placement.WEIGHT * changes)
 
 
 def peers(runner):
@@ -174,6 +223,8 @@ def peers(runner):
         missing.append("clingo isn't installed, and left out")
     if re.search(r"coin-?bc|\bcbc\b", solvers, re.IGNORECASE):
         found.append(MiniZinc("cbc", runner, ("--solver", "cbc")))
+    elif solvers and shutil.which("cbc"):
+        found.append(Cbc(runner))
     else:
-        missing.append("cbc isn't there through MiniZinc, and left out")
+        missing.append("cbc isn't installed, or MiniZinc isn't, and left out")
     return found, missing
