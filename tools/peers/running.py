@@ -12,6 +12,8 @@ from .linear import NotLinear, program
 from .repairs import Repair
 
 ALL_LINES = re.MULTILINE
+# What MiniZinc writes where it sees that no placement satisfies a text.
+NEVER = "constraint bool_eq(false,true);"
 
 
 @dataclass
@@ -56,29 +58,35 @@ class Run:
         return [tuple(map(int, line.split())) for line in lines]
 
 
+def first_line(pattern, text):
+    """The first line that is so, or an empty text."""
+    found = re.search(pattern, text, ALL_LINES)
+    return found[0][:100] if found else ""
+
+
 class Runner:
     """Runs one program at a time, with its output in a folder."""
 
     def __init__(self, folder, seconds):
         self.folder, self.limit = folder, seconds
 
-    def limited(self):
-        """Said in the new process: how many processor seconds it may take."""
-        resource.setrlimit(resource.RLIMIT_CPU, (self.limit, self.limit + 1))
-        resource.setrlimit(resource.RLIMIT_CORE, (0, 0))
+    def run(self, words, more=0):
+        """Runs a program until it ends, by itself or by the limit, or `more` seconds later."""
+        limit = self.limit + more
 
-    def run(self, words):
-        """Runs a program until it ends, by itself or by the limit."""
+        def limited():
+            resource.setrlimit(resource.RLIMIT_CPU, (limit, limit + 1))
+            resource.setrlimit(resource.RLIMIT_CORE, (0, 0))
+
         paths = [os.path.join(self.folder, name) for name in ("out", "err")]
         with open(paths[0], "wb") as out, open(paths[1], "wb") as err:
             process = subprocess.Popen(
                 words, stdin=subprocess.DEVNULL, stdout=out, stderr=err,
-                start_new_session=True, preexec_fn=self.limited,
+                start_new_session=True, preexec_fn=limited,
             )
             # For one that waits, or that gets little of the processor.
-            clock = threading.Timer(
-                10 + 4 * self.limit, os.killpg, (process.pid, signal.SIGKILL)
-            )
+            end = (process.pid, signal.SIGKILL)
+            clock = threading.Timer(10 + 4 * limit, os.killpg, end)
             clock.start()
             _, status, used = os.wait4(process.pid, 0)
             clock.cancel()
@@ -134,9 +142,7 @@ class MiniZinc:
         run = self.runner.run(["minizinc", *self.solver, "-a", model])
         found = run.numbers("OBJ")
         none = "=====UNSATISFIABLE=====" in run.out
-        failure = ""
-        if not run.out and run.err:
-            failure = run.err.strip().splitlines()[-1][:100]
+        failure = first_line(r"^Error: .*", run.err)
         proved = none or "\n==========" in run.out
         return Answer(run.seconds, found[-1] if found else None, proved, failure)
 
@@ -156,10 +162,7 @@ class Clingo:
         if value and placement.SENSE == "maximize":
             value = (*value[:-1], -value[-1])
         proved = "\nOPTIMUM FOUND" in run.out or "\nUNSATISFIABLE" in run.out
-        failure = ""
-        if "error:" in run.err:
-            failure = run.err.strip().splitlines()[0][:100]
-        return Answer(run.seconds, value, proved, failure)
+        return Answer(run.seconds, value, proved, first_line(r"^.*error: .*", run.err))
 
 
 class Cbc:
@@ -176,16 +179,19 @@ class Cbc:
         words = ["minizinc", "-c", "-G", "linear", "--no-output-ozn", "--fzn", flat, model]
         made = self.runner.run(words)
         if made.status:
-            return Answer(made.seconds, None, False, made.err.strip()[-100:])
+            return Answer(made.seconds, failure=first_line(r"^Error: .*", made.err))
         with open(flat, encoding="ascii") as file:
             text = file.read()
+        if NEVER in text:
+            return Answer(made.seconds, proved=True)
         try:
             text = program(text)
         except NotLinear as line:
-            return Answer(made.seconds, None, False, f"not linear: {line}")
+            return Answer(made.seconds, failure=f"not linear: {line}")
         with open(linear, "w", encoding="ascii") as file:
             file.write(text)
-        run = self.runner.run(["cbc", linear, "-seconds", str(self.runner.limit), "-solve"])
+        words = ["cbc", linear, "-seconds", str(self.runner.limit), "-solve"]
+        run = self.runner.run(words, more=2)
         return self.read(run, made.seconds + run.seconds, placement)
 
     def read(self, run, seconds, placement):
