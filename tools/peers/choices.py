@@ -2,8 +2,8 @@
 from dataclasses import dataclass
 
 from .common import (
-    HOSTS, MACHINES, arrays, drawn_counts, facts, goal_lines, hosts_first, includes, listed,
-    room, spread,
+    HOSTS, MACHINES, arrays, drawn_counts, drawn_until, facts, goal_lines, hosts_first,
+    includes, listed, room, spread,
 )
 
 PORT_HOSTS = {"s": (4, 5), "m": (8, 8), "l": (16, 8)}
@@ -90,12 +90,16 @@ used(H) :- at(_,H).
 
 
 def draw_ports(rng, size):
-    """As many services of a kind as fit by their ports alone, and by all slots."""
+    """At most as many services of a kind as there are ports for them on all hosts."""
     hosts, slots = PORT_HOSTS[size]
-    while True:
-        counts = drawn_counts(rng, MACHINES[size], [n for *_, n in SERVICES])
-        if all(count <= hosts * n for count, (*_, n) in zip(counts, SERVICES)):
-            return Ports(hosts, slots, counts)
+
+    def draw():
+        return drawn_counts(rng, MACHINES[size], [n for *_, n in SERVICES])
+
+    def right(counts):
+        return all(count <= hosts * n for count, (*_, n) in zip(counts, SERVICES))
+
+    return Ports(hosts, slots, drawn_until(draw, right))
 
 
 @dataclass
