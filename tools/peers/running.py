@@ -84,9 +84,9 @@ class Runner:
                 words, stdin=subprocess.DEVNULL, stdout=out, stderr=err,
                 start_new_session=True, preexec_fn=limited,
             )
-            # For one that waits, or that gets little of the processor.
+            # For one that waits; on a busy machine one may get little of the processor.
             end = (process.pid, signal.SIGKILL)
-            clock = threading.Timer(10 + 4 * limit, os.killpg, end)
+            clock = threading.Timer(60 + 30 * limit, os.killpg, end)
             clock.start()
             _, status, used = os.wait4(process.pid, 0)
             clock.cancel()
