@@ -1,0 +1,128 @@
+"""What several families of placements share: sizes, draws, and lines of the three languages."""
+
+SIZES = ("s", "m", "l")
+# The kinds of machines with their processors, their memory, and how often one is drawn.
+KINDS = (
+    ("Web", 2, 4, 4),
+    ("Cache", 2, 8, 2),
+    ("Worker", 4, 6, 4),
+    ("Store", 6, 16, 2),
+    ("Batch", 8, 10, 1),
+    ("Mail", 1, 3, 3),
+)
+MACHINES = {"s": 12, "m": 40, "l": 80}
+HOSTS = {"s": 4, "m": 12, "l": 24}
+MOST_DRAWS = 1000
+
+
+def drawn_counts(rng, total, shares):
+    """How many there are of each kind: one at least, and the others drawn by the shares."""
+    counts = [1] * len(shares)
+    for kind in rng.choices(range(len(shares)), weights=shares, k=total - len(shares)):
+        counts[kind] += 1
+    return counts
+
+
+def drawn_until(draw, right):
+    """Draws again and again, until what is drawn is right."""
+    for _ in range(MOST_DRAWS):
+        drawn = draw()
+        if right(drawn):
+            return drawn
+    raise ValueError("nothing right was drawn")
+
+
+def spread(values, counts):
+    """Each value as often as its count says."""
+    return [value for value, count in zip(values, counts) for _ in range(count)]
+
+
+def room(total, hosts, percent):
+    """The room of each host with which the total fills so many percent of all."""
+    return round(100 * total / (hosts * percent))
+
+
+def first_fit(items, rooms):
+    """Whether items with several sizes are placed by first fit, the greatest one first."""
+    left = [list(sizes) for sizes in rooms]
+    for item in sorted(items, key=sum, reverse=True):
+        for sizes in left:
+            if all(size >= taken for size, taken in zip(sizes, item)):
+                sizes[:] = [size - taken for size, taken in zip(sizes, item)]
+                break
+        else:
+            return False
+    return True
+
+
+def machine_sizes(counts, resource):
+    """The processors (1) or the memory (2) of each machine."""
+    return spread([kind[resource] for kind in KINDS], counts)
+
+
+def paths(name, count):
+    """The paths of the objects in a top-level array."""
+    return [f"{name}[{k}]" for k in range(count)]
+
+
+def machine_paths(counts):
+    return [path for kind, n in zip(KINDS, counts) for path in paths(kind[0].lower(), n)]
+
+
+def machine_classes():
+    """The classes of machines, in ConfSolve."""
+    lines = ["abstract class Vm { var cpu as 1..8; var mem as 1..16; var host as ref Host; }"]
+    for name, cpu, mem, _ in KINDS:
+        lines.append(f"class {name} extends Vm {{ where {{ cpu = {cpu}; mem = {mem}; }} }}")
+    return "\n".join(lines)
+
+
+def arrays(names, counts):
+    """The top-level arrays of objects, in ConfSolve."""
+    lines = [f"var {name.lower()} as {name}[{n}];" for name, n in zip(names, counts)]
+    return "\n".join(lines)
+
+
+def machine_arrays(counts):
+    return arrays([kind[0] for kind in KINDS], counts)
+
+
+def machine_lists(counts):
+    """The sizes of all machines, in MiniZinc."""
+    return (
+        f"array[1..V] of int: cpu = {listed(machine_sizes(counts, 1))};\n"
+        f"array[1..V] of int: mem = {listed(machine_sizes(counts, 2))};\n"
+    )
+
+
+def machine_facts(counts):
+    """The machines with their sizes, for clingo."""
+    sizes = zip(machine_sizes(counts, 1), machine_sizes(counts, 2))
+    lines = [f"vm({k}). cpu({k},{c}). mem({k},{m}).\n" for k, (c, m) in enumerate(sizes, 1)]
+    return "".join(lines) + "1 { at(V,H) : host(H) } 1 :- vm(V).\n"
+
+
+def listed(values):
+    """A list in MiniZinc."""
+    return f"[{','.join(map(str, values))}]"
+
+
+def facts(name, rows):
+    """Facts for clingo, one a line."""
+    return "".join(f"{name}({','.join(map(str, row))}).\n" for row in rows)
+
+
+def includes(*names):
+    return "".join(f'include "{name}.mzn";\n' for name in names)
+
+
+def goal_lines(placement, search):
+    """The last lines in MiniZinc: how to search, for what goal, and what to print."""
+    return (
+        f"solve :: {search} {placement.SENSE} {placement.GOAL};\n"
+        f'output ["OBJ \\({placement.GOAL})\\n"];\n'
+    )
+
+
+def hosts_first(variables="host"):
+    return f"int_search({variables}, first_fail, indomain_min)"
