@@ -7,6 +7,7 @@ ghost use Rattle.clause_watches.specs.Sound.{row_of, IsSound};
 
 use crate::counts::Counts;
 use crate::held::HeldBy;
+use crate::packed::PackedClause;
 use crate::rest::Rest;
 use crate::rests::Rests;
 use crate::row::Row;
@@ -28,7 +29,9 @@ pub(crate) fn empty_table(alloc: Global, domains: &[IntSet]) -> Result<Table, Al
     let held = none_held(alloc, n)?;
     let changed = empty_list(alloc, n)?;
     Ok(Table {
+        alloc,
         added: Vec::new(alloc),
+        packed: Vec::new(alloc),
         rests: Rests::new(alloc),
         rows,
         leasts,
@@ -102,10 +105,22 @@ pub(crate) fn add_clause(
         return Err(AllocError);
     }
     table.added.reserve(1)?;
+    table.packed.reserve(1)?;
+    let packed = pack(table, &clause)?;
     table.rests.push()?;
     check_form(&clause);
+    table.packed.push_reserved(packed);
     table.added.push_reserved((number, clause));
     Ok(())
+}
+
+/// The literals of a clause once more.
+fn pack(table: &Table, clause: &ClauseHandle) -> Result<PackedClause, AllocError>
+    requires { All (λ l. l.0 < length table.now.leasts.items) clause.now }
+    ensures { IfOk result (λ p. IsPacked table.now.leasts.items clause.now p) }
+{
+    let lits = clause.clause().literals();
+    PackedClause::of(table.alloc, lits, table.leasts.as_slice())
 }
 
 /// It does nothing; its contract is what every clause keeps.

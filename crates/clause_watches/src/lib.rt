@@ -20,6 +20,7 @@ mod link;
 mod look;
 mod mask;
 mod next;
+mod packed;
 mod rest;
 mod rests;
 mod row;

@@ -7,14 +7,15 @@ ghost use Rattle.clause_watches.specs.Rows.{names, IsTrueOf};
 ghost use Rattle.clause_watches.specs.Sound.{IsSound};
 ghost use Rattle.clause_watches.specs.Looking.{IsMeeting, IsOut, IsLink};
 
-use crate::rest::Rest;
+use crate::mask::box_bits;
 use crate::steps::names;
 use crate::table::Table;
-use crate::watch::{Link, Watch};
+use crate::watch::{Link, Watch, Witness};
 use crate::witness::witness_of;
 use signed_clause::{ClauseHandle, IntSet};
 
-/// A watch of clause `i` by a literal that isn't known yet to meet its box, and does.
+/// A watch of clause `i` by a literal that isn't known yet to meet its box, and does. It begins at
+/// the literal that was met last.
 pub(crate) fn find_link(table: &Table, i: u32, boxes: &[IntSet]) -> Option<Link>
     requires sound { IsSound table.now }
     requires there { i < length table.now.added.items }
@@ -24,49 +25,64 @@ pub(crate) fn find_link(table: &Table, i: u32, boxes: &[IntSet]) -> Option<Link>
     ensures none { IfNone result (All (λ l. IsOut boxes.now (rest_of table.now.rests i) l)
         (clause_of table.now.added.items i)) }
 {
-    let lits = literals_at(table.added.as_slice(), i);
-    let k = find_meeting(lits, boxes, table.rests.get(i))?;
-    let l = &lits[k];
-    let at = &boxes[l.0 as usize];
-    Some(link_by(l, at, table.leasts[l.0 as usize], i))
-}
-
-/// A watch of clause `i` by one of its literals.
-fn link_by(l: &(u32, IntSet), at: &IntSet, least: i64, i: u32) -> Link
-    ensures variable { result.variable ≡ l.now.0 }
-    ensures clause { result.watch.clause ≡ i }
-    ensures right { IsTrueOf least l.now.1 result.watch.witness }
-{
-    let witness = witness_of(&l.1, at, least);
-    Link {
-        variable: l.0,
-        watch: Watch { clause: i, witness },
+    let packed = &table.packed[i as usize];
+    let (begin, end) = (packed.met(), packed.len());
+    match find_between(table, i, boxes, begin, end) {
+        Some(link) => Some(link),
+        None => find_between(table, i, boxes, 0, begin),
     }
 }
 
-/// The first literal that the rest doesn't name and that meets its box.
-fn find_meeting(lits: &[(u32, IntSet)], boxes: &[IntSet], rest: Rest) -> Option<usize>
-    requires { IsWithinBoxes lits.now boxes.now }
-    ensures there { IfSome result (λ k. k < length lits.now) }
-    ensures some { IfSome result (λ k. (d : ℕ × List (ℤ × ℤ))
-        → IsMeeting boxes.now rest (slice_index_or lits.now k d)) }
-    ensures none { IfNone result (All (λ l. IsOut boxes.now rest l) lits.now) }
+/// A watch by one of the literals from index `from` to before `to`.
+fn find_between(table: &Table, i: u32, boxes: &[IntSet], from: usize, to: usize) -> Option<Link>
 {
-    for (k, l) in lits.iter().enumerate() {
-        if is_meeting(l, boxes, rest) {
-            return Some(k);
+    for k in from..to {
+        if let Some(link) = link_at(table, i, boxes, k) {
+            return Some(link);
         }
     }
     None
 }
 
-/// Whether the rest doesn't name the literal's variable and the literal meets its box.
-fn is_meeting(l: &(u32, IntSet), boxes: &[IntSet], rest: Rest) -> bool
-    requires { l.now.0 < length boxes.now }
-    ensures yes { result ≡ true → IsMeeting boxes.now rest l.now }
-    ensures no { result ≡ false → IsOut boxes.now rest l.now }
+/// A watch by the literal at index `k`, if it isn't known yet to meet its box, and does.
+fn link_at(table: &Table, i: u32, boxes: &[IntSet], k: usize) -> Option<Link>
 {
-    !names(rest, l.0) && !l.1.disjoint(&boxes[l.0 as usize])
+    let l = table.packed[i as usize].get(k);
+    if names(table.rests.get(i), l.variable) {
+        return None;
+    }
+    let at = &boxes[l.variable as usize];
+    let least = table.leasts[l.variable as usize];
+    let seen = box_bits(at, least);
+    if l.bits & seen.bits != 0 {
+        let witness = Witness::Mask(l.bits);
+        return Some(link_of(l.variable, i, witness, k));
+    }
+    if seen.whole {
+        return None;
+    }
+    own_link(table, i, at, k)
+}
+
+/// A watch by the clause's own literal at index `k`, if that meets its box.
+fn own_link(table: &Table, i: u32, at: &IntSet, k: usize) -> Option<Link>
+{
+    let l = &literals_at(table.added.as_slice(), i)[k];
+    if l.1.disjoint(at) {
+        return None;
+    }
+    let witness = witness_of(&l.1, at, table.leasts[l.0 as usize]);
+    Some(link_of(l.0, i, witness, k))
+}
+
+/// A watch of clause `i` by its literal at index `k`.
+fn link_of(variable: u32, i: u32, witness: Witness, k: usize) -> Link
+{
+    Link {
+        variable,
+        watch: Watch { clause: i, witness },
+        place: k,
+    }
 }
 
 /// The literals of clause `i`.

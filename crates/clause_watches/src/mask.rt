@@ -7,6 +7,7 @@ ghost use Rattle.std.specs.Int.{bit_at};
 ghost use Rattle.signed_clause.specs.Ranges.{IsValid, in_range};
 ghost use Rattle.clause_watches.specs.Rows.{IsMaskOf};
 
+use crate::watch::BoxBits;
 use signed_clause::IntSet;
 
 /// The values of the set from `least` on as bits, in one step for each range up to the window's
@@ -56,4 +57,26 @@ fn bits_between(first: u32, last: u32) -> u64
     ensures last { (j : ℕ) → bit_at result j ≡ 1 → j ≤ last }
 {
     (u64::MAX << first) & (u64::MAX >> (63 - last))
+}
+
+/// The values of a box as bits, from `least` on.
+pub(crate) fn box_bits(at: &IntSet, least: i64) -> BoxBits
+    ensures bits { IsMaskOf least at.now result.bits }
+    ensures whole { result.whole ≡ true → IsAllOf least at.now result.bits }
+{
+    BoxBits {
+        bits: mask_of(at, least),
+        whole: lies_in_window(at, least),
+    }
+}
+
+/// Whether all values of a box are among the 64 from `least` on.
+fn lies_in_window(at: &IntSet, least: i64) -> bool
+    ensures { result ≡ true → (v : ℤ) → has at.now v ≡ true
+        → (least ≤ℤ v) × (v ≤ℤ (least +ℤ pos 63)) }
+{
+    match (at.least(), at.greatest()) {
+        (Some(low), Some(high)) => low >= least && steps_from(least, high) <= 63,
+        _ => false,
+    }
 }

@@ -9,6 +9,8 @@ ghost use Rattle.clause_watches.specs.Looking.{AreKnownNow, left_in};
 use crate::held::hold;
 use crate::link::add_link;
 use crate::look::find_link;
+use crate::mask::box_bits;
+use crate::packed::{PackedClause, note_met};
 use crate::rest::Rest;
 use crate::table::Table;
 use signed_clause::{Clause, IntSet};
@@ -63,6 +65,7 @@ fn look(table: &mut Table, i: u32, boxes: &[IntSet]) -> Result<bool, AllocError>
     table.counts.opened = table.counts.opened.saturating_add(1);
     match find_link(table, i, boxes) {
         Some(link) => {
+            note_met(&mut table.packed, i, link.place);
             add_link(table, link)?;
             Ok(false)
         }
@@ -90,13 +93,24 @@ fn find_holding(table: &Table, i: u32, boxes: &[IntSet]) -> Option<u32>
         → is_within (box_of boxes.now x) (set_of (clause_of table.now.added.items i) x) ≡ false) }
 {
     match table.rests.get(i) {
-        Rest::Half(x) if lies_within(table.added[i as usize].1.clause(), x, boxes) => Some(x),
+        Rest::Half(x) if lies_within(table, i, x, boxes) => Some(x),
         _ => None,
     }
 }
 
 /// Whether the box of a literal that meets it lies within the literal's set.
-fn lies_within(clause: &Clause, x: u32, boxes: &[IntSet]) -> bool
+fn lies_within(table: &Table, i: u32, x: u32, boxes: &[IntSet]) -> bool
+{
+    let at = &boxes[x as usize];
+    let seen = box_bits(at, table.leasts[x as usize]);
+    match table.packed[i as usize].bits_of(x) {
+        Some(bits) if seen.whole => seen.bits & !bits == 0,
+        _ => lies_within_own(table.added[i as usize].1.clause(), x, boxes),
+    }
+}
+
+/// Whether the box of a literal that meets it lies within the literal's set.
+fn lies_within_own(clause: &Clause, x: u32, boxes: &[IntSet]) -> bool
     requires row { x < length boxes.now }
     requires meets { Meets boxes.now clause.now x }
     ensures { result ≡ is_within (box_of boxes.now x) (set_of clause.now x) }

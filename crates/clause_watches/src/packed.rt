@@ -1,0 +1,109 @@
+//! `PackedClause`, the literals of a clause once more, as a look at it asks for them.
+//!
+//! The literals of a clause lie far apart in memory, so a look reads these, which stand side by
+//! side. A look begins at the literal that was met last. Contracts see the list of the literals.
+ghost use Rattle.std.specs.Prelude.{◌≡◌, ◌<◌, ◌≤◌, ℕ, length, slice_index_or, IfOk};
+ghost use Rattle.signed_clause.specs.Clauses.{Literals};
+ghost use Rattle.clause_watches.specs.declared.packed.PackedLiteral.{PackedLiteral};
+ghost use Rattle.clause_watches.specs.Sound.{least_at, packed_of};
+ghost use Rattle.clause_watches.specs.Packing.{IsCopy, IsPacked};
+
+use crate::mask::mask_of;
+use signed_clause::IntSet;
+use std::alloc::{AllocError, Global};
+use std::marker::Model;
+
+/// A literal: its variable, and the values of its set as bits, from the least one of the domain on.
+#[derive(Clone, Copy)]
+pub(crate) struct PackedLiteral {
+    /// The variable.
+    pub(crate) variable: u32,
+    /// Its set as bits.
+    pub(crate) bits: u64,
+}
+
+/// The literals of a clause.
+#[derive(Drop)]
+pub(crate) struct PackedClause {
+    literals: Vec<PackedLiteral>,
+    met: usize,
+}
+
+impl Model for PackedClause {
+    ghost use Rattle.std.specs.Prelude.{List};
+    ghost use Rattle.clause_watches.specs.declared.packed.PackedLiteral.{PackedLiteral};
+
+    ghost Value = { List PackedLiteral };
+
+    ghost view = { λ p. p.literals.items };
+}
+
+impl PackedClause {
+    /// The literals of a clause, of which none was met yet.
+    pub(crate) fn of(
+        alloc: Global,
+        lits: &[(u32, IntSet)],
+        leasts: &[i64],
+    ) -> Result<PackedClause, AllocError>
+        requires { All (λ l. l.0 < length leasts.now) lits.now }
+        ensures { IfOk result (λ p. IsPacked leasts.now lits.now p) }
+    {
+        let mut literals = Vec::with_capacity(alloc, lits.len())?;
+        for l in lits {
+            literals.push(PackedLiteral {
+                variable: l.0,
+                bits: mask_of(&l.1, leasts[l.0 as usize]),
+            })?;
+        }
+        Ok(PackedClause { literals, met: 0 })
+    }
+
+    /// How many literals there are.
+    pub(crate) fn len(&self) -> usize
+        ensures { result ≡ length self.now }
+    {
+        self.literals.len()
+    }
+
+    /// The literal at index `k`.
+    pub(crate) fn get(&self, k: usize) -> PackedLiteral
+        requires { k < length self.now }
+        ensures { (d : PackedLiteral) → result ≡ slice_index_or self.now k d }
+    {
+        self.literals[k]
+    }
+
+    /// The literals from which on a look begins.
+    pub(crate) fn met(&self) -> usize
+        ensures { result ≤ length self.now }
+    {
+        self.met.min(self.literals.len())
+    }
+
+    /// The set of the variable as bits.
+    pub(crate) fn bits_of(&self, x: u32) -> Option<u64>
+    {
+        for l in &self.literals {
+            if l.variable == x {
+                return Some(l.bits);
+            }
+        }
+        None
+    }
+
+    /// Says that the literal at index `k` was met.
+    pub(crate) fn begin_at(&mut self, k: usize)
+        ensures { self.new ≡ self.old }
+    {
+        self.met = k;
+    }
+}
+
+/// Says that the literal at index `k` of clause `i` was met.
+pub(crate) fn note_met(packed: &mut Vec<PackedClause>, i: u32, k: usize)
+    requires { i < length packed.old.items }
+    ensures size { length packed.new.items ≡ length packed.old.items }
+    ensures same { (j : ℕ) → packed_of packed.new.items j ≡ packed_of packed.old.items j }
+{
+    packed[i as usize].begin_at(k);
+}
