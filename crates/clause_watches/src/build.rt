@@ -3,7 +3,7 @@ ghost use Rattle.std.specs.Prelude.{◌≡◌, ◌<◌, ◌≤◌, ◌++◌, ◌
 ghost use Rattle.std.specs.List.{All};
 ghost use Rattle.signed_clause.specs.Clauses.{IsClause};
 ghost use Rattle.clause_watches.specs.Marks.{is_marked};
-ghost use Rattle.clause_watches.specs.Sound.{row_of, IsSound};
+ghost use Rattle.clause_watches.specs.Sound.{row_of, IsSound, IsPacked};
 
 use crate::counts::Counts;
 use crate::held::HeldBy;

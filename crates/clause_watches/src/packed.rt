@@ -2,11 +2,12 @@
 //!
 //! The literals of a clause lie far apart in memory, so a look reads these, which stand side by
 //! side. A look begins at the literal that was met last. Contracts see the list of the literals.
-ghost use Rattle.std.specs.Prelude.{◌≡◌, ◌<◌, ◌≤◌, ℕ, length, slice_index_or, IfOk};
+ghost use Rattle.std.specs.List.{All};
+ghost use Rattle.std.specs.Prelude.{◌≡◌, ◌<◌, ◌≤◌, ℕ, length, slice_index_or, IfOk, IfSome};
 ghost use Rattle.signed_clause.specs.Clauses.{Literals};
 ghost use Rattle.clause_watches.specs.declared.packed.PackedLiteral.{PackedLiteral};
-ghost use Rattle.clause_watches.specs.Sound.{least_at, packed_of};
-ghost use Rattle.clause_watches.specs.Packing.{IsCopy, IsPacked};
+ghost use Rattle.clause_watches.specs.Rows.{IsMaskOf, IsWholeMaskOf};
+ghost use Rattle.clause_watches.specs.Sound.{least_at, packed_of, HasBitsOf, IsCopy, IsPacked};
 
 use crate::mask::mask_of;
 use signed_clause::IntSet;
@@ -50,10 +51,7 @@ impl PackedClause {
     {
         let mut literals = Vec::with_capacity(alloc, lits.len())?;
         for l in lits {
-            literals.push(PackedLiteral {
-                variable: l.0,
-                bits: mask_of(&l.1, leasts[l.0 as usize]),
-            })?;
+            literals.push(pack_literal(l, leasts))?;
         }
         Ok(PackedClause { literals, met: 0 })
     }
@@ -80,8 +78,9 @@ impl PackedClause {
         self.met.min(self.literals.len())
     }
 
-    /// The set of the variable as bits.
+    /// The set of `x` as bits, if there is a literal of it.
     pub(crate) fn bits_of(&self, x: u32) -> Option<u64>
+        ensures { IfSome result (λ bits. HasBitsOf self.now x bits) }
     {
         for l in &self.literals {
             if l.variable == x {
@@ -97,6 +96,53 @@ impl PackedClause {
     {
         self.met = k;
     }
+}
+
+/// The literal once more.
+fn pack_literal(l: &(u32, IntSet), leasts: &[i64]) -> PackedLiteral
+    requires { l.now.0 < length leasts.now }
+    ensures { IsCopy leasts.now l.now result }
+{
+    let least = least_of(leasts, l.0);
+    PackedLiteral {
+        variable: l.0,
+        bits: mask_of(&l.1, least),
+    }
+}
+
+/// The least value of the domain of `x`.
+pub(crate) fn least_of(leasts: &[i64], x: u32) -> i64
+    requires { x < length leasts.now }
+    ensures { result ≡ least_at leasts.now x }
+{
+    leasts[x as usize]
+}
+
+/// The literal at index `k` of clause `i`.
+pub(crate) fn packed_at(packed: &[PackedClause], i: u32, k: usize) -> PackedLiteral
+    requires clause { i < length packed.now }
+    requires literal { k < length (packed_of packed.now i) }
+    ensures { (d : PackedLiteral) → result ≡ slice_index_or (packed_of packed.now i) k d }
+{
+    packed[i as usize].get(k)
+}
+
+/// From which literal of clause `i` on a look begins, and how many there are.
+pub(crate) fn begin_of(packed: &[PackedClause], i: u32) -> (usize, usize)
+    requires { i < length packed.now }
+    ensures begin { result.0 ≤ result.1 }
+    ensures size { result.1 ≡ length (packed_of packed.now i) }
+{
+    let clause = &packed[i as usize];
+    (clause.met(), clause.len())
+}
+
+/// The set of `x` in clause `i` as bits, if there is a literal of it.
+pub(crate) fn bits_of(packed: &[PackedClause], i: u32, x: u32) -> Option<u64>
+    requires { i < length packed.now }
+    ensures { IfSome result (λ bits. HasBitsOf (packed_of packed.now i) x bits) }
+{
+    packed[i as usize].bits_of(x)
 }
 
 /// Says that the literal at index `k` of clause `i` was met.
