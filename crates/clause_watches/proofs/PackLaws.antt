@@ -256,3 +256,14 @@ packed_one leasts c ps n l d p there is copy to =
             (sym (literal_kept ps p e k (omega arith))) (to.each k (omega arith) f e)
       ];
     }
+
+pub packed_none : (leasts : List ℤ) (c : Literals) → IsPackedTo leasts c [] 0
+packed_none leasts c = record { size = refl; each = λ k h d e. absurd (omega arith) }
+
+pub packed_whole : (leasts : List ℤ) (c : Literals) (ps : List PackedLiteral) →
+    IsPackedTo leasts c ps (length c) → IsPacked leasts c ps
+packed_whole leasts c ps to = record { size = to.size; each = to.each }
+
+-- no clause is packed
+pub none_packed : (leasts : List ℤ) → ArePacked leasts [] []
+none_packed leasts = record { size = refl; each = λ i h. absurd (omega arith) }

@@ -17,6 +17,7 @@ use signed_clause::{ClauseHandle, IntSet};
 use std::alloc::{AllocError, Global};
 
 /// A table without clauses over the variables of these domains.
+#[tactic(auto, using(crate::proofs::PackLaws::none_packed))]
 pub(crate) fn empty_table(alloc: Global, domains: &[IntSet]) -> Result<Table, AllocError>
     ensures sound { IfOk result (λ t. IsSound t) }
     ensures rows { IfOk result (λ t. length t.rows.items ≡ length domains.now) }
@@ -109,8 +110,8 @@ pub(crate) fn add_clause(
     let packed = pack(table, &clause)?;
     table.rests.push()?;
     check_form(&clause);
-    table.packed.push_reserved(packed);
     table.added.push_reserved((number, clause));
+    table.packed.push_reserved(packed);
     Ok(())
 }
 

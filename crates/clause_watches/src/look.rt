@@ -19,6 +19,7 @@ use signed_clause::{ClauseHandle, IntSet};
 
 /// A watch of clause `i` by a literal that isn't known yet to meet its box, and does. It begins at
 /// the literal that was met last.
+#[tactic(auto, using(crate::proofs::PackLaws::out_all))]
 pub(crate) fn find_link(table: &Table, i: u32, boxes: &[IntSet]) -> Option<Link>
     requires sound { IsSound table.now }
     requires there { i < length table.now.added.items }
@@ -35,6 +36,7 @@ pub(crate) fn find_link(table: &Table, i: u32, boxes: &[IntSet]) -> Option<Link>
     }
 }
 
+#[tactic(auto, using(crate::proofs::PackLaws::out_more, crate::proofs::PackLaws::out_fewer))]
 /// A watch by one of the literals from index `from` to before `to`.
 fn find_between(table: &Table, i: u32, boxes: &[IntSet], from: usize, to: usize) -> Option<Link>
     requires sound { IsSound table.now }

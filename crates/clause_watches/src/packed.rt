@@ -41,6 +41,7 @@ impl Model for PackedClause {
 
 impl PackedClause {
     /// The literals of a clause, of which none was met yet.
+    #[tactic(auto, using(crate::proofs::PackLaws::packed_none, crate::proofs::PackLaws::packed_whole))]
     pub(crate) fn of(
         alloc: Global,
         lits: &[(u32, IntSet)],

@@ -66,8 +66,8 @@ fn look(table: &mut Table, i: u32, boxes: &[IntSet]) -> Result<bool, AllocError>
     table.counts.opened = table.counts.opened.saturating_add(1);
     match find_link(table, i, boxes) {
         Some(link) => {
-            note_met(&mut table.packed, i, link.place);
             add_link(table, link)?;
+            note_met(&mut table.packed, i, link.place);
             Ok(false)
         }
         None => match find_holding(table, i, boxes) {
