@@ -140,7 +140,7 @@ rest_added [] (suc i) = refl
 rest_added (r ∷ rs) zero = refl
 rest_added (r ∷ rs) (suc i) = rest_added rs i
 
-clause_added : (added : List (ℕ × Literals)) (a : ℕ × Literals) (i : ℕ) → i < length added →
+pub clause_added : (added : List (ℕ × Literals)) (a : ℕ × Literals) (i : ℕ) → i < length added →
     clause_of (added ++ a ∷ []) i ≡ clause_of added i
 clause_added [] a i h = absurd (omega arith)
 clause_added (b ∷ bs) a zero h = refl

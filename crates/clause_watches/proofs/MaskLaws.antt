@@ -149,7 +149,7 @@ past_from : (low top : ℤ) (set : Ranges) (i : ℕ) (r d : ℤ × ℤ) (v : ℤ
     i < length set → r ≡ slice_index_or set i d → v <ℤ r.0 → has (drop i set) v ≡ false
 past_from low top [] i r d v f h e l = absurd (omega arith)
 past_from low top (s ∷ ss) zero r d v f h e l =
-    has-below s.0 top (s ∷ ss) v (≤ℤ_refl s.0, f.1)
+    has-below s.0 top (s ∷ ss) v (≤ℤ_refl s.0, f.1, f.2)
     (subst (λ (q : ℤ × ℤ). v <ℤ q.0) e l)
 past_from low top (s ∷ ss) (suc i) r d v f h e l =
     past_from (s.1 +ℤ pos 2) top ss i r d v f.2 (omega arith) e l
@@ -183,7 +183,7 @@ left_more set xs i r d v m n j is h e off old new =
     false_from_ne_true _ (λ t. let on = new t in omega arith) in
     let more = after_first set i r d v (subst (λ (l : Ranges). i < length l) is h)
     (subst (λ (l : Ranges). r ≡ slice_index_or l i d) is e) (old left) out in
-    subst (λ (k : ℕ). has (drop k set) v ≡ true) (rw add-one refl) more
+    rw add-one more
 
 -- nothing is left
 pub all_done : (set : Ranges) (least : ℤ) (mask : ℕ) → ((j : ℕ) → j < 64 →
@@ -286,18 +286,19 @@ within_window set low high least v l g f h t =
     (omega (arith, ints, above, f), omega (arith, ints, below, h))
 
 -- ranges from index i on lie past the window
-pub early_done : (set xs : Ranges) (i : ℕ) (r d : ℤ × ℤ) (least lo : ℤ) (n mask : ℕ) → IsValid set →
-    xs ≡ set → i < length xs → r ≡ slice_index_or xs i d → lo ≡ r.0 →
-    ((k : ℕ) → lo ≤ℤ (least +ℤ pos k) → n ≤ k) → 63 < n →
+pub early_done : (set xs : Ranges) (i : ℕ) (r d : ℤ × ℤ) (least l lo : ℤ) (n mask : ℕ) →
+    IsValid set → xs ≡ set → i < length xs → r ≡ slice_index_or xs i d → l ≡ least → lo ≡ r.0 →
+    ((k : ℕ) → lo ≤ℤ (l +ℤ pos k) → n ≤ k) → 63 < n →
     ((j : ℕ) → j < 64 → has set (least +ℤ pos j) ≡ true → bit_at mask j ≡ 0 →
     has (drop i set) (least +ℤ pos j) ≡ true) → IsWholeMaskOf least set mask
-early_done set xs i r d least lo n mask valid is h e first few far left j near t =
+early_done set xs i r d least l lo n mask valid is h e el first few far left j near t =
+    let own = subst (λ (a : ℤ). (k : ℕ) → lo ≤ℤ (a +ℤ pos k) → n ≤ k) el few in
     elim (zero_or_one (bit_at mask j) (bit_at-lt mask j)) [
       | inl off ↦
           let more = left j near t off in
           let none = past_window set i r d least lo n j valid
           (subst (λ (l : Ranges). i < length l) is h)
-          (subst (λ (l : Ranges). r ≡ slice_index_or l i d) is e) first few far near in
+          (subst (λ (l : Ranges). r ≡ slice_index_or l i d) is e) first own far near in
           absurd (cc)
       | inr on ↦ on
     ]

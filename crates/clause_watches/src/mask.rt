@@ -2,7 +2,7 @@
 //!
 //! Bit j of a mask stands for the j-th value from a least one on. A mask has the values of its set
 //! that lie in that window, no more and no less, and tells nothing of others.
-ghost use Rattle.std.specs.Prelude.{◌≡◌, ◌≤◌, ◌<◌, ◌-ℤ◌, ◌≤ℤ◌, ◌+ℤ◌, ℕ, pos, true, unsigned_abs};
+ghost use Rattle.std.specs.Prelude.{◌≡◌, ◌≤◌, ◌<◌, ◌-ℤ◌, ◌≤ℤ◌, ◌+ℤ◌, ℕ, ℤ, pos, true, unsigned_abs};
 ghost use Rattle.std.specs.Int.{bit_at};
 ghost use Rattle.signed_clause.specs.Ranges.{IsValid, has, in_range};
 ghost use Rattle.clause_watches.specs.Rows.{IsMaskOf, IsWholeMaskOf, HasAllBits};
@@ -64,7 +64,6 @@ fn bits_between(first: u32, last: u32) -> u64
 }
 
 /// The values of a box as bits, from `least` on.
-#[tactic(auto, using(crate::proofs::MaskLaws::bits_all))]
 pub(crate) fn box_bits(at: &IntSet, least: i64) -> BoxBits
     ensures bits { IsMaskOf least at.now result.bits }
     ensures valid { IsValid at.now }

@@ -1,4 +1,4 @@
-use Rattle.std.proofs.Common.{◌≡◌, ◌<◌, ◌×◌, ℕ, true, pos, ◌+ℤ◌, drop}
+use Rattle.std.proofs.Common.{◌≡◌, ◌<◌, ℕ, true, pos, ◌+ℤ◌, drop}
 use Rattle.std.specs.Int.{bit_at}
 use Rattle.signed_clause.specs.Ranges.{has}
 use Rattle.clause_watches.specs.Rows.{IsMaskOf}
