@@ -2,14 +2,14 @@
 use Rattle.std.proofs.Common.{◌≡◌, ◌≢◌, ℕ, ◌<◌, ◌&&◌, Bool, true, false, ℤ, pos, ◌+ℤ◌, ◌≤ℤ◌, ◌<ℤ◌, ◌-ℤ◌, unsigned_abs, int_le, arith, sym, ap, ◌∙◌, bit_and, min, ◌+◌, ◌⊎◌, inl, inr, zero, suc, refl, ◌≤◌, ◌-◌, ◌*◌, ◌/◌, ◌%◌, ◌^◌, bit_or, max, [], ◌∷◌, length, drop, slice_index_or, subst, add-one}
 use Rattle.std.proofs.lemmas.Bool.{false_from_ne_true}
 use Rattle.std.proofs.lemmas.Int.{ints}
-use Rattle.std.proofs.lemmas.Nat.Bits.{bit_at_and, bit_at_or, bit_at-lt, bit_at-zero, same_from_bits, ones_shl, ones_shr, bit_at_mask_below, bit_at_mask_inside, bit_at_ones, bit_at_ones_above, bit_at_above}
+use Rattle.std.proofs.lemmas.Nat.Bits.{bit_at_and, bit_at_or, bit_at-lt, bit_at-zero, same_from_bits, ones_shl, ones_shr, bit_at_mask_below, bit_at_mask_inside, bit_at_ones, bit_at_ones_above}
 use Rattle.std.specs.Int.{bit_at}
 use Rattle.std.specs.Int.Signed.{≤ℤ_refl}
 use Rattle.signed_clause.specs.Ranges.{Ranges, has, in_range, Ascends, IsValid, IsLeast, IsGreatest}
-use Rattle.signed_clause.specs.SetAlgebra.{is_disjoint, is_within}
+use Rattle.signed_clause.specs.SetAlgebra.{is_disjoint}
 use Rattle.signed_clause.proofs.ClauseLaws.{has_from_disjoint}
 use Rattle.signed_clause.proofs.RangeLaws.{has-below}
-use Rattle.signed_clause.proofs.SetFacts.{disjoint_law, within_law}
+use Rattle.signed_clause.proofs.SetFacts.{disjoint_law}
 use Rattle.clause_watches.specs.Rows.{IsMaskOf, IsWholeMaskOf, HasBit, HasAllBits}
 use Rattle.clause_watches.proofs.TestLaws.{or_right, or_other}
 
@@ -120,9 +120,6 @@ bit_in_range r least lo hi l first far last j el e0 e1 low high h cut f le =
 
 -- ---- whole masks
 
-below_from : (j n : ℕ) → (n ≤ j → ⊥) → j < n
-below_from j n h = grind arith
-
 not_le : (a b : ℤ) → (a ≤ℤ b → ⊥) → b <ℤ a
 not_le a b h = grind (arith, ints)
 
@@ -224,36 +221,6 @@ bits_out least set at m n vs va whole all none =
     let zero : min (bit_at m b.bit) (bit_at n b.bit) ≡ 0 =
     sym (bit_at_and m n b.bit) ∙ ap (λ (q : ℕ). bit_at q b.bit) none ∙ bit_at-zero b.bit in
     omega arith))
-
--- each bit of the box is one of the set
-pub bits_within : (least : ℤ) (set at : Ranges) (m n : ℕ) → IsValid set → IsValid at →
-    IsMaskOf least set m → HasAllBits least at n → bit_and n m ≡ n → is_within at set ≡ true
-bits_within least set at m n vs va mask all e =
-    (within_law at set va vs).1 (λ v k.
-    let b = all v k in
-    let two : bit_at n b.bit ≡ 1 = b.on in
-    let both : min (bit_at n b.bit) (bit_at m b.bit) ≡ bit_at n b.bit =
-    sym (bit_at_and n m b.bit) ∙ ap (λ (q : ℕ). bit_at q b.bit) e in
-    let on : bit_at m b.bit ≡ 1 = omega (arith, bit_at-lt m b.bit) in
-    subst (λ (w : ℤ). has set w ≡ true) (sym b.value) (mask b.bit on))
-
-bit_below : (n j : ℕ) → n < 2 ^ 64 → bit_at n j ≡ 1 → j < 64
-bit_below n j h on = below_from j 64 (λ up. let off = bit_at_above n 64 j h up in omega arith)
-
--- some bit of the box isn't one of the set
-pub bits_beyond : (least : ℤ) (set at : Ranges) (m n : ℕ) → IsValid set → IsValid at →
-    n < 2 ^ 64 → IsWholeMaskOf least set m → IsMaskOf least at n → (bit_and n m ≡ n → ⊥) →
-    is_within at set ≡ false
-bits_beyond least set at m n vs va small whole mask other =
-    false_from_ne_true _ (λ w. other (same_from_bits (bit_and n m) n (λ j.
-    elim (zero_or_one (bit_at n j) (bit_at-lt n j)) [
-      | inl off ↦ bit_at_and n m j ∙ (omega arith)
-      | inr on ↦
-          let in_set : has set (least +ℤ pos j) ≡ true =
-          (within_law at set va vs).0 w (least +ℤ pos j) (mask j on) in
-          let set_on : bit_at m j ≡ 1 = whole j (bit_below n j small on) in_set in
-          bit_at_and n m j ∙ (omega arith)
-    ])))
 
 range_parts : (r : ℤ × ℤ) (v : ℤ) → in_range r v ≡ true → (r.0 ≤ℤ v) × (v ≤ℤ r.1)
 range_parts r v t = (grind (arith, ints), grind (arith, ints))

@@ -1,10 +1,11 @@
 -- Clauses packed for watching, and what a look at them finds.
-use Rattle.std.proofs.Common.{◌≡◌, ◌≢◌, ℕ, zero, suc, ◌<◌, ◌≤◌, ◌+◌, true, false, List, [], ◌∷◌, ◌++◌, ◌⊎◌, inl, inr, ℤ, length, arith, refl, sym, ap, ◌∙◌, subst, bit_and, slice_index_or}
+use Rattle.std.proofs.Common.{◌≡◌, ◌≢◌, ℕ, zero, suc, ◌<◌, ◌≤◌, ◌+◌, true, false, List, [], ◌∷◌, ◌++◌, ◌⊎◌, inl, inr, ℤ, length, arith, refl, sym, ap, ◌∙◌, subst, bit_and, slice_index_or, Option, Some, None}
+use Rattle.std.specs.Prelude.{IfNone}
 use Rattle.std.specs.List.{All}
 use Rattle.std.proofs.lemmas.Bool.{cases_eq}
 use Rattle.std.proofs.lemmas.List.{length_push}
 use Rattle.signed_clause.specs.Ranges.{Ranges, IsValid}
-use Rattle.signed_clause.specs.SetAlgebra.{is_disjoint, is_within}
+use Rattle.signed_clause.specs.SetAlgebra.{is_disjoint}
 use Rattle.signed_clause.specs.Clauses.{Boxes, Literals, box_of, set_of, IsClause}
 use Rattle.clause_watches.specs.declared.rest.Rest.{Rest}
 use Rattle.clause_watches.specs.declared.packed.PackedLiteral.{PackedLiteral}
@@ -12,12 +13,12 @@ use Rattle.clause_watches.specs.declared.watch.Link.{Link}
 use Rattle.clause_watches.specs.declared.watch.Witness.{Witness}
 use Rattle.clause_watches.specs.declared.watch.Witness.TheVariants.{Mask}
 use Rattle.clause_watches.specs.Watching.{clause_of, Meets}
-use Rattle.clause_watches.specs.Rows.{names, IsMaskOf, IsWholeMaskOf, HasAllBits, IsTrueOf}
-use Rattle.clause_watches.specs.Sound.{least_at, sets_at, packed_of, HasBitsOf, IsCopy, IsPacked, ArePacked}
+use Rattle.clause_watches.specs.Rows.{names, IsMaskOf, HasAllBits, IsTrueOf}
+use Rattle.clause_watches.specs.Sound.{least_at, sets_at, packed_of, AreClauses, IsCopy, IsPacked, ArePacked}
 use Rattle.clause_watches.specs.Looking.{IsOut, IsShown, IsLink, AreOutBetween}
 use Rattle.clause_watches.proofs.ActLaws.{set_at}
 use Rattle.clause_watches.proofs.LinkLaws.{clause_added}
-use Rattle.clause_watches.proofs.MaskLaws.{masks_meet, bits_out, bits_within, bits_beyond}
+use Rattle.clause_watches.proofs.MaskLaws.{masks_meet, bits_out}
 
 -- ---- one literal
 
@@ -124,34 +125,6 @@ out_all boxes rest c begin end e late early k d h = elim (split_at k begin) [
   | inl low ↦ early k (omega arith) low d
   | inr high ↦ late k high (omega arith) d
 ]
-
--- ---- one literal by its variable
-
--- the bits are those of what the clause says of x
-pub bits_of_set : (leasts : List ℤ) (c : Literals) (ps : List PackedLiteral) (x bits : ℕ) →
-    IsClause c → IsPacked leasts c ps → HasBitsOf ps x bits →
-    IsValid (set_of c x) × IsMaskOf (least_at leasts x) (set_of c x) bits
-    × IsWholeMaskOf (least_at leasts x) (set_of c x) bits
-bits_of_set leasts c ps x bits form packed has =
-    let k = has.place in
-    let there : k < length c = let h = has.there in let e = packed.size in omega arith in
-    let d : ℕ × Ranges = (0, []) in
-    let l = slice_index_or c k d in
-    let p : PackedLiteral = record { variable = x; bits = bits } in
-    let copy = packed.each k there d p in
-    let var : l.0 ≡ x = sym copy.variable ∙ has.variable p in
-    let own : set_of c x ≡ l.1 =
-    subst (λ (y : ℕ). set_of c y ≡ l.1) var (set_at 0 c k l d form there refl) in (
-      subst (λ (s : Ranges). IsValid s) (sym own) copy.valid,
-      subst (λ (n : ℕ). IsMaskOf (least_at leasts x) (set_of c x) n) (has.is p)
-          (subst (λ (s : Ranges). IsMaskOf (least_at leasts x) s (slice_index_or ps k p).bits)
-          (sym own) (subst (λ (y : ℕ). IsMaskOf (least_at leasts y) l.1
-          (slice_index_or ps k p).bits) var copy.bits)),
-      subst (λ (n : ℕ). IsWholeMaskOf (least_at leasts x) (set_of c x) n) (has.is p)
-          (subst (λ (s : Ranges). IsWholeMaskOf (least_at leasts x) s (slice_index_or ps k p).bits)
-          (sym own) (subst (λ (y : ℕ). IsWholeMaskOf (least_at leasts y) l.1
-          (slice_index_or ps k p).bits) var copy.whole)),
-    )
 
 -- ---- all clauses
 
@@ -267,3 +240,35 @@ packed_whole leasts c ps to = record { size = to.size; each = to.each }
 -- no clause is packed
 pub none_packed : (leasts : List ℤ) → ArePacked leasts [] []
 none_packed leasts = record { size = refl; each = λ i h. absurd (omega arith) }
+
+-- ---- what is there
+
+pub copy_there : (leasts : List ℤ) (added : List (ℕ × Literals))
+    (packed xs : List (List PackedLiteral)) (i k : ℕ) (p : PackedLiteral) →
+    ArePacked leasts added packed → xs ≡ packed → i < length added →
+    k < length (clause_of added i) →
+    ((d : PackedLiteral) → p ≡ slice_index_or (packed_of xs i) k d) → (d : ℕ × Ranges) →
+    IsCopy leasts (slice_index_or (clause_of added i) k d) p
+copy_there leasts added packed xs i k p are e h there is d =
+    subst (λ (q : PackedLiteral). IsCopy leasts (slice_index_or (clause_of added i) k d) q)
+    (sym (is p))
+    (subst (λ (ps : List (List PackedLiteral)). IsCopy leasts
+    (slice_index_or (clause_of added i) k d) (slice_index_or (packed_of ps i) k p)) (sym e)
+    ((are.each i h).each k there d p))
+
+pub variable_below : (n : ℕ) (leasts : List ℤ) (added : List (ℕ × Literals)) (i k : ℕ)
+    (p : PackedLiteral) → AreClauses n added → i < length added →
+    k < length (clause_of added i) →
+    IsCopy leasts (slice_index_or (clause_of added i) k (0, [])) p → p.variable < n
+variable_below n leasts added i k p clauses h there copy =
+    subst (λ (x : ℕ). x < n) (sym copy.variable) (clauses.within i (0, []) h k (0, []) there)
+
+-- ---- what a call found none of
+
+pub none_from : {X : Type 0} (o : Option X) (P : Type 0) → P → IfNone o P
+none_from None P p = p
+none_from (Some x) P p = tt
+
+pub none_weaker : {X : Type 0} (o : Option X) (P Q : Type 0) → (P → Q) → IfNone o P → IfNone o Q
+none_weaker None P Q f p = f p
+none_weaker (Some x) P Q f p = tt

@@ -63,13 +63,6 @@ pub record IsPacked (leasts : List ℤ) (c : Literals) (ps : List PackedLiteral)
   pub each : (k : ℕ) → k < length c → (d : ℕ × List (ℤ × ℤ)) (e : PackedLiteral) →
       IsCopy leasts (slice_index_or c k d) (slice_index_or ps k e)
 
--- one of the packed literals is of x, and has these bits
-pub record HasBitsOf (ps : List PackedLiteral) (x bits : ℕ) : Type 0 where
-  pub place : ℕ
-  pub there : place < length ps
-  pub variable : (d : PackedLiteral) → (slice_index_or ps place d).variable ≡ x
-  pub is : (d : PackedLiteral) → (slice_index_or ps place d).bits ≡ bits
-
 -- the packed literals of clause i
 abbrev pub packed_of : List (List PackedLiteral) → ℕ → List PackedLiteral
 packed_of packed i = slice_index_or packed i []

@@ -51,10 +51,10 @@ fn find_between(table: &Table, i: u32, boxes: &[IntSet], from: usize, to: usize)
 {
     let mut k = from;
     while k < to {
-        if let Some(link) = link_at(table, i, boxes, k) {
-            return Some(link);
+        match link_at(table, i, boxes, k) {
+            Some(link) => return Some(link),
+            None => k += 1,
         }
-        k += 1;
     }
     None
 }

@@ -3,11 +3,9 @@
 //! The literals of a clause lie far apart in memory, so a look reads these, which stand side by
 //! side. A look begins at the literal that was met last. Contracts see the list of the literals.
 ghost use Rattle.std.specs.List.{All};
-ghost use Rattle.std.specs.Prelude.{◌≡◌, ◌<◌, ◌≤◌, ℕ, length, slice_index_or, IfOk, IfSome};
-ghost use Rattle.signed_clause.specs.Clauses.{Literals};
+ghost use Rattle.std.specs.Prelude.{◌≡◌, ◌<◌, ◌≤◌, ℕ, length, slice_index_or, IfOk};
 ghost use Rattle.clause_watches.specs.declared.packed.PackedLiteral.{PackedLiteral};
-ghost use Rattle.clause_watches.specs.Rows.{IsMaskOf, IsWholeMaskOf};
-ghost use Rattle.clause_watches.specs.Sound.{least_at, packed_of, HasBitsOf, IsCopy, IsPacked};
+ghost use Rattle.clause_watches.specs.Sound.{least_at, packed_of, IsCopy, IsPacked};
 
 use crate::mask::mask_of;
 use signed_clause::IntSet;
@@ -79,18 +77,6 @@ impl PackedClause {
         self.met.min(self.literals.len())
     }
 
-    /// The set of `x` as bits, if there is a literal of it.
-    pub(crate) fn bits_of(&self, x: u32) -> Option<u64>
-        ensures { IfSome result (λ bits. HasBitsOf self.now x bits) }
-    {
-        for l in &self.literals {
-            if l.variable == x {
-                return Some(l.bits);
-            }
-        }
-        None
-    }
-
     /// Says that the literal at index `k` was met.
     pub(crate) fn begin_at(&mut self, k: usize)
         ensures { self.new ≡ self.old }
@@ -136,14 +122,6 @@ pub(crate) fn begin_of(packed: &[PackedClause], i: u32) -> (usize, usize)
 {
     let clause = &packed[i as usize];
     (clause.met(), clause.len())
-}
-
-/// The set of `x` in clause `i` as bits, if there is a literal of it.
-pub(crate) fn bits_of(packed: &[PackedClause], i: u32, x: u32) -> Option<u64>
-    requires { i < length packed.now }
-    ensures { IfSome result (λ bits. HasBitsOf (packed_of packed.now i) x bits) }
-{
-    packed[i as usize].bits_of(x)
 }
 
 /// Says that the literal at index `k` of clause `i` was met.

@@ -9,10 +9,8 @@ ghost use Rattle.clause_watches.specs.Looking.{AreKnownNow, left_in};
 use crate::held::hold;
 use crate::link::add_link;
 use crate::look::find_link;
-use crate::mask::box_bits;
-use crate::packed::{bits_of, least_of, note_met};
+use crate::packed::note_met;
 use crate::rest::Rest;
-use crate::settle::box_at;
 use crate::table::Table;
 use signed_clause::{Clause, IntSet};
 use std::alloc::AllocError;
@@ -94,31 +92,13 @@ fn find_holding(table: &Table, i: u32, boxes: &[IntSet]) -> Option<u32>
         → is_within (box_of boxes.now x) (set_of (clause_of table.now.added.items i) x) ≡ false) }
 {
     match table.rests.get(i) {
-        Rest::Half(x) if lies_within(table, i, x, boxes) => Some(x),
+        Rest::Half(x) if lies_within(table.added[i as usize].1.clause(), x, boxes) => Some(x),
         _ => None,
     }
 }
 
-/// Whether the box of a literal that meets it lies within the literal's set. The clause itself is
-/// opened only where its bits and those of the box don't tell.
-fn lies_within(table: &Table, i: u32, x: u32, boxes: &[IntSet]) -> bool
-    requires sound { IsSound table.now }
-    requires there { i < length table.now.added.items }
-    requires boxes { length boxes.now ≡ length table.now.rows.items }
-    requires row { x < length boxes.now }
-    requires meets { Meets boxes.now (clause_of table.now.added.items i) x }
-    ensures { result ≡ is_within (box_of boxes.now x)
-        (set_of (clause_of table.now.added.items i) x) }
-{
-    let seen = box_bits(box_at(boxes, x), least_of(table.leasts.as_slice(), x));
-    match bits_of(table.packed.as_slice(), i, x) {
-        Some(bits) if seen.whole => seen.bits & bits == seen.bits,
-        _ => lies_within_own(table.added[i as usize].1.clause(), x, boxes),
-    }
-}
-
 /// Whether the box of a literal that meets it lies within the literal's set.
-fn lies_within_own(clause: &Clause, x: u32, boxes: &[IntSet]) -> bool
+fn lies_within(clause: &Clause, x: u32, boxes: &[IntSet]) -> bool
     requires row { x < length boxes.now }
     requires meets { Meets boxes.now clause.now x }
     ensures { result ≡ is_within (box_of boxes.now x) (set_of clause.now x) }
