@@ -184,10 +184,10 @@ packed_added leasts added a packed ps are one =
 
 -- literals that are packed one by one
 pub record IsPackedTo (leasts : List ℤ) (c : Literals) (ps : List PackedLiteral) (n : ℕ) : Type 0
-    where
-  pub size : length ps ≡ n
-  pub each : (k : ℕ) → k < n → (d : ℕ × Ranges) (e : PackedLiteral) →
-      IsCopy leasts (slice_index_or c k d) (slice_index_or ps k e)
+  where
+    pub size : length ps ≡ n
+    pub each : (k : ℕ) → k < n → (d : ℕ × Ranges) (e : PackedLiteral) →
+        IsCopy leasts (slice_index_or c k d) (slice_index_or ps k e)
 
 literal_kept : (ps : List PackedLiteral) (p e : PackedLiteral) (k : ℕ) → k < length ps →
     slice_index_or (ps ++ p ∷ []) k e ≡ slice_index_or ps k e

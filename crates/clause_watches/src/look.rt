@@ -1,4 +1,4 @@
-//! The second half of a search for a clause: listed clauses are opened one after the other.
+//! What a look at a clause finds: a literal that meets its box, read from the packed literals.
 ghost use Rattle.std.specs.Prelude.{◌≡◌, ◌<◌, ◌≤◌, ℕ, List, ℤ, false, true, length, slice_index_or, IfNone, IfSome};
 ghost use Rattle.std.specs.List.{All};
 ghost use Rattle.signed_clause.specs.SetAlgebra.{is_disjoint};
@@ -36,8 +36,8 @@ pub(crate) fn find_link(table: &Table, i: u32, boxes: &[IntSet]) -> Option<Link>
     }
 }
 
-#[tactic(auto, using(crate::proofs::PackLaws::out_more, crate::proofs::PackLaws::out_fewer))]
 /// A watch by one of the literals from index `from` to before `to`.
+#[tactic(auto, using(crate::proofs::PackLaws::out_more, crate::proofs::PackLaws::out_fewer))]
 fn find_between(table: &Table, i: u32, boxes: &[IntSet], from: usize, to: usize) -> Option<Link>
     requires sound { IsSound table.now }
     requires there { i < length table.now.added.items }
@@ -84,13 +84,7 @@ fn link_at(table: &Table, i: u32, boxes: &[IntSet], k: usize) -> Option<Link>
 
 /// A witness of the literal at index `k`, if it meets the box. The clause itself is opened only
 /// where its bits and those of the box don't tell.
-fn witness_by(
-    table: &Table,
-    i: u32,
-    k: usize,
-    l: PackedLiteral,
-    at: &IntSet,
-) -> Option<Witness>
+fn witness_by(table: &Table, i: u32, k: usize, l: PackedLiteral, at: &IntSet) -> Option<Witness>
     requires there { i < length table.now.added.items }
     requires within { k < length (clause_of table.now.added.items i) }
     requires leasts { l.variable < length table.now.leasts.items }

@@ -77,7 +77,13 @@ returns-clause-some c =
     c.requires.sound.clauses c.requires.there c.requires.within copy) in
     link_made c.args.boxes.now t.added.items t.leasts.items c.args.i c.args.k
     (rest_of t.rests c.args.i) (0, []) p c.box_at.result.now
-    record { variable = p.variable; watch = record { clause = c.args.i;
-    witness = c.in_ok-witness.witness }; place = c.args.k }
+    record {
+      variable = p.variable;
+      watch = record {
+        clause = c.args.i;
+        witness = c.in_ok-witness.witness;
+      };
+      place = c.args.k;
+    }
     (clause_form t.added.items c.args.i c.requires.sound.clauses.forms) c.requires.within copy
     unnamed c.box_at.ensures below (c.in_ok-witness.ensures.some (0, [])) refl refl
