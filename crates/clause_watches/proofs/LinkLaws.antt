@@ -4,27 +4,17 @@ use Rattle.std.specs.List.{All}
 use Rattle.std.proofs.lemmas.Bool.{cases_eq}
 use Rattle.std.proofs.lemmas.List.{length-set, length_push}
 use Rattle.std.proofs.lemmas.List.Elements.{All-push}
-use Rattle.signed_clause.specs.Ranges.{Ranges}
-use Rattle.signed_clause.specs.SetAlgebra.{is_disjoint}
-use Rattle.signed_clause.specs.Clauses.{Boxes, Literals, box_of, set_of, IsClause}
+use Rattle.signed_clause.specs.Clauses.{Literals, set_of, IsClause}
 use Rattle.clause_watches.specs.declared.rest.Rest.{Rest}
 use Rattle.clause_watches.specs.declared.rest.Rest.TheVariants.{Listed, Half, On, Held}
 use Rattle.clause_watches.specs.declared.watch.Link.{Link}
 use Rattle.clause_watches.specs.declared.watch.Watch.{Watch}
-use Rattle.clause_watches.specs.Watching.{clause_of, rest_of, holds, Meets}
+use Rattle.clause_watches.specs.Watching.{clause_of, rest_of, holds}
 use Rattle.clause_watches.specs.Rows.{names, differ, has_watch, AreBelow, AreRight, IsTrueOf}
 use Rattle.clause_watches.specs.Sound.{row_of, held_of, stands, least_at, sets_at, AreClauses, AreLinked}
 use Rattle.clause_watches.specs.Looking.{linked}
-use Rattle.clause_watches.proofs.ActLaws.{set_at}
 use Rattle.clause_watches.proofs.RestLaws.{rest_set_same, rest_set_other}
 use Rattle.clause_watches.proofs.TestLaws.{or_right, or_more}
-
--- the default doesn't matter below the length
-pub least_read : (leasts : List ℤ) (x : ℕ) (v d : ℤ) → x < length leasts →
-    v ≡ slice_index_or leasts x d → v ≡ least_at leasts x
-least_read [] x v d h e = absurd (omega arith)
-least_read (l ∷ ls) zero v d h e = e
-least_read (l ∷ ls) (suc x) v d h e = least_read ls x v d (omega arith) e
 
 -- ---- one literal more is known to meet
 

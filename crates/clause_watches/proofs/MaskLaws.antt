@@ -10,7 +10,7 @@ use Rattle.signed_clause.specs.SetAlgebra.{is_disjoint}
 use Rattle.signed_clause.proofs.ClauseLaws.{has_from_disjoint}
 use Rattle.signed_clause.proofs.RangeLaws.{has-below}
 use Rattle.signed_clause.proofs.SetFacts.{disjoint_law}
-use Rattle.clause_watches.specs.Rows.{IsMaskOf, IsWholeMaskOf, HasBit, HasAllBits}
+use Rattle.clause_watches.specs.Rows.{IsMaskOf, IsWholeMaskOf, HasAllBits}
 use Rattle.clause_watches.proofs.TestLaws.{or_right, or_other}
 
 -- a common value

@@ -10,7 +10,6 @@ use Rattle.signed_clause.specs.Clauses.{Boxes, Literals, box_of, set_of, IsClaus
 use Rattle.clause_watches.specs.declared.rest.Rest.{Rest}
 use Rattle.clause_watches.specs.declared.packed.PackedLiteral.{PackedLiteral}
 use Rattle.clause_watches.specs.declared.watch.Link.{Link}
-use Rattle.clause_watches.specs.declared.watch.Witness.{Witness}
 use Rattle.clause_watches.specs.declared.watch.Witness.TheVariants.{Mask}
 use Rattle.clause_watches.specs.Watching.{clause_of, Meets}
 use Rattle.clause_watches.specs.Rows.{names, IsMaskOf, HasAllBits, IsTrueOf}
