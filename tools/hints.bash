@@ -11,6 +11,7 @@ name='[A-Za-z_][A-Za-z0-9_]*'
 units='k K M G T kB KB MB GB TB KiB MiB GiB TiB ms s sec min h cores cpus percent'
 declaration='A variable is declared as in `var x as 0..9;`, a fixed one as `var x as 3..3;`.'
 one_file='A model is one file, and takes in no other.'
+by_constraint='A variable has a shape, and a constraint says what it is:'
 no_array='Only objects come in arrays: give a class a number, and declare an array of that.'
 collections='array set list vector sequence map optional new reference refs pointer a an one'
 
@@ -82,6 +83,7 @@ explain_variable() {
         explain_name && return
         case $next in
             '['*) hint="The length stands behind the class: \`var hosts as Host[2];\`." ;;
+            '= '*) hint="$by_constraint \`var n as 0..9; where n = ..;\`." ;;
             ','*) hint="Each variable is declared by itself: \`var x as bool; var y as bool;\`." ;;
             [^$'\001'-$'\177']*) return 1 ;;
             *) hint="$declaration" ;;
@@ -92,6 +94,10 @@ explain_variable() {
     declared=${BASH_REMATCH[1]}
     shape=${BASH_REMATCH[3]}
     case $shape:$next in
+        :sum\ * | :count\ *) hint="$by_constraint \`var n as 0..9; where n = $word ..;\`." ;;
+        int:[0-9-]*) hint="A range stands alone: \`0..9\`." ;;
+        *[0-9]:step\ * | *[0-9]:by\ *)
+            hint="A range has no steps: take a smaller one, and \`2 * x\` in its place." ;;
         :\[* | :\(* | :\{*)
             hint="A range is \`0..9\`, without brackets; values with names are an enumeration." ;;
         :..*) hint="Both ends of a range stand there: \`0..9\`." ;;
@@ -110,7 +116,9 @@ explain_variable() {
         *:\?*) hint="A reference always names an object: declare one that stands for none." ;;
         *:,*) hint="Each variable is declared by itself: \`var x as bool; var y as bool;\`." ;;
         *)
-            if [[ $shape =~ ^-?\ ?[0-9]+$ && $next =~ ^(-|:|\;|to\ ) ]]; then
+            if [[ $shape =~ ^$name\ ?\( ]]; then
+                hint="Attributes are fixed by constraints: \`where $declared.cpu = 4;\`."
+            elif [[ $shape =~ ^-?\ ?[0-9]+$ && $next =~ ^(-|:|\;|to\ ) ]]; then
                 hint="A range is written \`0..9\`, one value \`3..3\`."
             elif [[ $shape =~ ^(ref\ )?$name(\ ?\[[0-9]+\])?$ && $next =~ ^(\{|\(|with\ ) ]]; then
                 hint="Attributes are fixed by constraints: \`where $declared.cpu = 4;\`."
@@ -236,6 +244,7 @@ explain_preference() {
 # A quantifier in another form.
 explain_quantifier() {
     local which='(forall|foreach|exists|sum|count|alldifferent|pack)'
+    local any='(forall|foreach|for|each|every|all|exists|any|some|sum|count|alldifferent|pack)'
     local of='\ in\ [A-Za-z_][A-Za-z0-9_.]*' next_word=
     [[ -z $word || $keywords == *" $word "* ]] || next_word=$word
     if [[ $begun =~ (^|[^A-Za-z0-9_])$which$ ]]; then
@@ -250,6 +259,8 @@ explain_quantifier() {
         esac
     elif [[ $begun =~ (^|[^A-Za-z0-9_])$which\ $name$of$ ]]; then
         [[ $next == [:\|=\<\>\(\;]* || -n $next_word ]] && explain_form "${BASH_REMATCH[2]}"
+    elif [[ $next == :* && $begun =~ (^|[^A-Za-z0-9_])$any(\ |\ ?\(\ ?)$name$of$ ]]; then
+        explain_form "${BASH_REMATCH[2]}"
     elif [[ $next == \;* && $begun =~ (^|[^A-Za-z0-9_])$which\ $name$of\ where\  ]]; then
         explain_form "${BASH_REMATCH[2]}"
     elif [[ $next == [0-9\{\[\(-]* && $begun =~ (^|[^A-Za-z0-9_])$which\ $name\ in$ ]]; then
@@ -265,6 +276,8 @@ explain_quantifier() {
 explain_form() {
     case $1 in
         forall | foreach | exists) hint="Write \`$1 v in Vm { v.on; }\`." ;;
+        for | each | every | all) hint="Write \`forall v in Vm { v.on; }\`." ;;
+        any | some) hint="Write \`exists v in Vm { v.on; }\`." ;;
         sum) hint="Write \`sum v in Vm { v.size }\`." ;;
         count) hint="Write \`count v in Vm { v.on }\`." ;;
         alldifferent) hint="Write \`alldifferent v in Vm { v.host }\`." ;;
@@ -296,6 +309,8 @@ explain_function() {
         any | some) hint="Write \`exists v in Vm { v.on; }\`." ;;
         all_different | alldifferent | alldiff | distinct | unique)
             hint="Write \`alldifferent v in Vm { v.host }\`." ;;
+        no | none) hint="Write \`not exists v in Vm { v.on; }\`." ;;
+        at) hint="Write \`count v in Vm { v.on } <= 3\`, and of 'at least' \`>= 3\`." ;;
         if) hint="There is no \`if\`: write \`a -> b\`, and \`not a -> c\` else." ;;
         soft | prefer | weak) explain_preference ;;
         *) explain_capitals "$before" ;;
@@ -311,6 +326,12 @@ explain_operator() {
         *:'<=>'*) hint="For 'if and only if' write \`a = b\`." ;;
         *:'=>'* | *[!\<\>=!]=:'>'* | *==:'>'* | *-:'->'*)
             hint="'If .. then' is written \`a -> b\`, and 'at least' \`>=\`." ;;
+        *:not=* | *:not\ =*) hint="Other than is written \`!=\`." ;;
+        *[0-9A-Za-z_\)\}]:at\ most\ * | *[0-9A-Za-z_\)\}]:at\ least\ *)
+            hint="'At most' is written \`<=\`, 'at least' \`>=\`." ;;
+        *[0-9A-Za-z_\)\}]:forall\ * | *[0-9A-Za-z_\)\}]:foreach\ *)
+            [[ $keywords != *" ${before:-?} "* ]] || return 1
+            hint="A quantifier comes first: \`forall v in Vm { v.size <= 4; }\`." ;;
         *:not\ in\ * | *:'!in '* | *:'! in '*) hint="Write \`not r in hosts\`." ;;
         *\ in:[0-9-]*)
             hint="Behind \`in\` stands no range: write \`1 <= x and x <= 3\`." ;;
@@ -385,6 +406,7 @@ explain_syntax() {
 # A mark or a byte that means nothing here, or not what it means elsewhere.
 explain_mark() {
     case $next in
+        '/*'*) hint="A comment begins with \`//\`, and ends with its line." ;;
         '/'*)
             hint="There is no division: multiply the other side; and comments begin with \`//\`." ;;
         '&'* | '|'*) hint="Write \`and\` or \`&&\`, \`or\` or \`||\`." ;;
@@ -392,7 +414,9 @@ explain_mark() {
         '"'* | "'"*) hint="There are no strings: use an enumeration, and \`Name.Value\`." ;;
         ','*)
             hint="Bodies and declarations end with a \`;\`; a quantifier has one variable,"
-            hint="$hint so put one within the other." ;;
+            hint="$hint so put one within the other."
+            [[ ! $begun =~ ^(minimize|maximize)\  ]] ||
+                hint="Each objective stands by itself: \`${BASH_REMATCH[1]} x; minimize y;\`." ;;
         [A-Za-z0-9_{}\[\]\(\)\;.=\<\>+*!-]*) return 1 ;;
         [$'\001'-$'\177']*)
             what="nothing begins with this byte"
@@ -482,8 +506,23 @@ explain_word() {
     esac
 }
 
+# Sets the hint where the name is a value of an enumeration, or a class with an attribute behind it.
+explain_known_word() {
+    local owner class="(^|[^A-Za-z0-9_])class[[:space:]]+$word[^A-Za-z0-9_]"
+    owner=$(sed 's://.*::' <"$model" | tr '\000\t\r\n' '?   ' |
+        sed -nE "s/.*(^|[ ;}])enum +($name) *\{([^}]*[ ,{])?$word[ ,}].*/\2/p")
+    if [ -n "$owner" ]; then
+        hint="A value stands behind its enumeration: \`$owner.$word\`."
+    elif [[ $next == "$word".* ]] && grep -qE "$class" -- "$model"; then
+        hint="\`$word\` is a class: quantify over its objects, as by \`forall v in $word { .. }\`."
+    else
+        return 1
+    fi
+}
+
 # What helps where a name means nothing.
 explain_unknown() {
+    [ -z "$word" ] || ! explain_known_word || return 0
     case $begun:${word,,} in
         *\ as:string | *\ as:str | *\ as:text | *\ as:char)
             hint="There are no strings: use an enumeration, and \`Name.Value\`; a variable's own"
@@ -515,6 +554,9 @@ explain_unknown() {
 # What helps where a type is wrong, if it can be told.
 explain_type() {
     case $begun:$next in
+        minimize:* | maximize:*)
+            hint="An objective is a number: count truths, as by"
+            hint="$hint \`$begun count v in Vm { v.on };\`." ;;
         *\ or:[0-9]* | *\ and:[0-9]*)
             hint="Write the whole comparison again: \`x = 1 or x = 3\`." ;;
         *:this-\>*) hint="An attribute is written \`this.size\`." ;;
