@@ -3,7 +3,7 @@
 ghost use Rattle.std.specs.Prelude.{◌≡◌};
 ghost use Rattle.conf_types.specs.Trees.{tree_of};
 ghost use Rattle.form_truths.specs.Tests.{wanted};
-ghost use Rattle.ground_model.specs.Fixing.{is_and, is_attribute, is_constant, is_equality, fixes};
+ghost use Rattle.ground_model.specs.Fixing.{is_and, is_attribute, is_constant, is_equality, gives, fixes};
 
 use conf_syntax::Op;
 use conf_types::{Constraint, RExpr, RNode};
@@ -22,7 +22,7 @@ fn is_equality(op: Op) -> bool
     op == Op::Eq
 }
 
-/// Whether an expression is an attribute that is named alone.
+/// Whether an expression is an attribute: named alone, or of an object that is named by dots.
 fn is_attribute(e: &RExpr) -> bool
     ensures { result ≡ is_attribute (tree_of e.now) }
 {
@@ -30,15 +30,15 @@ fn is_attribute(e: &RExpr) -> bool
         RNode::Own(_, _) | RNode::Root(_, _) => true,
         RNode::Number(_) => false,
         RNode::Truth(_) => false,
-        RNode::This => false,
-        RNode::Paren(_) => false,
+        RNode::This => true,
+        RNode::Paren(inner) => is_attribute(inner),
         RNode::Minus(_) => false,
         RNode::Not(_) => false,
         RNode::Pair(_, _, _) => false,
         RNode::Local(_) => false,
         RNode::Value(_, _) => false,
         RNode::Class(_) => false,
-        RNode::Dot(_, _, _) => false,
+        RNode::Dot(inner, _, _) => is_attribute(inner),
         RNode::Quant(_) => false,
     }
 }
@@ -63,6 +63,13 @@ fn is_constant(e: &RExpr) -> bool
     }
 }
 
+/// Whether one of the two is an attribute, and the other a constant.
+fn gives(left: &RExpr, right: &RExpr) -> bool
+    ensures { result ≡ gives (tree_of left.now) (tree_of right.now) }
+{
+    (is_attribute(left) && is_constant(right)) || (is_attribute(right) && is_constant(left))
+}
+
 /// Whether a constraint seems to give cells their values.
 fn fixes(e: &RExpr) -> bool
     ensures { result ≡ fixes (tree_of e.now) }
@@ -72,7 +79,7 @@ fn fixes(e: &RExpr) -> bool
             if is_and(*op) {
                 fixes(left) && fixes(right)
             } else {
-                is_equality(*op) && is_attribute(left) && is_constant(right)
+                is_equality(*op) && gives(left, right)
             }
         }
         RNode::Own(_, _) | RNode::Root(_, _) => true,
