@@ -11,3 +11,4 @@ pub mod HeldLaws
 pub mod LookLaws
 pub mod WatchingLaws
 pub mod TestLaws
+pub mod PackLaws

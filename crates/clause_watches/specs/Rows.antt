@@ -41,6 +41,22 @@ seen changed r = without (is_marked changed) r
 abbrev pub IsMaskOf : ℤ → Ranges → ℕ → Type 0
 IsMaskOf least set mask = (j : ℕ) → bit_at mask j ≡ 1 → has set (least +ℤ pos j) ≡ true
 
+-- each value of the set that lies among the 64 from the least one on has its bit
+abbrev pub IsWholeMaskOf : ℤ → Ranges → ℕ → Type 0
+IsWholeMaskOf least set mask =
+    (j : ℕ) → j < 64 → has set (least +ℤ pos j) ≡ true → bit_at mask j ≡ 1
+
+-- the value has its bit
+pub record HasBit (least : ℤ) (mask : ℕ) (v : ℤ) : Type 0 where
+  pub bit : ℕ
+  pub below : bit < 64
+  pub value : v ≡ least +ℤ pos bit
+  pub on : bit_at mask bit ≡ 1
+
+-- each value of the set has its bit
+abbrev pub HasAllBits : ℤ → Ranges → ℕ → Type 0
+HasAllBits least set mask = (v : ℤ) → has set v ≡ true → HasBit least mask v
+
 -- what a witness says of a set is true
 abbrev pub IsTrueOf : ℤ → Ranges → Witness → Type 0
 IsTrueOf least set (Mask mask) = IsMaskOf least set mask

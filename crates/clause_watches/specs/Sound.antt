@@ -3,13 +3,15 @@
 -- clause has it in its list, and what a watch says of its clause is true.
 use Rattle.std.specs.Prelude.{◌≡◌, ℕ, ◌<◌, Bool, true, false, cond, ◌==◌, List, [], ℤ, pos, length, map, slice_index_or}
 use Rattle.std.specs.List.{All, list_any}
+use Rattle.signed_clause.specs.Ranges.{IsValid}
 use Rattle.signed_clause.specs.Clauses.{Boxes, Literals, set_of, IsClause}
 use Rattle.clause_watches.specs.declared.rest.Rest.{Rest}
 use Rattle.clause_watches.specs.declared.watch.Watch.{Watch}
+use Rattle.clause_watches.specs.declared.packed.PackedLiteral.{PackedLiteral}
 use Rattle.clause_watches.specs.declared.table.Table.{Table}
 use Rattle.clause_watches.specs.Watching.{Watching, clause_of, rest_of, holds, IsKnown}
 use Rattle.clause_watches.specs.Marks.{is_marked}
-use Rattle.clause_watches.specs.Rows.{names, differ, seen, has_watch, AreBelow, AreRight}
+use Rattle.clause_watches.specs.Rows.{names, differ, seen, has_watch, AreBelow, AreRight, IsMaskOf, IsWholeMaskOf}
 
 -- the row of a variable
 abbrev pub row_of : List (List Watch) → ℕ → List Watch
@@ -47,12 +49,38 @@ pub record AreLinked (added : List (ℕ × Literals)) (rests : List Rest) (rows 
   pub held_listed : (i x : ℕ) → holds (rest_of rests i) x ≡ true →
       stands i (held_of held x) ≡ true
 
+-- the packed literal is the literal: its variable, and of the 64 values from the least one of the
+-- domain on exactly those of the set
+pub record IsCopy (leasts : List ℤ) (l : ℕ × List (ℤ × ℤ)) (p : PackedLiteral) : Type 0 where
+  pub variable : p.variable ≡ l.0
+  pub valid : IsValid l.1
+  pub bits : IsMaskOf (least_at leasts l.0) l.1 p.bits
+  pub whole : IsWholeMaskOf (least_at leasts l.0) l.1 p.bits
+
+-- the packed literals are those of the clause, one by one
+pub record IsPacked (leasts : List ℤ) (c : Literals) (ps : List PackedLiteral) : Type 0 where
+  pub size : length ps ≡ length c
+  pub each : (k : ℕ) → k < length c → (d : ℕ × List (ℤ × ℤ)) (e : PackedLiteral) →
+      IsCopy leasts (slice_index_or c k d) (slice_index_or ps k e)
+
+-- the packed literals of clause i
+abbrev pub packed_of : List (List PackedLiteral) → ℕ → List PackedLiteral
+packed_of packed i = slice_index_or packed i []
+
+-- each clause has its packed literals
+pub record ArePacked (leasts : List ℤ) (added : List (ℕ × Literals))
+    (packed : List (List PackedLiteral)) : Type 0 where
+  pub size : length packed ≡ length added
+  pub each : (i : ℕ) → i < length added →
+      IsPacked leasts (clause_of added i) (packed_of packed i)
+
 -- all of it
 pub record IsSound (t : Table) : Type 0 where
   pub leasts_size : length t.leasts.items ≡ length t.rows.items
   pub held_size : length t.held.items ≡ length t.rows.items
   pub changed_size : length t.changed ≡ length t.rows.items
   pub clauses : AreClauses (length t.rows.items) t.added.items
+  pub packed : ArePacked t.leasts.items t.added.items t.packed.items
   pub fit : AreLinked t.added.items t.rests t.rows.items t.leasts.items t.held.items
 
 -- what is known of each clause is true in the boxes, where those of the marked variables may have

@@ -3,10 +3,11 @@ ghost use Rattle.std.specs.Prelude.{◌≡◌, ◌<◌, ◌≤◌, ◌++◌, ◌
 ghost use Rattle.std.specs.List.{All};
 ghost use Rattle.signed_clause.specs.Clauses.{IsClause};
 ghost use Rattle.clause_watches.specs.Marks.{is_marked};
-ghost use Rattle.clause_watches.specs.Sound.{row_of, IsSound};
+ghost use Rattle.clause_watches.specs.Sound.{row_of, IsSound, IsPacked};
 
 use crate::counts::Counts;
 use crate::held::HeldBy;
+use crate::packed::PackedClause;
 use crate::rest::Rest;
 use crate::rests::Rests;
 use crate::row::Row;
@@ -16,6 +17,7 @@ use signed_clause::{ClauseHandle, IntSet};
 use std::alloc::{AllocError, Global};
 
 /// A table without clauses over the variables of these domains.
+#[tactic(auto, using(crate::proofs::PackLaws::none_packed))]
 pub(crate) fn empty_table(alloc: Global, domains: &[IntSet]) -> Result<Table, AllocError>
     ensures sound { IfOk result (λ t. IsSound t) }
     ensures rows { IfOk result (λ t. length t.rows.items ≡ length domains.now) }
@@ -28,7 +30,9 @@ pub(crate) fn empty_table(alloc: Global, domains: &[IntSet]) -> Result<Table, Al
     let held = none_held(alloc, n)?;
     let changed = empty_list(alloc, n)?;
     Ok(Table {
+        alloc,
         added: Vec::new(alloc),
+        packed: Vec::new(alloc),
         rests: Rests::new(alloc),
         rows,
         leasts,
@@ -102,10 +106,22 @@ pub(crate) fn add_clause(
         return Err(AllocError);
     }
     table.added.reserve(1)?;
+    table.packed.reserve(1)?;
+    let packed = pack(table, &clause)?;
     table.rests.push()?;
     check_form(&clause);
     table.added.push_reserved((number, clause));
+    table.packed.push_reserved(packed);
     Ok(())
+}
+
+/// The literals of a clause once more.
+fn pack(table: &Table, clause: &ClauseHandle) -> Result<PackedClause, AllocError>
+    requires { All (λ l. l.0 < length table.now.leasts.items) clause.now }
+    ensures { IfOk result (λ p. IsPacked table.now.leasts.items clause.now p) }
+{
+    let lits = clause.clause().literals();
+    PackedClause::of(table.alloc, lits, table.leasts.as_slice())
 }
 
 /// It does nothing; its contract is what every clause keeps.

@@ -5,6 +5,7 @@
 //! - `next`: the search for a clause, in two halves: `settle` walks the rows of changed variables,
 //!   `search` opens listed clauses.
 //! - `look`, `link`, `held`: what is found in a clause, and what is written down then.
+//! - `packed`: the literals of each clause once more, as looks read them.
 //! - `rest`, `steps`: why a clause needs no look, and what becomes of that.
 //! - `rests`: what is known of each added clause, with lists of those that need a look.
 //! - `watch`, `row`: the clauses that a variable watches, and a walk along them.
@@ -20,6 +21,7 @@ mod link;
 mod look;
 mod mask;
 mod next;
+mod packed;
 mod rest;
 mod rests;
 mod row;

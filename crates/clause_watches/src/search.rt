@@ -9,6 +9,7 @@ ghost use Rattle.clause_watches.specs.Looking.{AreKnownNow, left_in};
 use crate::held::hold;
 use crate::link::add_link;
 use crate::look::find_link;
+use crate::packed::note_met;
 use crate::rest::Rest;
 use crate::table::Table;
 use signed_clause::{Clause, IntSet};
@@ -64,6 +65,7 @@ fn look(table: &mut Table, i: u32, boxes: &[IntSet]) -> Result<bool, AllocError>
     match find_link(table, i, boxes) {
         Some(link) => {
             add_link(table, link)?;
+            note_met(&mut table.packed, i, link.place);
             Ok(false)
         }
         None => match find_holding(table, i, boxes) {

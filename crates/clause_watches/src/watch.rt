@@ -29,6 +29,15 @@ pub(crate) struct Site {
     pub(crate) mask: u64,
 }
 
+/// The values of a box as bits.
+#[derive(Clone, Copy)]
+pub(crate) struct BoxBits {
+    /// The bits.
+    pub(crate) bits: u64,
+    /// Whether all values of the box are among them.
+    pub(crate) whole: bool,
+}
+
 /// A watch and the variable in whose row it belongs.
 #[derive(Clone, Copy)]
 pub(crate) struct Link {
@@ -36,4 +45,6 @@ pub(crate) struct Link {
     pub(crate) variable: u32,
     /// The watch.
     pub(crate) watch: Watch,
+    /// Where the literal stands in its clause.
+    pub(crate) place: usize,
 }

@@ -14,6 +14,7 @@ returns-clause-sound c =
       held_size = search rules;
       changed_size = search rules;
       clauses = search rules;
+      packed = search rules;
       fit = subst (λ (rests : List Rest). AreLinked t.added.items rests t.rows.items
           t.leasts.items held) (sym c.set.ensures)
           (linked_held t.added.items t.rests t.rows.items t.leasts.items t.held.items held c.args.i

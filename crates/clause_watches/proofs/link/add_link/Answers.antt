@@ -23,6 +23,7 @@ returns-clause-sound c =
       held_size = search rules;
       changed_size = search rules;
       clauses = search rules;
+      packed = search rules;
       fit = subst (λ (rests : List Rest). AreLinked t.added.items rests rows t.leasts.items
           t.held.items) (sym news) more;
     }

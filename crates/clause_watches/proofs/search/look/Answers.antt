@@ -4,6 +4,7 @@ use Rattle.clause_watches.specs.Watching.{rest_of}
 use Rattle.clause_watches.specs.Looking.{linked, left_in}
 use Rattle.clause_watches.proofs.SettleLaws.{clause_form}
 use Rattle.clause_watches.proofs.LookLaws.{left_linked, left_held, acts_left}
+use Rattle.clause_watches.proofs.PackLaws.{packed_same}
 use Rattle.clause_watches.proofs.search.look.Goals as goal
 
 pub returns-in_ok-add_link-in-Some-clause-less : goal.returns-in_ok-add_link-in-Some-clause-less
@@ -32,3 +33,17 @@ returns-in-None-find_holding-clause-acts c = λ _.
     (clause_form t.added.items c.args.i c.requires.sound.clauses.forms)
     c.requires.listed (c.requires.known c.args.i) c.in-None.ensures.none
     c.in-None-find_holding.ensures.none
+
+pub returns-in_ok-add_link-in-Some-clause-sound : goal.returns-in_ok-add_link-in-Some-clause-sound
+returns-in_ok-add_link-in-Some-clause-sound c =
+    let t = c.add_link.new.table in
+    let sound = c.in_ok-add_link-in-Some.ensures.sound in
+    record {
+      leasts_size = sound.leasts_size;
+      held_size = sound.held_size;
+      changed_size = sound.changed_size;
+      clauses = sound.clauses;
+      packed = packed_same t.leasts.items t.added.items t.packed.items c.note_met.new.packed.items
+          sound.packed c.note_met.ensures.size c.note_met.ensures.same;
+      fit = sound.fit;
+    }

@@ -25,6 +25,7 @@ returns-clause-sound c =
       held_size = search rules;
       changed_size = search rules;
       clauses = search rules;
+      packed = search rules;
       fit = linked_after t.added.items t.rests c.walk_row.new.rests t.rows.items
           c.walk_row.new.rows.items t.leasts.items t.held.items
           c.box_at-at.result.now s sound.fit c.site_of-site.ensures.least
