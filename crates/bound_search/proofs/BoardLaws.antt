@@ -150,7 +150,7 @@ pub dropped_now : (k : ℕ) (s t : Stack) → length s.below ≤ k → dropped k
     s ≡ dropped k t
 dropped_now k s t h e = sym (dropped_from-none s.below s.top k h) ∙ e
 
-wider_still : (a b c : Boxes) → AreWider a b → AreWider b c → AreWider a c
+pub wider_still : (a b c : Boxes) → AreWider a b → AreWider b c → AreWider a c
 wider_still a b c f h = record {
   small_valid = f.small_valid;
   large_valid = h.large_valid;

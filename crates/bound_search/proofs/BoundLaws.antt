@@ -3,7 +3,7 @@ use Rattle.std.proofs.Common.{◌≡◌, ℕ, suc, ◌<◌, true, false, cond, L
 use Rattle.std.specs.List.{Contains, AllByRecursion}
 use Rattle.std.proofs.lemmas.Bool.Decides.{Decides-int_eq}
 use Rattle.std.proofs.lemmas.List.{get_or_default}
-use Rattle.std.proofs.lemmas.List.Elements.{All-append, All-cons}
+use Rattle.std.proofs.lemmas.List.Elements.{All-cons}
 use Rattle.signed_clause.specs.Ranges.{Ranges}
 use Rattle.signed_clause.specs.Clauses.{Boxes, Literals, false_in, clause_true, IsClause, IsWithinBoxes}
 use Rattle.signed_clause.specs.Running.{AreValid}
@@ -25,13 +25,14 @@ use Rattle.run_law.specs.Replay.{State, Mode, Going, Conflict, AtFound, Closed, 
 use Rattle.run_law.specs.Replay as replay
 use Rattle.run_law.proofs.Fronts.{made_more as made_with, state_more as state_with}
 use Rattle.run_law.proofs.LineSets.{one_more}
-use Rattle.run_law.proofs.StateSteps.{made_more, made_new}
+use Rattle.run_law.proofs.StateSteps.{made_new}
 use Rattle.run_law.proofs.FoundLines.{found_follows, single_true}
 use Rattle.run_law.proofs.BoundTruths.{bound_beats}
 use Rattle.bound_search.specs.BoundLists.{numbered_from, values_of}
+use Rattle.bound_search.specs.Awaited.{Awaited, asking}
 use Rattle.bound_search.specs.Standing.{IsRun, clauses_of, IsNumbered, AreAdded, AreWatched, IsFixed, IsAt}
-use Rattle.bound_search.proofs.MoreLines.{run_of, going_on, MayFollow, run_with, IsBehind, at_with, numbered_more}
-use Rattle.bound_search.proofs.Decisions.{idle_all, settled_at}
+use Rattle.bound_search.proofs.MoreLines.{run_of, going_on, MayFollow, run_with, IsBehind, at_with, numbered_more, AreKept}
+use Rattle.bound_search.proofs.Decisions.{settled_at}
 
 -- ---- what goals say of the values found
 
@@ -50,11 +51,6 @@ better-self (goal ∷ goals) a =
     rw here more
 
 -- ---- clauses and their numbers
-
-clauses_of-append : (ps qs : List (ℕ × Literals)) →
-    clauses_of (ps ++ qs) ≡ clauses_of ps ++ clauses_of qs
-clauses_of-append [] qs = refl
-clauses_of-append (p ∷ ps) qs = ap (λ (cs : List Literals). p.1 ∷ cs) (clauses_of-append ps qs)
 
 clauses_of-numbered : (n : ℕ) (cs : List Literals) → clauses_of (numbered_from n cs) ≡ cs
 clauses_of-numbered n [] = refl
@@ -94,15 +90,14 @@ numbered_list before (c ∷ cs) =
 -- ---- the Found line
 
 pub found_run : (g : Ground) (ls : List Line) (clauses : List Literals) (levels : Stack)
-    (added : List (ℕ × Literals)) (a : List ℤ) → IsAt g ls clauses levels added Going →
+    (added : Awaited) (a : List ℤ) → IsAt g ls clauses levels added Going →
     IsFixed g levels.top.now added → levels.top.now ≡ singles a → IsSolution g a →
     IsRun g (ls ++ Found a ∷ [])
 found_run g ls clauses levels added a at f single sol =
     let s = state_of g ls in
     let P : Stack → Type 0 = λ k. IsFixed g k.top.now added × (k.top.now ≡ singles a) in
     let here : P s.levels = subst P (sym at.levels_are) (f, single) in
-    let settled = settled_at clauses s added at.watched
-    (idle_all (top_boxes s) added here.0.idle) in
+    let settled = settled_at g clauses s added at.watched here.0 in
     record {
       well_made = at.lines.well_made;
       some = at.lines.some;
@@ -129,35 +124,31 @@ bound_follows g m s a vs mode open_so_far found h =
     record { sets = tt; comes = rw (open_so_far, told) refl; stands = at }
 
 bound_behind : (g : Ground) (m : Made) (s : State) (a vs : List ℤ)
-    (added : List (ℕ × Literals)) → m.found ≡ Some a → AreWatched m.clauses s added →
+    (added : Awaited) → m.found ≡ Some a → AreWatched m.clauses s added →
     IsBehind (after g m (Bound vs)) (next g m s (Bound vs))
     (m.clauses ++ bounds_of g.goals g.domains a) s.levels
-    (added ++ numbered_from (length m.clauses) (bounds_of g.goals g.domains a))
+    (asking (length m.clauses) (bounds_of g.goals g.domains a) added)
     (mode_by_bounds (top_boxes s) (length m.clauses) (bounds_of g.goals g.domains a))
 unfolding acceptance.after replay.changed
 bound_behind g m s a vs added found w =
     let n = length m.clauses in
     let bs = bounds_of g.goals g.domains a in
-    let more = added ++ numbered_from n bs in
+    let more = asking n bs added in
     let P : Option (List ℤ) → Type 0 = λ o. IsBehind
     (record { clauses = m.clauses ++ bounds g o; found = m.found })
     (record (asked n (bounds g o) s) { fresh = false }) (m.clauses ++ bs) s.levels more
     (mode_by_bounds (top_boxes s) n bs) in
-    let parts = clauses_of-append added (numbered_from n bs) in
-    let is : clauses_of more ≡ clauses_of added ++ bs =
-    parts ∙ ap (λ (cs : List Literals). clauses_of added ++ cs) (clauses_of-numbered n bs) in
-    let learnt : All (λ c. Contains (clauses_of added ++ bs) c) s.learnt =
-    made_more (clauses_of added) bs s.learnt w.learnt in
-    let new : All (λ c. Contains (clauses_of added ++ bs) c) bs = made_new (clauses_of added) bs in
+    let new : All (λ c. Contains bs c) bs = made_new [] bs in
     let here : P (Some a) = record {
       clauses_are = refl;
       levels_are = refl;
       mode_is = refl;
       watched = record {
-        numbered = All-append (λ p. IsNumbered (m.clauses ++ bs) p) added (numbered_from n bs)
-            (numbered_more m.clauses bs added w.numbered) (numbered_list m.clauses bs);
-        learnt = subst (λ (cs : List Literals). All (λ c. Contains cs c) s.learnt) (sym is) learnt;
-        bounds = subst (λ (cs : List Literals). All (λ c. Contains cs c) bs) (sym is) new;
+        numbered = numbered_more m.clauses bs added.watched w.numbered;
+        asked = numbered_list m.clauses bs;
+        learnt = w.learnt;
+        bounds = subst (λ (cs : List Literals). All (λ c. Contains cs c) bs)
+            (sym (clauses_of-numbered n bs)) new;
       };
     } in
     subst P (sym found) here
@@ -184,11 +175,11 @@ found_state g m s a = record {
 }
 
 pub bound_at : (g : Ground) (ls : List Line) (clauses : List Literals) (levels : Stack)
-    (added : List (ℕ × Literals)) (a vs : List ℤ) → IsAt g ls clauses levels added Going →
+    (added : Awaited) (a vs : List ℤ) → IsAt g ls clauses levels added Going →
     IsRun g (ls ++ Found a ∷ []) → states g.goals a vs ≡ true →
     IsAt g ((ls ++ Found a ∷ []) ++ Bound vs ∷ [])
     (clauses ++ bounds_of g.goals g.domains a) levels
-    (added ++ numbered_from (length clauses) (bounds_of g.goals g.domains a))
+    (asking (length clauses) (bounds_of g.goals g.domains a) added)
     (mode_by_bounds levels.top.now (length clauses) (bounds_of g.goals g.domains a))
 bound_at g ls clauses levels added a vs at r h =
     let bs = bounds_of g.goals g.domains a in
@@ -207,28 +198,30 @@ bound_at g ls clauses levels added a vs at r h =
     let open_so_far : has_empty n.clauses ≡ false =
     ap has_empty f.clauses_are ∙ going_on g ls at.lines at.mode_is in
     let watched : AreWatched n.clauses t added = record {
-      numbered = subst (λ (ds : List Literals). All (λ p. IsNumbered ds p) added) (sym cs)
+      numbered = subst (λ (ds : List Literals). All (λ p. IsNumbered ds p) added.watched) (sym cs)
           at.watched.numbered;
-      learnt = subst (AreAdded added) (sym f.learnt_is) at.watched.learnt;
-      bounds = subst (AreAdded added) (sym f.bounds_are) at.watched.bounds;
+      asked = subst (λ (ds : List Literals). All (λ p. IsNumbered ds p) added.asked) (sym cs)
+          at.watched.asked;
+      learnt = subst (AreKept added) (sym f.learnt_is) at.watched.learnt;
+      bounds = subst (AreAdded added.asked) (sym f.bounds_are) at.watched.bounds;
     } in
     let follows = bound_follows g n t a vs f.mode_is open_so_far f.found_is h in
     let run = run_with g news (Bound vs) r follows in
     let behind = bound_behind g n t a vs added f.found_is watched in
     let self : IsAt g (news ++ Bound vs ∷ []) (n.clauses ++ bs) t.levels
-    (added ++ numbered_from (length n.clauses) bs)
+    (asking (length n.clauses) bs added)
     (mode_by_bounds t.levels.top.now (length n.clauses) bs) =
     at_with g news (Bound vs) (n.clauses ++ bs) t.levels
-    (added ++ numbered_from (length n.clauses) bs)
+    (asking (length n.clauses) bs added)
     (mode_by_bounds t.levels.top.now (length n.clauses) bs) run behind in
     let two : IsAt g (news ++ Bound vs ∷ []) (clauses ++ bs) t.levels
-    (added ++ numbered_from (length clauses) bs)
+    (asking (length clauses) bs added)
     (mode_by_bounds t.levels.top.now (length clauses) bs) =
     subst (λ (ds : List Literals). IsAt g (news ++ Bound vs ∷ []) (ds ++ bs) t.levels
-    (added ++ numbered_from (length ds) bs) (mode_by_bounds t.levels.top.now (length ds) bs)) cs self
+    (asking (length ds) bs added) (mode_by_bounds t.levels.top.now (length ds) bs)) cs self
     in
     subst (λ (k : Stack). IsAt g (news ++ Bound vs ∷ []) (clauses ++ bs) k
-    (added ++ numbered_from (length clauses) bs)
+    (asking (length clauses) bs added)
     (mode_by_bounds k.top.now (length clauses) bs)) ks two
 
 -- ---- the search doesn't go on

@@ -1,6 +1,8 @@
 -- Where a search stands behind a decision.
-use Rattle.std.proofs.Common.{◌≡◌, ℕ, suc, ◌<◌, ◌≤◌, true, false, List, [], ◌∷◌, ◌++◌, length, refl, ap, arith, subst, None, slice_index_or}
-use Rattle.std.proofs.lemmas.Bool.{and_from, lt-ltb}
+use Rattle.std.proofs.Common.{◌≡◌, ◌⊎◌, inl, inr, ℕ, suc, ◌<◌, ◌≤◌, true, false, not, All, List, [], ◌∷◌, ◌++◌, length, refl, ap, arith, subst, None, slice_index_or}
+use Rattle.std.specs.List.{Contains}
+use Rattle.std.proofs.lemmas.Bool.{and_from, and_parts, not-true, lt-ltb}
+use Rattle.std.proofs.lemmas.List.Elements.{All-cons}
 use Rattle.signed_clause.specs.Ranges.{Ranges, is_nil}
 use Rattle.signed_clause.specs.Clauses.{Boxes, Literals, box_of}
 use Rattle.ground_form.specs.declared.ground.Ground.{Ground}
@@ -14,12 +16,13 @@ use Rattle.run_law.specs.Replay.{State, Mode, Going, top_boxes, is_going, acts, 
 use Rattle.run_law.specs.Replay as replay
 use Rattle.run_law.proofs.RunLaws.{none_of}
 use Rattle.run_law.proofs.FoundLines.{quiet_all}
+use Rattle.bound_search.specs.Awaited.{Awaited}
 use Rattle.bound_search.specs.Standing.{clauses_of, AreWatched, IsFixed, IsDecision, IsAt}
 use Rattle.bound_search.proofs.MoreLines.{boxes_at, going_on, MayFollow, run_with, IsBehind, at_with}
 
 -- ---- nothing is left to say
 
-pub idle_all : (boxes : Boxes) (added : List (ℕ × Literals)) →
+idle_all : (boxes : Boxes) (added : List (ℕ × Literals)) →
     ((i : ℕ) → i < length added → acts boxes (slice_index_or added i (0, [])).1 ≡ false) →
     none_acts boxes (clauses_of added) ≡ true
 idle_all boxes [] h = refl
@@ -28,14 +31,41 @@ idle_all boxes (p ∷ added) h =
     let more = idle_all boxes added (λ i lt. h (suc i) (omega arith)) in
     rw (here, more) refl
 
-pub settled_at : (clauses : List Literals) (s : State) (added : List (ℕ × Literals)) →
-    AreWatched clauses s added → none_acts (top_boxes s) (clauses_of added) ≡ true →
-    is_settled s ≡ true
-settled_at clauses s added w h =
+idle_list : (boxes : Boxes) (cs : List Literals) → All (λ c. acts boxes c ≡ false) cs →
+    none_acts boxes cs ≡ true
+idle_list boxes [] h = refl
+idle_list boxes (c ∷ cs) h =
+    let here : acts boxes c ≡ false = h 0 c (omega arith) in
+    let more = idle_list boxes cs (λ k d lt. h (suc k) d (omega arith)) in
+    rw (here, more) refl
+
+idle_one : (boxes : Boxes) (a : List Literals) (c : Literals) → none_acts boxes a ≡ true →
+    Contains a c → acts boxes c ≡ false
+idle_one boxes a c h w =
+    let one = none_of boxes a (c ∷ []) h
+    (All-cons (λ d. Contains a d) c [] w (λ k d lt. absurd (omega arith))) in
+    not-true (acts boxes c) (and_parts (not (acts boxes c)) true one).0
+
+none_both : (boxes : Boxes) (a b cs : List Literals) → none_acts boxes a ≡ true →
+    none_acts boxes b ≡ true → All (λ c. Contains a c ⊎ Contains b c) cs →
+    none_acts boxes cs ≡ true
+none_both boxes a b [] p q h = refl
+none_both boxes a b (c ∷ cs) p q h =
+    let here : acts boxes c ≡ false = elim (h 0 c (omega arith)) [
+      | inl w ↦ idle_one boxes a c p w
+      | inr w ↦ idle_one boxes b c q w
+    ] in
+    let more = none_both boxes a b cs p q (λ k d lt. h (suc k) d (omega arith)) in
+    rw (here, more) refl
+
+pub settled_at : (g : Ground) (clauses : List Literals) (s : State) (added : Awaited) →
+    AreWatched clauses s added → IsFixed g (top_boxes s) added → is_settled s ≡ true
+settled_at g clauses s added w f =
     let boxes = top_boxes s in
     and_from (none_acts boxes s.learnt) (none_acts boxes s.bounds)
-    (none_of boxes (clauses_of added) s.learnt h w.learnt)
-    (none_of boxes (clauses_of added) s.bounds h w.bounds)
+    (none_both boxes (clauses_of added.watched) added.sure s.learnt
+    (idle_all boxes added.watched f.watched) (idle_list boxes added.sure f.sure) w.learnt)
+    (none_of boxes (clauses_of added.asked) s.bounds (idle_all boxes added.asked f.asked) w.bounds)
 
 some_in : (boxes : Boxes) → ((x : ℕ) → x < length boxes → is_nil (box_of boxes x) ≡ false) →
     none_empty boxes ≡ true
@@ -47,7 +77,7 @@ some_in (b ∷ boxes) h =
 
 -- ---- a decision
 
-decide_follows : (g : Ground) (m : Made) (s : State) (added : List (ℕ × Literals)) (x : ℕ)
+decide_follows : (g : Ground) (m : Made) (s : State) (added : Awaited) (x : ℕ)
     (half : Ranges) → s.mode ≡ Going → has_empty m.clauses ≡ false →
     AreBoxesWithin g.domains (top_boxes s) → g.search ≤ length g.domains →
     AreWatched m.clauses s added → IsFixed g (top_boxes s) added →
@@ -61,7 +91,7 @@ decide_follows g m s added x half going open_so_far within few w f d =
     let on : is_going s.mode ≡ true = ap is_going going in
     let some = some_in boxes within.some in
     let still = quiet_all g.cons boxes f.is_quiet in
-    let settled = settled_at m.clauses s added w (idle_all boxes added f.idle) in
+    let settled = settled_at g m.clauses s added w f in
     let splits = d.splits in
     record {
       sets = d.valid;
@@ -70,7 +100,7 @@ decide_follows g m s added x half going open_so_far within few w f d =
     }
 
 decide_behind : (g : Ground) (m : Made) (s : State) (x : ℕ) (half : Ranges)
-    (added : List (ℕ × Literals)) → AreWatched m.clauses s added →
+    (added : Awaited) → AreWatched m.clauses s added →
     IsBehind (after g m (Decide x half)) (next g m s (Decide x half)) m.clauses
     (moved None x half s.levels) added Going
 unfolding acceptance.after replay.changed
@@ -78,10 +108,10 @@ decide_behind g m s x half added w = record {
   clauses_are = refl;
   levels_are = refl;
   mode_is = refl;
-  watched = record { numbered = w.numbered; learnt = w.learnt; bounds = w.bounds };
+  watched = record { numbered = w.numbered; asked = w.asked; learnt = w.learnt; bounds = w.bounds };
 }
 
-decide_self : (g : Ground) (ls : List Line) (added : List (ℕ × Literals)) (x : ℕ) (half : Ranges) →
+decide_self : (g : Ground) (ls : List Line) (added : Awaited) (x : ℕ) (half : Ranges) →
     IsAt g ls (made g ls).clauses (state_of g ls).levels added Going →
     IsFixed g (state_of g ls).levels.top.now added →
     IsDecision g (state_of g ls).levels.top.now x half →
@@ -99,7 +129,7 @@ decide_self g ls added x half at f d =
     (decide_behind g m s x half added at.watched)
 
 pub decide_at : (g : Ground) (ls : List Line) (clauses : List Literals) (levels : Stack)
-    (added : List (ℕ × Literals)) (x : ℕ) (half : Ranges) → IsAt g ls clauses levels added Going →
+    (added : Awaited) (x : ℕ) (half : Ranges) → IsAt g ls clauses levels added Going →
     IsFixed g levels.top.now added → IsDecision g levels.top.now x half →
     IsAt g (ls ++ Decide x half ∷ []) clauses (moved None x half levels) added Going
 decide_at g ls clauses levels added x half at f d =

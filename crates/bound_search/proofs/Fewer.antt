@@ -161,7 +161,7 @@ pub lower_still_below : (g : Ground) (a b : Boxes) (below : List Level) → AreB
 lower_still_below g a b [] h k = tt
 lower_still_below g a b (l ∷ ls) h k = (below_still g a b l.now h k.0, k.1)
 
-reacted-below : (n : ℕ) (c : Literals) (s : Stack) → (reacted n c s).below ≡ s.below
+pub reacted-below : (n : ℕ) (c : Literals) (s : Stack) → (reacted n c s).below ≡ s.below
 reacted-below n c s =
     elim (false_in s.top.now c) as (λ b.
     (cond b s (pruned_by n (unit_of s.top.now c) s)).below ≡ s.below) [

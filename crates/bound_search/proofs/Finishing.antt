@@ -18,11 +18,13 @@ use Rattle.bound_search.specs.declared.after.After.TheVariants as after
 use Rattle.bound_search.specs.declared.engine.Engine.{Engine}
 use Rattle.bound_search.specs.BoundLists.{numbered_from, values_of}
 use Rattle.bound_search.specs.Modes.{mode_of, rank}
+use Rattle.bound_search.specs.Awaited.{Awaited, asking, ground_boxes}
 use Rattle.bound_search.specs.Boards.{AreLower}
-use Rattle.bound_search.specs.Standing.{IsRun, IsFixed, IsAt}
-use Rattle.bound_search.specs.Engines.{Shows, Reached, IsKept, IsBounded}
+use Rattle.bound_search.specs.Standing.{IsRun, HoldsIn, IsFixed, IsAt}
+use Rattle.bound_search.specs.Engines.{added_of, Shows, Reached, IsKept, IsBounded}
 use Rattle.bound_search.proofs.BoundLaws.{states_values, found_run, bound_at, bound_stops, bounds_there}
 use Rattle.bound_search.proofs.Steps.{valid_at, known_clause, by_after, alike}
+use Rattle.bound_search.proofs.Turning.{awaited_same}
 use Rattle.bound_search.proofs.UseAxiom.{IsWritten, kept_by, kept_both}
 
 -- the goals have values
@@ -35,7 +37,7 @@ goals_there g a w s = λ k d lt.
 
 -- boxes at a fixpoint that are these values, a solution
 pub record IsFoundHere (g : Ground) (e : Engine) (a : List ℤ) : Type 0 where
-  pub fixed : IsFixed g e.board.store.top.now e.board.watches.added
+  pub fixed : IsFixed g e.board.store.top.now (added_of e)
   pub single : e.board.store.top.now ≡ singles a
   pub solves : IsSolution g a
 
@@ -47,17 +49,17 @@ pub record AreWritten (g : Ground) (old mid new : Journal) (a : List ℤ) : Type
 found_runs : (g : Ground) (old : Journal) (d : Engine) (a : List ℤ) → Shows g old.lines d Going →
     IsFoundHere g d a → IsRun g (old.lines ++ Found a ∷ [])
 found_runs g old d a s f =
-    found_run g old.lines d.clauses d.board.store d.board.watches.added a s.at f.fixed f.single
+    found_run g old.lines d.clauses d.board.store (added_of d) a s.at f.fixed f.single
     f.solves
 
 both_at : (g : Ground) (old : Journal) (d : Engine) (a : List ℤ) → Shows g old.lines d Going →
     IsFoundHere g d a →
     IsAt g ((old.lines ++ Found a ∷ []) ++ Bound (values_of a g.goals) ∷ [])
     (d.clauses ++ bounds_of g.goals g.domains a) d.board.store
-    (d.board.watches.added ++ numbered_from (length d.clauses) (bounds_of g.goals g.domains a))
+    (asking (length d.clauses) (bounds_of g.goals g.domains a) (added_of d))
     (mode_by_bounds d.board.store.top.now (length d.clauses) (bounds_of g.goals g.domains a))
 both_at g old d a s f =
-    bound_at g old.lines d.clauses d.board.store d.board.watches.added a (values_of a g.goals) s.at
+    bound_at g old.lines d.clauses d.board.store (added_of d) a (values_of a g.goals) s.at
     (found_runs g old d a s f) (states_values g.goals a)
 
 pub found_kept : (g : Ground) (old mid : Journal) (d : Engine) (a : List ℤ) →
@@ -96,7 +98,7 @@ vars_there g old d a s f =
     bounds_there d.board.store.top.now d.clauses bs (λ j.
     (known_clause g ((old.lines ++ Found a ∷ []) ++ Bound (values_of a g.goals) ∷ [])
     (d.clauses ++ bs) d.board.store
-    (d.board.watches.added ++ numbered_from (length d.clauses) bs)
+    (asking (length d.clauses) bs (added_of d))
     (mode_by_bounds d.board.store.top.now (length d.clauses) bs) j at).vars)
 
 ranks : (a : After) → (mode_of a ≡ Going → ⊥) → rank a ≤ 1
@@ -124,28 +126,36 @@ finish_step g old mid new d e a o s f w b =
     let lines : new.lines ≡ whole =
     w.bound.lines ∙ ap (λ (ls : List Line). ls ++ line ∷ []) w.found.lines in
     let one : IsAt g new.lines (d.clauses ++ bs) d.board.store
-    (d.board.watches.added ++ numbered_from (length d.clauses) bs) mode =
+    (asking (length d.clauses) bs (added_of d)) mode =
     subst (λ (ls : List Line). IsAt g ls (d.clauses ++ bs) d.board.store
-    (d.board.watches.added ++ numbered_from (length d.clauses) bs) mode) (sym lines) at in
+    (asking (length d.clauses) bs (added_of d)) mode) (sym lines) at in
     let two : IsAt g new.lines e.clauses d.board.store
-    (d.board.watches.added ++ numbered_from (length d.clauses) bs) mode =
+    (asking (length d.clauses) bs (added_of d)) mode =
     subst (λ (cs : List Literals). IsAt g new.lines cs d.board.store
-    (d.board.watches.added ++ numbered_from (length d.clauses) bs) mode) (sym b.clauses_are) one in
-    let three : IsAt g new.lines e.clauses d.board.store e.board.watches.added mode =
-    subst (λ (ps : List (ℕ × Literals)). IsAt g new.lines e.clauses d.board.store ps mode)
-    (sym b.added_are) two in
-    let four : IsAt g new.lines e.clauses e.board.store e.board.watches.added mode =
-    subst (λ (k : Stack). IsAt g new.lines e.clauses k e.board.watches.added mode) (sym b.store)
-    three in
+    (asking (length d.clauses) bs (added_of d)) mode) (sym b.clauses_are) one in
+    let waits : added_of e ≡ asking (length d.clauses) bs (added_of d) =
+    awaited_same e.board.watches.added d.board.watches.added e.asked.items
+    (numbered_from (length d.clauses) bs) e.sure.items d.sure.items b.watched_are b.asked_are
+    b.sure_are in
+    let three : IsAt g new.lines e.clauses d.board.store (added_of e) mode =
+    subst (λ (ps : Awaited). IsAt g new.lines e.clauses d.board.store ps mode) (sym waits) two in
+    let four : IsAt g new.lines e.clauses e.board.store (added_of e) mode =
+    subst (λ (k : Stack). IsAt g new.lines e.clauses k (added_of e) mode) (sym b.store) three in
     let table = s.table in
     let same = b.table in
+    let still : All (λ c. HoldsIn (ground_boxes e.board.store) c) d.sure.items =
+    subst (λ (k : Stack). All (λ c. HoldsIn (ground_boxes k) c) d.sure.items) (sym b.store) s.sure in
+    let sure : All (λ c. HoldsIn (ground_boxes e.board.store) c) e.sure.items =
+    subst (λ (cs : List Literals). All (λ c. HoldsIn (ground_boxes e.board.store) c) cs)
+    (sym b.sure_are) still in
     let shows : Shows g new.lines e mode = record {
       at = four;
+      sure = sure;
       board = b.board g s.board;
       lower = subst (λ (k : Stack). AreLower g k.top.now k.below) (sym b.store) s.lower;
       table = omega (arith, table, same);
     } in
-    let valid = valid_at g old.lines d.clauses d.board.store d.board.watches.added Going s.at in
+    let valid = valid_at g old.lines d.clauses d.board.store (added_of d) Going s.at in
     record {
       at = by_after g new.lines e mode o b.mode four.lines four.mode_is shows;
       stops = ranks o (λ h. bound_stops g (length d.clauses) boxes a s.at.lines.well_made valid

@@ -4,7 +4,7 @@ use Rattle.std.proofs.lemmas.Bool.{and_parts, not-true, lt-ltb}
 use Rattle.std.proofs.lemmas.List.{length_push}
 use Rattle.signed_clause.specs.Ranges.{Ranges, is_nil}
 use Rattle.signed_clause.specs.SetAlgebra.{is_within}
-use Rattle.signed_clause.specs.Clauses.{Boxes, Literals, box_of, false_in}
+use Rattle.signed_clause.specs.Clauses.{Boxes, Literals, box_of, false_in, IsWithinBoxes}
 use Rattle.signed_clause.proofs.SetFacts.{within_law}
 use Rattle.ground_form.specs.declared.ground.Ground.{Ground}
 use Rattle.numbered_clauses.specs.declared.chain.Chain as chains
@@ -31,12 +31,14 @@ use Rattle.bound_search.specs.declared.after.After.TheVariants as after
 use Rattle.bound_search.specs.declared.board.Board.{Board}
 use Rattle.bound_search.specs.declared.engine.Engine.{Engine}
 use Rattle.bound_search.specs.Modes.{rank}
+use Rattle.bound_search.specs.Awaited.{Awaited, keeping, is_sure, ground_boxes}
 use Rattle.bound_search.specs.Boards.{IsBoard}
-use Rattle.bound_search.specs.Standing.{IsRun, IsFixed, IsDecision, IsAt}
-use Rattle.bound_search.specs.Engines.{Shows, Reached, IsApplied, IsEngineWith, IsKeptBy, IsKept, MayTakeIn, IsTakenIn, IsFall}
+use Rattle.bound_search.specs.Standing.{IsRun, HoldsIn, IsFixed, IsDecision, IsAt}
+use Rattle.bound_search.specs.Engines.{added_of, Shows, Reached, IsApplied, IsEngineWith, IsKeptBy, IsKept, MayTakeIn, IsTakenIn, IsFall}
 use Rattle.bound_search.proofs.BoardLaws.{lower_dropped}
 use Rattle.bound_search.proofs.Fewer.{decided_lower, below_same}
 use Rattle.bound_search.proofs.MoreLines.{run_of, boxes_at}
+use Rattle.bound_search.proofs.Sure.{sure_reacted, sure_decided, sure_dropped, sure_more}
 use Rattle.bound_search.proofs.Decisions.{decide_at}
 use Rattle.bound_search.proofs.Chains.{IsExplained, chain_closes, chain_at}
 use Rattle.bound_search.proofs.Steps.{valid_at, decisions-behind}
@@ -70,25 +72,25 @@ pub record HasDecided (g : Ground) (old new : Journal) (d e : Engine) : Type 0 w
 
 pub decide_kept : (g : Ground) (order : Order) (hints : Hints) (old new : Journal) (d : Engine)
     (x : ℕ) (half : Ranges) → Shows g old.lines d Going →
-    IsFixed g d.board.store.top.now d.board.watches.added →
+    IsFixed g d.board.store.top.now (added_of d) →
     IsDecision g d.board.store.top.now x half → IsWritten old new (Decide x half) →
     IsDecidedBy order d.board.store.top.now hints g.search x half →
     IsKeptBy g order hints old new
 decide_kept g order hints old new d x half s f h w by =
-    let at = decide_at g old.lines d.clauses d.board.store d.board.watches.added x half s.at f h in
+    let at = decide_at g old.lines d.clauses d.board.store (added_of d) x half s.at f h in
     kept_line g order hints old new (Decide x half) w
     (subst (λ (k : Stack). IsDecidedBy order k.top.now hints g.search x half)
     (sym s.at.levels_are) by) at.lines.run
 
 pub decide_step : (g : Ground) (old new : Journal) (d e : Engine) (x : ℕ) (half : Ranges) →
-    Shows g old.lines d Going → IsFixed g d.board.store.top.now d.board.watches.added →
+    Shows g old.lines d Going → IsFixed g d.board.store.top.now (added_of d) →
     IsDecision g d.board.store.top.now x half → IsWritten old new (Decide x half) →
-    IsEngineWith d e d.clauses d.board.watches.added →
+    IsEngineWith d e d.clauses (added_of d) →
     e.board.store ≡ moved None x half d.board.store →
     IsBoard g e.board.store e.board.queue e.board.watches → HasDecided g old new d e
 decide_step g old new d e x half s f h w k store board =
     let levels = d.board.store in
-    let added = d.board.watches.added in
+    let added = (added_of d) in
     let at = decide_at g old.lines d.clauses levels added x half s.at f h in
     let valid = valid_at g old.lines d.clauses levels added Going s.at in
     let boxes = boxes_at g old.lines d.clauses levels added Going s.at in
@@ -108,7 +110,7 @@ decide_step g old new d e x half s f h w k store board =
     subst (λ (q : Stack). IsAt g (old.lines ++ Decide x half ∷ []) e.clauses q added Going)
     (sym store) one in
     let three : IsAt g (old.lines ++ Decide x half ∷ []) e.clauses e.board.store
-    e.board.watches.added Going = subst (λ (ps : List (ℕ × Literals)).
+    (added_of e) Going = subst (λ (ps : Awaited).
     IsAt g (old.lines ++ Decide x half ∷ []) e.clauses e.board.store ps Going)
     (sym k.added_are) two in
     let table = s.table in
@@ -118,8 +120,11 @@ decide_step g old new d e x half s f h w k store board =
     let deeper = ap (λ (q : Stack). length q.below) store in
     record {
       at = record {
-        at = subst (λ (ls : List Line). IsAt g ls e.clauses e.board.store e.board.watches.added
+        at = subst (λ (ls : List Line). IsAt g ls e.clauses e.board.store (added_of e)
             Going) (sym w.lines) three;
+        sure = subst (λ (cs : List Literals). All (λ c. HoldsIn (ground_boxes e.board.store) c) cs)
+            (sym (ap (λ (w : Awaited). w.sure) k.added_are))
+            (sure_decided x half levels e.board.store d.sure.items store s.sure);
         board = board;
         lower = decided_lower g x half levels e.board.store valid
             (omega (arith, searched, few, size)) part f.is_quiet store s.lower;
@@ -139,7 +144,7 @@ pub record IsKnownConflict (clauses : List Literals) (levels : Stack) (n : ℕ) 
   pub came : CameFrom clauses levels
 
 pub conflict_known : (g : Ground) (ls : List Line) (clauses : List Literals) (levels : Stack)
-    (added : List (ℕ × Literals)) (n : ℕ) → IsAt g ls clauses levels added (Conflict n) →
+    (added : Awaited) (n : ℕ) → IsAt g ls clauses levels added (Conflict n) →
     IsKnownConflict clauses levels n
 conflict_known g ls clauses levels added n at =
     let r = run_of g ls at.lines in
@@ -160,7 +165,7 @@ conflict_known g ls clauses levels added n at =
     subst (λ (k : Stack). IsKnownConflict clauses k n) at.levels_are one
 
 pub domains_at : (g : Ground) (ls : List Line) (clauses : List Literals) (levels : Stack)
-    (added : List (ℕ × Literals)) (mode : Mode) → IsAt g ls clauses levels added mode →
+    (added : Awaited) (mode : Mode) → IsAt g ls clauses levels added mode →
     domains_of levels ≡ g.domains
 domains_at g ls clauses levels added mode at =
     ap domains_of (sym at.levels_are) ∙ run_domains g ls (run_of g ls at.lines)
@@ -247,13 +252,13 @@ pub record IsLesson (clauses : List Literals) (levels : Stack) (n : ℕ) (chain 
   pub drops : 0 < level → IsDroppedBy c levels level
 
 pub lesson_run : (g : Ground) (ls : List Line) (clauses : List Literals) (levels : Stack)
-    (added : List (ℕ × Literals)) (n : ℕ) (chain : chains.Chain) (c : Literals) (level : ℕ) →
+    (added : Awaited) (n : ℕ) (chain : chains.Chain) (c : Literals) (level : ℕ) →
     IsAt g ls clauses levels added (Conflict n) → IsLesson clauses levels n chain c level →
     IsRun g (ls ++ Chain chain c ∷ [])
 lesson_run g ls clauses levels added n chain c zero at h =
     (chain_closes g ls clauses levels added n chain c at h.explained (h.closes.0 refl)).lines
 lesson_run g ls clauses levels added n chain c (suc k) at h =
-    (chain_at g ls clauses levels added n chain c (suc k) at h.explained
+    (chain_at g ls clauses levels added n chain c (suc k) false at h.explained
     (h.drops (omega arith))).lines
 
 pub lesson_kept : (g : Ground) (old new : Journal) (d : Engine) (n : ℕ) (chain : chains.Chain)
@@ -262,14 +267,14 @@ pub lesson_kept : (g : Ground) (old new : Journal) (d : Engine) (n : ℕ) (chain
     IsKept g old new
 lesson_kept g old new d n chain c level s h w =
     kept_by g old new (Chain chain c) w (λ g order hints s. tt)
-    (lesson_run g old.lines d.clauses d.board.store d.board.watches.added n chain c level s.at h)
+    (lesson_run g old.lines d.clauses d.board.store (added_of d) n chain c level s.at h)
 
 pub lesson_closes : (g : Ground) (old new : Journal) (d : Engine) (n : ℕ) (chain : chains.Chain)
     (c : Literals) (level : ℕ) → Shows g old.lines d (Conflict n) →
     IsLesson d.clauses d.board.store n chain c level → IsWritten old new (Chain chain c) →
     level ≡ 0 → has_empty (made g new.lines).clauses ≡ true
 lesson_closes g old new d n chain c level s h w e =
-    let closed = (chain_closes g old.lines d.clauses d.board.store d.board.watches.added n chain c
+    let closed = (chain_closes g old.lines d.clauses d.board.store (added_of d) n chain c
     s.at h.explained (h.closes.0 e)).closed in
     subst (λ (ls : List Line). has_empty (made g ls).clauses ≡ true) (sym w.lines) closed
 
@@ -279,7 +284,7 @@ pub may_take_in : (g : Ground) (ls : List Line) (d : Engine) (n : ℕ) (chain : 
     MayTakeIn g d.board.store c level
 may_take_in g ls d n chain c level s h lt =
     let levels = d.board.store in
-    let added = d.board.watches.added in
+    let added = (added_of d) in
     let size = (boxes_at g ls d.clauses levels added (Conflict n) s.at).size in
     let is = domains_at g ls d.clauses levels added (Conflict n) s.at in
     let within = subst (λ (b : Boxes). IsWithinDomains b c) is h.within in
@@ -297,18 +302,30 @@ pub lesson_reached : (g : Ground) (old new : Journal) (d e : Engine) (n : ℕ) (
     0 < level → IsTakenIn g d e c level a → Reached g new.lines e a
 lesson_reached g old new d e n chain c level a s h w lt t =
     let levels = d.board.store in
-    let added = d.board.watches.added in
+    let added = (added_of d) in
     let drop = h.drops lt in
     let exists = drop.exists in
     let below = dropped (level - 1) levels in
-    let at = chain_at g old.lines d.clauses levels added n chain c level s.at h.explained drop in
+    let was = (may_take_in g old.lines d n chain c level s h lt).vars in
+    let size = s.board.size in
+    let now = t.applied.board.size in
+    let vars : IsWithinBoxes c e.board.store.top.now = λ k l less.
+    let there = was k l less in omega (arith, there, size, now) in
+    let b = is_sure e.board.store c in
+    let at = chain_at g old.lines d.clauses levels added n chain c level b s.at h.explained drop in
     let lower = lower_dropped g (level - 1) levels below (omega (arith, lt, exists)) s.lower refl in
     line_reached g old new (Chain chain c) d e below (length d.clauses) c (d.clauses ++ c ∷ [])
-    (added ++ (length d.clauses, c) ∷ []) a (record {
+    (keeping b (length d.clauses) c added) a (record {
       written = w;
       engine = t.engine;
       applied = t.applied;
       lower = lower.below;
+      sure = subst (λ (cs : List Literals). All (λ c. HoldsIn (ground_boxes e.board.store) c) cs)
+          (sym (ap (λ (w : Awaited). w.sure) t.engine.added_are))
+          (sure_more b e.board.store c d.sure.items h.explained.form vars refl
+          (sure_reacted (length d.clauses) c below e.board.store d.sure.items h.explained.form
+          lower.top.wider.large_valid t.applied.store
+          (sure_dropped (level - 1) levels d.sure.items s.sure)));
       form = h.explained.form;
       valid = lower.top.wider.large_valid;
       table = s.table;
@@ -338,17 +355,20 @@ taken_same g d e b c level a same t =
 
 -- the analysis before it changed no more than what the table holds
 pub taken_table : (g : Ground) (d f e : Engine) (c : Literals) (level : ℕ) (a : After) →
-    f.board ≡ d.board → f.clauses ≡ d.clauses → length f.running ≡ length d.running →
+    f.board ≡ d.board → f.clauses ≡ d.clauses → added_of f ≡ added_of d →
+    length f.running ≡ length d.running →
     IsTakenIn g f e c level a → IsTakenIn g d e c level a
-taken_table g d f e c level a boards clauses table t =
+taken_table g d f e c level a boards clauses added table t =
     let P : Board → List Literals → Type 0 = λ b cs.
     IsApplied g e (dropped (level - 1) b.store) (length cs) c a in
-    let Q : Board → List Literals → Type 0 = λ b cs.
-    (e.clauses ≡ cs ++ c ∷ []) × (e.board.watches.added ≡ b.watches.added ++ (length cs, c) ∷ []) in
+    let Q : Awaited → List Literals → Type 0 = λ w cs.
+    (e.clauses ≡ cs ++ c ∷ [])
+    × (added_of e ≡ keeping (is_sure e.board.store c) (length cs) c w) in
     let one : P d.board f.clauses = subst (λ (b : Board). P b f.clauses) boards t.applied in
-    let both : Q f.board f.clauses = (t.engine.clauses_are, t.engine.added_are) in
-    let two : Q d.board f.clauses = subst (λ (b : Board). Q b f.clauses) boards both in
-    let three : Q d.board d.clauses = subst (λ (cs : List Literals). Q d.board cs) clauses two in
+    let both : Q (added_of f) f.clauses = (t.engine.clauses_are, t.engine.added_are) in
+    let two : Q (added_of d) f.clauses = subst (λ (w : Awaited). Q w f.clauses) added both in
+    let three : Q (added_of d) d.clauses =
+    subst (λ (cs : List Literals). Q (added_of d) cs) clauses two in
     record {
       applied = subst (λ (cs : List Literals). P d.board cs) clauses one;
       engine = record {

@@ -3,6 +3,7 @@ pub mod MoreLines
 pub mod Decisions
 pub mod Chains
 pub mod Fewer
+pub mod Sure
 pub mod Steps
 pub mod UseAxiom
 pub mod Learning

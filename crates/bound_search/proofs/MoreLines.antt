@@ -1,5 +1,6 @@
 -- Where a search stands behind a line more.
-use Rattle.std.proofs.Common.{◌≡◌, ℕ, zero, suc, ◌<◌, true, false, ◌&&◌, List, [], ◌∷◌, ◌++◌, length, refl, sym, ap, ◌∙◌, arith, subst, All, Some, slice_get, slice_index_or, length-append}
+use Rattle.std.proofs.Common.{◌≡◌, ◌⊎◌, ℕ, zero, suc, ◌<◌, true, false, ◌&&◌, List, [], ◌∷◌, ◌++◌, length, refl, sym, ap, ◌∙◌, arith, subst, All, Some, slice_get, slice_index_or, length-append}
+use Rattle.std.specs.List.{Contains}
 use Rattle.std.proofs.lemmas.Bool.{and_from, lt-ltb}
 use Rattle.std.proofs.lemmas.List.{get_or_append_left}
 use Rattle.signed_clause.specs.SetAlgebra.{is_within}
@@ -22,14 +23,15 @@ use Rattle.run_law.proofs.Fronts.{run_more, made_more, state_more}
 use Rattle.run_law.proofs.LineSets.{one_more}
 use Rattle.run_law.proofs.RunLaws.{IsRunOf, state_is, run_boxes}
 use Rattle.run_law.proofs.FoundLines.{going_open}
-use Rattle.bound_search.specs.Standing.{IsRun, IsNumbered, AreAdded, AreWatched, IsReason, IsAt}
+use Rattle.bound_search.specs.Awaited.{Awaited}
+use Rattle.bound_search.specs.Standing.{IsRun, clauses_of, IsNumbered, AreAdded, AreWatched, IsReason, IsAt}
 
 pub run_of : (g : Ground) (ls : List Line) → IsRun g ls → IsRunOf g ls
 run_of g ls r = record { well_made = r.well_made; sets = r.sets; run = r.run }
 
 -- the boxes are those that propagators may be asked about
 pub boxes_at : (g : Ground) (ls : List Line) (clauses : List Literals) (levels : Stack)
-    (added : List (ℕ × Literals)) (mode : Mode) → IsAt g ls clauses levels added mode →
+    (added : Awaited) (mode : Mode) → IsAt g ls clauses levels added mode →
     AreBoxesWithin g.domains levels.top.now
 boxes_at g ls clauses levels added mode at =
     subst (λ (s : Stack). AreBoxesWithin g.domains s.top.now) at.levels_are
@@ -58,14 +60,14 @@ run_with g ls l r f = record {
 
 -- what stands behind it
 pub record IsBehind (m : Made) (s : State) (clauses : List Literals) (levels : Stack)
-    (added : List (ℕ × Literals)) (mode : Mode) : Type 0 where
+    (added : Awaited) (mode : Mode) : Type 0 where
   pub clauses_are : m.clauses ≡ clauses
   pub levels_are : s.levels ≡ levels
   pub mode_is : s.mode ≡ mode
   pub watched : AreWatched clauses s added
 
 pub at_with : (g : Ground) (ls : List Line) (l : Line) (clauses : List Literals) (levels : Stack)
-    (added : List (ℕ × Literals)) (mode : Mode) → IsRun g (ls ++ l ∷ []) →
+    (added : Awaited) (mode : Mode) → IsRun g (ls ++ l ∷ []) →
     IsBehind (after g (made g ls) l) (next g (made g ls) (state_of g ls) l) clauses levels added mode
     → IsAt g (ls ++ l ∷ []) clauses levels added mode
 at_with g ls l clauses levels added mode r b =
@@ -80,6 +82,11 @@ at_with g ls l clauses levels added mode r b =
 
 -- ---- what is watched
 
+-- each of the learnt clauses is watched or true at level 0
+abbrev pub AreKept : Awaited → List Literals → Type 0
+AreKept added cs =
+    All (λ c. Contains (clauses_of added.watched) c ⊎ Contains added.sure c) cs
+
 -- the numbers stay right where clauses are added
 pub numbered_more : (cs ds : List Literals) (added : List (ℕ × Literals)) →
     All (λ p. IsNumbered cs p) added → All (λ p. IsNumbered (cs ++ ds) p) added
@@ -93,13 +100,14 @@ numbered_more cs ds added h = λ k d lt.
       is = get_or_append_left cs ds [] p.0 exists ∙ here.is;
     }
 
-pub watched_more : (cs ds : List Literals) (s t : State) (added : List (ℕ × Literals)) →
+pub watched_more : (cs ds : List Literals) (s t : State) (added : Awaited) →
     t.learnt ≡ s.learnt → t.bounds ≡ s.bounds → AreWatched cs s added →
     AreWatched (cs ++ ds) t added
 watched_more cs ds s t added l b w = record {
-  numbered = numbered_more cs ds added w.numbered;
-  learnt = subst (AreAdded added) (sym l) w.learnt;
-  bounds = subst (AreAdded added) (sym b) w.bounds;
+  numbered = numbered_more cs ds added.watched w.numbered;
+  asked = numbered_more cs ds added.asked w.asked;
+  learnt = subst (AreKept added) (sym l) w.learnt;
+  bounds = subst (AreAdded added.asked) (sym b) w.bounds;
 }
 
 -- ---- a clause is used
@@ -121,7 +129,7 @@ use_follows g m s i going open_so_far lt h =
     let on : is_going s.mode ≡ true = ap is_going going in
     record { sets = tt; comes = rw (open_so_far, below) refl; stands = rw (on, h) refl }
 
-use_behind : (g : Ground) (m : Made) (s : State) (i : ℕ) (added : List (ℕ × Literals)) →
+use_behind : (g : Ground) (m : Made) (s : State) (i : ℕ) (added : Awaited) →
     AreWatched m.clauses s added →
     IsBehind (after g m (Use i)) (next g m s (Use i)) m.clauses
     (reacted i (clause_at m.clauses i) s.levels) added
@@ -131,7 +139,7 @@ use_behind g m s i added w = record {
   clauses_are = refl;
   levels_are = refl;
   mode_is = refl;
-  watched = record { numbered = w.numbered; learnt = w.learnt; bounds = w.bounds };
+  watched = record { numbered = w.numbered; asked = w.asked; learnt = w.learnt; bounds = w.bounds };
 }
 
 -- what is asked of the clause of a number that is used
@@ -140,7 +148,7 @@ pub record IsUsed (clauses : List Literals) (levels : Stack) (i : ℕ) (c : Lite
   pub is : clause_at clauses i ≡ c
   pub acting : acts levels.top.now c ≡ true
 
-use_self : (g : Ground) (ls : List Line) (added : List (ℕ × Literals)) (i : ℕ) →
+use_self : (g : Ground) (ls : List Line) (added : Awaited) (i : ℕ) →
     IsAt g ls (made g ls).clauses (state_of g ls).levels added Going →
     IsUsed (made g ls).clauses (state_of g ls).levels i (clause_at (made g ls).clauses i) →
     IsAt g (ls ++ Use i ∷ []) (made g ls).clauses
@@ -156,7 +164,7 @@ use_self g ls added i at u =
     (mode_by s.levels.top.now i (clause_at m.clauses i)) run (use_behind g m s i added at.watched)
 
 pub use_at : (g : Ground) (ls : List Line) (clauses : List Literals) (levels : Stack)
-    (added : List (ℕ × Literals)) (i : ℕ) (c : Literals) → IsAt g ls clauses levels added Going →
+    (added : Awaited) (i : ℕ) (c : Literals) → IsAt g ls clauses levels added Going →
     IsUsed clauses levels i c →
     IsAt g (ls ++ Use i ∷ []) clauses (reacted i c levels) added (mode_by levels.top.now i c)
 use_at g ls clauses levels added i c at u =
@@ -217,7 +225,7 @@ axiom_follows g m s k c going open_so_far size r =
     }
 
 axiom_behind : (g : Ground) (m : Made) (s : State) (k : ℕ) (c : Literals)
-    (added : List (ℕ × Literals)) → AreWatched m.clauses s added →
+    (added : Awaited) → AreWatched m.clauses s added →
     IsBehind (after g m (Axiom k c)) (next g m s (Axiom k c)) (m.clauses ++ c ∷ [])
     (reacted (length m.clauses) c s.levels) added (mode_by (top_boxes s) (length m.clauses) c)
 unfolding acceptance.after replay.changed
@@ -228,7 +236,7 @@ axiom_behind g m s k c added w = record {
   watched = watched_more m.clauses (c ∷ []) s (next g m s (Axiom k c)) added refl refl w;
 }
 
-axiom_self : (g : Ground) (ls : List Line) (added : List (ℕ × Literals)) (k : ℕ) (c : Literals) →
+axiom_self : (g : Ground) (ls : List Line) (added : Awaited) (k : ℕ) (c : Literals) →
     IsAt g ls (made g ls).clauses (state_of g ls).levels added Going →
     IsReason g (state_of g ls).levels.top.now k c →
     IsAt g (ls ++ Axiom k c ∷ []) ((made g ls).clauses ++ c ∷ [])
@@ -245,7 +253,7 @@ axiom_self g ls added k c at r =
     (mode_by s.levels.top.now (length m.clauses) c) run (axiom_behind g m s k c added at.watched)
 
 pub axiom_at : (g : Ground) (ls : List Line) (clauses : List Literals) (levels : Stack)
-    (added : List (ℕ × Literals)) (k : ℕ) (c : Literals) → IsAt g ls clauses levels added Going →
+    (added : Awaited) (k : ℕ) (c : Literals) → IsAt g ls clauses levels added Going →
     IsReason g levels.top.now k c →
     IsAt g (ls ++ Axiom k c ∷ []) (clauses ++ c ∷ []) (reacted (length clauses) c levels) added
     (mode_by levels.top.now (length clauses) c)

@@ -23,7 +23,7 @@ use Rattle.run_law.specs.Ordered.{IsDecidedBy, IsOrdered}
 use Rattle.run_law.specs.Decisions.{MayDecide}
 use Rattle.bound_search.specs.declared.engine.Engine.{Engine}
 use Rattle.bound_search.specs.Standing.{IsDecision}
-use Rattle.bound_search.specs.Engines.{Shows, IsDue, IsKeptBy}
+use Rattle.bound_search.specs.Engines.{added_of, Shows, IsDue, IsKeptBy}
 use Rattle.bound_search.proofs.MoreLines.{boxes_at}
 use Rattle.bound_search.proofs.Decisions.{decide_at}
 use Rattle.bound_search.proofs.Steps.{valid_at}
@@ -32,7 +32,7 @@ pub asked_at : (g : Ground) (ls : List Line) (e : Engine) (hints : Hints) → Sh
     g.search ≤ length hints → IsAsked e.board.store.top.now hints g.search
 asked_at g ls e hints s h =
     let boxes = e.board.store.top.now in
-    let w = boxes_at g ls e.clauses e.board.store e.board.watches.added Going s.at in
+    let w = boxes_at g ls e.clauses e.board.store (added_of e) Going s.at in
     let size = w.size in
     let few = s.at.lines.well_made.few_variables in
     let search = s.at.lines.well_made.search in
@@ -75,7 +75,7 @@ pub due_decision : (g : Ground) (ls : List Line) (order : Order) (hints : Hints)
     IsDecision g e.board.store.top.now s.var (taken e.board.store.top.now s)
 due_decision g ls order hints e s d f =
     let boxes = e.board.store.top.now in
-    let valid = valid_at g ls e.clauses e.board.store e.board.watches.added Going d.at.at in
+    let valid = valid_at g ls e.clauses e.board.store (added_of e) Going d.at.at in
     let split = d.picked.split s refl in
     record {
       searched = split.undecided.searched;
@@ -107,7 +107,7 @@ due_may_decide g ls order hints e s d f =
       var = s.var;
       half = taken boxes s;
       set = decision.valid;
-      stands = (decide_at g ls e.clauses e.board.store e.board.watches.added s.var (taken boxes s)
+      stands = (decide_at g ls e.clauses e.board.store (added_of e) s.var (taken boxes s)
           d.at.at d.fixed decision).lines.run;
     }
 

@@ -1,5 +1,5 @@
 -- What the steps of a search come to.
-use Rattle.std.proofs.Common.{◌≡◌, ℕ, ◌+◌, ◌≤◌, true, List, [], ◌∷◌, ◌++◌, length, sym, ap, ◌∙◌, arith, subst}
+use Rattle.std.proofs.Common.{◌≡◌, ℕ, ◌+◌, ◌≤◌, true, List, [], ◌∷◌, ◌++◌, length, sym, ap, ◌∙◌, arith, subst, All}
 use Rattle.signed_clause.specs.Clauses.{Boxes, Literals, IsClause, IsWithinBoxes}
 use Rattle.signed_clause.specs.Running.{AreValid}
 use Rattle.ground_form.specs.declared.ground.Ground.{Ground}
@@ -17,16 +17,17 @@ use Rattle.bound_search.specs.declared.after.After.{After}
 use Rattle.bound_search.specs.declared.after.After.TheVariants as after
 use Rattle.bound_search.specs.declared.engine.Engine.{Engine}
 use Rattle.bound_search.specs.Modes.{mode_of}
+use Rattle.bound_search.specs.Awaited.{Awaited, ground_boxes}
 use Rattle.bound_search.specs.Boards.{AreLower}
-use Rattle.bound_search.specs.Standing.{IsRun, IsAt}
-use Rattle.bound_search.specs.Engines.{Shows, Reached, IsApplied, IsTurn}
+use Rattle.bound_search.specs.Standing.{IsRun, HoldsIn, IsAt}
+use Rattle.bound_search.specs.Engines.{added_of, Shows, Reached, IsApplied, IsTurn}
 use Rattle.bound_search.proofs.MoreLines.{run_of, boxes_at}
 use Rattle.bound_search.proofs.Fewer.{fewer_values, reacted_lower, below_same}
 
 -- ---- clauses and boxes of the engine
 
 pub valid_at : (g : Ground) (ls : List Line) (clauses : List Literals) (levels : Stack)
-    (added : List (ℕ × Literals)) (mode : Mode) → IsAt g ls clauses levels added mode →
+    (added : Awaited) (mode : Mode) → IsAt g ls clauses levels added mode →
     AreValid levels.top.now
 valid_at g ls clauses levels added mode at =
     valid_boxes levels.top.now (boxes_at g ls clauses levels added mode at).sets
@@ -38,7 +39,7 @@ pub record IsKnownClause (g : Ground) (boxes : Boxes) (c : Literals) : Type 0 wh
   pub vars : IsWithinBoxes c boxes
 
 pub known_clause : (g : Ground) (ls : List Line) (clauses : List Literals) (levels : Stack)
-    (added : List (ℕ × Literals)) (mode : Mode) (i : ℕ) → IsAt g ls clauses levels added mode →
+    (added : Awaited) (mode : Mode) (i : ℕ) → IsAt g ls clauses levels added mode →
     IsKnownClause g levels.top.now (clause_at clauses i)
 known_clause g ls clauses levels added mode i at =
     let r = run_of g ls at.lines in
@@ -64,11 +65,13 @@ closed_made g ls r e = (run_closed g ls (run_of g ls r)).0 e
 
 shows_by : (g : Ground) (ls : List Line) (e : Engine) (old : Stack) (n : ℕ) (c : Literals)
     (mode : Mode) (a : After) →
-    IsAt g ls e.clauses (reacted n c old) e.board.watches.added mode →
+    IsAt g ls e.clauses (reacted n c old) (added_of e) mode →
     IsApplied g e old n c a → AreLower g old.top.now old.below → IsClause c →
-    AreValid old.top.now → length g.domains ≤ length e.running → Shows g ls e mode
-shows_by g ls e old n c mode a at p lower f valid table = record {
-  at = subst (λ (s : Stack). IsAt g ls e.clauses s e.board.watches.added mode) (sym p.store) at;
+    AreValid old.top.now → All (λ c. HoldsIn (ground_boxes e.board.store) c) e.sure.items →
+    length g.domains ≤ length e.running → Shows g ls e mode
+shows_by g ls e old n c mode a at p lower f valid sure table = record {
+  at = subst (λ (s : Stack). IsAt g ls e.clauses s (added_of e) mode) (sym p.store) at;
+  sure = sure;
   board = p.board;
   lower = reacted_lower g n c old e.board.store f valid p.store lower;
   table = table;
@@ -83,12 +86,13 @@ by_after g ls e mode after.Closed h r k s = closed_made g ls r (k ∙ sym h)
 
 pub reached_by : (g : Ground) (ls : List Line) (e : Engine) (old : Stack) (n : ℕ) (c : Literals)
     (a : After) →
-    IsAt g ls e.clauses (reacted n c old) e.board.watches.added (mode_by old.top.now n c) →
+    IsAt g ls e.clauses (reacted n c old) (added_of e) (mode_by old.top.now n c) →
     IsApplied g e old n c a → AreLower g old.top.now old.below → IsClause c →
-    AreValid old.top.now → length g.domains ≤ length e.running → Reached g ls e a
-reached_by g ls e old n c a at p lower f valid table =
+    AreValid old.top.now → All (λ c. HoldsIn (ground_boxes e.board.store) c) e.sure.items →
+    length g.domains ≤ length e.running → Reached g ls e a
+reached_by g ls e old n c a at p lower f valid sure table =
     by_after g ls e (mode_by old.top.now n c) a p.mode at.lines at.mode_is
-    (shows_by g ls e old n c (mode_by old.top.now n c) a at p lower f valid table)
+    (shows_by g ls e old n c (mode_by old.top.now n c) a at p lower f valid sure table)
 
 pub turn_by : (g : Ground) (d e : Engine) (n : ℕ) (c : Literals) (a : After) →
     IsApplied g e d.board.store n c a → IsClause c → AreValid d.board.store.top.now →

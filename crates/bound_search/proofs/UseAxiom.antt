@@ -1,5 +1,5 @@
 -- The steps that use a clause and that write a constraint's.
-use Rattle.std.proofs.Common.{◌≡◌, ℕ, ◌≤◌, true, List, [], ◌∷◌, ◌++◌, length, refl, sym, ◌∙◌, arith, subst}
+use Rattle.std.proofs.Common.{◌≡◌, ℕ, ◌≤◌, true, List, [], ◌∷◌, ◌++◌, length, refl, sym, ap, ◌∙◌, arith, subst, All}
 use Rattle.signed_clause.specs.Clauses.{Literals, IsClause}
 use Rattle.signed_clause.specs.Running.{AreValid}
 use Rattle.ground_form.specs.declared.ground.Ground.{Ground}
@@ -15,10 +15,12 @@ use Rattle.run_law.proofs.Orders.{ordered_more}
 use Rattle.run_law.specs.Decisions.{decisions}
 use Rattle.bound_search.specs.declared.after.After.{After}
 use Rattle.bound_search.specs.declared.engine.Engine.{Engine}
+use Rattle.bound_search.specs.Awaited.{Awaited, ground_boxes}
 use Rattle.bound_search.specs.Boards.{AreLower}
-use Rattle.bound_search.specs.Standing.{IsRun, IsReason, IsAt}
-use Rattle.bound_search.specs.Engines.{Shows, Reached, IsKeptBy, IsKept, IsApplied, IsEngineWith, IsTurn}
+use Rattle.bound_search.specs.Standing.{IsRun, HoldsIn, IsReason, IsAt}
+use Rattle.bound_search.specs.Engines.{added_of, Shows, Reached, IsKeptBy, IsKept, IsApplied, IsEngineWith, IsTurn}
 use Rattle.bound_search.proofs.MoreLines.{IsUsed, use_at, axiom_at}
+use Rattle.bound_search.proofs.Sure.{sure_reacted}
 use Rattle.bound_search.proofs.Steps.{valid_at, known_clause, reached_by, turn_by, alike}
 
 -- the journal got a line, and nothing else of it has changed
@@ -69,18 +71,19 @@ kept_both g a b c h k = λ order hints.
 
 -- a line was written, and its clause, of number n, was applied to the levels s
 pub record IsDone (g : Ground) (old new : Journal) (l : Line) (d e : Engine) (s : Stack) (n : ℕ)
-    (c : Literals) (clauses : List Literals) (added : List (ℕ × Literals)) (a : After) : Type 0
+    (c : Literals) (clauses : List Literals) (added : Awaited) (a : After) : Type 0
   where
     pub written : IsWritten old new l
     pub engine : IsEngineWith d e clauses added
     pub applied : IsApplied g e s n c a
     pub lower : AreLower g s.top.now s.below
+    pub sure : All (λ c. HoldsIn (ground_boxes e.board.store) c) e.sure.items
     pub form : IsClause c
     pub valid : AreValid s.top.now
     pub table : length g.domains ≤ length d.running
 
 pub line_reached : (g : Ground) (old new : Journal) (l : Line) (d e : Engine) (s : Stack) (n : ℕ)
-    (c : Literals) (clauses : List Literals) (added : List (ℕ × Literals)) (a : After) →
+    (c : Literals) (clauses : List Literals) (added : Awaited) (a : After) →
     IsDone g old new l d e s n c clauses added a →
     IsAt g (old.lines ++ l ∷ []) clauses (reacted n c s) added (mode_by s.top.now n c) →
     Reached g new.lines e a
@@ -90,16 +93,27 @@ line_reached g old new l d e s n c clauses added a h at =
     let one : IsAt g (old.lines ++ l ∷ []) e.clauses levels added mode =
     subst (λ (cs : List Literals). IsAt g (old.lines ++ l ∷ []) cs levels added mode)
     (sym h.engine.clauses_are) at in
-    let two : IsAt g (old.lines ++ l ∷ []) e.clauses levels e.board.watches.added mode =
-    subst (λ (ps : List (ℕ × Literals)). IsAt g (old.lines ++ l ∷ []) e.clauses levels ps mode)
+    let two : IsAt g (old.lines ++ l ∷ []) e.clauses levels (added_of e) mode =
+    subst (λ (ps : Awaited). IsAt g (old.lines ++ l ∷ []) e.clauses levels ps mode)
     (sym h.engine.added_are) one in
-    let three : IsAt g new.lines e.clauses levels e.board.watches.added mode =
-    subst (λ (ls : List Line). IsAt g ls e.clauses levels e.board.watches.added mode)
+    let three : IsAt g new.lines e.clauses levels (added_of e) mode =
+    subst (λ (ls : List Line). IsAt g ls e.clauses levels (added_of e) mode)
     (sym h.written.lines) two in
     let old_table = h.table in
     let same = h.engine.table in
-    reached_by g new.lines e s n c a three h.applied h.lower h.form h.valid
+    reached_by g new.lines e s n c a three h.applied h.lower h.form h.valid h.sure
     (omega (arith, old_table, same))
+
+-- what is true at level 0 stays so, where the clause was applied at the last level
+sure_kept : (d e : Engine) (n : ℕ) (c : Literals) (clauses : List Literals) →
+    IsEngineWith d e clauses (added_of d) → IsClause c → AreValid d.board.store.top.now →
+    e.board.store ≡ reacted n c d.board.store →
+    All (λ c. HoldsIn (ground_boxes d.board.store) c) d.sure.items →
+    All (λ c. HoldsIn (ground_boxes e.board.store) c) e.sure.items
+sure_kept d e n c clauses k f valid store h =
+    let here = sure_reacted n c d.board.store e.board.store d.sure.items f valid store h in
+    subst (λ (cs : List Literals). All (λ c. HoldsIn (ground_boxes e.board.store) c) cs)
+    (sym (ap (λ (w : Awaited). w.sure) k.added_are)) here
 
 -- what a step within a level comes to
 pub record IsStep (g : Ground) (old new : Journal) (d e : Engine) (a : After) : Type 0 where
@@ -110,11 +124,11 @@ pub record IsStep (g : Ground) (old new : Journal) (d e : Engine) (a : After) : 
 
 pub use_step : (g : Ground) (old new : Journal) (d e : Engine) (n : ℕ) (c : Literals) (a : After) →
     Shows g old.lines d Going → IsUsed d.clauses d.board.store n c → IsWritten old new (Use n) →
-    IsEngineWith d e d.clauses d.board.watches.added → IsApplied g e d.board.store n c a →
+    IsEngineWith d e d.clauses (added_of d) → IsApplied g e d.board.store n c a →
     IsStep g old new d e a
 use_step g old new d e n c a s u w f p =
     let levels = d.board.store in
-    let added = d.board.watches.added in
+    let added = (added_of d) in
     let at = use_at g old.lines d.clauses levels added n c s.at u in
     let form : IsClause c = subst IsClause u.is
     (known_clause g old.lines d.clauses levels added Going n s.at).form in
@@ -126,6 +140,7 @@ use_step g old new d e n c a s u w f p =
         engine = f;
         applied = p;
         lower = s.lower;
+        sure = sure_kept d e n c d.clauses f form valid p.store s.sure;
         form = form;
         valid = valid;
         table = s.table;
@@ -137,11 +152,11 @@ use_step g old new d e n c a s u w f p =
 pub axiom_step : (g : Ground) (old new : Journal) (d e : Engine) (k : ℕ) (c : Literals)
     (a : After) → Shows g old.lines d Going → IsReason g d.board.store.top.now k c →
     IsWritten old new (Axiom k c) →
-    IsEngineWith d e (d.clauses ++ c ∷ []) d.board.watches.added →
+    IsEngineWith d e (d.clauses ++ c ∷ []) (added_of d) →
     IsApplied g e d.board.store (length d.clauses) c a → IsStep g old new d e a
 axiom_step g old new d e k c a s r w f p =
     let levels = d.board.store in
-    let added = d.board.watches.added in
+    let added = (added_of d) in
     let n = length d.clauses in
     let at = axiom_at g old.lines d.clauses levels added k c s.at r in
     let form : IsClause c = r.prunes.form in
@@ -153,6 +168,7 @@ axiom_step g old new d e k c a s r w f p =
         engine = f;
         applied = p;
         lower = s.lower;
+        sure = sure_kept d e n c (d.clauses ++ c ∷ []) f form valid p.store s.sure;
         form = form;
         valid = valid;
         table = s.table;
@@ -166,12 +182,12 @@ pub use_kept : (g : Ground) (old new : Journal) (d : Engine) (n : ℕ) (c : Lite
     Shows g old.lines d Going → IsUsed d.clauses d.board.store n c → IsWritten old new (Use n) →
     IsKept g old new
 use_kept g old new d n c s u w =
-    let at = use_at g old.lines d.clauses d.board.store d.board.watches.added n c s.at u in
+    let at = use_at g old.lines d.clauses d.board.store (added_of d) n c s.at u in
     kept_by g old new (Use n) w (λ g order hints s. tt) at.lines
 
 pub axiom_kept : (g : Ground) (old new : Journal) (d : Engine) (k : ℕ) (c : Literals) →
     Shows g old.lines d Going → IsReason g d.board.store.top.now k c →
     IsWritten old new (Axiom k c) → IsKept g old new
 axiom_kept g old new d k c s r w =
-    let at = axiom_at g old.lines d.clauses d.board.store d.board.watches.added k c s.at r in
+    let at = axiom_at g old.lines d.clauses d.board.store (added_of d) k c s.at r in
     kept_by g old new (Axiom k c) w (λ g order hints s. tt) at.lines

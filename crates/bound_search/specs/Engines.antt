@@ -1,6 +1,7 @@
 -- What each step of a search keeps true. What a reader believes after this file: the engine shows
 -- where the lines of the journal have led, and how far each step is from the end of its loop.
 use Rattle.std.specs.Prelude.{◌≡◌, ℕ, ◌+◌, ◌*◌, ◌-◌, ◌<◌, ◌≤◌, true, List, [], ◌∷◌, ◌++◌, Option, Some, None, length}
+use Rattle.std.specs.List.{All}
 use Rattle.signed_clause.specs.Ranges.{count_of}
 use Rattle.signed_clause.specs.Clauses.{Boxes, Literals, IsClause, IsWithinBoxes}
 use Rattle.ground_form.specs.declared.ground.Ground.{Ground}
@@ -20,13 +21,19 @@ use Rattle.bound_search.specs.declared.engine.Engine.{Engine}
 use Rattle.bound_search.specs.declared.settling.Step.{Step}
 use Rattle.bound_search.specs.declared.settling.Step.TheVariants as step
 use Rattle.bound_search.specs.BoundLists.{numbered_from}
+use Rattle.bound_search.specs.Awaited.{Awaited, awaited, keeping, is_sure, ground_boxes}
 use Rattle.bound_search.specs.Modes.{mode_of, rank}
 use Rattle.bound_search.specs.Boards.{IsBoard, AreLower}
-use Rattle.bound_search.specs.Standing.{IsFixed, IsAt}
+use Rattle.bound_search.specs.Standing.{HoldsIn, IsFixed, IsAt}
+
+-- the clauses that it waits for
+abbrev pub added_of : Engine → Awaited
+added_of e = awaited e.board.watches.added e.asked.items e.sure.items
 
 -- the engine stands where the lines have led
 pub record Shows (g : Ground) (ls : List Line) (e : Engine) (mode : Mode) : Type 0 where
-  pub at : IsAt g ls e.clauses e.board.store e.board.watches.added mode
+  pub at : IsAt g ls e.clauses e.board.store (added_of e) mode
+  pub sure : All (λ c. HoldsIn (ground_boxes e.board.store) c) e.sure.items
   pub board : IsBoard g e.board.store e.board.queue e.board.watches
   pub lower : AreLower g e.board.store.top.now e.board.store.below
   pub table : length g.domains ≤ length e.running
@@ -48,10 +55,9 @@ pub record IsApplied (g : Ground) (e : Engine) (old : Stack) (n : ℕ) (c : Lite
   pub board : IsBoard g e.board.store e.board.queue e.board.watches
 
 -- the engine keeps its clauses and its table but for what a step does to them
-pub record IsEngineWith (d e : Engine) (clauses : List Literals) (added : List (ℕ × Literals)) :
-    Type 0 where
+pub record IsEngineWith (d e : Engine) (clauses : List Literals) (added : Awaited) : Type 0 where
   pub clauses_are : e.clauses ≡ clauses
-  pub added_are : e.board.watches.added ≡ added
+  pub added_are : added_of e ≡ added
   pub table : length e.running ≡ length d.running
 
 -- the level that a learnt clause drops stands, and in the boxes below it its variables have boxes
@@ -66,7 +72,7 @@ pub record IsTakenIn (g : Ground) (d e : Engine) (c : Literals) (level : ℕ) (a
   where
     pub applied : IsApplied g e (dropped (level - 1) d.board.store) (length d.clauses) c a
     pub engine : IsEngineWith d e (d.clauses ++ c ∷ [])
-        (d.board.watches.added ++ (length d.clauses, c) ∷ [])
+        (keeping (is_sure e.board.store c) (length d.clauses) c (added_of d))
 
 -- ---- what a step does to the journal
 
@@ -108,21 +114,22 @@ pub record IsFall (old new : Engine) (a : After) : Type 0 where
 -- one line more, or a fixpoint
 abbrev pub TurnOf : Ground → List Line → Engine → Option After → Type 0
 TurnOf g ls e None =
-    Shows g ls e Going × IsFixed g e.board.store.top.now e.board.watches.added
+    Shows g ls e Going × IsFixed g e.board.store.top.now (added_of e)
 TurnOf g ls e (Some a) = Reached g ls e a
 
 -- at a fixpoint, where the search goes on
 abbrev pub FixedIf : Ground → Engine → After → Type 0
-FixedIf g e a = a ≡ after.Going → IsFixed g e.board.store.top.now e.board.watches.added
+FixedIf g e a = a ≡ after.Going → IsFixed g e.board.store.top.now (added_of e)
 
 -- ---- bounds
 
--- the clauses of a Bound line got numbers and are watched, and nothing else of the engine has
+-- the clauses of a Bound line got numbers and are asked for, and nothing else of the engine has
 -- changed
 pub record IsBounded (old new : Engine) (cs : List Literals) (a : After) : Type 0 where
   pub clauses_are : new.clauses ≡ old.clauses ++ cs
-  pub added_are : new.board.watches.added
-      ≡ old.board.watches.added ++ numbered_from (length old.clauses) cs
+  pub asked_are : new.asked.items ≡ numbered_from (length old.clauses) cs
+  pub watched_are : new.board.watches.added ≡ old.board.watches.added
+  pub sure_are : new.sure.items ≡ old.sure.items
   pub store : new.board.store ≡ old.board.store
   pub table : length new.running ≡ length old.running
   pub board : (g : Ground) → IsBoard g old.board.store old.board.queue old.board.watches
@@ -135,7 +142,7 @@ pub record IsBounded (old new : Engine) (cs : List Literals) (a : After) : Type 
 pub record IsDue (g : Ground) (ls : List Line) (order : Order) (hints : Hints) (e : Engine)
     (s : Split) : Type 0 where
   pub at : Shows g ls e Going
-  pub fixed : IsFixed g e.board.store.top.now e.board.watches.added
+  pub fixed : IsFixed g e.board.store.top.now (added_of e)
   pub picked : IsPick order e.board.store.top.now hints g.search (Some s)
 
 -- a decision is due, or something else has come

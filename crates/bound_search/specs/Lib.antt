@@ -3,4 +3,5 @@ pub mod Boards
 pub mod Standing
 pub mod Engines
 pub mod BoundLists
+pub mod Awaited
 pub mod Ends

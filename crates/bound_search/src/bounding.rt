@@ -1,28 +1,24 @@
 //! The lines behind a solution: what was found, and what is asked of a better one.
-ghost use Rattle.std.specs.Prelude.{◌≡◌, ◌≤◌, ◌<◌, ◌++◌, ◌∷◌, [], ℕ, true, length, cond, IfOk, OnOk, drop, Some, slice_get};
+ghost use Rattle.std.specs.Prelude.{◌≡◌, ◌≤◌, ◌<◌, ◌++◌, ◌∷◌, [], ℕ, true, length, cond, IfOk, OnOk};
 ghost use Rattle.std.specs.List.{All};
 ghost use Rattle.signed_clause.specs.Clauses.{IsWithinBoxes, false_in};
-ghost use Rattle.ground_form.specs.declared.ground.Ground.{Ground};
 ghost use Rattle.ground_form.specs.Bounds.{singles, low_of};
 ghost use Rattle.ground_form.specs.Meaning.{value_of};
 ghost use Rattle.ground_form.specs.Solutions.{IsSolution};
 ghost use Rattle.ground_form.specs.WellMade.{IsWellMade};
 ghost use Rattle.rule_law.specs.Singles.{least_values};
 ghost use Rattle.rule_law.specs.Answers.{AreBoxesWithin};
-ghost use Rattle.fd_store.specs.Levels.{Stack};
-ghost use Rattle.prop_queue.specs.Work.{Work, AreAllQuiet};
+ghost use Rattle.prop_queue.specs.Work.{AreAllQuiet};
 ghost use Rattle.branch_choice.specs.Picks.{AreAllSingle};
-ghost use Rattle.log_form.specs.Acceptance.{states, has_empty};
+ghost use Rattle.log_form.specs.Acceptance.{has_empty};
 ghost use Rattle.run_law.specs.Replay.{Mode, Going, Conflict, first_false};
 ghost use Rattle.bound_search.specs.BoundLists.{numbered_from, first_or, values_of};
-ghost use Rattle.bound_search.specs.Boards.{IsBoard};
 ghost use Rattle.bound_search.specs.Modes.{rank};
 ghost use Rattle.bound_search.specs.Standing.{IsFixed};
-ghost use Rattle.bound_search.specs.Engines.{Shows, Reached, IsKept, DecideAlike, IsBounded};
+ghost use Rattle.bound_search.specs.Engines.{added_of, Shows, Reached, IsKept, DecideAlike, IsBounded};
 
 use crate::after::After;
 use crate::engine::Engine;
-use clause_watches::Watches;
 use ground_form::{Ground, GroundGoal, Number};
 use log_form::{Line, Values, bounds_of};
 use numbered_clauses::Clauses;
@@ -109,54 +105,48 @@ fn has_empty(list: &[ClauseHandle]) -> bool
     false
 }
 
-/// Gives the clause a number, and watches it. It answers the conflict that was found before, or
-/// else this clause's number where it is false.
+/// Gives the clause a number, and asks for it from now on. It answers the conflict that was found
+/// before, or else this clause's number where it is false.
 fn take_bound(
     clauses: &mut Clauses,
-    watches: &mut Watches,
+    asked: &mut Vec<(u64, ClauseHandle)>,
     boxes: &[IntSet],
     c: &ClauseHandle,
     first: Option<u64>,
 ) -> Result<Option<u64>, AllocError>
     requires vars { IsWithinBoxes c.now boxes.now }
-    requires variables { watches.old.variables ≡ length boxes.now }
     ensures clauses { OnOk result (clauses.new ≡ clauses.old ++ c.now ∷ []) }
-    ensures variables { watches.new.variables ≡ watches.old.variables }
-    ensures added { OnOk result (watches.new.added
-        ≡ watches.old.added ++ (length clauses.old, c.now) ∷ []) }
-    ensures board { OnOk result ((g : Ground) (s : Stack) (work : Work)
-        → IsBoard g s work watches.old → IsBoard g s work watches.new) }
+    ensures asked { OnOk result (asked.new.items
+        ≡ asked.old.items ++ (length clauses.old, c.now) ∷ []) }
     ensures first { IfOk result (λ o. (rest : Mode) → first_or o rest
         ≡ first_or first (cond (false_in boxes.now c.now) (Conflict (length clauses.old)) rest)) }
 {
     let number = clauses.push(c.copy()?)?;
-    watches.add(number, c.copy()?)?;
+    asked.push((number, c.copy()?))?;
     if first.is_none() && c.clause().is_false(boxes) {
         return Ok(Some(number));
     }
     Ok(first)
 }
 
-/// Gives the clauses numbers, and watches them. It answers the number of the first that is false.
+/// Gives the clauses numbers, and asks for them alone from now on. It answers the number of the
+/// first that is false.
 fn take_bounds(
     clauses: &mut Clauses,
-    watches: &mut Watches,
+    asked: &mut Vec<(u64, ClauseHandle)>,
     boxes: &[IntSet],
     list: &[ClauseHandle],
 ) -> Result<Option<u64>, AllocError>
     requires vars { All (λ c. IsWithinBoxes c boxes.now) list.now }
-    requires variables { watches.old.variables ≡ length boxes.now }
     ensures clauses { OnOk result (clauses.new ≡ clauses.old ++ list.now) }
-    ensures added { OnOk result (watches.new.added
-        ≡ watches.old.added ++ numbered_from (length clauses.old) list.now) }
-    ensures board { OnOk result ((g : Ground) (s : Stack) (work : Work)
-        → IsBoard g s work watches.old → IsBoard g s work watches.new) }
+    ensures asked { OnOk result (asked.new.items ≡ numbered_from (length clauses.old) list.now) }
     ensures first { IfOk result (λ o. first_or o Going
         ≡ first_false boxes.now (length clauses.old) list.now) }
 {
+    asked.clear();
     let mut first = None;
     for c in list {
-        first = take_bound(clauses, watches, boxes, c, first)?;
+        first = take_bound(clauses, asked, boxes, c, first)?;
     }
     Ok(first)
 }
@@ -165,15 +155,9 @@ fn take_bounds(
 /// false is the conflict.
 fn take_all(e: &mut Engine, list: &[ClauseHandle]) -> Result<After, AllocError>
     requires vars { All (λ c. IsWithinBoxes c e.old.board.store.top.now) list.now }
-    requires variables { e.old.board.watches.variables ≡ length e.old.board.store.top.now }
     ensures bound { IfOk result (λ a. IsBounded e.old e.new list.now a) }
 {
-    let first = take_bounds(
-        &mut e.clauses,
-        &mut e.board.watches,
-        e.board.store.boxes(),
-        list,
-    )?;
+    let first = take_bounds(&mut e.clauses, &mut e.asked, e.board.store.boxes(), list)?;
     if has_empty(list) {
         return Ok(After::Closed);
     }
@@ -186,7 +170,7 @@ fn take_all(e: &mut Engine, list: &[ClauseHandle]) -> Result<After, AllocError>
 /// Writes the solution that the boxes are, and asks for a better one.
 pub fn finish(g: &Ground, e: &mut Engine, journal: &mut Journal) -> Result<After, AllocError>
     requires at { Shows g.now journal.old.lines e.old Going }
-    requires fixed { IsFixed g.now e.old.board.store.top.now e.old.board.watches.added }
+    requires fixed { IsFixed g.now e.old.board.store.top.now (added_of e.old) }
     requires single { AreAllSingle e.old.board.store.top.now g.now.search }
     ensures kept { IsKept g.now journal.old journal.new }
     ensures at { IfOk result (λ a. Reached g.now journal.new.lines e.new a) }

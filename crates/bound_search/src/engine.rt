@@ -2,7 +2,7 @@
 //!
 //! Each function writes its line as soon as nothing but memory can be wanting, so that the lines
 //! are a run at every time.
-ghost use Rattle.std.specs.Prelude.{◌≡◌, ◌<◌, ◌+◌, ◌-◌, ◌*◌, ◌++◌, [], ◌∷◌, true, length, IfOk, OnOk};
+ghost use Rattle.std.specs.Prelude.{◌≡◌, ◌<◌, ◌+◌, ◌-◌, ◌*◌, ◌++◌, [], ◌∷◌, true, cond, length, IfOk, OnOk};
 ghost use Rattle.ground_form.specs.WellMade.{IsWellMade};
 ghost use Rattle.log_form.specs.Acceptance.{clause_at};
 ghost use Rattle.branch_choice.specs.declared.split.Order.{Order};
@@ -12,11 +12,13 @@ ghost use Rattle.run_law.specs.Ordered.{IsDecidedBy};
 ghost use Rattle.run_law.specs.Replay.{Going, Conflict, acts, is_run, mode_by};
 ghost use Rattle.fd_store.specs.Levels.{dropped, reacted};
 ghost use Rattle.bound_search.specs.Modes.{mode_of};
+ghost use Rattle.bound_search.specs.Awaited.{is_sure};
 ghost use Rattle.bound_search.specs.Boards.{IsBoard, AreLower};
 ghost use Rattle.bound_search.specs.Standing.{IsReason, IsFixed, IsDecision};
-ghost use Rattle.bound_search.specs.Engines.{Shows, Reached, IsKeptBy, IsKept, MayTakeIn, IsTurn, IsFall, DecideAlike};
+ghost use Rattle.bound_search.specs.Engines.{added_of, Shows, Reached, IsKeptBy, IsKept, MayTakeIn, IsTurn, IsFall, DecideAlike};
 
 use crate::after::After;
+use crate::awaited::keep;
 use crate::board::Board;
 use crate::recent::Recent;
 use ground_form::Ground;
@@ -36,6 +38,10 @@ pub struct Engine {
     pub board: Board,
     /// The clauses that the lines made, by number.
     pub clauses: Clauses,
+    /// Those of the last Bound line, with their numbers.
+    pub asked: Vec<(u64, ClauseHandle)>,
+    /// Those that were learnt and are true at level 0. No step looks at them.
+    pub sure: Vec<ClauseHandle>,
     /// Those that each constraint made last.
     pub recent: Recent,
     /// The table in which conflicts are analysed.
@@ -98,7 +104,7 @@ pub fn decide(
     half: &IntSet,
 ) -> Result<(), AllocError>
     requires at { Shows g.now journal.old.lines e.old Going }
-    requires fixed { IsFixed g.now e.old.board.store.top.now e.old.board.watches.added }
+    requires fixed { IsFixed g.now e.old.board.store.top.now (added_of e.old) }
     requires decision { IsDecision g.now e.old.board.store.top.now x half.now }
     requires level { length e.old.board.store.below < 4294967295 }
     ensures kept { (order : Order) (hints : Hints)
@@ -133,7 +139,7 @@ pub fn learn(g: &Ground, e: &mut Engine, journal: &mut Journal, n: u64) -> Resul
 }
 
 /// Takes in a learnt clause: its level is dropped, it is applied in the boxes below, and it gets a
-/// number and is watched.
+/// number and is kept.
 fn take_in(
     g: &Ground,
     e: &mut Engine,
@@ -152,13 +158,23 @@ fn take_in(
         (IsBoard g.now e.new.board.store e.new.board.queue e.new.board.watches) }
     ensures numbered { OnOk result (e.new.clauses ≡ e.old.clauses ++ handle ∷ []) }
     ensures watched { OnOk result (e.new.board.watches.added
-        ≡ e.old.board.watches.added ++ (length e.old.clauses, handle) ∷ []) }
+        ≡ cond (is_sure e.new.board.store handle) e.old.board.watches.added
+        (e.old.board.watches.added ++ (length e.old.clauses, handle) ∷ [])) }
+    ensures sure { OnOk result (e.new.sure.items ≡ cond (is_sure e.new.board.store handle)
+        (e.old.sure.items ++ handle ∷ []) e.old.sure.items) }
+    ensures asked { OnOk result (e.new.asked.items ≡ e.old.asked.items) }
     ensures table { OnOk result (length e.new.running ≡ length e.old.running) }
 {
     e.board.undo_to(g, level - 1);
     let after = e.board.apply(g, e.clauses.count(), handle.clause())?;
     let number = e.clauses.push(handle.copy()?)?;
-    e.board.watches.add(number, handle)?;
+    keep(
+        &mut e.board.watches,
+        &mut e.sure,
+        &e.board.store,
+        number,
+        handle,
+    )?;
     Ok(after)
 }
 

@@ -1,6 +1,7 @@
 //! Lines up to the next fixpoint of a search.
 //!
-//! Constraints are asked before clauses. A constraint that says again what it said lately uses that
+//! Constraints are asked before clauses, and those that are watched before those of the last Bound
+//! line. A constraint that says again what it said lately uses that
 //! clause; else its clause is written.
 ghost use Rattle.std.specs.Prelude.{◌≡◌, length, IfOk, OnOk, IfSome};
 ghost use Rattle.run_law.specs.Replay.{Going};
@@ -8,6 +9,7 @@ ghost use Rattle.bound_search.specs.Standing.{IsReason};
 ghost use Rattle.bound_search.specs.Engines.{Shows, Reached, IsKept, IsTurn, DecideAlike, TurnOf, FixedIf};
 
 use crate::after::After;
+use crate::awaited::first_acting;
 use crate::engine::{Engine, add_axiom, use_clause};
 use ground_form::Ground;
 use proof_log::Journal;
@@ -55,9 +57,14 @@ pub fn turn(
         let after = explain(g, e, journal, k, c)?;
         return Ok(Some(after));
     }
-    match e.board.next_clause(g)? {
+    if let Some(n) = e.board.next_clause(g)? {
+        let after = use_clause(g, e, journal, n)?;
+        return Ok(Some(after));
+    }
+    match first_acting(e.asked.as_slice(), e.board.store.boxes()) {
         None => Ok(None),
-        Some(n) => {
+        Some(k) => {
+            let n = e.asked[k].0;
             let after = use_clause(g, e, journal, n)?;
             Ok(Some(after))
         }

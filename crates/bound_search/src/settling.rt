@@ -2,7 +2,7 @@
 ghost use Rattle.std.specs.Prelude.{◌≡◌, ◌≤◌, length, IfOk, OnOk};
 ghost use Rattle.run_law.specs.Replay.{Going};
 ghost use Rattle.bound_search.specs.Standing.{IsFixed};
-ghost use Rattle.bound_search.specs.Engines.{Shows, IsKept, DecideAlike, StepOf, SettledOf};
+ghost use Rattle.bound_search.specs.Engines.{added_of, Shows, IsKept, DecideAlike, StepOf, SettledOf};
 
 use crate::after::After;
 use crate::bounding::finish;
@@ -32,7 +32,7 @@ fn branch(
     journal: &mut Journal,
 ) -> Result<Step, AllocError>
     requires at { Shows g.now journal.old.lines e.old Going }
-    requires fixed { IsFixed g.now e.old.board.store.top.now e.old.board.watches.added }
+    requires fixed { IsFixed g.now e.old.board.store.top.now (added_of e.old) }
     requires hints { g.now.search ≤ length hints.now }
     ensures kept { IsKept g.now journal.old journal.new }
     ensures step { IfOk result (λ s. StepOf g.now journal.new.lines chooser.now.order hints.now

@@ -75,6 +75,8 @@ fn start(alloc: Global, g: &Ground) -> Result<Engine, AllocError>
         alloc,
         board,
         clauses: Clauses::new(alloc),
+        asked: Vec::new(alloc),
+        sure: Vec::new(alloc),
         recent,
         running,
     })

@@ -6,7 +6,7 @@ use Rattle.log_form.specs.declared.line.Line.TheVariants.{Bound, Found}
 use Rattle.log_form.specs.Acceptance.{bounds_of}
 use Rattle.run_law.specs.Replay.{Going}
 use Rattle.bound_search.specs.BoundLists.{values_of}
-use Rattle.bound_search.specs.Engines.{IsBounded}
+use Rattle.bound_search.specs.Engines.{added_of, IsBounded}
 use Rattle.bound_search.proofs.MoreLines.{boxes_at}
 use Rattle.bound_search.proofs.UseAxiom.{IsWritten}
 use Rattle.bound_search.proofs.Finishing.{IsFoundHere, AreWritten, found_kept, kept_after, both_kept, vars_there, finish_step}
@@ -16,7 +16,7 @@ pub solution-requires-clause-boxes : goal.solution-requires-clause-boxes
 solution-requires-clause-boxes c =
     let e = c.args.e.now in
     subst (AreBoxesWithin c.args.g.now.domains) (sym c.boxes.ensures.boxes)
-    (boxes_at c.args.g.now c.args.journal.now.lines e.clauses e.board.store e.board.watches.added
+    (boxes_at c.args.g.now c.args.journal.now.lines e.clauses e.board.store (added_of e)
     Going c.requires.at.at)
 
 pub returns-in_err-push-2-clause-kept : goal.returns-in_err-push-2-clause-kept
@@ -39,8 +39,8 @@ returns-in_err-push-2-clause-kept c =
     kept_after g c.args.journal.now c.push.new.self c.push-2.new.self one
     c.in_err-push-2.ensures.err c.in_err-push-2.ensures.ground c.in_err-push-2.ensures.rounds
 
-pub take_all-requires-clause-vars : goal.take_all-requires-clause-vars
-take_all-requires-clause-vars c =
+pub take_all-requires : goal.take_all-requires
+take_all-requires c =
     let g = c.args.g.now in
     let d = c.args.e.now in
     let a = c.in_ok-values.values.items in
@@ -55,8 +55,10 @@ take_all-requires-clause-vars c =
     ∙ ap (λ (b : Boxes). bounds_of c.items-goals.result.now b a) c.items.ensures
     ∙ ap (λ (q : List GroundGoal). bounds_of q g.domains a) c.items-goals.ensures in
     let list = c.as_slice-3.ensures.value ∙ bounds in
-    subst (λ (cs : List Literals). All (λ c. IsWithinBoxes c d.board.store.top.now) cs) (sym list)
-    (vars_there g c.args.journal.now d a c.requires.at here)
+    record {
+      vars = subst (λ (cs : List Literals). All (λ c. IsWithinBoxes c d.board.store.top.now) cs)
+          (sym list) (vars_there g c.args.journal.now d a c.requires.at here);
+    }
 
 pub returns-in_err-after-clause-kept : goal.returns-in_err-after-clause-kept
 returns-in_err-after-clause-kept c =

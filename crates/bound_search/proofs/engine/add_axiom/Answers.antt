@@ -1,8 +1,9 @@
-use Rattle.std.proofs.Common.{◌∙◌, ◌++◌, ◌∷◌, [], ℕ, refl, ap, length}
+use Rattle.std.proofs.Common.{◌∙◌, ◌++◌, ◌∷◌, [], List, ℕ, refl, ap, length}
 use Rattle.signed_clause.specs.Clauses.{Literals}
 use Rattle.fd_store.specs.Levels.{reacted}
 use Rattle.log_form.specs.declared.line.Line.TheVariants.{Axiom}
 use Rattle.run_law.specs.Replay.{mode_by}
+use Rattle.bound_search.specs.Awaited.{awaited}
 use Rattle.bound_search.proofs.UseAxiom.{IsStep, axiom_step, axiom_kept}
 use Rattle.bound_search.proofs.engine.add_axiom.Goals as goal
 
@@ -11,6 +12,8 @@ step : (c : goal.In_ok-push-2) → IsStep c.args.g.now c.args.journal.now c.push
       alloc = c.args.e.now.alloc;
       board = c.apply.new.self;
       clauses = c.push-2.new.self;
+      asked = c.args.e.now.asked;
+      sure = c.args.e.now.sure;
       recent = c.note.new.self;
       running = c.args.e.now.running;
     }) c.in_ok-after.after
@@ -32,7 +35,8 @@ step c =
     (record {
       clauses_are = c.in_ok-push-2.ensures.ok
           ∙ ap (λ (d : Literals). e.clauses ++ d ∷ []) handle;
-      added_are = c.in_ok-after.ensures.added;
+      added_are = ap (λ (ps : List (ℕ × Literals)). awaited ps e.asked.items e.sure.items)
+          c.in_ok-after.ensures.added;
       table = refl;
     })
     (record {

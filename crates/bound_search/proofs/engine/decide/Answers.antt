@@ -1,6 +1,8 @@
-use Rattle.std.proofs.Common.{◌∙◌, ◌++◌, ◌∷◌, [], List, ℤ, refl, ap, arith}
+use Rattle.std.proofs.Common.{◌∙◌, ◌++◌, ◌∷◌, [], List, ℕ, ℤ, refl, ap, arith}
 use Rattle.log_form.specs.declared.line.Line.TheVariants.{Decide}
 use Rattle.run_law.specs.Decisions.{decisions}
+use Rattle.signed_clause.specs.Clauses.{Literals}
+use Rattle.bound_search.specs.Awaited.{awaited}
 use Rattle.bound_search.proofs.Steps.{decisions-behind}
 use Rattle.bound_search.proofs.Learning.{decide_step, decide_kept}
 use Rattle.bound_search.proofs.engine.decide.Goals as goal
@@ -39,7 +41,13 @@ returns-clause-at c =
           ∙ ap (λ (s : List (ℤ × ℤ)). lines ++ Decide x s ∷ []) c.in_ok-copy.ensures.list;
       problem = c.in_ok-push.ensures.ground;
       rounds = c.in_ok-push.ensures.rounds;
-    }) (record { clauses_are = refl; added_are = c.in_ok-decide.ensures.added; table = refl })
+    }) (record {
+      clauses_are = refl;
+      added_are = ap (λ (ps : List (ℕ × Literals)).
+          awaited ps c.args.e.now.asked.items c.args.e.now.sure.items)
+          c.in_ok-decide.ensures.added;
+      table = refl;
+    })
     c.in_ok-decide.ensures.store c.in_ok-decide.ensures.board).at
 
 pub returns-clause-more : goal.returns-clause-more

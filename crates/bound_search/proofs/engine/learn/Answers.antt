@@ -1,9 +1,11 @@
-use Rattle.std.proofs.Common.{◌∙◌, ◌<◌, ◌++◌, ◌∷◌, [], refl, sym, ap, subst, arith}
+use Rattle.std.proofs.Common.{◌≡◌, ◌∙◌, ◌<◌, ◌++◌, ◌∷◌, [], cond, length, refl, sym, ap, subst, arith}
 use Rattle.signed_clause.specs.Clauses.{Literals}
 use Rattle.log_form.specs.declared.line.Line.TheVariants.{Chain}
+use Rattle.bound_search.specs.Awaited.{keeping, is_sure}
 use Rattle.bound_search.specs.declared.engine.Engine.{Engine}
-use Rattle.bound_search.specs.Engines.{MayTakeIn, IsTakenIn}
+use Rattle.bound_search.specs.Engines.{added_of, MayTakeIn, IsTakenIn}
 use Rattle.bound_search.proofs.Steps.{alike}
+use Rattle.bound_search.proofs.Turning.{awaited_same}
 use Rattle.bound_search.proofs.Learning.{conflict_known, IsLesson, lesson_kept, lesson_closes, may_take_in, lesson_reached, lesson_falls, taken_same, taken_table}
 use Rattle.bound_search.proofs.engine.learn.Goals as goal
 
@@ -11,25 +13,25 @@ pub analyse-requires-clause-exists : goal.analyse-requires-clause-exists
 analyse-requires-clause-exists c =
     let e = c.args.e.now in
     (conflict_known c.args.g.now c.args.journal.now.lines e.clauses e.board.store
-    e.board.watches.added c.args.n c.requires.at.at).exists
+    (added_of e) c.args.n c.requires.at.at).exists
 
 pub analyse-requires-clause-is_false : goal.analyse-requires-clause-is_false
 analyse-requires-clause-is_false c =
     let e = c.args.e.now in
     (conflict_known c.args.g.now c.args.journal.now.lines e.clauses e.board.store
-    e.board.watches.added c.args.n c.requires.at.at).is_false
+    (added_of e) c.args.n c.requires.at.at).is_false
 
 pub analyse-requires-clause-within : goal.analyse-requires-clause-within
 analyse-requires-clause-within c =
     let e = c.args.e.now in
     (conflict_known c.args.g.now c.args.journal.now.lines e.clauses e.board.store
-    e.board.watches.added c.args.n c.requires.at.at).within
+    (added_of e) c.args.n c.requires.at.at).within
 
 pub analyse-requires-clause-came : goal.analyse-requires-clause-came
 analyse-requires-clause-came c =
     let e = c.args.e.now in
     (conflict_known c.args.g.now c.args.journal.now.lines e.clauses e.board.store
-    e.board.watches.added c.args.n c.requires.at.at).came
+    (added_of e) c.args.n c.requires.at.at).came
 
 pub returns-then-learnt-eq0-clause-kept : goal.returns-then-learnt-eq0-clause-kept
 returns-then-learnt-eq0-clause-kept c =
@@ -169,14 +171,25 @@ taken c =
       alloc = d.alloc;
       board = d.board;
       clauses = d.clauses;
+      asked = d.asked;
+      sure = d.sure;
       recent = d.recent;
       running = c.analyse.new.running;
     } in
+    let now = c.take_in.new.e in
+    let sure = is_sure now.board.store c.in_ok-handle.handle in
+    let waits : added_of now ≡ keeping sure (length d.clauses) c.in_ok-handle.handle (added_of d) =
+    awaited_same now.board.watches.added (cond sure d.board.watches.added
+    (d.board.watches.added ++ (length d.clauses, c.in_ok-handle.handle) ∷ [])) now.asked.items
+    d.asked.items now.sure.items
+    (cond sure (d.sure.items ++ c.in_ok-handle.handle ∷ []) d.sure.items) t.watched
+    t.asked t.sure in
     let told : IsTakenIn g f c.take_in.new.e c.in_ok-handle.handle l.level a = record {
       applied = record { mode = t.mode; store = t.store; board = t.board };
-      engine = record { clauses_are = t.numbered; added_are = t.watched; table = t.table };
+      engine = record { clauses_are = t.numbered; added_are = waits; table = t.table };
     } in
-    taken_table g d f c.take_in.new.e l.clause l.level a refl refl c.in_ok-learnt.ensures.len
+    taken_table g d f c.take_in.new.e l.clause l.level a refl refl refl
+    c.in_ok-learnt.ensures.len
     (taken_same g f c.take_in.new.e c.in_ok-handle.handle l.clause l.level a
     c.in_ok-handle.ensures told)
 

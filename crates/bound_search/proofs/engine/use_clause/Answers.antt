@@ -1,6 +1,8 @@
-use Rattle.std.proofs.Common.{◌≡◌, refl, sym, subst, true}
+use Rattle.std.proofs.Common.{◌≡◌, List, ℕ, refl, sym, ap, subst, true}
 use Rattle.signed_clause.specs.Clauses.{Literals, IsWithinBoxes}
 use Rattle.run_law.specs.Replay.{acts}
+use Rattle.bound_search.specs.Awaited.{awaited}
+use Rattle.bound_search.specs.Engines.{added_of}
 use Rattle.bound_search.proofs.Steps.{known_clause}
 use Rattle.bound_search.proofs.UseAxiom.{IsStep, use_step, use_kept}
 use Rattle.bound_search.proofs.engine.use_clause.Goals as goal
@@ -10,7 +12,7 @@ apply-requires-clause-vars c =
     let e = c.args.e.now in
     let at = c.requires.at.at in
     let known = known_clause c.args.g.now c.args.journal.now.lines e.clauses e.board.store
-    e.board.watches.added _ c.args.n at in
+    (added_of e) _ c.args.n at in
     subst (λ (d : Literals). IsWithinBoxes d e.board.store.top.now) (sym c.in-Some.ensures.clause)
     known.vars
 
@@ -19,6 +21,8 @@ step : (c : goal.In_ok-after) → IsStep c.args.g.now c.args.journal.now c.push.
       alloc = c.args.e.now.alloc;
       board = c.apply.new.self;
       clauses = c.args.e.now.clauses;
+      asked = c.args.e.now.asked;
+      sure = c.args.e.now.sure;
       recent = c.args.e.now.recent;
       running = c.args.e.now.running;
     }) c.in_ok-after.after
@@ -33,7 +37,12 @@ step c =
       problem = c.in_ok-push.ensures.ground;
       rounds = c.in_ok-push.ensures.rounds;
     })
-    (record { clauses_are = refl; added_are = c.in_ok-after.ensures.added; table = refl })
+    (record {
+      clauses_are = refl;
+      added_are = ap (λ (ps : List (ℕ × Literals)). awaited ps e.asked.items e.sure.items)
+          c.in_ok-after.ensures.added;
+      table = refl;
+    })
     (record {
       mode = c.in_ok-after.ensures.mode;
       store = c.in_ok-after.ensures.store;
