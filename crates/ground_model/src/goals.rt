@@ -11,9 +11,10 @@ ghost use Rattle.ground_model.specs.Aims.{idle_goal};
 ghost use Rattle.ground_model.specs.Stated.{IsReady, IsReadyGoal};
 
 use crate::required::form_of;
+use block_sums::settled_in_blocks;
 use conf_types::Goal;
 use expr_forms::number_of;
-use form_build::{Maker, settled};
+use form_build::Maker;
 use goal_rows::add_goal_sums;
 use ground_form::{Goals, GroundGoal};
 use object_alloc::Objects;
@@ -30,8 +31,7 @@ fn goal_variable(maker: &mut Maker, objects: &Objects<'_>, goal: &Goal) -> Resul
 {
     let f = form_of(maker, objects, &[], None, &goal.expr)?;
     let number = number_of(maker.alloc(), f);
-    maker.ask(1)?;
-    let x = settled(maker, &number)?;
+    let x = settled_in_blocks(maker, &number)?;
     add_goal_sums(maker, &number, x)?;
     Ok(x)
 }

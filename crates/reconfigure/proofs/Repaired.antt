@@ -1,5 +1,5 @@
 -- From what was added to a problem to what the problem of a repair stands for.
-use Rattle.std.proofs.Common.{◌≡◌, ℕ, suc, ◌<◌, Bool, true, false, true≢false, ◌&&◌, ◌||◌, List, [], ◌∷◌, ◌++◌, ℤ, All, arith, length, append-nil, take, drop, get_or, pos, ◌+ℤ◌, Option, zero, refl, sym, ap, ◌∙◌, subst}
+use Rattle.std.proofs.Common.{◌≡◌, ℕ, suc, ◌+◌, ◌<◌, Bool, true, false, true≢false, ◌&&◌, ◌||◌, List, [], ◌∷◌, ◌++◌, ℤ, All, arith, length, append-nil, take, drop, get_or, pos, ◌+ℤ◌, Option, zero, refl, sym, ap, ◌∙◌, subst}
 use Rattle.std.specs.List.{list_any}
 use Rattle.std.proofs.lemmas.Bool.{and_parts}
 use Rattle.std.proofs.lemmas.List.{take-append-le}
@@ -9,16 +9,14 @@ use Rattle.signed_clause.specs.Clauses.{Boxes, box_of}
 use Rattle.ground_form.specs.declared.con.Con.{Con}
 use Rattle.ground_form.specs.declared.ground.Ground.{Ground}
 use Rattle.ground_form.specs.declared.ground.GroundGoal.{GroundGoal}
-use Rattle.ground_form.specs.declared.con.Con.TheVariants.{LinDef}
 use Rattle.ground_form.specs.Meaning.{value_of, sum_at, con_true}
 use Rattle.ground_form.specs.StandsFor.{IsExtension, AreGoalValues, StandsFor}
 use Rattle.ground_form.specs.WellMade.{IsWellMade}
-use Rattle.ground_build.specs.Growing.{with_goals, IsOnlyExtension, IsDefined, Means}
+use Rattle.ground_build.specs.Growing.{with_goals, IsOnlyExtension}
 use Rattle.ground_build.proofs.Appended.{con_kept, value_kept}
-use Rattle.form_build.specs.Worlds.{IsWorld, AreKnown, AllHold, AreSome, Grows, Adds, Defines}
+use Rattle.form_build.specs.Worlds.{IsWorld, AreKnown, AllHold, AreSome, Grows, Adds, Defines, IsFew}
 use Rattle.form_build.proofs.Final.{world_of}
 use Rattle.form_build.proofs.Growth.{adds_more, grows_more, no_less, world_before}
-use Rattle.form_build.proofs.Steps.{defined_adds, defined_few, defined_has}
 use Rattle.class_table.specs.Outline.{Outline}
 use Rattle.object_alloc.specs.Changes.{allowed, changes}
 use Rattle.ground_cells.specs.CellBoxes.{cell_boxes}
@@ -167,17 +165,24 @@ idle_is g b new goals e is n = n ∙ ap (λ (z : Ground). with_goals z goals) e 
 
 -- ---- the count as a variable
 
-pub counted_is : (old made new : Ground) (c : Count) (goals gs : List GroundGoal) (x : ℕ) (ts : List (ℤ × ℕ)) (offset : ℤ) (domain : Ranges) → ts ≡ c.terms.items → offset ≡ c.offset → IsDefined old made x domain (LinDef x ts offset) → Means made x (λ a. sum_at ts a +ℤ offset) → gs ≡ least x ∷ goals → new ≡ with_goals made gs → IsWellMade new → IsCounted old c goals new
-counted_is old made new c goals gs x ts offset domain e o d means is n well = record {
+pub counted_is : (old made new : Ground) (c : Count) (goals gs : List GroundGoal) (x : ℕ) (ts : List (ℤ × ℕ)) (offset : ℤ) → ts ≡ c.terms.items → offset ≡ c.offset → Defines old made → IsFew (length ts + 1) old made → x < length made.domains → ((a : List ℤ) → IsWorld made a → value_of a x ≡ (sum_at ts a +ℤ offset)) → gs ≡ least x ∷ goals → new ≡ with_goals made gs → IsWellMade new → IsCounted old c goals new
+counted_is old made new c goals gs x ts offset e o adds few lt value is n well = record {
   variable = x;
   made = made;
-  adds = defined_adds old made x domain (LinDef x ts offset) refl d;
-  few = defined_few old made x domain (LinDef x ts offset) d;
-  exists = (defined_has old made x domain (LinDef x ts offset) refl d).exists;
-  value = λ a w. means a w.defined ∙ ap (λ (us : List (ℤ × ℕ)). sum_at us a +ℤ offset) e ∙ ap (λ (z : ℤ). sum_at c.terms.items a +ℤ z) o;
+  adds = adds;
+  few = subst (λ (us : List (ℤ × ℕ)). IsFew (length us + 1) old made) e few;
+  exists = lt;
+  value = λ a w. value a w ∙ ap (λ (us : List (ℤ × ℕ)). sum_at us a +ℤ offset) e ∙ ap (λ (z : ℤ). sum_at c.terms.items a +ℤ z) o;
   is = n ∙ ap (λ (z : List GroundGoal). with_goals made z) is;
   well_made = well;
 }
+
+-- the goals' variables still exist, and that of the count does
+pub counted_low : (old made : Ground) (goals gs : List GroundGoal) (x : ℕ) → Grows old made → x < length made.domains → All (λ (goal : GroundGoal). goal.var < length old.domains) goals → gs ≡ least x ∷ goals → All (λ (goal : GroundGoal). goal.var < length made.domains) gs
+counted_low old made goals gs x g lt all is =
+    let more = no_less old made g in
+    subst (λ (z : List GroundGoal). All (λ (goal : GroundGoal). goal.var < length made.domains) z) (sym is)
+    (All-cons (λ (goal : GroundGoal). goal.var < length made.domains) (least x) goals lt (λ k d less. let low = all k d less in omega (arith, low, more)))
 
 -- ---- the whole
 
@@ -193,27 +198,26 @@ first_cells o g b searched cells e = subst (HasCells o) (sym e) (record {
   domains = split g.search g.domains ∙ ap (λ (z : Boxes). z ++ drop g.search g.domains) cells;
 })
 
-pub goals_still : (g start last b : Ground) (goals : List GroundGoal) → IsWellMade g → start ≡ with_goals g [] → Grows start last → b ≡ last → goals ≡ g.goals → All (λ (goal : GroundGoal). goal.var < length b.domains) goals
-goals_still g start last b goals w e grows same is =
+pub goals_still : (g start last : Ground) (goals : List GroundGoal) → IsWellMade g → start ≡ with_goals g [] → Grows start last → goals ≡ g.goals → All (λ (goal : GroundGoal). goal.var < length last.domains) goals
+goals_still g start last goals w e grows is =
     let size = ap (λ (z : Ground). length z.domains) e in
-    let there = ap (λ (z : Ground). length z.domains) same in
     let more = no_less start last grows in
-    subst (λ (z : List GroundGoal). All (λ (goal : GroundGoal). goal.var < length b.domains) z) (sym is)
-    (λ k d lt. let low = w.goals k d lt in omega (arith, low, size, there, more))
+    subst (λ (z : List GroundGoal). All (λ (goal : GroundGoal). goal.var < length last.domains) z) (sym is)
+    (λ k d lt. let low = w.goals k d lt in omega (arith, low, size, more))
 
 and_twice : (b : Bool) → ((b && true) && true) ≡ b
 and_twice true = refl
 and_twice false = refl
 
-module _ (o : Outline) (ws : List ℕ) (former : List (Option ℤ)) (g start mid last b new : Ground) (goals : List GroundGoal) (c : Count) where
-  grown : Defines mid last → Adds [] start mid (λ a. allowed o ws (take start.search a)) → b ≡ last → goals ≡ g.goals → (k : IsCounted b c goals new) → Grows start k.made
-  grown d says same is k =
+module _ (o : Outline) (ws : List ℕ) (former : List (Option ℤ)) (g start mid last new : Ground) (goals : List GroundGoal) (c : Count) where
+  grown : Defines mid last → Adds [] start mid (λ a. allowed o ws (take start.search a)) → goals ≡ g.goals → (k : IsCounted last c goals new) → Grows start k.made
+  grown d says is k =
       grows_more start mid k.made says.grows
-      (grows_more mid last k.made d.grows (subst (λ (z : Ground). Grows z k.made) same k.adds.grows))
+      (grows_more mid last k.made d.grows k.adds.grows)
 
-  pub whole_extends : start ≡ with_goals g [] → Adds [] start mid (λ a. allowed o ws (take start.search a)) → Defines mid last → b ≡ last → goals ≡ g.goals → IsCounted b c goals new → Extends g new
-  whole_extends e says d same is k =
-      let grows = grown d says same is k in record {
+  pub whole_extends : start ≡ with_goals g [] → Adds [] start mid (λ a. allowed o ws (take start.search a)) → Defines mid last → goals ≡ g.goals → IsCounted last c goals new → Extends g new
+  whole_extends e says d is k =
+      let grows = grown d says is k in record {
         search = ap (λ (z : Ground). z.search) k.is ∙ grows.search ∙ ap (λ (z : Ground). z.search) e;
         more = grows.more;
         domains = ap (λ (z : Ground). z.domains) k.is ∙ grows.domains ∙ ap (λ (z : Ground). z.domains ++ grows.more) e;
@@ -225,12 +229,12 @@ module _ (o : Outline) (ws : List ℕ) (former : List (Option ℤ)) (g start mid
 
   pub whole_stands : start ≡ with_goals g [] → Adds [] start mid (λ a. allowed o ws (take start.search a)) → Defines mid last →
       ((a : List ℤ) → IsWorld last a → count_at c a ≡ pos (changes o former (take last.search a))) →
-      b ≡ last → goals ≡ g.goals → IsCounted b c goals new →
+      goals ≡ g.goals → IsCounted last c goals new →
       (test : List ℤ → Bool) (functions : List (Bool × (List ℤ → ℤ))) → StandsFor g (cell_boxes o) test functions →
       StandsFor new (cell_boxes o) (λ t. test t && allowed o ws t) ((false, λ t. pos (changes o former t)) ∷ functions)
-  whole_stands e asked d value same is k test functions st =
+  whole_stands e asked d value is k test functions st =
       let says : List ℤ → Bool = λ a. (allowed o ws (take start.search a) && true) && true in
-      let defines : Defines last k.made = subst (λ (z : Ground). Defines z k.made) same k.adds in
+      let defines : Defines last k.made = k.adds in
       let added : Adds [] start k.made says =
       adds_more [] start last k.made (λ a. allowed o ws (take start.search a) && true) (λ a. true)
       (adds_more [] start mid last (λ a. allowed o ws (take start.search a)) (λ a. true) asked d) defines in

@@ -1,5 +1,5 @@
 -- The count of changes, a truth more.
-use Rattle.std.proofs.Common.{◌≡◌, ℕ, suc, ◌+◌, ◌*◌, ◌<◌, ◌≤◌, Bool, true, false, List, [], ◌∷◌, ◌++◌, ℤ, pos, negsuc, ◌+ℤ◌, ◌*ℤ◌, ◌≤ℤ◌, All, length, refl, sym, ap, ◌∙◌, subst, arith}
+use Rattle.std.proofs.Common.{◌≡◌, ℕ, ◌+◌, ◌<◌, ◌≤◌, Bool, true, false, List, [], ◌∷◌, ◌++◌, ℤ, pos, negsuc, ◌+ℤ◌, ◌*ℤ◌, ◌≤ℤ◌, All, length, length-append, refl, sym, ap, ◌∙◌, subst, arith}
 use Rattle.std.specs.Prelude.{unsigned_abs}
 use Rattle.std.specs.Ordering.{int_eq}
 use Rattle.std.proofs.lemmas.Int.{ints}
@@ -10,30 +10,18 @@ use Rattle.ground_form.specs.declared.ground.Ground.{Ground}
 use Rattle.ground_form.specs.Meaning.{value_of, bit, sum_at}
 use Rattle.ground_form.specs.Bounds.{low_of, high_of, reach_of, term_weight, weight_of, LiesWithin}
 use Rattle.form_build.specs.Worlds.{IsWorld, Grows}
-use Rattle.form_build.proofs.Growth.{no_less, box_kept}
+use Rattle.form_build.proofs.Growth.{no_less}
 use Rattle.form_build.proofs.Singles.{ends_ordered}
 use Rattle.form_truths.specs.Parts.{IsPartOf}
 use Rattle.form_truths.proofs.PartLaws.{flag_value}
+use Rattle.block_sums.proofs.Terms.{sum_more, weight_more, weight_kept}
 use Rattle.reconfigure.specs.Counting.{count_at, IsCount}
 use Rattle.reconfigure.specs.declared.count.Count.{Count}
 
 -- ---- a term more
 
-nought_swap : (x : ℤ) → (x +ℤ pos 0) ≡ (pos 0 +ℤ x)
-nought_swap x = omega (arith, ints)
-
 group : (x y z : ℤ) → (x +ℤ (y +ℤ z)) ≡ ((x +ℤ y) +ℤ z)
 group x y z = omega (arith, ints)
-
-sum_more : (ts : List (ℤ × ℕ)) (t : ℤ × ℕ) (a : List ℤ) → sum_at (ts ++ t ∷ []) a ≡ (sum_at ts a +ℤ (t.0 *ℤ value_of a t.1))
-sum_more [] t a = nought_swap (t.0 *ℤ value_of a t.1)
-sum_more (u ∷ ts) t a =
-    ap (λ (z : ℤ). (u.0 *ℤ value_of a u.1) +ℤ z) (sum_more ts t a)
-    ∙ group (u.0 *ℤ value_of a u.1) (sum_at ts a) (t.0 *ℤ value_of a t.1)
-
-weight_more : (ts : List (ℤ × ℕ)) (t : ℤ × ℕ) (boxes : Boxes) → weight_of (ts ++ t ∷ []) boxes ≡ weight_of ts boxes + term_weight t boxes
-weight_more [] t boxes = omega arith
-weight_more (u ∷ ts) t boxes = let rest = weight_more ts t boxes in omega (arith, rest)
 
 -- ---- a flag
 
@@ -97,6 +85,7 @@ abs_more o = grind (arith, ints)
 pub one_few : (boxes : Boxes) (n f : ℕ) (old new : Count) → f < length boxes → IsValid (box_of boxes f) → LiesWithin (pos 0) (pos 1) (box_of boxes f) → new.terms.items ≡ old.terms.items ++ (pos 1, f) ∷ [] → new.offset ≡ old.offset → IsCount boxes n old → IsCount boxes (n + 2) new
 one_few boxes n f old new lt valid lies e o h = record {
   exist = subst (λ (ts : List (ℤ × ℕ)). All (λ t. t.1 < length boxes) ts) (sym e) (All-push (λ (t : ℤ × ℕ). t.1 < length boxes) old.terms.items (pos 1, f) h.exist lt);
+  short = let size = ap (λ (ts : List (ℤ × ℕ)). length ts) e ∙ length-append old.terms.items ((pos 1, f) ∷ []) in omega (arith, size, h.short);
   few =
       let w = ap (λ (ts : List (ℤ × ℕ)). weight_of ts boxes) e ∙ weight_more old.terms.items (pos 1, f) boxes in
       let one = one_weight f boxes valid lies in
@@ -107,6 +96,7 @@ one_few boxes n f old new lt valid lies e o h = record {
 pub less_few : (boxes : Boxes) (n f : ℕ) (old new : Count) → f < length boxes → IsValid (box_of boxes f) → LiesWithin (pos 0) (pos 1) (box_of boxes f) → new.terms.items ≡ old.terms.items ++ (negsuc 0, f) ∷ [] → new.offset ≡ (old.offset +ℤ pos 1) → IsCount boxes n old → IsCount boxes (n + 2) new
 less_few boxes n f old new lt valid lies e o h = record {
   exist = subst (λ (ts : List (ℤ × ℕ)). All (λ t. t.1 < length boxes) ts) (sym e) (All-push (λ (t : ℤ × ℕ). t.1 < length boxes) old.terms.items (negsuc 0, f) h.exist lt);
+  short = let size = ap (λ (ts : List (ℤ × ℕ)). length ts) e ∙ length-append old.terms.items ((negsuc 0, f) ∷ []) in omega (arith, size, h.short);
   few =
       let w = ap (λ (ts : List (ℤ × ℕ)). weight_of ts boxes) e ∙ weight_more old.terms.items (negsuc 0, f) boxes in
       let one = less_weight f boxes valid lies in
@@ -117,23 +107,15 @@ less_few boxes n f old new lt valid lies e o h = record {
 
 -- ---- as the problem grows
 
-weight_kept : (old new : Ground) (ts : List (ℤ × ℕ)) → Grows old new → All (λ t. t.1 < length old.domains) ts → weight_of ts new.domains ≡ weight_of ts old.domains
-unfolding term_weight
-weight_kept old new [] g all = refl
-weight_kept old new (t ∷ ts) g all =
-    let box = box_kept old new t.1 g (all 0 t (omega arith)) in
-    let rest = weight_kept old new ts g (λ k d lt. all (suc k) d (omega (arith, lt))) in
-    ap (λ (z : Ranges). unsigned_abs t.0 * reach_of z + weight_of ts new.domains) box
-    ∙ ap (λ (n : ℕ). unsigned_abs t.0 * reach_of (box_of old.domains t.1) + n) rest
-
 pub count_kept : (old new : Ground) (n : ℕ) (c : Count) → Grows old new → IsCount old.domains n c → IsCount new.domains n c
 count_kept old new n c g h = record {
   exist = λ k d lt. let more = no_less old new g in let there = h.exist k d lt in omega (arith, more, there);
+  short = h.short;
   few = let w = weight_kept old new c.terms.items g h.exist in omega (arith, w, h.few);
 }
 
 pub count_wider : (boxes : Boxes) (m n : ℕ) (c : Count) → m ≤ n → IsCount boxes m c → IsCount boxes n c
-count_wider boxes m n c le h = record { exist = h.exist; few = omega (arith, le, h.few) }
+count_wider boxes m n c le h = record { exist = h.exist; short = omega (arith, le, h.short); few = omega (arith, le, h.few) }
 
 -- ---- a truth of the part's flag
 
@@ -154,6 +136,7 @@ abs_bit o false = grind (arith, ints)
 pub fixed_few : (boxes : Boxes) (n : ℕ) (old new : Count) (b : Bool) → new.terms.items ≡ old.terms.items → new.offset ≡ (old.offset +ℤ bit b) → IsCount boxes n old → IsCount boxes (n + 2) new
 fixed_few boxes n old new b e o h = record {
   exist = subst (λ (ts : List (ℤ × ℕ)). All (λ t. t.1 < length boxes) ts) (sym e) h.exist;
+  short = let size = ap (λ (ts : List (ℤ × ℕ)). length ts) e in omega (arith, size, h.short);
   few =
       let w = ap (λ (ts : List (ℤ × ℕ)). weight_of ts boxes) e in
       let off = ap unsigned_abs o in

@@ -10,7 +10,8 @@ use Rattle.reconfigure.specs.declared.count.Count.{Count}
 abbrev pub count_at : Count → List ℤ → ℤ
 count_at c a = sum_at c.terms.items a +ℤ c.offset
 
--- the terms' variables exist, and the numbers add up to at most n
+-- the terms' variables exist, they are at most n, and the numbers add up to at most n
 pub record IsCount (boxes : Boxes) (n : ℕ) (c : Count) : Type 0 where
   pub exist : All (λ t. t.1 < length boxes) c.terms.items
+  pub short : length c.terms.items ≤ n
   pub few : weight_of c.terms.items boxes + unsigned_abs c.offset ≤ n

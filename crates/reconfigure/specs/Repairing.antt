@@ -1,7 +1,7 @@
 -- The problem of a repair beside the one that it was made of. What a reader believes after this
 -- file: the old variables, constraints and goals stand in it, in their order, with new ones behind,
 -- and one goal more in front.
-use Rattle.std.specs.Prelude.{◌≡◌, ℕ, ◌<◌, false, List, ◌∷◌, ◌++◌, ℤ, length}
+use Rattle.std.specs.Prelude.{◌≡◌, ℕ, ◌+◌, ◌<◌, false, List, ◌∷◌, ◌++◌, ℤ, length}
 use Rattle.signed_clause.specs.Clauses.{Boxes}
 use Rattle.ground_form.specs.declared.con.Con.{Con}
 use Rattle.ground_form.specs.declared.ground.Ground.{Ground}
@@ -32,7 +32,7 @@ pub record IsCounted (old : Ground) (c : Count) (goals : List GroundGoal) (new :
   pub variable : ℕ
   pub made : Ground
   pub adds : Defines old made
-  pub few : IsFew 1 old made
+  pub few : IsFew (length c.terms.items + 1) old made
   pub exists : variable < length made.domains
   pub value : (a : List ℤ) → IsWorld made a → value_of a variable ≡ count_at c a
   pub is : new ≡ with_goals made (least variable ∷ goals)

@@ -10,7 +10,6 @@ ghost use Rattle.signed_clause.specs.Ranges.{is_nil};
 ghost use Rattle.signed_clause.specs.Clauses.{Boxes};
 ghost use Rattle.ground_form.specs.StandsFor.{StandsFor};
 ghost use Rattle.ground_form.specs.WellMade.{IsWellMade};
-ghost use Rattle.ground_build.specs.Growing.{HasRoom};
 ghost use Rattle.form_build.specs.Worlds.{IsFew};
 ghost use Rattle.ground_cells.specs.CellBoxes.{cell_boxes};
 ghost use Rattle.reconfigure.specs.Counting.{IsCount};
@@ -22,6 +21,7 @@ use crate::allowed::require_allowed;
 use crate::changed::count_changes;
 use crate::count::Count;
 use crate::failed::{Failed, FailedError, failed_objects, unknown_word};
+use block_sums::sum_variable;
 use conf_syntax::PathText;
 use form_build::Maker;
 use ground_build::Builder;
@@ -70,16 +70,15 @@ fn idle_problem(g: Ground) -> Result<Ground, AllocError>
 
 /// What was built, with the count as a variable that is to be made as small as can be, before these
 /// goals.
-fn counted_problem(builder: Builder, count: &Count, goals: &Goals) -> Result<Ground, AllocError>
-    requires room { HasRoom builder }
-    requires goals { All (λ goal. goal.var < length builder.domains) goals.now }
-    requires count { IsCount builder.domains (2 ^ 20) count.now }
-    ensures { IfOk result (IsCounted builder count.now goals.now) }
+fn counted_problem(maker: Maker, count: &Count, goals: &Goals) -> Result<Ground, AllocError>
+    requires goals { All (λ goal. goal.var < length maker.domains) goals.now }
+    requires count { IsCount maker.domains (2 ^ 20) count.now }
+    ensures { IfOk result (IsCounted maker count.now goals.now) }
 {
-    let mut builder = builder;
-    let x = builder.linear(&count.terms, count.offset)?;
+    let mut maker = maker;
+    let x = sum_variable(&mut maker, &count.terms, count.offset)?;
     let goals = with_least(goals, x)?;
-    let new = builder.finish(goals);
+    let new = maker.into_builder().finish(goals);
     Ok(new)
 }
 
@@ -112,8 +111,7 @@ fn repaired_problem(
     let mut maker = Maker::over(alloc, Builder::over_owned(g));
     require_allowed(&mut maker, objects, failed)?;
     let count = count_changes(&mut maker, objects, former)?;
-    maker.ask(1)?;
-    let new = counted_problem(maker.into_builder(), &count, &goals)?;
+    let new = counted_problem(maker, &count, &goals)?;
     Ok(new)
 }
 

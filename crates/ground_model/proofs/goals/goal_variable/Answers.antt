@@ -12,28 +12,28 @@ use Rattle.ground_model.proofs.goals.goal_variable.Goals as goal
 pub form_of-requires-clause-known : goal.form_of-requires-clause-known
 form_of-requires-clause-known c = record { cells = c.requires.cells; are_known = All-nil (IsKnownCell c.args.maker.now) }
 
-pub settled-requires-clause-linear : goal.settled-requires-clause-linear
-settled-requires-clause-linear c =
+pub settled_in_blocks-requires-clause-linear : goal.settled_in_blocks-requires-clause-linear
+settled_in_blocks-requires-clause-linear c =
     number_linear c.args.objects.now [] (tree_of c.goal.inside.expr) None c.in_ok-f.f c.args.maker.now c.form_of.new.maker c.form_of.new.maker c.in_ok-f.ensures.form c.number_of-number.result c.number_of-number.ensures.number
 
 pub add_goal_sums-requires-clause-number : goal.add_goal_sums-requires-clause-number
 add_goal_sums-requires-clause-number c =
-    linear_kept (2 ^ 60) c.form_of.new.maker c.settled.new.b c.number_of-number.result c.in_ok-x.ensures.adds.grows
+    linear_kept (2 ^ 60) c.form_of.new.maker c.settled_in_blocks.new.b c.number_of-number.result c.in_ok-x.ensures.adds.grows
     (number_linear c.args.objects.now [] (tree_of c.goal.inside.expr) None c.in_ok-f.f c.args.maker.now c.form_of.new.maker c.form_of.new.maker c.in_ok-f.ensures.form c.number_of-number.result c.number_of-number.ensures.number)
 
 pub returns-clause-exists : goal.returns-clause-exists
 returns-clause-exists c =
-    let less = no_less c.settled.new.b c.add_goal_sums.new.maker c.in_ok-add_goal_sums.ensures.adds.grows in
+    let less = no_less c.settled_in_blocks.new.b c.add_goal_sums.new.maker c.in_ok-add_goal_sums.ensures.adds.grows in
     omega (arith, less, c.in_ok-x.ensures.exists)
 
 pub returns-clause-value : goal.returns-clause-value
 returns-clause-value c a w =
     tree_number c.args.objects.now (tree_of c.goal.inside.expr) None c.in_ok-f.f c.form_of.new.maker c.add_goal_sums.new.maker c.number_of-number.result c.in_ok-x.x c.in_ok-f.ensures.form c.number_of-number.ensures.number
-    (defines_more c.form_of.new.maker c.settled.new.b c.add_goal_sums.new.maker c.in_ok-x.ensures.adds c.in_ok-add_goal_sums.ensures.adds)
-    (λ b v. c.in_ok-x.ensures.value b (world_before c.settled.new.b c.add_goal_sums.new.maker b c.in_ok-add_goal_sums.ensures.adds.grows v)) a w
+    (defines_more c.form_of.new.maker c.settled_in_blocks.new.b c.add_goal_sums.new.maker c.in_ok-x.ensures.adds c.in_ok-add_goal_sums.ensures.adds)
+    (λ b v. c.in_ok-x.ensures.value b (world_before c.settled_in_blocks.new.b c.add_goal_sums.new.maker b c.in_ok-add_goal_sums.ensures.adds.grows v)) a w
     ∙ ap (λ (g : ResolvedGoal). objective c.args.objects.now (take c.add_goal_sums.new.maker.search a) g) c.goal.view_is
 
 pub returns-clause-adds : goal.returns-clause-adds
 returns-clause-adds c =
     defines_more c.args.maker.now c.form_of.new.maker c.add_goal_sums.new.maker c.in_ok-f.ensures.adds
-    (defines_more c.form_of.new.maker c.settled.new.b c.add_goal_sums.new.maker c.in_ok-x.ensures.adds c.in_ok-add_goal_sums.ensures.adds)
+    (defines_more c.form_of.new.maker c.settled_in_blocks.new.b c.add_goal_sums.new.maker c.in_ok-x.ensures.adds c.in_ok-add_goal_sums.ensures.adds)

@@ -15,18 +15,18 @@ count_changes-requires-clause-cells c =
 
 pub counted_problem-requires-clause-goals : goal.counted_problem-requires-clause-goals
 counted_problem-requires-clause-goals c =
-    goals_still c.args.g c.over-maker.result c.count_changes.new.maker c.into_builder.result c.in_ok-goals.goals c.requires.well_made (c.over-maker.ensures ∙ c.over_owned.ensures)
+    goals_still c.args.g c.over-maker.result c.count_changes.new.maker c.in_ok-goals.goals c.requires.well_made (c.over-maker.ensures ∙ c.over_owned.ensures)
     (grows_more c.over-maker.result c.require_allowed.new.maker c.count_changes.new.maker c.in_ok-require_allowed.ensures.says.grows c.in_ok-count.ensures.adds.grows)
-    c.into_builder.ensures c.in_ok-goals.ensures
+    c.in_ok-goals.ensures
 
 pub returns-clause-stands : goal.returns-clause-stands
 returns-clause-stands c test functions st =
-    whole_stands c.args.objects.now c.args.failed.now.numbers.items c.args.former.now c.args.g c.over-maker.result c.require_allowed.new.maker c.count_changes.new.maker c.into_builder.result c.in_ok-new.new c.in_ok-goals.goals c.in_ok-count.count
+    whole_stands c.args.objects.now c.args.failed.now.numbers.items c.args.former.now c.args.g c.over-maker.result c.require_allowed.new.maker c.count_changes.new.maker c.in_ok-new.new c.in_ok-goals.goals c.in_ok-count.count
     (c.over-maker.ensures ∙ c.over_owned.ensures) c.in_ok-require_allowed.ensures.says c.in_ok-count.ensures.adds c.in_ok-count.ensures.value
-    c.into_builder.ensures c.in_ok-goals.ensures c.in_ok-new.ensures test functions st
+    c.in_ok-goals.ensures c.in_ok-new.ensures test functions st
 
 pub returns-clause-extends : goal.returns-clause-extends
 returns-clause-extends c =
-    whole_extends c.args.objects.now c.args.failed.now.numbers.items c.args.former.now c.args.g c.over-maker.result c.require_allowed.new.maker c.count_changes.new.maker c.into_builder.result c.in_ok-new.new c.in_ok-goals.goals c.in_ok-count.count
+    whole_extends c.args.objects.now c.args.failed.now.numbers.items c.args.former.now c.args.g c.over-maker.result c.require_allowed.new.maker c.count_changes.new.maker c.in_ok-new.new c.in_ok-goals.goals c.in_ok-count.count
     (c.over-maker.ensures ∙ c.over_owned.ensures) c.in_ok-require_allowed.ensures.says c.in_ok-count.ensures.adds
-    c.into_builder.ensures c.in_ok-goals.ensures c.in_ok-new.ensures
+    c.in_ok-goals.ensures c.in_ok-new.ensures

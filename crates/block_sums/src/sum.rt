@@ -1,0 +1,50 @@
+//! A variable that is what terms add up to.
+ghost use Rattle.std.specs.Prelude.{◌≡◌, ◌<◌, ◌≤◌, ◌+◌, ◌+ℤ◌, ℤ, List, length, unsigned_abs, IfOk};
+ghost use Rattle.std.specs.List.{All};
+ghost use Rattle.ground_form.specs.Meaning.{value_of, sum_at};
+ghost use Rattle.ground_form.specs.Bounds.{weight_of, most_sum};
+ghost use Rattle.form_build.specs.Forms.{linear_at};
+ghost use Rattle.form_build.specs.Worlds.{IsWorld, Defines, IsFew};
+ghost use Rattle.form_build.specs.Sums.{IsLinear};
+
+use crate::blocks::{BLOCK, block_variable, blocks_of};
+use form_build::{Linear, Maker};
+use std::alloc::AllocError;
+
+/// How many terms one sum has at most.
+const MOST_TERMS: usize = 2 * BLOCK;
+
+/// A variable that is what the terms and the offset add up to: a sum of them where they are few,
+/// else of blocks of them, or of blocks of blocks.
+pub fn sum_variable(b: &mut Maker, terms: &[(i64, u32)], offset: i64) -> Result<u32, AllocError>
+    requires exist { All (λ t. t.1 < length b.old.domains) terms.now }
+    requires bounded { weight_of terms.now b.old.domains + unsigned_abs offset ≤ most_sum }
+    ensures exists { IfOk result (λ x. x < length b.new.domains) }
+    ensures value { IfOk result (λ x. (a : List ℤ) → IsWorld b.new a
+        → value_of a x ≡ sum_at terms.now a +ℤ offset) }
+    ensures adds { IfOk result (λ x. Defines b.old b.new) }
+    ensures few { IfOk result (λ x. IsFew (length terms.now + 1) b.old b.new) }
+{
+    if terms.len() <= MOST_TERMS {
+        let x = block_variable(b, terms, offset)?;
+        return Ok(x);
+    }
+    let mut blocks = blocks_of(b, terms)?;
+    while blocks.len() > MOST_TERMS {
+        blocks = blocks_of(b, &blocks)?;
+    }
+    let x = block_variable(b, &blocks, offset)?;
+    Ok(x)
+}
+
+/// A variable that is the sum: its own, where it is one, or a new one.
+pub fn settled_in_blocks(b: &mut Maker, f: &Linear) -> Result<u32, AllocError>
+    requires linear { IsLinear most_sum b.old.domains f.now }
+    ensures exists { IfOk result (λ x. x < length b.new.domains) }
+    ensures value { IfOk result (λ x. (a : List ℤ)
+        → IsWorld b.new a → value_of a x ≡ linear_at f.now a) }
+    ensures adds { IfOk result (λ x. Defines b.old b.new) }
+{
+    let x = sum_variable(b, f.terms.items(), f.offset)?;
+    Ok(x)
+}
