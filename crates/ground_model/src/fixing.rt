@@ -1,108 +1,48 @@
-//! Which constraints seem to give cells their values: conjunctions of equalities of an attribute
-//! and a constant. They are required before the others. No promise rests on this choice.
-ghost use Rattle.std.specs.Prelude.{◌≡◌};
-ghost use Rattle.conf_types.specs.Trees.{tree_of};
-ghost use Rattle.form_truths.specs.Tests.{wanted};
-ghost use Rattle.ground_model.specs.Fixing.{is_and, is_attribute, is_constant, is_equality, fixes};
+//! Which constraints may give cells their values: those that need no sum, count or packing.
+//! No promise rests on this choice.
+use conf_syntax::QuantKind;
+use conf_types::{Constraint, RExpr, RNode, RQuant};
 
-use conf_syntax::Op;
-use conf_types::{Constraint, RExpr, RNode};
-
-/// Whether it is `and`.
-fn is_and(op: Op) -> bool
-    ensures { result ≡ is_and op }
-{
-    op == Op::And
-}
-
-/// Whether it is `=`.
-fn is_equality(op: Op) -> bool
-    ensures { result ≡ is_equality op }
-{
-    op == Op::Eq
-}
-
-/// Whether an expression is an attribute that is named alone.
-fn is_attribute(e: &RExpr) -> bool
-    ensures { result ≡ is_attribute (tree_of e.now) }
-{
-    match &e.node {
-        RNode::Own(_, _) | RNode::Root(_, _) => true,
-        RNode::Number(_) => false,
-        RNode::Truth(_) => false,
-        RNode::This => false,
-        RNode::Paren(_) => false,
-        RNode::Minus(_) => false,
-        RNode::Not(_) => false,
-        RNode::Pair(_, _, _) => false,
-        RNode::Local(_) => false,
-        RNode::Value(_, _) => false,
-        RNode::Class(_) => false,
-        RNode::Dot(_, _, _) => false,
-        RNode::Quant(_) => false,
+/// Whether a quantifier of the kind only joins truths.
+fn joins_truths(kind: QuantKind) -> bool {
+    match kind {
+        QuantKind::Forall | QuantKind::Exists => true,
+        QuantKind::Sum | QuantKind::Count | QuantKind::AllDifferent | QuantKind::Pack => false,
     }
 }
 
-/// Whether an expression is a number, a truth value or a value of an enumeration.
-fn is_constant(e: &RExpr) -> bool
-    ensures { result ≡ is_constant (tree_of e.now) }
-{
-    match &e.node {
-        RNode::Number(_) | RNode::Truth(_) | RNode::Value(_, _) => true,
-        RNode::Minus(inner) => is_constant(inner),
-        RNode::Paren(inner) => is_constant(inner),
-        RNode::This => false,
-        RNode::Not(_) => false,
-        RNode::Pair(_, _, _) => false,
-        RNode::Local(_) => false,
-        RNode::Own(_, _) => false,
-        RNode::Root(_, _) => false,
-        RNode::Class(_) => false,
-        RNode::Dot(_, _, _) => false,
-        RNode::Quant(_) => false,
-    }
-}
-
-/// Whether a constraint seems to give cells their values.
-fn fixes(e: &RExpr) -> bool
-    ensures { result ≡ fixes (tree_of e.now) }
-{
-    match &e.node {
-        RNode::Pair(op, left, right) => {
-            if is_and(*op) {
-                fixes(left) && fixes(right)
-            } else {
-                is_equality(*op) && is_attribute(left) && is_constant(right)
-            }
+/// Whether all of these need no sum.
+fn are_plain(list: &[RExpr]) -> bool {
+    for e in list {
+        if !is_plain(e) {
+            return false;
         }
-        RNode::Own(_, _) | RNode::Root(_, _) => true,
-        RNode::Not(inner) => is_attribute(inner),
-        RNode::Paren(inner) => fixes(inner),
-        RNode::Number(_) => false,
-        RNode::Truth(_) => false,
-        RNode::This => false,
-        RNode::Minus(_) => false,
-        RNode::Local(_) => false,
-        RNode::Value(_, _) => false,
-        RNode::Class(_) => false,
-        RNode::Dot(_, _, _) => false,
-        RNode::Quant(_) => false,
+    }
+    true
+}
+
+/// Whether a quantifier needs no sum.
+fn is_plain_quantifier(quant: &RQuant) -> bool {
+    let filter = match &quant.filter {
+        Some(e) => is_plain(e),
+        None => true,
+    };
+    joins_truths(quant.kind) && is_plain(&quant.over) && filter && are_plain(quant.body.as_slice())
+}
+
+/// Whether an expression needs no sum, count or packing.
+pub(crate) fn is_plain(e: &RExpr) -> bool {
+    match &e.node {
+        RNode::Paren(inner) | RNode::Minus(inner) | RNode::Not(inner) => is_plain(inner),
+        RNode::Dot(inner, _, _) => is_plain(inner),
+        RNode::Pair(_, left, right) => is_plain(left) && is_plain(right),
+        RNode::Quant(quant) => is_plain_quantifier(quant),
+        _ => true,
     }
 }
 
-/// Whether a constraint seems to give cells their values. Others may be stated by these values, so
+/// Whether a constraint may give cells their values. Others may be stated by these values, so
 /// who blames them has to look at it, too.
-pub fn seems_to_fix(constraint: &Constraint) -> bool
-    ensures { result ≡ fixes constraint.now.tree }
-{
-    fixes(&constraint.expr)
-}
-
-/// Whether a constraint is required in the pass for those that fix something, or in that for the
-/// others.
-pub(crate) fn is_of_pass(e: &RExpr, fixing: bool) -> bool
-    ensures { result ≡ wanted fixing (fixes (tree_of e.now)) }
-{
-    let found = fixes(e);
-    if fixing { found } else { !found }
+pub fn seems_to_fix(constraint: &Constraint) -> bool {
+    is_plain(&constraint.expr)
 }

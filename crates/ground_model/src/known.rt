@@ -1,100 +1,82 @@
-//! Cells whose values constraints fix, read off a maker's problem: unit clauses with one value.
-ghost use Rattle.std.specs.Prelude.{◌≡◌, ℕ, ℤ, List, [], ◌∷◌, ◌++◌, true, option_to_list, IfOk, IfSome, IfNone, OnOk};
-ghost use Rattle.std.specs.List.{All};
-ghost use Rattle.ground_form.specs.declared.con.Con.TheVariants.{ClauseCon};
-ghost use Rattle.form_build.specs.Worlds.{AllHold, AreKnown};
-ghost use Rattle.ground_model.specs.Known.{fixing_clause, HasAllFixed, IsKnownCell};
-
+//! Cells whose values follow from the constraints that need no sum.
+use crate::constraints::require_plain;
+use conf_types::Constraint;
 use form_build::Maker;
-use ground_form::Con;
-use signed_clause::IntSet;
-use std::alloc::AllocError;
+use ground_build::Builder;
+use ground_cells::cell_boxes;
+use ground_form::{Goals, Ground};
+use object_alloc::Objects;
+use root_boxes::root_of;
+use signed_clause::{Clause, IntSet};
+use std::alloc::{AllocError, Global};
 
 /// The value of a set, where it has just one.
-fn only_value(set: &IntSet) -> Option<i64>
-    ensures some { IfSome result (λ v. set.now ≡ (v, v) ∷ []) }
-    ensures none { IfNone result ((v : ℤ) → set.now ≡ (v, v) ∷ [] → ⊥) }
-{
+fn only_value(set: &IntSet) -> Option<i64> {
     match set.ranges() {
         [r] => { if r.0 == r.1 { Some(r.0) } else { None } }
         _ => None,
     }
 }
 
-/// The variable and the value of a clause that gives a variable a value.
-fn fixed_by(con: &Con) -> Option<(u32, i64)>
-    ensures some { IfSome result (λ k. con.now ≡ ClauseCon (fixing_clause k)) }
-    ensures none { IfNone result ((k : ℕ × ℤ) → con.now ≡ ClauseCon (fixing_clause k) → ⊥) }
-{
-    match con {
-        Con::ClauseCon { clause } => match clause.clause().literals() {
-            [l] => {
-                let v = only_value(&l.1)?;
-                Some((l.0, v))
+/// The problem of the cells and the plain constraints alone.
+fn plain_problem(
+    alloc: Global,
+    objects: &Objects<'_>,
+    list: &[Constraint],
+) -> Result<Ground, AllocError> {
+    let cells = cell_boxes(alloc, objects)?;
+    let builder = Builder::new(alloc, &cells)?;
+    let mut maker = Maker::over(alloc, builder);
+    require_plain(&mut maker, objects, list)?;
+    Ok(maker.into_builder().finish(Goals::of(Vec::new(alloc))))
+}
+
+/// The cells with one value.
+fn singles(
+    alloc: Global,
+    domains: &[IntSet],
+    boxes: &[IntSet],
+    search: usize,
+) -> Result<Vec<(u32, i64)>, AllocError> {
+    let mut known = Vec::new(alloc);
+    for x in 0..search {
+        if x < boxes.len() && x < domains.len() && !domains[x].is_single() {
+            if let Some(v) = only_value(&boxes[x]) {
+                known.push((x as u32, v))?;
             }
-            _ => None,
-        },
-        _ => None,
+        }
+    }
+    Ok(known)
+}
+
+/// The cells whose values follow from the constraints that need no sum.
+pub(crate) fn known_cells(
+    alloc: Global,
+    objects: &Objects<'_>,
+    list: &[Constraint],
+) -> Result<Vec<(u32, i64)>, AllocError> {
+    let g = plain_problem(alloc, objects, list)?;
+    match root_of(alloc, &g)? {
+        Some(root) => singles(
+            alloc,
+            g.domains.items(),
+            root.boxes.as_slice(),
+            g.search as usize,
+        ),
+        None => Ok(Vec::new(alloc)),
     }
 }
 
-/// Whether the variable is searched, and the value lies in its box.
-fn is_known_cell(maker: &Maker, k: (u32, i64)) -> bool
-    ensures cell { result ≡ true → IsKnownCell maker.now k }
-    ensures whole { IsKnownCell maker.now k → result ≡ true }
-{
-    k.0 < maker.search() && maker.domains()[k.0 as usize].contains(k.1)
-}
-
-/// The cell whose value a constraint fixes, with this value, where there is one.
-fn known_by(maker: &Maker, con: &Con) -> Option<(u32, i64)>
-    ensures clause { IfSome result (λ k. con.now ≡ ClauseCon (fixing_clause k)) }
-    ensures cell { IfSome result (λ k. IsKnownCell maker.now k) }
-    ensures none { IfNone result ((k : ℕ × ℤ) → con.now ≡ ClauseCon (fixing_clause k)
-        → IsKnownCell maker.now k → ⊥) }
-{
-    let k = fixed_by(con)?;
-    if is_known_cell(maker, k) {
-        Some(k)
-    } else {
-        None
-    }
-}
-
-/// Adds an item, where there is one.
-fn push_some(items: &mut Vec<(u32, i64)>, item: Option<(u32, i64)>) -> Result<(), AllocError>
-    ensures { OnOk result (items.new.items ≡ items.old.items ++ option_to_list item) }
-{
-    if let Some(k) = item {
-        items.push(k)?;
+/// States what is known.
+pub(crate) fn require_known(maker: &mut Maker, known: &[(u32, i64)]) -> Result<(), AllocError> {
+    for k in known {
+        maker.ask(1)?;
+        let mut lits = Vec::new(maker.alloc());
+        lits.push((k.0, IntSet::range(maker.alloc(), k.1, k.1)))?;
+        let Ok(c) = Clause::of(lits) else {
+            return Err(AllocError);
+        };
+        maker.require(c)?;
     }
     Ok(())
-}
-
-/// The cells whose values the constraints so far fix, with these values, in the order of the
-/// constraints.
-fn fixed_cells(maker: &Maker) -> Result<Vec<(u32, i64)>, AllocError>
-    ensures cells { IfOk result (λ ks. All (IsKnownCell maker.now) ks.items) }
-    ensures fixed { IfOk result (λ ks. (a : List ℤ)
-        → AllHold maker.now a → AreKnown ks.items a) }
-    ensures all { IfOk result (λ ks. HasAllFixed maker.now maker.now.cons ks.items) }
-{
-    let mut known = Vec::new(maker.alloc());
-    for con in maker.cons() {
-        push_some(&mut known, known_by(maker, con))?;
-    }
-    Ok(known)
-}
-
-/// The cells whose values the constraints so far fix, with these values. They ascend, so that a
-/// cell is found by halves.
-pub(crate) fn known_cells(maker: &Maker) -> Result<Vec<(u32, i64)>, AllocError>
-    ensures cells { IfOk result (λ ks. All (IsKnownCell maker.now) ks.items) }
-    ensures fixed { IfOk result (λ ks. (a : List ℤ)
-        → AllHold maker.now a → AreKnown ks.items a) }
-    ensures all { IfOk result (λ ks. HasAllFixed maker.now maker.now.cons ks.items) }
-{
-    let mut known = fixed_cells(maker)?;
-    known.sort_unstable();
-    Ok(known)
 }

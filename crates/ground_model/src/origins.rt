@@ -30,7 +30,7 @@ impl Origins {
     /// stated, or for which what it defines was made first; none where it asks for the size of a
     /// set. It costs a search by halves.
     pub fn of(&self, con: u32) -> Option<usize> {
-        let count = self.begins.len() / 2;
+        let count = self.begins.len();
         let before = self.begins.partition_point(|begin| *begin <= con as usize);
         if before == 0 || count == 0 {
             return None;
