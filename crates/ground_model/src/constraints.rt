@@ -9,8 +9,8 @@ ghost use Rattle.ground_model.specs.Known.{HasKnown};
 ghost use Rattle.ground_model.specs.Requiring.{Requires};
 ghost use Rattle.ground_model.specs.Stated.{IsReady, IsReadyConstraint};
 
-use crate::fixing::is_plain;
-use crate::known::{known_cells, require_known};
+use crate::fixing::is_of_pass;
+use crate::known::{known_cells, require_values};
 use crate::origins::Origins;
 use crate::required::require_tree;
 use crate::rows::require_packed;
@@ -135,32 +135,99 @@ fn require_constraint(
     }
 }
 
-/// States that the plain ones hold.
-pub(crate) fn require_plain(
+/// States that a constraint holds, where it is one of the pass.
+fn require_in_pass(
     maker: &mut Maker,
     objects: &Objects<'_>,
+    known: &[(u32, i64)],
+    constraint: &Constraint,
+    fixing: bool,
+) -> Result<(), AllocError>
+    requires ready { IsReadyConstraint objects.now constraint.now }
+    requires known { HasKnown objects.now known.now maker.old }
+    ensures says { OnOk result (Requires known.now maker.old maker.new
+        (λ values. holds_in fixing objects.now values constraint.now)) }
+{
+    if !is_of_pass(&constraint.expr, fixing) {
+        return Ok(());
+    }
+    require_constraint(maker, objects, known, constraint)?;
+    Ok(())
+}
+
+/// States that those of these constraints hold that are of the pass.
+fn require_pass(
+    maker: &mut Maker,
+    objects: &Objects<'_>,
+    known: &[(u32, i64)],
     list: &[Constraint],
-) -> Result<(), AllocError> {
+    fixing: bool,
+    origins: &mut Origins,
+) -> Result<(), AllocError>
+    requires ready { All (IsReadyConstraint objects.now) list.now }
+    requires known { HasKnown objects.now known.now maker.old }
+    ensures says { OnOk result (Requires known.now maker.old maker.new
+        (λ values. list_all (holds_in fixing objects.now values) list.now)) }
+{
+    origins.begin();
     for constraint in list {
-        if is_plain(&constraint.expr) {
-            require_constraint(maker, objects, &[], constraint)?;
-        }
+        origins.note(maker.cons().len())?;
+        require_in_pass(maker, objects, known, constraint, fixing)?;
     }
     Ok(())
 }
 
-/// States that all of these constraints hold.
+/// States that those of these constraints hold that may give cells their values.
+pub(crate) fn require_fixing(
+    maker: &mut Maker,
+    objects: &Objects<'_>,
+    list: &[Constraint],
+    origins: &mut Origins,
+) -> Result<(), AllocError>
+    requires ready { All (IsReadyConstraint objects.now) list.now }
+    requires cells { HasCells objects.now maker.old }
+    ensures says { OnOk result (Requires [] maker.old maker.new
+        (λ values. list_all (holds_in true objects.now values) list.now)) }
+{
+    require_pass(maker, objects, &[], list, true, origins)?;
+    Ok(())
+}
+
+/// States that all of these constraints hold, where cells are known, those first that may give
+/// cells their values.
+fn require_both_passes(
+    maker: &mut Maker,
+    objects: &Objects<'_>,
+    known: &[(u32, i64)],
+    list: &[Constraint],
+    origins: &mut Origins,
+) -> Result<(), AllocError>
+    requires ready { All (IsReadyConstraint objects.now) list.now }
+    requires known { HasKnown objects.now known.now maker.old }
+    ensures says { OnOk result (Requires known.now maker.old maker.new
+        (λ values. list_all (holds_of objects.now values) list.now)) }
+{
+    require_pass(maker, objects, known, list, true, origins)?;
+    require_pass(maker, objects, known, list, false, origins)?;
+    Ok(())
+}
+
+/// States that all of these constraints hold. Cells whose values follow from those that may give
+/// cells their values are taken as known.
 pub(crate) fn require_constraints(
     maker: &mut Maker,
     objects: &Objects<'_>,
     list: &[Constraint],
     origins: &mut Origins,
-) -> Result<(), AllocError> {
-    let known = known_cells(maker.alloc(), objects, list)?;
-    require_known(maker, known.as_slice())?;
-    for constraint in list {
-        origins.note(maker.cons().len())?;
-        require_constraint(maker, objects, known.as_slice(), constraint)?;
-    }
+) -> Result<(), AllocError>
+    requires ready { All (IsReadyConstraint objects.now) list.now }
+    requires cells { HasCells objects.now maker.old }
+    ensures says { OnOk result (Requires [] maker.old maker.new
+        (λ values. list_all (holds_of objects.now values) list.now)) }
+{
+    let _some = maker.domains();
+    let known = known_cells(maker.alloc(), objects, list, origins)?;
+    require_values(maker, known.as_slice())?;
+    require_both_passes(maker, objects, known.as_slice(), list, origins)?;
     Ok(())
 }

@@ -1,48 +1,104 @@
-//! Which constraints may give cells their values: those that need no sum, count or packing.
-//! No promise rests on this choice.
-use conf_syntax::QuantKind;
-use conf_types::{Constraint, RExpr, RNode, RQuant};
+//! Which constraints may give cells their values: those that need no sum, count or packing. What
+//! follows from them alone is known where the others are stated. No promise rests on this choice.
+ghost use Rattle.std.specs.Prelude.{◌≡◌, ℕ};
+ghost use Rattle.conf_types.specs.Trees.{tree_of, trees_of, optional_tree, quant_tree};
+ghost use Rattle.form_truths.specs.Tests.{wanted};
+ghost use Rattle.ground_model.specs.Fixing.{joins_truths, is_simple, is_simple_filter, are_simple, fixes};
 
-/// Whether a quantifier of the kind only joins truths.
-fn joins_truths(kind: QuantKind) -> bool {
+use conf_syntax::QuantKind;
+use conf_types::{RExpr, RNode, RQuant};
+
+/// Whether a quantifier of this kind says that something holds of all, or of some.
+fn joins_truths(kind: QuantKind) -> bool
+    ensures { result ≡ joins_truths kind }
+{
     match kind {
         QuantKind::Forall | QuantKind::Exists => true,
         QuantKind::Sum | QuantKind::Count | QuantKind::AllDifferent | QuantKind::Pack => false,
     }
 }
 
-/// Whether all of these need no sum.
-fn are_plain(list: &[RExpr]) -> bool {
+/// Whether an expression has no quantifier.
+fn is_simple(e: &RExpr) -> bool
+    ensures { result ≡ is_simple (tree_of e.now) }
+{
+    match &e.node {
+        RNode::Paren(inner) => is_simple(inner),
+        RNode::Minus(inner) => is_simple(inner),
+        RNode::Not(inner) => is_simple(inner),
+        RNode::Dot(inner, _, _) => is_simple(inner),
+        RNode::Pair(_, left, right) => is_simple(left) && is_simple(right),
+        RNode::Quant(_) => false,
+        RNode::Number(_) => true,
+        RNode::Truth(_) => true,
+        RNode::This => true,
+        RNode::Local(_) => true,
+        RNode::Own(_, _) => true,
+        RNode::Root(_, _) => true,
+        RNode::Value(_, _) => true,
+        RNode::Class(_) => true,
+    }
+}
+
+/// Whether a quantifier's filter has no quantifier.
+fn is_simple_filter(filter: &Option<RExpr>) -> bool
+    ensures { result ≡ is_simple_filter (optional_tree filter.now) }
+{
+    match filter {
+        Some(e) => is_simple(e),
+        None => true,
+    }
+}
+
+/// Whether none of the expressions has a quantifier.
+fn are_simple(list: &[RExpr]) -> bool
+    ensures { result ≡ are_simple (trees_of list.now) }
+{
     for e in list {
-        if !is_plain(e) {
+        if !is_simple(e) {
             return false;
         }
     }
     true
 }
 
-/// Whether a quantifier needs no sum.
-fn is_plain_quantifier(quant: &RQuant) -> bool {
-    let filter = match &quant.filter {
-        Some(e) => is_plain(e),
-        None => true,
-    };
-    joins_truths(quant.kind) && is_plain(&quant.over) && filter && are_plain(quant.body.as_slice())
+/// Whether a quantifier joins truths in which there is no other quantifier.
+fn joins_simple(quant: &RQuant) -> bool
+    ensures { (at : ℕ) → result ≡ fixes (quant_tree quant.now at) }
+{
+    joins_truths(quant.kind)
+        && is_simple(&quant.over)
+        && is_simple_filter(&quant.filter)
+        && are_simple(&quant.body)
 }
 
-/// Whether an expression needs no sum, count or packing.
-pub(crate) fn is_plain(e: &RExpr) -> bool {
+/// Whether a constraint may give cells their values.
+fn fixes(e: &RExpr) -> bool
+    ensures { result ≡ fixes (tree_of e.now) }
+{
     match &e.node {
-        RNode::Paren(inner) | RNode::Minus(inner) | RNode::Not(inner) => is_plain(inner),
-        RNode::Dot(inner, _, _) => is_plain(inner),
-        RNode::Pair(_, left, right) => is_plain(left) && is_plain(right),
-        RNode::Quant(quant) => is_plain_quantifier(quant),
-        _ => true,
+        RNode::Paren(inner) => fixes(inner),
+        RNode::Minus(inner) => fixes(inner),
+        RNode::Not(inner) => fixes(inner),
+        RNode::Dot(inner, _, _) => fixes(inner),
+        RNode::Pair(_, left, right) => fixes(left) && fixes(right),
+        RNode::Quant(quant) => joins_simple(quant),
+        RNode::Number(_) => true,
+        RNode::Truth(_) => true,
+        RNode::This => true,
+        RNode::Local(_) => true,
+        RNode::Own(_, _) => true,
+        RNode::Root(_, _) => true,
+        RNode::Value(_, _) => true,
+        RNode::Class(_) => true,
     }
 }
 
-/// Whether a constraint may give cells their values. Others may be stated by these values, so
-/// who blames them has to look at it, too.
-pub fn seems_to_fix(constraint: &Constraint) -> bool {
-    is_plain(&constraint.expr)
+/// Whether a constraint is required in the pass for those that fix something, or in that for the
+/// others.
+pub(crate) fn is_of_pass(e: &RExpr, fixing: bool) -> bool
+    ensures { result ≡ wanted fixing (fixes (tree_of e.now)) }
+{
+    let found = fixes(e);
+    if fixing { found } else { !found }
 }
