@@ -5,7 +5,7 @@ use packed_rows::Row;
 use signed_clause::IntSet;
 use std::alloc::{AllocError, Global};
 
-/// So many groups are looked at for each row.
+/// So many groups, the last ones, are looked at for each row.
 const MOST_GROUPS: usize = 8;
 
 /// More bins no packing has.
@@ -77,9 +77,9 @@ fn joined(
     Ok(out)
 }
 
-/// Whether the variables of both lists are the same.
+/// Whether both lists have the same items.
 fn has_all(items: &[(u32, i64)], loads: &[(u32, i64)]) -> bool {
-    items.len() == loads.len() && agree(items, loads)
+    items == loads
 }
 
 /// Whether one of the group's rows is of this bin.
@@ -92,11 +92,20 @@ fn has_bin(rows: &[Row], group: &Group, bin: i64) -> bool {
     false
 }
 
-/// Whether the row at this place can be one of the group's.
-fn can_join(rows: &[Row], group: &Group, r: usize) -> bool {
-    r < rows.len()
-        && agree(group.items.as_slice(), rows[r].loads.as_slice())
-        && !has_bin(rows, group, rows[r].bin)
+/// Whether the row at this place can be one of the group's, and where all of its items have to be
+/// the group's, whether they are.
+fn can_join(rows: &[Row], group: &Group, r: usize, alike: bool) -> bool {
+    if r >= rows.len() {
+        return false;
+    }
+    let items = group.items.as_slice();
+    let loads = rows[r].loads.as_slice();
+    let fits = if alike {
+        has_all(items, loads)
+    } else {
+        agree(items, loads)
+    };
+    fits && !has_bin(rows, group, rows[r].bin)
 }
 
 /// Takes a row into a group.
@@ -108,16 +117,23 @@ fn join(alloc: Global, group: &mut Group, row: &Row, r: usize) -> Result<(), All
     Ok(())
 }
 
-/// Which of the first groups the row can join.
-fn group_for(rows: &[Row], groups: &[Group], r: usize) -> Option<usize> {
-    let mut i = 0;
-    while i < groups.len() && i < MOST_GROUPS {
-        if can_join(rows, &groups[i], r) {
+/// Which of the last groups the row can join.
+fn group_among(rows: &[Row], groups: &[Group], r: usize, alike: bool) -> Option<usize> {
+    for k in 0..groups.len().min(MOST_GROUPS) {
+        let i = groups.len() - 1 - k;
+        if can_join(rows, &groups[i], r, alike) {
             return Some(i);
         }
-        i += 1;
     }
     None
+}
+
+/// Which of the last groups the row can join: one of the same items before another.
+fn group_for(rows: &[Row], groups: &[Group], r: usize) -> Option<usize> {
+    match group_among(rows, groups, r, true) {
+        Some(i) => Some(i),
+        None => group_among(rows, groups, r, false),
+    }
 }
 
 /// Puts the row at this place into a group, its own where it fits into none.

@@ -79,6 +79,9 @@ fn left_behind(room: i64, size: i64) -> Option<i64>
 fn is_sure(row: &Row) -> bool
     ensures { result ≡ true → (a : List ℤ) → row_holds a row.now ≡ true }
 {
+    if row.room < 0 {
+        return false;
+    }
     let mut left = row.room;
     for load in row.loads.as_slice() {
         match left_behind(left, load.1) {

@@ -41,8 +41,9 @@ fn least_of(maker: &Maker, t: (i64, u32)) -> Option<Share>
     ensures { IfSome result (λ s. (bin : ℤ) → IsShareOf maker.now bin t s) }
 {
     let (low, high) = ends_in(maker, t.1)?;
-    let v = times(t.0, if t.0 < 0 { high } else { low })?;
-    Some(Share::Least(v))
+    let by_low = times(t.0, low)?;
+    let by_high = times(t.0, high)?;
+    Some(Share::Least(by_low.min(by_high)))
 }
 
 /// The variable of which the flag tells whether it is in the bin.
