@@ -29,7 +29,7 @@ fn note_place(places: &mut [usize], con: &Con, k: usize) {
 
 /// For each variable the number of a constraint: of one that is defined by a question, by parts or
 /// by a flag that of its definition. Who reads it looks whether it is.
-pub fn definitions(maker: &Maker) -> Result<Vec<usize>, AllocError> {
+pub fn definition_places(maker: &Maker) -> Result<Vec<usize>, AllocError> {
     let mut places = Vec::new(maker.alloc());
     places.resize(maker.domains().len(), 0)?;
     for (k, con) in maker.cons().iter().enumerate() {

@@ -1,29 +1,28 @@
 -- One step towards the root's fixpoint: what a unit clause leaves holds all solutions still.
-use Rattle.std.proofs.Common.{◌≡◌, ◌≢◌, ℕ, suc, ◌<◌, ◌≤◌, Bool, true, false, true≢false, not, ◌&&◌, ◌||◌, cond, List, [], ◌∷◌, ℤ, pos, All, length, Option, Some, None, IfSome, refl, sym, ap, ◌∙◌, subst, slice_set, slice_get, arith, inl, inr}
+use Rattle.std.proofs.Common.{◌≡◌, ℕ, suc, ◌<◌, Bool, true, false, true≢false, not, ◌&&◌, ◌||◌, cond, List, [], ◌∷◌, ℤ, All, length, Option, Some, None, IfSome, refl, sym, ap, ◌∙◌, subst, slice_set, slice_get, get_or, arith, inl, inr}
 use Rattle.std.proofs.lemmas.Bool.{and_parts, cases_eq}
 use Rattle.std.proofs.lemmas.List.{length-set}
-use Rattle.std.proofs.lemmas.Option.{slice_get_within, get_or_from_slice_get}
+use Rattle.std.proofs.lemmas.Option.{slice_get-get_or, slice_get_within, get_or_from_slice_get}
 use Rattle.std.proofs.lemmas.List.Elements.{All-head, All-tail, All-from_get_or}
 use Rattle.signed_clause.specs.Ranges.{Ranges, has, is_nil, IsValid, IsSubset}
 use Rattle.signed_clause.specs.SetAlgebra.{is_disjoint, is_within, meet}
-use Rattle.signed_clause.specs.Clauses.{Boxes, Literals, box_of, false_in, unit_of, alone_of, clause_true, IsClauseFrom, IsClause, IsWithinBoxes}
+use Rattle.signed_clause.specs.Clauses.{Boxes, Literals, box_of, false_in, unit_of, alone_of, clause_true, IsClauseFrom, IsWithinBoxes}
 use Rattle.signed_clause.specs.Running.{AreValid}
 use Rattle.signed_clause.proofs.ClauseLaws.{has_from_disjoint}
 use Rattle.signed_clause.proofs.RangeSteps.{has-meet_valid}
 use Rattle.signed_clause.proofs.SetFacts.{within_law}
 use Rattle.learn_clauses.proofs.WithinLaws.{valid_boxes}
 use Rattle.ground_form.specs.declared.con.Con.{Con}
+use Rattle.ground_form.specs.declared.con.Con.TheVariants.{AllDiff}
 use Rattle.ground_form.specs.declared.ground.Ground.{Ground}
 use Rattle.ground_form.specs.Meaning.{value_of, con_true}
-use Rattle.ground_form.specs.Solutions.{IsSolution}
 use Rattle.ground_form.specs.WellMade.{IsWellMade, IsWellMadeCon}
-use Rattle.box_rules.specs.Justified.{justified}
 use Rattle.rule_law.specs.Answers.{AreBoxesWithin, IsPruning}
 use Rattle.log_check.proofs.Justified.{justified-true}
 use Rattle.clause_watches.specs.Watching.{NarrowsAt}
-use Rattle.run_law.proofs.Units.{some_same, none_some, box-set_same, box-set_other, unit_is, IsUnitBy, AreValid-set}
+use Rattle.run_law.proofs.Units.{some_same, none_some, box-set_same, box-set_other, unit_is, AreValid-set}
 use Rattle.run_law.proofs.LevelFacts.{IsPart, unit_part}
-use Rattle.root_boxes.specs.Following.{HoldSolutions, AreRootBoxes, Follows}
+use Rattle.root_boxes.specs.Following.{AreRootBoxes, Follows}
 
 -- the values lie in the boxes
 abbrev pub AreIn : Boxes → List ℤ → Type 0
@@ -167,3 +166,18 @@ follows g boxes k con c w at p = record {
       justified-true con g.domains c a w.domains (of_problem g k con (λ z. IsWellMadeCon g.domains z) at w.constraints) p.form s.point p.follows
       (of_problem g k con (λ z. con_true z a ≡ true) at s.truths);
 }
+
+-- what the constraint of this number says follows
+pub follows_at : (g : Ground) (boxes : Boxes) (k : ℕ) (c : Literals) → IsWellMade g → k < length g.cons → ((con : Con) → slice_get g.cons k ≡ Some con → IsPruning con g.domains boxes c) → Follows g boxes c
+follows_at g boxes k c w lt says =
+    let con = get_or g.cons k (AllDiff []) in
+    let at = slice_get-get_or g.cons k (AllDiff []) lt in
+    follows g boxes k con c w at (says con at)
+
+-- the same of the slices and options that hold them
+pub follows_from : (g : Ground) (boxes lent : Boxes) (o : Option (ℕ × Literals)) (k : ℕ) (c : Literals) → IsWellMade g → lent ≡ boxes → o ≡ Some (k, c) → IfSome o (λ a. a.0 < length g.cons) →
+    IfSome o (λ a. (con : Con) → slice_get g.cons a.0 ≡ Some con → IsPruning con g.domains lent a.1) → Follows g boxes c
+follows_from g boxes lent o k c w same is there says =
+    follows_at g boxes k c w (subst (λ (z : Option (ℕ × Literals)). IfSome z (λ a. a.0 < length g.cons)) is there)
+    (subst (λ (b : Boxes). (con : Con) → slice_get g.cons k ≡ Some con → IsPruning con g.domains b c) same
+    (subst (λ (z : Option (ℕ × Literals)). IfSome z (λ a. (con : Con) → slice_get g.cons a.0 ≡ Some con → IsPruning con g.domains lent a.1)) is says))

@@ -1,6 +1,6 @@
 //! The boxes of a problem's variables where no constraint has anything more to say, before any
 //! decision.
-ghost use Rattle.std.specs.Prelude.{◌≡◌, ◌<◌, length, slice_set, IfOk, IfSome, OnOk};
+ghost use Rattle.std.specs.Prelude.{false, ◌≡◌, ◌<◌, length, slice_set, IfOk, IfSome, OnOk};
 ghost use Rattle.std.specs.List.{All};
 ghost use Rattle.signed_clause.specs.Ranges.{is_nil};
 ghost use Rattle.ground_form.specs.WellMade.{IsWellMade};

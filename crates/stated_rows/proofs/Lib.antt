@@ -1,2 +1,3 @@
 pub mod ShareLaws
 pub mod LoadLaws
+pub mod RowLaws

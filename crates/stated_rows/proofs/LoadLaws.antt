@@ -1,14 +1,16 @@
 -- Loads that are put among others, and loads that are fewer.
-use Rattle.std.proofs.Common.{◌≡◌, ℕ, ◌+◌, ◌<◌, ◌≤◌, Bool, true, false, cond, List, [], ◌∷◌, ◌++◌, ℤ, pos, ◌+ℤ◌, ◌-ℤ◌, ◌*ℤ◌, ◌≤ℤ◌, length, take, drop, get_or, refl, sym, ap, ◌∙◌, subst, arith}
+use Rattle.std.proofs.Common.{Option, None, Some, IfSome, ◌≡◌, ℕ, ◌+◌, ◌<◌, ◌≤◌, true, false, cond, List, [], ◌∷◌, ◌++◌, ℤ, pos, ◌+ℤ◌, ◌-ℤ◌, ◌*ℤ◌, ◌≤ℤ◌, length, take, drop, get_or, refl, sym, ap, ◌∙◌, subst, arith}
 use Rattle.std.specs.Ordering.{int_eq}
 use Rattle.std.proofs.lemmas.Int.{ints}
-use Rattle.std.proofs.lemmas.List.{take-append-drop, take_more, drop_more, drop_all, take_all}
+use Rattle.std.proofs.lemmas.List.{take-append-drop, take_more, take_all}
 use Rattle.ground_form.specs.Meaning.{value_of, sum_at}
 use Rattle.packed_rows.specs.Loads.{load_of}
 use Rattle.packed_rows.proofs.PackedLaws.{items_behind}
 use Rattle.stated_rows.specs.declared.shares.Share.{Share}
-use Rattle.stated_rows.specs.declared.shares.Share.TheVariants.{Load, Least}
-use Rattle.stated_rows.specs.Following.{share_at}
+use Rattle.stated_rows.specs.declared.shares.Share.TheVariants.{Load}
+use Rattle.ground_form.specs.declared.ground.Ground.{Ground}
+use Rattle.ground_form.specs.declared.sums.Number.{Number}
+use Rattle.stated_rows.specs.Following.{share_at, IsShareOf, IsBelow}
 
 -- what one load adds
 abbrev own : ℤ → ℕ × ℤ → List ℤ → ℤ
@@ -55,9 +57,9 @@ abbrev pub AreWithin : List (ℕ × ℤ) → List (ℕ × ℤ) → ℕ → List 
 AreWithin loads fewer i rest =
     (bin : ℤ) (a : List ℤ) → load_of bin fewer a ≤ℤ (load_of bin (take i loads) a +ℤ load_of bin rest a)
 
-one_more : (bin : ℤ) (loads : List (ℕ × ℤ)) (i : ℕ) (l : ℕ × ℤ) (a : List ℤ) → i < length loads → l ≡ get_or loads i l → load_of bin (take (i + 1) loads) a ≡ (load_of bin (take i loads) a +ℤ own bin l a)
-one_more bin loads i l a lt is =
-    let split = take_more loads i l lt in
+one_more : (bin : ℤ) (loads : List (ℕ × ℤ)) (i : ℕ) (d l : ℕ × ℤ) (a : List ℤ) → i < length loads → l ≡ get_or loads i d → load_of bin (take (i + 1) loads) a ≡ (load_of bin (take i loads) a +ℤ own bin l a)
+one_more bin loads i d l a lt is =
+    let split = take_more loads i d lt in
     let at : take (i + 1) loads ≡ take i loads ++ l ∷ [] = split ∙ ap (λ (z : ℕ × ℤ). take i loads ++ z ∷ []) (sym is) in
     let parts = ap (λ (z : List (ℕ × ℤ)). load_of bin z a) at ∙ items_behind bin (take i loads) (l ∷ []) a in
     let here = first_load bin l [] a in
@@ -66,17 +68,17 @@ one_more bin loads i l a lt is =
 pub within_start : (loads fewer : List (ℕ × ℤ)) → AreWithin loads fewer 0 fewer
 within_start loads fewer bin a = omega (arith, ints)
 
-pub within_both : (loads fewer rest more : List (ℕ × ℤ)) (i : ℕ) (l : ℕ × ℤ) → i < length loads → l ≡ get_or loads i l → ((bin : ℤ) (a : List ℤ) → load_of bin rest a ≤ℤ load_of bin (l ∷ more) a) → AreWithin loads fewer i rest → AreWithin loads fewer (i + 1) more
-within_both loads fewer rest more i l lt is le before bin a =
-    let next = one_more bin loads i l a lt is in
+pub within_both : (loads fewer rest more : List (ℕ × ℤ)) (i : ℕ) (d l : ℕ × ℤ) → i < length loads → l ≡ get_or loads i d → ((bin : ℤ) (a : List ℤ) → load_of bin rest a ≤ℤ load_of bin (l ∷ more) a) → AreWithin loads fewer i rest → AreWithin loads fewer (i + 1) more
+within_both loads fewer rest more i d l lt is le before bin a =
+    let next = one_more bin loads i d l a lt is in
     let here = first_load bin l more a in
     let step = le bin a in
     let h = before bin a in
     omega (arith, ints, next, here, step, h)
 
-pub within_one : (loads fewer rest : List (ℕ × ℤ)) (i : ℕ) (l : ℕ × ℤ) → i < length loads → l ≡ get_or loads i l → pos 0 ≤ℤ l.1 → AreWithin loads fewer i rest → AreWithin loads fewer (i + 1) rest
-within_one loads fewer rest i l lt is some before bin a =
-    let next = one_more bin loads i l a lt is in
+pub within_one : (loads fewer rest : List (ℕ × ℤ)) (i : ℕ) (d l : ℕ × ℤ) → i < length loads → l ≡ get_or loads i d → pos 0 ≤ℤ l.1 → AreWithin loads fewer i rest → AreWithin loads fewer (i + 1) rest
+within_one loads fewer rest i d l lt is some before bin a =
+    let next = one_more bin loads i d l a lt is in
     let more = own_some bin l a some in
     let h = before bin a in
     omega (arith, ints, next, more, h)
@@ -97,9 +99,9 @@ HasLeft loads room i left = (bin : ℤ) (a : List ℤ) → (load_of bin (take i 
 pub left_start : (loads : List (ℕ × ℤ)) (room : ℤ) → HasLeft loads room 0 room
 left_start loads room bin a = omega (arith, ints)
 
-pub left_next : (loads : List (ℕ × ℤ)) (room left rest : ℤ) (i : ℕ) (l : ℕ × ℤ) → i < length loads → l ≡ get_or loads i l → pos 0 ≤ℤ l.1 → rest ≡ (left -ℤ l.1) → HasLeft loads room i left → HasLeft loads room (i + 1) rest
-left_next loads room left rest i l lt is some less before bin a =
-    let next = one_more bin loads i l a lt is in
+pub left_next : (loads : List (ℕ × ℤ)) (room left rest : ℤ) (i : ℕ) (d l : ℕ × ℤ) → i < length loads → l ≡ get_or loads i d → pos 0 ≤ℤ l.1 → rest ≡ (left -ℤ l.1) → HasLeft loads room i left → HasLeft loads room (i + 1) rest
+left_next loads room left rest i d l lt is some less before bin a =
+    let next = one_more bin loads i d l a lt is in
     let most : own bin l a ≤ℤ l.1 = elim (int_eq (value_of a l.0) bin) as (λ b. cond b l.1 (pos 0) ≤ℤ l.1) [
       | true ↦ omega (arith, ints)
       | false ↦ some
@@ -112,3 +114,32 @@ left_end loads room left i past some before bin a =
     let all = ap (λ (z : List (ℕ × ℤ)). load_of bin z a) (take_all i loads past) in
     let h = before bin a in
     omega (arith, ints, all, some, h)
+
+-- ---- terms
+
+-- with one load more
+pub share_more : (bin : ℤ) (s : Share) (x : ℕ) (size : Number) (old next : List (ℕ × ℤ)) (least : ℤ) (a : List ℤ) → s ≡ Load x size → load_of bin next a ≡ load_of bin ((x, size.value) ∷ old) a → (load_of bin next a +ℤ least) ≡ ((load_of bin old a +ℤ least) +ℤ share_at bin s a)
+share_more bin s x size old next least a is e =
+    let here = first_load bin (x, size.value) old a in
+    let adds : share_at bin s a ≡ own bin (x, size.value) a = ap (λ (z : Share). share_at bin z a) is in
+    omega (arith, ints, e, here, adds)
+
+sum_behind : (terms : List (ℤ × ℕ)) (t : ℤ × ℕ) (a : List ℤ) → sum_at (terms ++ t ∷ []) a ≡ (sum_at terms a +ℤ (t.0 *ℤ value_of a t.1))
+sum_behind [] t a = omega (arith, ints)
+sum_behind (u ∷ terms) t a =
+    let rest = sum_behind terms t a in
+    omega (arith, ints, rest)
+
+-- with one term more
+pub term_more : (g : Ground) (bin : ℤ) (s : Share) (t : ℤ × ℕ) (old next : List (ℕ × ℤ)) (least more : ℤ) → IsShareOf g bin t s → ((a : List ℤ) → (load_of bin next a +ℤ more) ≡ ((load_of bin old a +ℤ least) +ℤ share_at bin s a)) →
+    (terms : List (ℤ × ℕ)) → IsBelow g bin old least terms → IsBelow g bin next more (terms ++ t ∷ [])
+term_more g bin s t old next least more share sum terms below a w all =
+    let one = share a w all in
+    let both = sum a in
+    let before = below a w all in
+    let whole = sum_behind terms t a in
+    omega (arith, ints, one, both, before, whole)
+
+pub if_some : {X : Type 0} (P Q : X → Type 0) (o : Option X) → ((x : X) → P x → Q x) → IfSome o P → IfSome o Q
+if_some P Q None f h = h
+if_some P Q (Some x) f h = f x h

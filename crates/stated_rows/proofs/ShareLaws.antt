@@ -1,28 +1,28 @@
 -- What a term of a sum is at least, by the definition of its variable.
-use Rattle.std.proofs.Common.{◌≡◌, ℕ, ◌<◌, Bool, true, false, true≢false, ◌&&◌, ◌||◌, cond, List, [], ◌∷◌, ℤ, pos, negsuc, ◌*ℤ◌, ◌≤ℤ◌, Contains, All, length, refl, sym, ap, ◌∙◌, subst, arith}
+use Rattle.std.proofs.Common.{◌≡◌, ℕ, ◌<◌, Bool, true, false, ◌&&◌, ◌||◌, cond, List, [], ◌∷◌, ℤ, pos, negsuc, ◌*ℤ◌, ◌≤ℤ◌, Contains, All, length, sym, ap, ◌∙◌, subst, arith}
 use Rattle.std.specs.Int.{int_min}
 use Rattle.std.specs.Ordering.{int_eq}
 use Rattle.std.proofs.lemmas.Int.{ints}
-use Rattle.std.proofs.lemmas.Bool.{and_parts}
 use Rattle.std.proofs.lemmas.Bool.Decides.{Decides-int_eq}
 use Rattle.std.proofs.lemmas.List.Elements.{All-contains}
-use Rattle.signed_clause.specs.Ranges.{Ranges, has, IsValid}
-use Rattle.signed_clause.specs.Clauses.{Boxes, box_of}
+use Rattle.signed_clause.specs.Ranges.{has, IsValid}
+use Rattle.signed_clause.specs.Clauses.{box_of}
 use Rattle.ground_form.specs.declared.con.Con.{Con}
 use Rattle.ground_form.specs.declared.con.Con.TheVariants.{MemberDef, CondDef}
 use Rattle.ground_form.specs.declared.ground.Ground.{Ground}
+use Rattle.ground_form.specs.declared.sums.Number.{Number}
 use Rattle.ground_form.specs.Meaning.{value_of, bit, con_true}
 use Rattle.ground_form.specs.Bounds.{low_of, high_of}
 use Rattle.ground_form.proofs.Ends.{low_le, le_high}
 use Rattle.ground_form.proofs.Products.{mul_up, mul_least}
-use Rattle.form_build.specs.Worlds.{IsWorld, AllHold}
+use Rattle.form_build.specs.Worlds.{AllHold}
 use Rattle.stated_rows.specs.declared.shares.Share.TheVariants.{Load, Least}
 use Rattle.stated_rows.specs.Following.{IsShareOf}
 
 -- ---- in any case
 
-pub least_share : (g : Ground) (bin : ℤ) (t : ℤ × ℕ) (low high v : ℤ) → All (λ d. IsValid d) g.domains → t.1 < length g.domains → low ≡ low_of (box_of g.domains t.1) → high ≡ high_of (box_of g.domains t.1) →
-    v ≡ int_min (t.0 *ℤ low) (t.0 *ℤ high) → IsShareOf g bin t (Least v)
+pub least_share : (g : Ground) (bin : ℤ) (t : ℤ × ℕ) (low high : ℤ) (v : Number) → All (λ d. IsValid d) g.domains → t.1 < length g.domains → low ≡ low_of (box_of g.domains t.1) → high ≡ high_of (box_of g.domains t.1) →
+    v.value ≡ int_min (t.0 *ℤ low) (t.0 *ℤ high) → IsShareOf g bin t (Least v)
 least_share g bin t low high v valid lt l h is a w all =
     let box = box_of g.domains t.1 in
     let here = valid t.1 [] lt in
@@ -46,9 +46,10 @@ weighed : (b : Bool) (c : ℤ) → cond b c (pos 0) ≤ℤ (c *ℤ bit b)
 weighed true c = omega (arith, ints)
 weighed false c = omega (arith, ints)
 
-pub flag_share : (g : Ground) (x bin : ℕ) (t : ℤ × ℕ) → Contains g.cons (MemberDef t.1 x ((pos bin, pos bin) ∷ [])) → IsShareOf g (pos bin) t (Load x t.0)
-flag_share g x bin t has_it a w all =
-    subst (λ (z : ℤ). cond (int_eq (value_of a x) (pos bin)) t.0 (pos 0) ≤ℤ (t.0 *ℤ z)) (sym (flag_value g x bin t.1 a has_it all)) (weighed (int_eq (value_of a x) (pos bin)) t.0)
+pub flag_share : (g : Ground) (x bin : ℕ) (t : ℤ × ℕ) (size : Number) → Contains g.cons (MemberDef t.1 x ((pos bin, pos bin) ∷ [])) → size.value ≡ t.0 → IsShareOf g (pos bin) t (Load x size)
+flag_share g x bin t size has_it is a w all =
+    subst (λ (s : ℤ). cond (int_eq (value_of a x) (pos bin)) s (pos 0) ≤ℤ (t.0 *ℤ value_of a t.1)) (sym is)
+    (subst (λ (z : ℤ). cond (int_eq (value_of a x) (pos bin)) t.0 (pos 0) ≤ℤ (t.0 *ℤ z)) (sym (flag_value g x bin t.1 a has_it all)) (weighed (int_eq (value_of a x) (pos bin)) t.0))
 
 -- ---- by a flag and a size
 
@@ -64,8 +65,8 @@ chosen false f w item c low some e le h =
     let is : w ≡ pos 0 = grind (arith, ints) in
     subst (λ (z : ℤ). pos 0 ≤ℤ (c *ℤ z)) (sym is) (omega (arith, ints))
 
-pub chosen_share : (g : Ground) (x bin f item : ℕ) (t : ℤ × ℕ) (p : ℤ) → All (λ d. IsValid d) g.domains → Contains g.cons (CondDef t.1 f item) → Contains g.cons (MemberDef f x ((pos bin, pos bin) ∷ [])) →
-    item < length g.domains → pos 0 ≤ℤ t.0 → p ≡ (t.0 *ℤ low_of (box_of g.domains item)) → IsShareOf g (pos bin) t (Load x p)
+pub chosen_share : (g : Ground) (x bin f item : ℕ) (t : ℤ × ℕ) (p : Number) → All (λ d. IsValid d) g.domains → Contains g.cons (CondDef t.1 f item) → Contains g.cons (MemberDef f x ((pos bin, pos bin) ∷ [])) →
+    item < length g.domains → pos 0 ≤ℤ t.0 → p.value ≡ (t.0 *ℤ low_of (box_of g.domains item)) → IsShareOf g (pos bin) t (Load x p)
 chosen_share g x bin f item t p valid has_it asks lt some is a w all =
     let box = box_of g.domains item in
     let low = low_of box in

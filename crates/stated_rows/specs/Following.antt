@@ -15,8 +15,8 @@ FollowsIn g r = (a : List ℤ) → IsWorld g a → AllHold g a → row_holds a r
 
 -- what a share adds to the bin
 abbrev pub share_at : ℤ → Share → List ℤ → ℤ
-share_at bin (Load x size) a = cond (int_eq (value_of a x) bin) size (pos 0)
-share_at bin (Least v) a = v
+share_at bin (Load x size) a = cond (int_eq (value_of a x) bin) size.value (pos 0)
+share_at bin (Least v) a = v.value
 
 -- in every world the term is at least what the share adds
 abbrev pub IsShareOf : Ground → ℤ → ℤ × ℕ → Share → Type 0

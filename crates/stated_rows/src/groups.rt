@@ -1,7 +1,7 @@
 //! Rows of different bins that agree on the items' sizes. Nothing rests on what is put together
 //! here: the rows of a packing are compared with those that they come from.
 use form_build::Maker;
-use packed_rows::Row;
+use packed_rows::{Row, joined};
 use signed_clause::IntSet;
 use std::alloc::{AllocError, Global};
 
@@ -43,38 +43,6 @@ fn agree(items: &[(u32, i64)], loads: &[(u32, i64)]) -> bool {
         }
     }
     true
-}
-
-/// Adds what is left of a list.
-fn push_rest(out: &mut Vec<(u32, i64)>, rest: &[(u32, i64)]) -> Result<(), AllocError> {
-    for l in rest {
-        out.push(*l)?;
-    }
-    Ok(())
-}
-
-/// Both lists as one, each variable once.
-fn joined(
-    alloc: Global,
-    items: &[(u32, i64)],
-    loads: &[(u32, i64)],
-) -> Result<Vec<(u32, i64)>, AllocError> {
-    let mut out = Vec::new(alloc);
-    let mut j = 0;
-    for i in items {
-        while j < loads.len() && loads[j].0 < i.0 {
-            out.push(loads[j])?;
-            j += 1;
-        }
-        if j < loads.len() && loads[j].0 == i.0 {
-            j += 1;
-        }
-        out.push(*i)?;
-    }
-    if j < loads.len() {
-        push_rest(&mut out, &loads[j..])?;
-    }
-    Ok(out)
 }
 
 /// Whether both lists have the same items.
@@ -194,8 +162,7 @@ fn counted(maker: &Maker, items: &[(u32, i64)], row: &Row) -> Result<Vec<(u32, i
 
 /// The items that count in each row of whose bin they may be.
 fn items_of(maker: &Maker, rows: &[Row], group: &Group) -> Result<Vec<(u32, i64)>, AllocError> {
-    let mut items = Vec::new(maker.alloc());
-    push_rest(&mut items, group.items.as_slice())?;
+    let mut items = joined(maker.alloc(), group.items.as_slice(), &[])?;
     for r in group.rows.as_slice() {
         if *r < rows.len() {
             items = counted(maker, items.as_slice(), &rows[*r])?;
@@ -268,7 +235,7 @@ fn loads_in(maker: &Maker, items: &[(u32, i64)], bin: i64) -> Result<Vec<(u32, i
 
 /// The row of a bin: with the room of the row that it comes from, or where there is none with room
 /// for all.
-fn planned(
+fn plan_row(
     maker: &Maker,
     rows: &[Row],
     group: &Group,
@@ -297,7 +264,7 @@ fn push_range(
     out: &mut Vec<Planned>,
 ) -> Result<(), AllocError> {
     for bin in range.0..=range.1 {
-        let p = planned(maker, rows, group, items, bin)?;
+        let p = plan_row(maker, rows, group, items, bin)?;
         out.push(p)?;
     }
     Ok(())

@@ -1,5 +1,5 @@
 //! The packings that follow from the rows that are stated.
-ghost use Rattle.std.specs.Prelude.{◌≡◌, ◌≤ℤ◌, ℤ, List, true, take, drop, IfOk, IfSome, OnOk};
+ghost use Rattle.std.specs.Prelude.{◌∷◌, ◌-ℤ◌, pos, ◌≡◌, ◌≤ℤ◌, ℤ, List, true, take, drop, IfOk, IfSome, OnOk};
 ghost use Rattle.std.specs.List.{All};
 ghost use Rattle.form_build.specs.Worlds.{Defines};
 ghost use Rattle.packed_rows.specs.Loads.{load_of, row_holds};
@@ -8,8 +8,8 @@ ghost use Rattle.stated_rows.specs.Following.{FollowsIn};
 use crate::finding::rows_stated;
 use crate::groups::{Group, Planned, groups_of, packing_of};
 use form_build::Maker;
-use goal_rows::definitions;
-use ground_form::Con;
+use goal_rows::definition_places;
+use ground_form::{Con, Number};
 use packed_rows::{Row, pack_rows};
 use signed_clause::IntSet;
 use std::alloc::AllocError;
@@ -63,33 +63,42 @@ fn comes_from(source: &Row, row: &Row) -> bool
         && hold(source.loads.as_slice(), row.loads.as_slice())
 }
 
-/// What is left of a room behind a size, where neither is below 0.
-fn left_behind(room: i64, size: i64) -> Option<i64>
-    ensures size { IfSome result (λ left. pos 0 ≤ℤ size) }
-    ensures left { IfSome result (λ left. left ≡ room -ℤ size) }
-    ensures some { IfSome result (λ left. pos 0 ≤ℤ left) }
+/// What is left of a room behind a load, where neither is below 0.
+fn left_behind(room: Number, load: (u32, i64)) -> Option<Number>
+    ensures size { IfSome result (λ left. pos 0 ≤ℤ load.1) }
+    ensures left { IfSome result (λ left. left.value ≡ room.value -ℤ load.1) }
+    ensures some { IfSome result (λ left. pos 0 ≤ℤ left.value) }
 {
-    if size < 0 || room < size {
+    if load.1 < 0 || room.value < load.1 {
         return None;
     }
-    room.checked_sub(size)
+    let value = room.value.checked_sub(load.1)?;
+    Some(Number { value })
 }
 
-/// Whether the row has room for all its loads, none of which is below 0.
-fn is_sure(row: &Row) -> bool
-    ensures { result ≡ true → (a : List ℤ) → row_holds a row.now ≡ true }
+/// Whether there is room for all loads, none of which is below 0.
+fn fit_into(loads: &[(u32, i64)], room: Number) -> bool
+    ensures { result ≡ true → (bin : ℤ) (a : List ℤ) → load_of bin loads.now a ≤ℤ room.value }
 {
-    if row.room < 0 {
+    if room.value < 0 {
         return false;
     }
-    let mut left = row.room;
-    for load in row.loads.as_slice() {
-        match left_behind(left, load.1) {
+    let mut left = room;
+    for load in loads {
+        match left_behind(left, *load) {
             Some(rest) => left = rest,
             None => return false,
         }
     }
     true
+}
+
+/// Whether the row has room for all its loads.
+fn is_sure(row: &Row) -> bool
+    ensures { result ≡ true → (a : List ℤ) → row_holds a row.now ≡ true }
+{
+    let room = Number { value: row.room };
+    fit_into(row.loads.as_slice(), room)
 }
 
 /// Whether the row of a packing follows: by the row that it comes from, or in any case.
@@ -190,7 +199,7 @@ fn pack_groups(maker: &mut Maker, rows: &[Row], groups: &[Group]) -> Result<(), 
 pub fn pack_stated(maker: &mut Maker) -> Result<(), AllocError>
     ensures { OnOk result (Defines maker.old maker.new) }
 {
-    let places = definitions(maker)?;
+    let places = definition_places(maker)?;
     let rows = rows_stated(maker, places.as_slice())?;
     let groups = groups_of(maker.alloc(), rows.as_slice())?;
     pack_groups(maker, rows.as_slice(), groups.as_slice())?;

@@ -1,10 +1,10 @@
 //! The row that one constraint says.
-ghost use Rattle.std.specs.Prelude.{◌≡◌, ◌≤ℤ◌, ◌+ℤ◌, ◌-ℤ◌, ◌∷◌, ◌++◌, [], ℕ, ℤ, List, pos, take, drop, IfOk, IfSome, OnOk};
+ghost use Rattle.std.specs.Prelude.{◌≤◌, true, Contains, length, ◌≡◌, ◌≤ℤ◌, ◌+ℤ◌, ◌-ℤ◌, ◌∷◌, ◌++◌, [], ℕ, ℤ, List, pos, take, drop, IfOk, IfSome, OnOk};
 ghost use Rattle.ground_form.specs.Meaning.{sum_at};
 ghost use Rattle.ground_form.specs.declared.con.Con.TheVariants as con;
 ghost use Rattle.form_build.specs.Worlds.{IsWorld, AllHold};
 ghost use Rattle.packed_rows.specs.Loads.{load_of, row_holds};
-ghost use Rattle.stated_rows.specs.Following.{share_at, IsBelow};
+ghost use Rattle.stated_rows.specs.Following.{FollowsIn, share_at, IsBelow};
 
 use crate::shares::{Share, bin_asked, share_of};
 use form_build::Maker;
@@ -34,10 +34,10 @@ fn bin_of(maker: &Maker, places: &[usize], terms: &[(i64, u32)]) -> Option<u64> 
 }
 
 /// Both numbers together, where that fits.
-fn sum(m: Number, v: i64) -> Option<Number>
-    ensures { IfSome result (λ n. n.value ≡ m.value +ℤ v) }
+fn sum(m: Number, n: Number) -> Option<Number>
+    ensures { IfSome result (λ s. s.value ≡ m.value +ℤ n.value) }
 {
-    let value = m.value.checked_add(v)?;
+    let value = m.value.checked_add(n.value)?;
     Some(Number { value })
 }
 
@@ -49,13 +49,28 @@ fn place_for(loads: &[(u32, i64)], x: u32) -> usize
     loads.partition_point(|l| l.0 < x).min(n)
 }
 
+/// Puts a load at a place.
+fn insert_load(
+    loads: &mut Vec<(u32, i64)>,
+    at: usize,
+    x: u32,
+    size: Number,
+) -> Result<(), AllocError>
+    requires { at ≤ length loads.old.items }
+    ensures { OnOk result (loads.new.items
+        ≡ take at loads.old.items ++ (x, size.value) ∷ drop at loads.old.items) }
+{
+    loads.insert(at, (x, size.value))?;
+    Ok(())
+}
+
 /// Puts a load in its place.
-fn put_load(loads: &mut Vec<(u32, i64)>, x: u32, size: i64) -> Result<(), AllocError>
+fn put_load(loads: &mut Vec<(u32, i64)>, x: u32, size: Number) -> Result<(), AllocError>
     ensures { OnOk result ((bin : ℤ) (a : List ℤ)
-        → load_of bin loads.new.items a ≡ load_of bin ((x, size) ∷ loads.old.items) a) }
+        → load_of bin loads.new.items a ≡ load_of bin ((x, size.value) ∷ loads.old.items) a) }
 {
     let at = place_for(loads.as_slice(), x);
-    loads.insert(at, (x, size))?;
+    insert_load(loads, at, x, size)?;
     Ok(())
 }
 
@@ -124,35 +139,36 @@ fn read_terms(
 }
 
 /// What is left of a bound, where that fits.
-fn left_of(bound: i64, least: Number) -> Option<i64>
-    ensures { IfSome result (λ room. room ≡ bound -ℤ least.value) }
+fn left_of(bound: Number, least: Number) -> Option<Number>
+    ensures { IfSome result (λ room. room.value ≡ bound.value -ℤ least.value) }
 {
-    bound.checked_sub(least.value)
+    let value = bound.value.checked_sub(least.value)?;
+    Some(Number { value })
 }
 
 /// The number of a bin as a value.
-fn as_value(bin: u64) -> Option<i64>
-    ensures { IfSome result (λ v. v ≡ pos bin) }
+fn as_value(bin: u64) -> Option<Number>
+    ensures { IfSome result (λ v. v.value ≡ pos bin) }
 {
     if bin <= i64::MAX as u64 {
-        Some(bin as i64)
+        Some(Number { value: bin as i64 })
     } else {
         None
     }
 }
 
 /// The row that a sum of terms says, which is at most a bound.
-fn row_from(bin: u64, r: Reading, bound: i64) -> Option<Row>
+fn row_from(bin: u64, r: Reading, bound: Number) -> Option<Row>
     ensures { IfSome result (λ row. (g : _) (terms : List (ℤ × ℕ)) (a : List ℤ)
         → IsBelow g (pos bin) r.loads.items r.least.value terms → IsWorld g a → AllHold g a
-        → sum_at terms a ≤ℤ bound → row_holds a row ≡ true) }
+        → sum_at terms a ≤ℤ bound.value → row_holds a row ≡ true) }
 {
     let room = left_of(bound, r.least)?;
     let bin = as_value(bin)?;
     Some(Row {
-        bin,
+        bin: bin.value,
         loads: r.loads,
-        room,
+        room: room.value,
     })
 }
 
@@ -161,10 +177,10 @@ fn row_of_sum(
     maker: &Maker,
     places: &[usize],
     terms: &[(i64, u32)],
-    bound: i64,
+    bound: Number,
 ) -> Result<Option<Row>, AllocError>
     ensures { IfOk result (λ o. IfSome o (λ row. (a : List ℤ) → IsWorld maker.now a
-        → AllHold maker.now a → sum_at terms.now a ≤ℤ bound → row_holds a row ≡ true)) }
+        → AllHold maker.now a → sum_at terms.now a ≤ℤ bound.value → row_holds a row ≡ true)) }
 {
     let Some(bin) = bin_of(maker, places, terms) else {
         return Ok(None);
@@ -181,7 +197,11 @@ pub(crate) fn row_of(maker: &Maker, places: &[usize], con: &Con) -> Result<Optio
         → FollowsIn maker.now row)) }
 {
     match con {
-        Con::LinLe { terms, bound } => row_of_sum(maker, places, terms.items(), *bound),
+        Con::LinLe { terms, bound } => {
+            let bound = Number { value: *bound };
+            let row = row_of_sum(maker, places, terms.items(), bound)?;
+            Ok(row)
+        }
         _ => Ok(None),
     }
 }

@@ -1,5 +1,8 @@
 //! What one term of a sum adds to a bin.
 ghost use Rattle.std.specs.Prelude.{◌≡◌, ◌<◌, ◌≤ℤ◌, ◌*ℤ◌, ℤ, pos, ◌∷◌, [], true, length, Contains, IfSome};
+ghost use Rattle.std.specs.Int.{int_min};
+ghost use Rattle.std.specs.List.{All};
+ghost use Rattle.signed_clause.specs.Ranges.{IsValid};
 ghost use Rattle.signed_clause.specs.Clauses.{box_of};
 ghost use Rattle.ground_form.specs.declared.con.Con.TheVariants as con;
 ghost use Rattle.ground_form.specs.Bounds.{low_of, high_of};
@@ -8,32 +11,44 @@ ghost use Rattle.stated_rows.specs.Following.{IsShareOf};
 
 use form_build::Maker;
 use goal_rows::{definition, question};
-use ground_form::{Con, ends_of};
+use ground_form::{Con, Number, ends_of};
 
 /// What a term adds to a bin at least.
 #[derive(Clone, Copy)]
 pub enum Share {
     /// So much where this variable's value is the bin, and nothing else.
-    Load(u32, i64),
+    Load(u32, Number),
     /// So much in any case.
-    Least(i64),
+    Least(Number),
 }
 
 /// The ends of a variable's box.
-fn ends_in(maker: &Maker, x: u32) -> Option<(i64, i64)>
-    ensures low { IfSome result (λ e. e.0 ≡ low_of (box_of maker.now.domains x)) }
-    ensures high { IfSome result (λ e. e.1 ≡ high_of (box_of maker.now.domains x)) }
+fn ends_in(maker: &Maker, x: u32) -> Option<(Number, Number)>
+    ensures low { IfSome result (λ e. e.0.value ≡ low_of (box_of maker.now.domains x)) }
+    ensures high { IfSome result (λ e. e.1.value ≡ high_of (box_of maker.now.domains x)) }
     ensures exists { IfSome result (λ e. x < length maker.now.domains) }
+    ensures valid { IfSome result (λ e. All (λ d. IsValid d) maker.now.domains) }
 {
     let set = maker.domains().get(x as usize)?;
-    Some(ends_of(set))
+    let (low, high) = ends_of(set);
+    Some((Number { value: low }, Number { value: high }))
 }
 
-/// A product, where it fits.
-fn times(c: i64, v: i64) -> Option<i64>
-    ensures { IfSome result (λ p. p ≡ c *ℤ v) }
+/// A term's factor times a number, where that fits.
+fn times(t: (i64, u32), n: Number) -> Option<Number>
+    ensures { IfSome result (λ p. p.value ≡ t.0 *ℤ n.value) }
 {
-    c.checked_mul(v)
+    let value = t.0.checked_mul(n.value)?;
+    Some(Number { value })
+}
+
+/// The smaller of two numbers.
+fn smaller(m: Number, n: Number) -> Number
+    ensures { result.value ≡ int_min m.value n.value }
+{
+    Number {
+        value: m.value.min(n.value),
+    }
 }
 
 /// The least that a term is over the boxes.
@@ -41,9 +56,9 @@ fn least_of(maker: &Maker, t: (i64, u32)) -> Option<Share>
     ensures { IfSome result (λ s. (bin : ℤ) → IsShareOf maker.now bin t s) }
 {
     let (low, high) = ends_in(maker, t.1)?;
-    let by_low = times(t.0, low)?;
-    let by_high = times(t.0, high)?;
-    Some(Share::Least(by_low.min(by_high)))
+    let by_low = times(t, low)?;
+    let by_high = times(t, high)?;
+    Some(Share::Least(smaller(by_low, by_high)))
 }
 
 /// The variable of which the flag tells whether it is in the bin.
@@ -55,13 +70,20 @@ fn item_of(maker: &Maker, places: &[usize], bin: u64, flag: u32) -> Option<u32>
     if value == bin { Some(x) } else { None }
 }
 
+/// A term's factor.
+fn factor_of(t: (i64, u32)) -> Number
+    ensures { result.value ≡ t.0 }
+{
+    Number { value: t.0 }
+}
+
 /// The load that a term is, where its variable is a flag that tells of the bin.
 fn flag_load(maker: &Maker, places: &[usize], bin: u64, t: (i64, u32)) -> Option<Share>
     ensures { IfSome result (λ s. IsShareOf maker.now (pos bin) t s) }
 {
     let x = item_of(maker, places, bin, t.1)?;
     if t.0 > 0 {
-        Some(Share::Load(x, t.0))
+        Some(Share::Load(x, factor_of(t)))
     } else {
         None
     }
@@ -85,14 +107,15 @@ fn chosen_by(c: &Con, x: u32) -> Option<(u32, u32)>
 }
 
 /// A term's factor times an item's least value, where neither is below 0.
-fn least_size(maker: &Maker, factor: i64, item: u32) -> Option<i64>
+fn least_size(maker: &Maker, t: (i64, u32), item: u32) -> Option<Number>
     ensures exists { IfSome result (λ p. item < length maker.now.domains) }
-    ensures factor { IfSome result (λ p. pos 0 ≤ℤ factor) }
-    ensures product { IfSome result (λ p. p ≡ factor *ℤ low_of (box_of maker.now.domains item)) }
+    ensures valid { IfSome result (λ p. All (λ d. IsValid d) maker.now.domains) }
+    ensures factor { IfSome result (λ p. pos 0 ≤ℤ t.0) }
+    ensures product { IfSome result (λ p. p.value ≡ t.0 *ℤ low_of (box_of maker.now.domains item)) }
 {
     let (low, _) = ends_in(maker, item)?;
-    if factor > 0 && low >= 0 {
-        times(factor, low)
+    if t.0 > 0 && low.value >= 0 {
+        times(t, low)
     } else {
         None
     }
@@ -105,7 +128,7 @@ fn chosen_load(maker: &Maker, places: &[usize], bin: u64, t: (i64, u32)) -> Opti
 {
     let (flag, item) = chosen_by(definition(maker, places, t.1)?, t.1)?;
     let x = item_of(maker, places, bin, flag)?;
-    let size = least_size(maker, t.0, item)?;
+    let size = least_size(maker, t, item)?;
     Some(Share::Load(x, size))
 }
 

@@ -3,7 +3,7 @@ use Rattle.root_boxes.specs.Following.{AreRootBoxes}
 use Rattle.root_boxes.proofs.root.go_on.Given as goal
 
 abbrev pub invariant-loop : goal.invariant-loop
-invariant-loop l = record {
+invariant-loop g l = record {
   boxes : AreRootBoxes l.g l.root.boxes.items;
   over : IsOver l.g l.queue;
   fits : Fits l.g l.queue l.root.boxes.items;
