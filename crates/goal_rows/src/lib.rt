@@ -35,3 +35,4 @@ mod used;
 mod weights;
 
 pub use adding::add_goal_sums;
+pub use definitions::{definition, definition_places, question};

@@ -7,9 +7,9 @@
 //!
 //! - `allowance`: how many variables and constraints a model may have.
 //! - `constraints`: a constraint, for each object of its class.
-//! - `fixing`: which constraints are required first.
+//! - `fixing`: which constraints may give cells their values.
 //! - `goals`: the objectives as variables.
-//! - `known`: cells whose values constraints fix.
+//! - `known`: cells whose values follow from those constraints.
 //! - `origins`: for which constraint of the model each of the problem's was stated.
 //! - `problem`: the problem of a model.
 //! - `required`: one expression as a form, and required.
@@ -32,6 +32,5 @@ mod row_form;
 mod rows;
 mod sets;
 
-pub use fixing::seems_to_fix;
 pub use origins::Origins;
 pub use problem::{ground, ground_with_origins};
