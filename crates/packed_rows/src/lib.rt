@@ -14,5 +14,4 @@ mod row;
 
 pub use bounds::are_bounded;
 pub use packing::pack_rows;
-pub use plan::joined;
 pub use row::Row;

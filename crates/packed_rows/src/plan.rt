@@ -37,7 +37,7 @@ fn push_rest(out: &mut Vec<(u32, i64)>, rest: &[(u32, i64)]) -> Result<(), Alloc
 }
 
 /// Two lists of ascending variables as one; of two sizes of a variable the first list's.
-pub fn joined(
+fn joined(
     alloc: Global,
     left: &[(u32, i64)],
     right: &[(u32, i64)],

@@ -1,7 +1,7 @@
 //! Rows of different bins that agree on the items' sizes. Nothing rests on what is put together
 //! here: the rows of a packing are compared with those that they come from.
 use form_build::Maker;
-use packed_rows::{Row, joined};
+use packed_rows::Row;
 use signed_clause::IntSet;
 use std::alloc::{AllocError, Global};
 
@@ -43,6 +43,39 @@ fn agree(items: &[(u32, i64)], loads: &[(u32, i64)]) -> bool {
         }
     }
     true
+}
+
+/// Whether the variable is that of one of the items.
+fn has_item(items: &[(u32, i64)], x: u32) -> bool {
+    let i = items.partition_point(|item| item.0 < x);
+    i < items.len() && items[i].0 == x
+}
+
+/// Adds those of the loads whose variables no item has.
+fn push_new(
+    out: &mut Vec<(u32, i64)>,
+    items: &[(u32, i64)],
+    loads: &[(u32, i64)],
+) -> Result<(), AllocError> {
+    for l in loads {
+        if !has_item(items, l.0) {
+            out.push(*l)?;
+        }
+    }
+    Ok(())
+}
+
+/// Both lists as one, each variable once.
+fn joined(
+    alloc: Global,
+    items: &[(u32, i64)],
+    loads: &[(u32, i64)],
+) -> Result<Vec<(u32, i64)>, AllocError> {
+    let mut out = Vec::new(alloc);
+    push_new(&mut out, &[], items)?;
+    push_new(&mut out, items, loads)?;
+    out.sort_unstable();
+    Ok(out)
 }
 
 /// Whether both lists have the same items.
