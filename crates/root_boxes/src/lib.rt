@@ -1,4 +1,4 @@
-//! What follows from a problem before any decision: propagation at the root, taken to its fixpoint.
+//! Boxes that hold all solutions of a problem, by propagation at the root.
 //!
 //! A problem in the making learns from it which of its cells have one value, so that what is stated
 //! afterwards can name the value in place of the variable. The propagators and the queue are those
