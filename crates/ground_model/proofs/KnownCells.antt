@@ -1,6 +1,6 @@
 -- Cells whose values are known: from the root boxes of a problem of their own to the model's
 -- problem.
-use Rattle.std.proofs.Common.{◌≡◌, ℕ, ◌<◌, ◌≤◌, Bool, true, false, true≢false, ◌&&◌, List, [], ◌∷◌, ◌++◌, ℤ, All, length, take, refl, sym, ap, ◌∙◌, subst, arith}
+use Rattle.std.proofs.Common.{◌≡◌, ℕ, zero, suc, ◌<◌, ◌≤◌, Bool, true, false, true≢false, ◌&&◌, List, [], ◌∷◌, ◌++◌, ℤ, All, length, take, get_or, ◌+◌, refl, sym, ap, ◌∙◌, subst, arith}
 use Rattle.std.specs.List.{list_all}
 use Rattle.std.specs.Ordering.{int_eq}
 use Rattle.std.proofs.lemmas.Int.{ints}
@@ -8,7 +8,7 @@ use Rattle.std.proofs.lemmas.Bool.{and_parts}
 use Rattle.std.proofs.lemmas.Bool.Decides.{Decides-int_eq}
 use Rattle.std.proofs.lemmas.List.Elements.{All-nil, All-cons, All-head, All-tail, All-weaker}
 use Rattle.class_table.specs.Outline.{Outline}
-use Rattle.signed_clause.specs.Ranges.{Ranges, has, IsSubset}
+use Rattle.signed_clause.specs.Ranges.{Ranges, has, is_nil, in_range, IsSubset}
 use Rattle.signed_clause.specs.SetAlgebra.{is_within}
 use Rattle.signed_clause.specs.Clauses.{Boxes, box_of}
 use Rattle.signed_clause.proofs.SetFacts.{within_law}
@@ -21,13 +21,19 @@ use Rattle.ground_cells.specs.CellBoxes.{cell_boxes}
 use Rattle.ground_cells.proofs.Points.{cells_agree}
 use Rattle.rule_law.specs.Answers.{AreBoxesWithin}
 use Rattle.root_boxes.specs.Following.{HoldSolutions}
-use Rattle.form_build.specs.Worlds.{AllHold, AreKnown, AreSome, Grows, IsWorld, Adds}
+use Rattle.std.proofs.lemmas.List.{get_or_append_left, get_or_default}
+use Rattle.conf_types.specs.Programs.{ResolvedConstraint}
+use Rattle.form_build.specs.declared.form.Truth.{Truth}
+use Rattle.form_build.specs.Forms.{truth_at}
+use Rattle.ground_expr.specs.Asked.{holds_of}
+use Rattle.ground_model.specs.Fixing.{holds_in}
+use Rattle.form_build.specs.Worlds.{AllHold, AreKnown, AreSome, Grows, IsWorld, IsInBoxes, Adds}
 use Rattle.form_build.proofs.Growth.{box_kept, world_before, adds_known}
 use Rattle.expr_forms.specs.Standing.{HasCells}
-use Rattle.expr_forms.proofs.Configured.{front_value, cells_still, cells_exist, world_configuration}
+use Rattle.expr_forms.proofs.Configured.{front_value, cell_box, cells_still, cells_exist, world_configuration}
 use Rattle.ground_model.specs.Known.{IsKnownCell, HasKnown, IsSingle, IsValueOfCell, have_values}
 use Rattle.ground_model.specs.Requiring.{Requires}
-use Rattle.ground_model.proofs.Steps.{requires_more, requires_from}
+use Rattle.ground_model.proofs.Steps.{requires_more, requires_from, requires_none, requires_next, both_passes}
 
 -- what is known stays so
 pub known_still : (o : Outline) (known : List (ℕ × ℤ)) (old new : Ground) → Grows old new → HasKnown o known old → HasKnown o known new
@@ -47,12 +53,20 @@ only_one v w h = grind (arith, ints)
 has_own : (v : ℤ) → has ((v, v) ∷ []) v ≡ true
 has_own v = grind (arith, ints)
 
+front_box : (n x : ℕ) (boxes : Boxes) → x < n → box_of (take n boxes) x ≡ box_of boxes x
+front_box zero x boxes lt = absurd (omega (arith, lt))
+front_box (suc n) x [] lt = refl
+front_box (suc n) zero (b ∷ boxes) lt = refl
+front_box (suc n) (suc x) (b ∷ boxes) lt = front_box n x boxes (omega (arith, lt))
+
 module _ (cells boxes : Boxes) (g : Ground) (test : List ℤ → Bool) (functions : List (Bool × (List ℤ → ℤ))) (s : StandsFor g cells test functions) (w : AreBoxesWithin g.domains boxes) (holds : HoldSolutions g boxes) where
   in_front : g.search ≤ length g.domains
   in_front = s.well_made.search
 
   domain_is : (x : ℕ) → x < length cells → box_of cells x ≡ box_of g.domains x
-  domain_is x lt = ?
+  domain_is x lt =
+      let count = s.searched in
+      ap (λ (z : Boxes). box_of z x) (sym s.cells_first) ∙ front_box g.search x g.domains (omega (arith, lt, count))
 
   -- a cell whose root box has one value has this value wherever the test passes
   single_value : (k : ℕ × ℤ) (t : List ℤ) → IsSingle boxes g.search k → IsPoint cells t → test t ≡ true → value_of t k.0 ≡ k.1
@@ -111,7 +125,7 @@ no_known a = All-nil (λ (z : ℕ × ℤ). value_of a z.0 ≡ z.1)
 
 only_test : (p q : Bool) → (q ≡ true → p ≡ true) → (p && q) ≡ q
 only_test true q h = refl
-only_test false true h = sym (h refl)
+only_test false true h = h refl
 only_test false false h = refl
 
 -- the values of cells, which follow from the test, and then the test where cells have these values
@@ -131,3 +145,64 @@ requires_by_values o known old mid new test cells low follow first second =
     let point : IsPoint (cell_boxes o) t = (cells_agree o t).1 (world_configuration o new a (cells_still o old new both.grows cells) w) in
     ap (λ (z : List ℤ). says z && test z) (sym at) ∙ only_test (says t) (test t) (λ passes. have_from t known (follow t point passes)))
     both
+
+-- ---- from the values to what is asked of them
+
+one_value : (g : Ground) (x : ℕ) (v : ℤ) (a : List ℤ) → x < g.search → in_range (v, v) (value_of a x) ≡ int_eq (value_of (take g.search a) x) v
+one_value g x v a lt = range_is (value_of a x) v ∙ ap (λ (z : ℤ). int_eq z v) (sym (front_value g.search x a lt))
+  where
+    range_is : (w v : ℤ) → in_range (v, v) w ≡ int_eq w v
+    range_is w v = grind (arith, ints)
+
+-- a truth that says of a cell that it has its value
+pub value_required : (old new : Ground) (boxes : Boxes) (k : ℕ × ℤ) (only : Ranges) (t : Truth) → k.0 < old.search → boxes ≡ old.domains → ((w : ℤ) → has only w ≡ in_range (k.1, k.1) w) →
+    ((a : List ℤ) → IsInBoxes boxes a → truth_at t a ≡ has only (value_of a k.0)) → Adds [] old new (λ a. truth_at t a) → Requires [] old new (λ values. int_eq (value_of values k.0) k.1)
+value_required old new boxes k only t lt same is says added =
+    requires_from [] old new (λ a. truth_at t a) (λ values. int_eq (value_of values k.0) k.1)
+    (λ a w kn.
+    let there : IsInBoxes boxes a = subst (λ (b : Boxes). IsInBoxes b a) (sym same) (world_before old new a added.grows w).within in
+    let search = added.grows.search in
+    says a there ∙ is (value_of a k.0) ∙ one_value new k.0 k.1 a (omega (arith, lt, search)))
+    added
+
+-- one cell more
+pub values_none : (g : Ground) (known : List (ℕ × ℤ)) → Requires [] g g (λ values. have_values values (take 0 known))
+values_none g known = requires_none [] g (λ values k. int_eq (value_of values k.0) k.1) known
+
+pub values_next : (f g h : Ground) (known : List (ℕ × ℤ)) (i : ℕ) (d : ℕ × ℤ) → i < length known → Requires [] f g (λ values. have_values values (take i known)) →
+    Requires [] g h (λ values. int_eq (value_of values (get_or known i d).0) (get_or known i d).1) → Requires [] f h (λ values. have_values values (take (i + 1) known))
+values_next f g h known i d lt before next = requires_next [] f g h (λ values k. int_eq (value_of values k.0) k.1) known i (get_or known i d) lt (get_or_default known i d (get_or known i d) lt) before next
+
+-- what is asked of all constraints is asked of those that may fix something
+pub fixing_hold : (o : Outline) (values : List ℤ) (ks : List ResolvedConstraint) → list_all (holds_of o values) ks ≡ true → list_all (holds_in true o values) ks ≡ true
+fixing_hold o values ks h = (and_parts (list_all (holds_in true o values) ks) (list_all (holds_in false o values) ks) (both_passes o values ks ∙ h)).0
+
+-- cells are searched variables
+pub values_low : (o : Outline) (g : Ground) (known : List (ℕ × ℤ)) → HasCells o g → All (IsValueOfCell o) known → All (λ k. k.0 < g.search) known
+values_low o g known cells are = All-weaker (IsValueOfCell o) (λ k. k.0 < g.search) (λ k is. let e = cells.searched in let lt = is.cell in omega (arith, e, lt)) known are
+
+pub values_exist : (o : Outline) (g : Ground) (known : List (ℕ × ℤ)) → HasCells o g → All (IsValueOfCell o) known → All (λ k. k.0 < length g.domains) known
+values_exist o g known cells are = All-weaker (IsValueOfCell o) (λ k. k.0 < length g.domains) (λ k is. let e = cells.searched in let lt = is.cell in cells_exist o g k.0 cells (omega (arith, e, lt))) known are
+
+pub values_known : (o : Outline) (old new : Ground) (known : List (ℕ × ℤ)) → HasCells o old → Grows old new → All (IsValueOfCell o) known → HasKnown o known new
+values_known o old new known cells g are =
+    let there = cells_still o old new g cells in
+    record {
+      cells = there;
+      are_known = All-weaker (IsValueOfCell o) (IsKnownCell new) (λ k is.
+          let e = there.searched in
+          let lt = is.cell in
+          let low : k.0 < new.search = omega (arith, e, lt) in
+          record { searched = low; lies = subst (λ (z : Ranges). has z k.1 ≡ true) (sym (cell_box o new k.0 there low)) is.lies }) known are;
+    }
+
+-- no cell's box is empty
+pub cells_some : (o : Outline) (g : Ground) → HasCells o g → AreSome g.domains → AreSome (cell_boxes o)
+cells_some o g cells some i d lt =
+    let e = cells.searched in
+    let low : i < g.search = omega (arith, e, lt) in
+    let there = some i d (cells_exist o g i cells low) in
+    subst (λ (z : Ranges). is_nil z ≡ false) (same i d lt) there
+  where
+    same : (i : ℕ) (d : Ranges) → i < length (cell_boxes o) → get_or g.domains i d ≡ get_or (cell_boxes o) i d
+    same i d lt = ap (λ (z : Boxes). get_or z i d) cells.domains ∙ get_or_append_left (cell_boxes o) cells.rest d i lt

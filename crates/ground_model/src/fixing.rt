@@ -63,13 +63,20 @@ fn are_simple(list: &[RExpr]) -> bool
 }
 
 /// Whether a quantifier joins truths in which there is no other quantifier.
+#[tactic(auto, using(crate::proofs::Fixings::joins))]
 fn joins_simple(quant: &RQuant) -> bool
     ensures { (at : ℕ) → result ≡ fixes (quant_tree quant.now at) }
 {
-    joins_truths(quant.kind)
-        && is_simple(&quant.over)
-        && is_simple_filter(&quant.filter)
-        && are_simple(&quant.body)
+    if !joins_truths(quant.kind) {
+        return false;
+    }
+    if !is_simple(&quant.over) {
+        return false;
+    }
+    if !is_simple_filter(&quant.filter) {
+        return false;
+    }
+    are_simple(&quant.body)
 }
 
 /// Whether a constraint may give cells their values.

@@ -3,10 +3,11 @@
 //! These constraints are stated in a problem of their own, whose root boxes tell which cells have
 //! one value left. In the model's problem the values are stated first, and everything else may name
 //! them.
-ghost use Rattle.std.specs.Prelude.{◌≡◌, ◌<◌, ◌∷◌, ℕ, ℤ, List, [], true, false, length, IfOk, IfSome, OnOk};
+ghost use Rattle.std.specs.Prelude.{◌≤◌, ◌≡◌, ◌<◌, ◌∷◌, ℕ, ℤ, List, [], true, false, length, IfOk, IfSome, OnOk};
 ghost use Rattle.std.specs.List.{All, list_all};
 ghost use Rattle.std.specs.Ordering.{int_eq};
-ghost use Rattle.signed_clause.specs.Clauses.{Boxes, box_of};
+ghost use Rattle.signed_clause.specs.Ranges.{has, in_range};
+ghost use Rattle.signed_clause.specs.Clauses.{box_of};
 ghost use Rattle.ground_form.specs.Meaning.{value_of};
 ghost use Rattle.ground_form.specs.Solutions.{IsPoint};
 ghost use Rattle.ground_form.specs.StandsFor.{StandsFor};
@@ -43,6 +44,7 @@ fn fixing_problem(
     ensures stands { IfOk result (λ g. StandsFor g (cell_boxes objects.now)
         (λ values. list_all (holds_in true objects.now values) list.now) []) }
 {
+    let _count = objects.count();
     let cells = cell_boxes(alloc, objects)?;
     let mut maker = Maker::over(alloc, Builder::new(alloc, &cells)?);
     require_fixing(&mut maker, objects, list, origins)?;
@@ -106,6 +108,13 @@ pub(crate) fn known_cells(
     Ok(known)
 }
 
+/// The set of a cell's value alone.
+fn own_set(alloc: Global, k: (u32, i64)) -> IntSet
+    ensures { (v : ℤ) → has result v ≡ in_range (k.1, k.1) v }
+{
+    IntSet::range(alloc, k.1, k.1)
+}
+
 /// States that a cell has its value.
 fn require_value(maker: &mut Maker, k: (u32, i64)) -> Result<(), AllocError>
     requires cell { k.0 < maker.old.search }
@@ -113,8 +122,8 @@ fn require_value(maker: &mut Maker, k: (u32, i64)) -> Result<(), AllocError>
     ensures says { OnOk result (Requires [] maker.old maker.new
         (λ values. int_eq (value_of values k.0) k.1)) }
 {
-    maker.ask(1)?;
-    let only = IntSet::range(maker.alloc(), k.1, k.1);
+    maker.ask(2)?;
+    let only = own_set(maker.alloc(), k);
     let test = Test::Holds(literal(maker.domains(), k.0, only));
     state(maker, &test)?;
     Ok(())

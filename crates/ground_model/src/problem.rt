@@ -10,6 +10,7 @@ ghost use Rattle.conf_limits.specs.Measures.{model_narrow};
 ghost use Rattle.conf_eval.specs.Satisfying.{Satisfies};
 ghost use Rattle.ground_form.specs.StandsFor.{StandsFor};
 ghost use Rattle.ground_build.specs.Growing.{over_cells};
+ghost use Rattle.form_build.specs.Worlds.{Defines};
 ghost use Rattle.ground_cells.specs.CellBoxes.{cell_boxes};
 ghost use Rattle.expr_forms.specs.Standing.{HasCells};
 ghost use Rattle.ground_expr.specs.Asked.{satisfied_by, functions};

@@ -12,9 +12,10 @@ use Rattle.ground_model.proofs.goals.goal_variable.Goals as goal
 pub form_of-requires-clause-known : goal.form_of-requires-clause-known
 form_of-requires-clause-known c = record { cells = c.requires.cells; are_known = All-nil (IsKnownCell c.args.maker.now) }
 
-pub settled_in_blocks-requires-clause-linear : goal.settled_in_blocks-requires-clause-linear
-settled_in_blocks-requires-clause-linear c =
-    number_linear c.args.objects.now [] (tree_of c.goal.inside.expr) None c.in_ok-f.f c.args.maker.now c.form_of.new.maker c.form_of.new.maker c.in_ok-f.ensures.form c.number_of-number.result c.number_of-number.ensures.number
+pub settled_in_blocks-requires : goal.settled_in_blocks-requires
+settled_in_blocks-requires c = record {
+  linear = number_linear c.args.objects.now [] (tree_of c.goal.inside.expr) None c.in_ok-f.f c.args.maker.now c.form_of.new.maker c.form_of.new.maker c.in_ok-f.ensures.form c.number_of-number.result c.number_of-number.ensures.number;
+}
 
 pub add_goal_sums-requires-clause-number : goal.add_goal_sums-requires-clause-number
 add_goal_sums-requires-clause-number c =

@@ -1,6 +1,6 @@
 use Rattle.ground_expr.proofs.AskedLaws.{satisfied_is}
 use Rattle.ground_model.proofs.ReadyModels.{model_ready}
-use Rattle.ground_model.proofs.problem.ground_with_origins.Goals as goal
+use Rattle.ground_model.proofs.problem.allowed_problem.Goals as goal
 
 pub problem-requires : goal.problem-requires
 problem-requires c = record { ready = model_ready c.args.objects.now c.args.model.now.constraints c.args.model.now.goals c.requires.typed c.requires.narrow }
