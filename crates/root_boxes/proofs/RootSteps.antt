@@ -19,7 +19,6 @@ use Rattle.ground_form.specs.Meaning.{value_of, con_true}
 use Rattle.ground_form.specs.WellMade.{IsWellMade, IsWellMadeCon}
 use Rattle.rule_law.specs.Answers.{AreBoxesWithin, IsPruning}
 use Rattle.log_check.proofs.Justified.{justified-true}
-use Rattle.clause_watches.specs.Watching.{NarrowsAt}
 use Rattle.run_law.proofs.Units.{some_same, none_some, box-set_same, box-set_other, unit_is, AreValid-set}
 use Rattle.run_law.proofs.LevelFacts.{IsPart, unit_part}
 use Rattle.root_boxes.specs.Following.{AreRootBoxes, Follows}
@@ -115,12 +114,11 @@ root_start g w some =
       holds = λ a s x lt. s.point.within x lt;
     }
 
--- the next boxes hold all solutions still, and only that of x became narrower
+-- the next boxes hold all solutions still
 pub record IsNarrowed (g : Ground) (boxes next : Boxes) (x : ℕ) : Type 0 where
   pub root : AreRootBoxes g next
   pub exists : x < length boxes
   pub size : length next ≡ length boxes
-  pub narrows : NarrowsAt x boxes next
 
 narrowed_by : (g : Ground) (boxes : Boxes) (c : Literals) (x : ℕ) (s : Ranges) → IsWellMade g → AreRootBoxes g boxes → Follows g boxes c → unit_of boxes c ≡ Some (x, s) → IsNarrowed g boxes (slice_set boxes x s) x
 narrowed_by g boxes c x s w r f e =
@@ -142,13 +140,6 @@ narrowed_by g boxes c x s w r f e =
       };
       exists = lt;
       size = size;
-      narrows = record {
-        others = λ y ne. sym (box-set_other boxes x y s ne);
-        before_valid = valid x;
-        after_valid = subst IsValid (sym at) part.valid;
-        some = subst (λ (z : Ranges). is_nil z ≡ false) (sym at) part.some;
-        within = λ v h. part.within v (subst (λ (z : Ranges). has z v ≡ true) at h);
-      };
     }
 
 pub narrowed : (g : Ground) (boxes next : Boxes) (c : Literals) (x : ℕ) (s : Ranges) → IsWellMade g → AreRootBoxes g boxes → Follows g boxes c → unit_of boxes c ≡ Some (x, s) → next ≡ slice_set boxes x s → IsNarrowed g boxes next x
@@ -175,9 +166,9 @@ follows_at g boxes k c w lt says =
     follows g boxes k con c w at (says con at)
 
 -- the same of the slices and options that hold them
-pub follows_from : (g : Ground) (boxes lent : Boxes) (o : Option (ℕ × Literals)) (k : ℕ) (c : Literals) → IsWellMade g → lent ≡ boxes → o ≡ Some (k, c) → IfSome o (λ a. a.0 < length g.cons) →
-    IfSome o (λ a. (con : Con) → slice_get g.cons a.0 ≡ Some con → IsPruning con g.domains lent a.1) → Follows g boxes c
-follows_from g boxes lent o k c w same is there says =
-    follows_at g boxes k c w (subst (λ (z : Option (ℕ × Literals)). IfSome z (λ a. a.0 < length g.cons)) is there)
+pub follows_alone : (g : Ground) (boxes lent : Boxes) (o : Option Literals) (k : ℕ) (c : Literals) → IsWellMade g → lent ≡ boxes → o ≡ Some c → k < length g.cons →
+    IfSome o (λ d. (con : Con) → slice_get g.cons k ≡ Some con → IsPruning con g.domains lent d) → Follows g boxes c
+follows_alone g boxes lent o k c w same is lt says =
+    follows_at g boxes k c w lt
     (subst (λ (b : Boxes). (con : Con) → slice_get g.cons k ≡ Some con → IsPruning con g.domains b c) same
-    (subst (λ (z : Option (ℕ × Literals)). IfSome z (λ a. (con : Con) → slice_get g.cons a.0 ≡ Some con → IsPruning con g.domains lent a.1)) is says))
+    (subst (λ (z : Option Literals). IfSome z (λ d. (con : Con) → slice_get g.cons k ≡ Some con → IsPruning con g.domains lent d)) is says))

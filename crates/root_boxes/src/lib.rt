@@ -1,15 +1,16 @@
 //! Boxes that hold all solutions of a problem, by propagation at the root.
 //!
 //! A problem in the making learns from it which of its cells have one value, so that what is stated
-//! afterwards can name the value in place of the variable. The propagators and the queue are those
-//! of the search, so what is found here is what a search would find before its first decision. It
-//! costs what that costs, and no more than four steps for each variable and constraint.
+//! afterwards can name the value in place of the variable. The propagators are those of the search,
+//! so nothing is found here that a search wouldn't find before its first decision. Constraints are
+//! asked in rounds, up to eight, each constraint up to 64 times a round: mostly two rounds do, and
+//! whether the fixpoint was reached isn't promised.
 //!
-//! - `kit`: propagators for all kinds of constraints.
+//! - `propagators`: which are asked.
 //! - `root`: the boxes, and which constraints narrowed some.
 #![tactic(auto)]
 
-mod kit;
+mod propagators;
 mod root;
 
 pub use root::{Root, root_of};

@@ -4,7 +4,4 @@ use Rattle.root_boxes.proofs.RootSteps.{root_start}
 use Rattle.root_boxes.proofs.root.root_of.Goals as goal
 
 pub go_on-requires-clause-boxes : goal.go_on-requires-clause-boxes
-go_on-requires-clause-boxes c = subst (AreRootBoxes c.args.g.now) (sym (c.in_ok-boxes.ensures.list ∙ c.items.ensures)) (root_start c.args.g.now c.requires.well_made c.requires.some)
-
-pub go_on-requires-clause-fits : goal.go_on-requires-clause-fits
-go_on-requires-clause-fits c = c.in_ok-queue.ensures.fits c.in_ok-boxes.boxes.items
+go_on-requires-clause-boxes c = subst (AreRootBoxes c.args.g.now) (sym (c.in_ok-copy_sets.ensures.list ∙ c.items.ensures)) (root_start c.args.g.now c.requires.well_made c.requires.some)

@@ -1,4 +1,4 @@
-use Rattle.std.proofs.Common.{refl, sym, ap, ◌∙◌, slice_set, arith}
+use Rattle.std.proofs.Common.{refl, sym, ap, ◌∙◌, slice_set}
 use Rattle.signed_clause.specs.Clauses.{Boxes, unit_of}
 use Rattle.root_boxes.proofs.RootSteps.{narrowed}
 use Rattle.root_boxes.proofs.root.take_clause.Goals as goal
@@ -9,24 +9,8 @@ put-requires c =
     let e = ap (λ (b : Boxes). unit_of b c.args.clause.now) (sym c.as_slice.ensures.value) ∙ sym c.in_ok-x.ensures.value ∙ c.in-Some.is in
     (narrowed c.args.g.now boxes (slice_set boxes c.in-Some.x c.in-Some.set) c.args.clause.now c.in-Some.x c.in-Some.set c.requires.well_made c.requires.boxes c.requires.follows e refl).exists
 
-pub note_narrower-requires : goal.note_narrower-requires
-note_narrower-requires c =
-    let boxes = c.args.boxes.now.items in
-    let e = ap (λ (b : Boxes). unit_of b c.args.clause.now) (sym c.as_slice.ensures.value) ∙ sym c.in_ok-x.ensures.value ∙ c.in-Some.is in
-    let lt = (narrowed c.args.g.now boxes c.put.new.boxes.items c.args.clause.now c.in-Some.x c.in-Some.set c.requires.well_made c.requires.boxes c.requires.follows e c.put.ensures).exists in
-    let rows = c.requires.over.rows in
-    let size = c.requires.boxes.within.size in
-    omega (arith, lt, rows, size)
-
 pub returns : goal.returns
 returns c =
-    let g = c.args.g.now in
     let boxes = c.args.boxes.now.items in
-    let next = c.put.new.boxes.items in
     let e = ap (λ (b : Boxes). unit_of b c.args.clause.now) (sym c.as_slice.ensures.value) ∙ sym c.in_ok-x.ensures.value ∙ c.in-Some.is in
-    let n = narrowed g boxes next c.args.clause.now c.in-Some.x c.in-Some.set c.requires.well_made c.requires.boxes c.requires.follows e c.put.ensures in
-    record {
-      boxes = n.root;
-      over = c.note_narrower.ensures.over g c.requires.over;
-      fits = c.note_narrower.ensures.fits g boxes next c.requires.well_made c.requires.over c.requires.boxes.within.size (sym n.size) c.requires.fits n.narrows;
-    }
+    record { boxes = (narrowed c.args.g.now boxes c.put.new.boxes.items c.args.clause.now c.in-Some.x c.in-Some.set c.requires.well_made c.requires.boxes c.requires.follows e c.put.ensures).root }
