@@ -1,3 +1,5 @@
+pub mod AnswerLaws
 pub mod OrderLaws
 pub mod RoomLaws
+pub mod SiteLaws
 pub mod Standing

@@ -122,10 +122,10 @@ not_to : (b f : Bool) → (b ≡ true → f ≡ false) → f ≡ true → b ≡ 
 not_to true f h k = absurd (contrary f (h refl) k)
 not_to false f h k = refl
 
-same_word : (w v : List ℕ) → bytes_eq w v ≡ true → w ≡ v
+pub same_word : (w v : List ℕ) → bytes_eq w v ≡ true → w ≡ v
 same_word w v h = grind (bytes_eq-Decides w v)
 
-word_itself : (v : List ℕ) → bytes_eq v v ≡ true
+pub word_itself : (v : List ℕ) → bytes_eq v v ≡ true
 word_itself v = grind (bytes_eq-Decides v v)
 
 fit_at : (site : Site) (made : List Path) (m : Move) (w : List ℕ) (b f : Bool)
@@ -209,7 +209,7 @@ snoc ms x =
     ap reverse (map-append move_path ms (x ∷ []))
     ∙ reverse-append (map move_path ms) (move_path x ∷ [])
 
-lines_paths : (ms : List Move) → map line_path (map move_line ms) ≡ map move_path ms
+pub lines_paths : (ms : List Move) → map line_path (map move_line ms) ≡ map move_path ms
 lines_paths [] = refl
 lines_paths (m ∷ ms) = ap (λ ps. move_path m ∷ ps) (lines_paths ms)
 

@@ -52,14 +52,14 @@ load_step site made m w s is move here =
     let size = amount d s.name (owner p) in
     let sum = sum_where d s.name a w in
     let old : sum t site.old ≡ cond (goes_from m w) size (pos 0) +ℤ sum u site.old =
-        where_more d s.name a w t u p site.old is.old here (moved site made p) (agree site made p)
-        ∙ ap (λ n. n +ℤ sum u site.old) (weight_named d s.name a w p (found_at p site.old) move.sized.named
-        ∙ ap (λ b. cond b size (pos 0)) (move.former w)) in
+    where_more d s.name a w t u p site.old is.old here (moved site made p) (agree site made p)
+    ∙ ap (λ n. n +ℤ sum u site.old) (weight_named d s.name a w p (found_at p site.old) move.sized.named
+    ∙ ap (λ b. cond b size (pos 0)) (move.former w)) in
     let new : sum (λ q. not (u q)) site.new ≡ cond (goes_to m w) size (pos 0) +ℤ sum (λ q. not (t q)) site.new =
-        where_more d s.name a w (λ q. not (u q)) (λ q. not (t q)) p site.new is.new
-        (ap not (moved site made p)) (ap not here) (λ q h. ap not (sym (agree site made p q h)))
-        ∙ ap (λ n. n +ℤ sum (λ q. not (t q)) site.new) (weight_named d s.name a w p (found_at p site.new) move.sized.named
-        ∙ ap (λ b. cond b size (pos 0)) (move.new w)) in
+    where_more d s.name a w (λ q. not (u q)) (λ q. not (t q)) p site.new is.new
+    (ap not (moved site made p)) (ap not here) (λ q h. ap not (sym (agree site made p q h)))
+    ∙ ap (λ n. n +ℤ sum (λ q. not (t q)) site.new) (weight_named d s.name a w p (found_at p site.new) move.sized.named
+    ∙ ap (λ b. cond b size (pos 0)) (move.new w)) in
     sum_append d s.name a w _ _
     ∙ added (sum t site.old) (sum u site.old) (sum (λ q. not (t q)) site.new)
     (sum (λ q. not (u q)) site.new) (cond (goes_from m w) size (pos 0))

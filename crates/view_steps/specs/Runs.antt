@@ -1,12 +1,12 @@
 -- How far a run of moves has come.
-use Rattle.std.specs.Prelude.{◌≡◌, ◌<◌, ℕ, Bool, true, false, ◌&&◌, if◌then◌else◌, List, ◌++◌, Option, Some, All, IsPermutation, length, map, reverse, slice_get, ℤ}
+use Rattle.std.specs.Prelude.{◌≡◌, ◌<◌, ℕ, Bool, true, false, ◌&&◌, if◌then◌else◌, List, [], ◌∷◌, ◌++◌, Option, Some, All, IsPermutation, length, map, reverse, slice_get, ℤ}
 use Rattle.view_leaves.specs.Ascending.{IsAscending, paths}
 use Rattle.view_leaves.specs.Paths.{Path}
 use Rattle.view_plan.specs.Plan.{line_path}
 use Rattle.view_steps.specs.Moves.{from_word, to_word}
 use Rattle.view_steps.specs.Rooms.{Room, Entries, rooms, found, word_allowed, some_taken}
 use Rattle.view_steps.specs.Steps.{Site, AllFit}
-use Rattle.view_steps.specs.Views.{move_line, move_path, IsMove}
+use Rattle.view_steps.specs.Views.{move_line, move_path, goes_from, goes_to, IsMove}
 use Rattle.view_steps.specs.declared.moves.Move.{Move}
 use Rattle.view_steps.specs.declared.run.Run.{Run}
 
@@ -46,3 +46,9 @@ pub record IsRun (site : Site) (run : Run) : Type 0 where
   pub same : IsPermutation site.moves (map move_line (run.made.items ++ run.left.items))
   pub fit : AllFit site (last_made run.made.items)
   pub rooms_are : (w : List ℕ) → found run.rooms.entries w ≡ rooms site (last_made run.made.items) w
+
+-- the rooms of a word before these moves, by those behind all of them
+abbrev pub all_back : List Move → List ℕ → Option (List Room) → Option (List Room)
+all_back [] w rs = rs
+all_back (m ∷ ms) w rs =
+    all_back ms w (put_by (goes_from m w) (goes_to m w) m.more.items m.less.items rs)

@@ -9,7 +9,7 @@ use Rattle.view_leaves.specs.Spelling.{path_text}
 use Rattle.view_picture.specs.Mentions.{is_named, guests}
 use Rattle.view_picture.specs.Parts.{parts}
 use Rattle.view_picture.specs.Picture.{PictureSize, number_at, total}
-use Rattle.view_plan.specs.Plan.{PlanLine, line_path}
+use Rattle.view_plan.specs.Plan.{PlanLine, line_path, IsPlan}
 
 -- what moves: the leaves of the former and of the new configuration, the lines of the plan between
 -- them that are of the attribute, and the sizes, which the new configuration tells
@@ -80,3 +80,20 @@ pub record IsOrder (site : Site) (order left : List PlanLine) : Type 0 where
   pub same : IsPermutation site.moves (order ++ left)
   pub fit : AllFit site (last_first order)
   pub stuck : All (λ (l : PlanLine). Lacks site (last_first order) l.0) left
+
+-- the site of a plan
+abbrev pub site_of : Data → List ℕ → List PictureSize → List PathLeaf → List PathLeaf → List PlanLine → Site
+site_of d a sizes old new lines = record {
+  whole = d;
+  attribute = a;
+  sizes = sizes;
+  old = old;
+  new = new;
+  moves = filter (λ (l : PlanLine). is_named a l.0) lines;
+}
+
+-- the plan between the leaves, and an order of its moves
+pub record IsOrdered (d : Data) (a : List ℕ) (sizes : List PictureSize) (old new : List PathLeaf) (order left : List PlanLine) : Type 0 where
+  pub lines : List PlanLine
+  pub plan : IsPlan old new lines
+  pub ordered : IsOrder (site_of d a sizes old new lines) order left

@@ -14,19 +14,23 @@ use view_leaves::Step;
 use view_picture::{Size, amount, guest_by};
 use view_plan::{Change, Line};
 
-/// A move, with the sizes that it brings to where it goes, and the same with turned signs.
+/// A move: the sizes that it brings to where it goes, the same with turned signs, and its number.
 #[derive(Drop)]
 pub(crate) struct Move<'l, 'a> {
     pub line: Line<'l, 'a>,
     pub more: Vec<i128>,
     pub less: Vec<i128>,
+    pub number: usize,
 }
 
-/// What the sizes of guests are read from.
+/// What the sizes of guests are read from: the new configuration, the attribute and the sizes.
 #[derive(Clone, Copy)]
-pub(crate) struct Measure<'s, 'v> {
+pub struct Measure<'s, 'v> {
+    /// The new configuration.
     pub whole: &'v Value,
+    /// The attribute by which guests refer to holders.
     pub attribute: &'s str,
+    /// The sizes, and under which names holders have their capacities.
     pub sizes: &'s [Size<'s>],
 }
 
@@ -122,6 +126,7 @@ fn move_of<'l, 'a>(
     alloc: Global,
     measure: Measure<'_, '_>,
     line: Line<'l, 'a>,
+    number: usize,
 ) -> Result<Option<Move<'l, 'a>>, AllocError>
     ensures line { IfOk result (λ made. map move_line (option_to_list made)
         ≡ moves_among measure.entry.attribute.now (line_seen line.entry ∷ [])) }
@@ -133,7 +138,12 @@ fn move_of<'l, 'a>(
         Some(owner) => {
             let more = amounts(alloc, measure, owner)?;
             let less = turned(alloc, measure, owner)?;
-            Ok(Some(Move { line, more, less }))
+            Ok(Some(Move {
+                line,
+                more,
+                less,
+                number,
+            }))
         }
     }
 }
@@ -151,7 +161,7 @@ pub(crate) fn moves_of<'l, 'a>(
 {
     let mut moves = Vec::new(alloc);
     for line in lines {
-        if let Some(made) = move_of(alloc, measure, line)? {
+        if let Some(made) = move_of(alloc, measure, line, moves.len())? {
             moves.push(made)?;
         }
     }

@@ -14,7 +14,7 @@ use view_picture::{Load, Scale};
 pub(crate) type Rooms<'t> = IndexMap<&'t [u8], Vec<Option<i128>>>;
 
 /// Whether so much may be put where there is this room. What makes a load no greater may be.
-fn allowed(room: Option<i128>, amount: i128) -> bool
+pub(crate) fn allowed(room: Option<i128>, amount: i128) -> bool
     ensures { result ≡ allowed room amount }
 {
     match room {
@@ -37,7 +37,7 @@ fn taken(room: Option<i128>, amount: i128) -> Result<Option<i128>, AllocError>
 }
 
 /// The amount of a number, 0 behind the last.
-fn amount_at(amounts: &[i128], number: usize) -> i128
+pub(crate) fn amount_at(amounts: &[i128], number: usize) -> i128
     ensures { result ≡ first (drop number amounts.now) }
 {
     if number < amounts.len() {

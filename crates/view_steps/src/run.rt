@@ -13,13 +13,13 @@ use std::alloc::{AllocError, Global};
 
 /// How far the moves have come.
 #[derive(Drop)]
-pub(crate) struct Run<'t, 'l, 'a> {
+pub(crate) struct Run<'l, 't> {
     /// What each holder can still take.
     pub rooms: Rooms<'t>,
     /// The moves so far, in order.
-    pub made: Vec<Move<'l, 'a>>,
+    pub made: Vec<Move<'l, 't>>,
     /// Those that are left.
-    pub left: Vec<Move<'l, 'a>>,
+    pub left: Vec<Move<'l, 't>>,
 }
 
 /// Whether a move fits.
@@ -59,9 +59,9 @@ pub(crate) fn put_back<'t>(
 }
 
 /// Makes a move that fits.
-pub(crate) fn make<'t, 'l, 'a>(
+pub(crate) fn make<'l, 't>(
     alloc: Global,
-    run: &mut Run<'t, 'l, 'a>,
+    run: &mut Run<'l, 't>,
     number: usize,
 ) -> Result<(), AllocError>
     requires there { IsFitAt run.old number }
@@ -75,7 +75,7 @@ pub(crate) fn make<'t, 'l, 'a>(
 }
 
 /// The first of the moves that are left that fits.
-fn first_fit(run: &Run<'_, '_, '_>) -> Option<usize>
+fn first_fit(run: &Run<'_, '_>) -> Option<usize>
     ensures some { IfSome result (λ number. IsFitAt run.now number) }
     ensures none { IfNone result (All (λ m. is_fit run.now.rooms.entries m ≡ false)
         run.now.left.items) }
@@ -89,7 +89,7 @@ fn first_fit(run: &Run<'_, '_, '_>) -> Option<usize>
 }
 
 /// Makes moves until none of those that are left fits.
-pub(crate) fn settle(alloc: Global, run: &mut Run<'_, '_, '_>) -> Result<(), AllocError>
+pub(crate) fn settle(alloc: Global, run: &mut Run<'_, '_>) -> Result<(), AllocError>
     ensures kept { OnOk result ((site : Site) → IsRun site run.old → IsRun site run.new) }
     ensures none { OnOk result (All (λ m. is_fit run.new.rooms.entries m ≡ false)
         run.new.left.items) }

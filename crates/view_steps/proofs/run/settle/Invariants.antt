@@ -1,0 +1,11 @@
+use Rattle.std.proofs.Common.{length}
+use Rattle.view_steps.specs.Runs.{IsRun}
+use Rattle.view_steps.specs.Steps.{Site}
+use Rattle.view_steps.proofs.run.settle.Given as goal
+
+-- what was so stays so
+abbrev pub invariant-loop : goal.invariant-loop
+invariant-loop l = (site : Site) → IsRun site l.initial.run → IsRun site l.run
+
+abbrev pub decreases-loop : goal.decreases-loop
+decreases-loop l = length l.run.left.items
