@@ -12,7 +12,7 @@ use Rattle.view_run.specs.Pictured.{IsPicture, IsBlank, IsDrawn}
 use Rattle.view_run.specs.Words.{PlanAsked, PictureAsked}
 use Rattle.view_run.specs.declared.status.Source.TheVariants.{Former, New, Config}
 use Rattle.view_run.specs.declared.status.Status.{Status as Ended}
-use Rattle.view_run.specs.declared.status.Status.TheVariants.{Same, Differs, Shown, Usage, Unreadable, TooLong, NotJson, NotObject, NoAttribute, NoPart, WriteFault, Memory}
+use Rattle.view_run.specs.declared.status.Status.TheVariants.{Same, Differs, Shown, Stuck, Usage, Unreadable, TooLong, NotJson, NotObject, NoAttribute, NoPart, MovesSets, WriteFault, Memory}
 
 -- both files were read, and the plan between them made
 pub is_asked : (files later : Option Files) (a : PlanAsked) (d e : Data) (text : List ℕ) (b : Bool)
@@ -33,6 +33,7 @@ pub former_denied : (files : Option Files) (a : PlanAsked) (reads now : ℕ) (s 
 former_denied files a reads now Same h = h
 former_denied files a reads now Differs h = h
 former_denied files a reads now Shown h = h
+former_denied files a reads now Stuck h = h
 former_denied files a reads now Usage h = h
 former_denied files a reads now (Unreadable s) h = h.1
 former_denied files a reads now (TooLong s) h =
@@ -43,6 +44,7 @@ former_denied files a reads now (NotObject s) h =
     subst (λ q. IsDenied files a reads now (NotObject q)) (sym h.0) h.1
 former_denied files a reads now NoAttribute h = h
 former_denied files a reads now NoPart h = h
+former_denied files a reads now MovesSets h = h
 former_denied files a reads now WriteFault h = h
 former_denied files a reads now Memory h = h
 
@@ -52,6 +54,7 @@ new_denied_here : (files : Option Files) (a : PlanAsked) (reads now : ℕ) (s : 
 new_denied_here files a reads now Same h = h
 new_denied_here files a reads now Differs h = h
 new_denied_here files a reads now Shown h = h
+new_denied_here files a reads now Stuck h = h
 new_denied_here files a reads now Usage h = h
 new_denied_here files a reads now (Unreadable s) h = h.1
 new_denied_here files a reads now (TooLong s) h =
@@ -62,6 +65,7 @@ new_denied_here files a reads now (NotObject s) h =
     subst (λ q. IsDenied files a reads now (NotObject q)) (sym h.0) h.1
 new_denied_here files a reads now NoAttribute h = h
 new_denied_here files a reads now NoPart h = h
+new_denied_here files a reads now MovesSets h = h
 new_denied_here files a reads now WriteFault h = h
 new_denied_here files a reads now Memory h = h
 
@@ -74,6 +78,7 @@ earlier : (files : Option Files) (a : PlanAsked) (start reads now : ℕ) (s : En
 earlier files a start reads now Same le h = h
 earlier files a start reads now Differs le h = h
 earlier files a start reads now Shown le h = h
+earlier files a start reads now Stuck le h = h
 earlier files a start reads now Usage le h = h
 earlier files a start reads now (Unreadable s) le h = risen_earlier start reads now le h
 earlier files a start reads now (TooLong s) le h = h
@@ -81,6 +86,7 @@ earlier files a start reads now (NotJson s) le h = h
 earlier files a start reads now (NotObject s) le h = h
 earlier files a start reads now NoAttribute le h = h
 earlier files a start reads now NoPart le h = h
+earlier files a start reads now MovesSets le h = h
 earlier files a start reads now WriteFault le h = h
 earlier files a start reads now Memory le h = h
 
@@ -97,6 +103,7 @@ pub denied_ends : (files : Option Files) (a : PlanAsked) (t : Trace) (s : Ended)
 denied_ends files a t Same h silent = absurd h
 denied_ends files a t Differs h silent = absurd h
 denied_ends files a t Shown h silent = h
+denied_ends files a t Stuck h silent = absurd h
 denied_ends files a t Usage h silent = h
 denied_ends files a t (Unreadable s) h silent = (silent, h)
 denied_ends files a t (TooLong s) h silent = (silent, h)
@@ -104,6 +111,7 @@ denied_ends files a t (NotJson s) h silent = (silent, h)
 denied_ends files a t (NotObject s) h silent = (silent, h)
 denied_ends files a t NoAttribute h silent = absurd h
 denied_ends files a t NoPart h silent = absurd h
+denied_ends files a t MovesSets h silent = absurd h
 denied_ends files a t WriteFault h silent = absurd h
 denied_ends files a t Memory h silent = tt
 
@@ -122,6 +130,7 @@ pub delivered_ends : (files : Option Files) (a : PlanAsked) (t : Trace) (text : 
 delivered_ends files a t text b Same asked h = answered files a t text b false asked h.0 h.1
 delivered_ends files a t text b Differs asked h = answered files a t text b true asked h.0 h.1
 delivered_ends files a t text b Shown asked h = absurd h
+delivered_ends files a t text b Stuck asked h = absurd h
 delivered_ends files a t text b Usage asked h = h
 delivered_ends files a t text b (Unreadable s) asked h = absurd h
 delivered_ends files a t text b (TooLong s) asked h = absurd h
@@ -129,6 +138,7 @@ delivered_ends files a t text b (NotJson s) asked h = absurd h
 delivered_ends files a t text b (NotObject s) asked h = absurd h
 delivered_ends files a t text b NoAttribute asked h = absurd h
 delivered_ends files a t text b NoPart asked h = absurd h
+delivered_ends files a t text b MovesSets asked h = absurd h
 delivered_ends files a t text b WriteFault asked h = record {
   text = text;
   differs = b;
@@ -151,6 +161,7 @@ pub config_undrawn : (files : Option Files) (a : PictureAsked) (reads now : ℕ)
 config_undrawn files a reads now Same h = absurd h
 config_undrawn files a reads now Differs h = absurd h
 config_undrawn files a reads now Shown h = absurd h
+config_undrawn files a reads now Stuck h = absurd h
 config_undrawn files a reads now Usage h = absurd h
 config_undrawn files a reads now (Unreadable s) h = h.1
 config_undrawn files a reads now (TooLong s) h =
@@ -161,6 +172,7 @@ config_undrawn files a reads now (NotObject s) h =
     subst (λ q. IsUndrawn files a reads now (NotObject q)) (sym h.0) h.1
 config_undrawn files a reads now NoAttribute h = absurd h
 config_undrawn files a reads now NoPart h = absurd h
+config_undrawn files a reads now MovesSets h = absurd h
 config_undrawn files a reads now WriteFault h = absurd h
 config_undrawn files a reads now Memory h = h
 
@@ -171,6 +183,7 @@ pub blank_undrawn : (files : Option Files) (a : PictureAsked) (d : Data) (reads 
 blank_undrawn files a d reads now Same config h = absurd h
 blank_undrawn files a d reads now Differs config h = absurd h
 blank_undrawn files a d reads now Shown config h = absurd h
+blank_undrawn files a d reads now Stuck config h = absurd h
 blank_undrawn files a d reads now Usage config h = absurd h
 blank_undrawn files a d reads now (Unreadable s) config h = absurd h
 blank_undrawn files a d reads now (TooLong s) config h = absurd h
@@ -180,6 +193,7 @@ blank_undrawn files a d reads now NoAttribute config h =
     record { whole = d; config = config; lacks = h }
 blank_undrawn files a d reads now NoPart config h =
     record { whole = d; config = config; lacks = h }
+blank_undrawn files a d reads now MovesSets config h = absurd h
 blank_undrawn files a d reads now WriteFault config h = absurd h
 blank_undrawn files a d reads now Memory config h = tt
 
@@ -189,6 +203,7 @@ pub undrawn_ends : (files : Option Files) (a : PictureAsked) (t : Trace) (s : En
 undrawn_ends files a t Same h silent = absurd h
 undrawn_ends files a t Differs h silent = absurd h
 undrawn_ends files a t Shown h silent = absurd h
+undrawn_ends files a t Stuck h silent = absurd h
 undrawn_ends files a t Usage h silent = absurd h
 undrawn_ends files a t (Unreadable s) h silent = (silent, h)
 undrawn_ends files a t (TooLong s) h silent = (silent, h)
@@ -196,6 +211,7 @@ undrawn_ends files a t (NotJson s) h silent = (silent, h)
 undrawn_ends files a t (NotObject s) h silent = (silent, h)
 undrawn_ends files a t NoAttribute h silent = (silent, h)
 undrawn_ends files a t NoPart h silent = (silent, h)
+undrawn_ends files a t MovesSets h silent = absurd h
 undrawn_ends files a t WriteFault h silent = absurd h
 undrawn_ends files a t Memory h silent = tt
 
@@ -206,6 +222,7 @@ handed_out_ends files a t text Same drawn h = absurd h
 handed_out_ends files a t text Differs drawn h = absurd h
 handed_out_ends files a t text Shown drawn h =
     record { text = text; drawn = drawn; printed = h }
+handed_out_ends files a t text Stuck drawn h = absurd h
 handed_out_ends files a t text Usage drawn h = absurd h
 handed_out_ends files a t text (Unreadable s) drawn h = absurd h
 handed_out_ends files a t text (TooLong s) drawn h = absurd h
@@ -213,6 +230,7 @@ handed_out_ends files a t text (NotJson s) drawn h = absurd h
 handed_out_ends files a t text (NotObject s) drawn h = absurd h
 handed_out_ends files a t text NoAttribute drawn h = absurd h
 handed_out_ends files a t text NoPart drawn h = absurd h
+handed_out_ends files a t text MovesSets drawn h = absurd h
 handed_out_ends files a t text WriteFault drawn h =
     record { text = text; drawn = drawn; printed = h.0; risen = h.1 }
 handed_out_ends files a t text Memory drawn h = tt
