@@ -7,9 +7,11 @@ use Rattle.desk_io.specs.Whole.{PrintsFront}
 use Rattle.serde_json.specs.Data.{Data}
 use Rattle.view_leaves.specs.Reading.{text_json}
 use Rattle.view_run.specs.Answers.{IsPlanText}
-use Rattle.view_run.specs.Ending.{Trace, IsAsked, IsAnswered, IsCutOff, PlanEnds, IsFaulty, IsDenied, IsDelivered, IsPictured, PictureEnds, IsUndrawn, IsHandedOut}
+use Rattle.view_run.specs.Ending.{Trace, IsAsked, IsAnswered, IsCutOff, PlanEnds, IsFaulty, IsDenied, IsDelivered, IsPictured, PictureEnds, IsUndrawn, IsHandedOut, IsLedOut, StepsEnds, IsUnordered, IsSentOut, two_files}
 use Rattle.view_run.specs.Pictured.{IsPicture, IsBlank, IsDrawn}
-use Rattle.view_run.specs.Words.{PlanAsked, PictureAsked}
+use Rattle.view_run.specs.Stepped.{IsStepped, IsUnstepped, IsOrdered, LacksSteps, has_known, has_failed}
+use Rattle.view_run.specs.Words.{PlanAsked, PictureAsked, StepsAsked}
+use Rattle.view_steps.specs.Answer.{MovesSets as MovesSomeSet}
 use Rattle.view_run.specs.declared.status.Source.TheVariants.{Former, New, Config}
 use Rattle.view_run.specs.declared.status.Status.{Status as Ended}
 use Rattle.view_run.specs.declared.status.Status.TheVariants.{Same, Differs, Shown, Stuck, Usage, Unreadable, TooLong, NotJson, NotObject, NoAttribute, NoPart, MovesSets, WriteFault, Memory}
@@ -234,3 +236,128 @@ handed_out_ends files a t text MovesSets drawn h = absurd h
 handed_out_ends files a t text WriteFault drawn h =
     record { text = text; drawn = drawn; printed = h.0; risen = h.1 }
 handed_out_ends files a t text Memory drawn h = tt
+
+-- ---- steps
+
+pub is_ordered : (files later : Option Files) (a : StepsAsked) (d e : Data) (text : List ℕ)
+    (b : Bool) → later ≡ files → OfFile files a.former (λ bytes. text_json bytes ≡ Some d)
+    → OfFile later a.new (λ bytes. text_json bytes ≡ Some e) → IsStepped d e a text b
+    → IsOrdered files a text b
+is_ordered files later a d e text b same former new stepped = record {
+  before = d;
+  behind = e;
+  former = former;
+  new = subst (λ fs. OfFile fs a.new (λ bytes. text_json bytes ≡ Some e)) same new;
+  stepped = stepped;
+}
+
+-- a file that was refused, as in a plan
+denied_unordered : (files : Option Files) (a : StepsAsked) (reads now : ℕ) (s : Ended)
+    → IsDenied files (two_files a) reads now s → IsUnordered files a reads now s
+denied_unordered files a reads now Same h = absurd h
+denied_unordered files a reads now Differs h = absurd h
+denied_unordered files a reads now Shown h = absurd h
+denied_unordered files a reads now Stuck h = absurd h
+denied_unordered files a reads now Usage h = absurd h
+denied_unordered files a reads now (Unreadable s) h = h
+denied_unordered files a reads now (TooLong s) h = h
+denied_unordered files a reads now (NotJson s) h = h
+denied_unordered files a reads now (NotObject s) h = h
+denied_unordered files a reads now NoAttribute h = absurd h
+denied_unordered files a reads now NoPart h = absurd h
+denied_unordered files a reads now MovesSets h = absurd h
+denied_unordered files a reads now WriteFault h = absurd h
+denied_unordered files a reads now Memory h = tt
+
+pub former_unordered : (files : Option Files) (a : StepsAsked) (reads now : ℕ) (s : Ended)
+    → IsFaulty files a.former Former reads now s → IsUnordered files a reads now s
+former_unordered files a reads now s h =
+    denied_unordered files a reads now s (former_denied files (two_files a) reads now s h)
+
+pub new_unordered : (files later : Option Files) (a : StepsAsked) (start reads now : ℕ) (s : Ended)
+    → later ≡ files → start ≤ reads → IsFaulty later a.new New reads now s
+    → IsUnordered files a start now s
+new_unordered files later a start reads now s same le h =
+    denied_unordered files a start now s
+    (new_denied files later (two_files a) start reads now s same le h)
+
+lacks_steps : (files later : Option Files) (a : StepsAsked) (d e : Data)
+    (P : Data → Data → Type 0) → later ≡ files
+    → OfFile files a.former (λ bytes. text_json bytes ≡ Some d)
+    → OfFile later a.new (λ bytes. text_json bytes ≡ Some e) → P d e → LacksSteps files a P
+lacks_steps files later a d e P same former new h = record {
+  before = d;
+  behind = e;
+  former = former;
+  new = subst (λ fs. OfFile fs a.new (λ bytes. text_json bytes ≡ Some e)) same new;
+  lacks = h;
+}
+
+-- two configurations between which there is no order
+pub unstepped : (files later : Option Files) (a : StepsAsked) (d e : Data) (reads now : ℕ)
+    (s : Ended) → later ≡ files → OfFile files a.former (λ bytes. text_json bytes ≡ Some d)
+    → OfFile later a.new (λ bytes. text_json bytes ≡ Some e) → IsUnstepped d e a s
+    → IsUnordered files a reads now s
+unstepped files later a d e reads now Same same former new h = absurd h
+unstepped files later a d e reads now Differs same former new h = absurd h
+unstepped files later a d e reads now Shown same former new h = absurd h
+unstepped files later a d e reads now Stuck same former new h = absurd h
+unstepped files later a d e reads now Usage same former new h = absurd h
+unstepped files later a d e reads now (Unreadable s) same former new h = absurd h
+unstepped files later a d e reads now (TooLong s) same former new h = absurd h
+unstepped files later a d e reads now (NotJson s) same former new h = absurd h
+unstepped files later a d e reads now (NotObject s) same former new h = absurd h
+unstepped files later a d e reads now NoAttribute same former new h =
+    lacks_steps files later a d e (λ x y. has_known x y a ≡ false) same former new h
+unstepped files later a d e reads now NoPart same former new h =
+    lacks_steps files later a d e (λ x y. has_failed y a ≡ false) same former new h
+unstepped files later a d e reads now MovesSets same former new h =
+    lacks_steps files later a d e (λ x y. MovesSomeSet x y a.attribute) same former new h
+unstepped files later a d e reads now WriteFault same former new h = absurd h
+unstepped files later a d e reads now Memory same former new h = tt
+
+pub unordered_ends : (files : Option Files) (a : StepsAsked) (t : Trace) (s : Ended)
+    → IsUnordered files a t.reads t.reads_now s → t.printed_now ≡ t.printed
+    → StepsEnds files a t s
+unordered_ends files a t Same h silent = absurd h
+unordered_ends files a t Differs h silent = absurd h
+unordered_ends files a t Shown h silent = absurd h
+unordered_ends files a t Stuck h silent = absurd h
+unordered_ends files a t Usage h silent = absurd h
+unordered_ends files a t (Unreadable s) h silent = (silent, h)
+unordered_ends files a t (TooLong s) h silent = (silent, h)
+unordered_ends files a t (NotJson s) h silent = (silent, h)
+unordered_ends files a t (NotObject s) h silent = (silent, h)
+unordered_ends files a t NoAttribute h silent = (silent, h)
+unordered_ends files a t NoPart h silent = (silent, h)
+unordered_ends files a t MovesSets h silent = (silent, h)
+unordered_ends files a t WriteFault h silent = absurd h
+unordered_ends files a t Memory h silent = tt
+
+led_out : (files : Option Files) (a : StepsAsked) (t : Trace) (text : List ℕ) (b c : Bool)
+    → IsOrdered files a text b → b ≡ c → t.printed_now ≡ with_printed text t.printed
+    → IsLedOut files a c t
+led_out files a t text b c ordered is printed = record {
+  text = text;
+  ordered = subst (IsOrdered files a text) is ordered;
+  printed = printed;
+}
+
+pub sent_out_ends : (files : Option Files) (a : StepsAsked) (t : Trace) (text : List ℕ) (b : Bool)
+    (s : Ended) → IsOrdered files a text b
+    → IsSentOut text b t.printed t.printed_now t.writes t.writes_now s → StepsEnds files a t s
+sent_out_ends files a t text b Same ordered h = absurd h
+sent_out_ends files a t text b Differs ordered h = absurd h
+sent_out_ends files a t text b Shown ordered h = led_out files a t text b false ordered h.0 h.1
+sent_out_ends files a t text b Stuck ordered h = led_out files a t text b true ordered h.0 h.1
+sent_out_ends files a t text b Usage ordered h = absurd h
+sent_out_ends files a t text b (Unreadable s) ordered h = absurd h
+sent_out_ends files a t text b (TooLong s) ordered h = absurd h
+sent_out_ends files a t text b (NotJson s) ordered h = absurd h
+sent_out_ends files a t text b (NotObject s) ordered h = absurd h
+sent_out_ends files a t text b NoAttribute ordered h = absurd h
+sent_out_ends files a t text b NoPart ordered h = absurd h
+sent_out_ends files a t text b MovesSets ordered h = absurd h
+sent_out_ends files a t text b WriteFault ordered h =
+    record { text = text; stuck = b; ordered = ordered; printed = h.0; risen = h.1 }
+sent_out_ends files a t text b Memory ordered h = tt

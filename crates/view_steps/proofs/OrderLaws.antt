@@ -1,6 +1,7 @@
 -- A move more, and what its fitting says.
 use Rattle.std.proofs.Common.{◌≡◌, ℕ, zero, suc, get_or, ◌+◌, ◌<◌, ◌≤◌, ℤ, Bool, true, false, not, ◌&&◌, ◌||◌, cond, List, [], ◌∷◌, ◌++◌, Option, Some, None, Ordering, Less, Equal, Greater, map, reverse, is_eq, bytes_eq, refl, sym, ap, ◌∙◌, subst, arith, append_assoc, length}
-use Rattle.std.specs.Prelude.{sum_by, All, IsPermutation, Bor, remove, slice_index_or}
+use Rattle.std.specs.Prelude.{sum_by, All, IsPermutation, remove, slice_index_or}
+use Rattle.std.specs.Borrow.{Bor}
 use Rattle.std.specs.Ordering.{ordering_reverse}
 use Rattle.std.specs.List.{list_all, AllByRecursion}
 use Rattle.std.specs.List.Sorted.{IsStrictlySortedBy}
@@ -123,10 +124,10 @@ not_to true f h k = absurd (contrary f (h refl) k)
 not_to false f h k = refl
 
 pub same_word : (w v : List ℕ) → bytes_eq w v ≡ true → w ≡ v
-same_word w v h = grind (bytes_eq-Decides w v)
+same_word w v h = (bytes_eq-Decides w v).0 h
 
 pub word_itself : (v : List ℕ) → bytes_eq v v ≡ true
-word_itself v = grind (bytes_eq-Decides v v)
+word_itself v = (bytes_eq-Decides v v).1 refl
 
 fit_at : (site : Site) (made : List Path) (m : Move) (w : List ℕ) (b f : Bool)
     → IsSite site → IsMove site m → waits site made (move_path m) ≡ true
@@ -163,11 +164,11 @@ lacks_to : {A : Type 0} (es : Entries A) (site : Site) (made : List Path) (m : M
     → ((v : List ℕ) → found es v ≡ rooms site made v)
     → IsSite site → IsMove site m → waits site made (move_path m) ≡ true
     → word_allowed es o m.more.items ≡ false → Lacks site made (move_path m)
-lacks_to es site made m None e same is move here no = absurd cc
-lacks_to es site made m (Some v) e same is move here no = record {
+lacks_to es site made m None e same is move here fails = absurd cc
+lacks_to es site made m (Some v) e same is move here fails = record {
   holder = v;
   lacks = bears_to site made m v is move here (ap (λ x. is_word x v) (sym e) ∙ word_itself v)
-      ∙ ap (λ rs. some_allowed rs m.more.items) (sym (same v)) ∙ no;
+      ∙ ap (λ rs. some_allowed rs m.more.items) (sym (same v)) ∙ fails;
 }
 
 lacks_from : {A : Type 0} (es : Entries A) (site : Site) (made : List Path) (m : Move)
@@ -175,12 +176,12 @@ lacks_from : {A : Type 0} (es : Entries A) (site : Site) (made : List Path) (m :
     → ((v : List ℕ) → found es v ≡ rooms site made v)
     → IsSite site → IsMove site m → waits site made (move_path m) ≡ true
     → word_allowed es o m.less.items ≡ false → Lacks site made (move_path m)
-lacks_from es site made m None e same is move here no = absurd cc
-lacks_from es site made m (Some v) e same is move here no =
+lacks_from es site made m None e same is move here fails = absurd cc
+lacks_from es site made m (Some v) e same is move here fails =
     let from : goes_from m v ≡ true = ap (λ x. is_word x v) (sym e) ∙ word_itself v in record {
       holder = v;
       lacks = bears_from site made m v is move here (not_to (goes_to m v) (goes_from m v) (move.apart v) from) from
-          ∙ ap (λ rs. some_allowed rs m.less.items) (sym (same v)) ∙ no;
+          ∙ ap (λ rs. some_allowed rs m.less.items) (sym (same v)) ∙ fails;
     }
 
 lacks_by : {A : Type 0} (es : Entries A) (site : Site) (made : List Path) (m : Move) (b : Bool)
@@ -188,18 +189,18 @@ lacks_by : {A : Type 0} (es : Entries A) (site : Site) (made : List Path) (m : M
     → ((v : List ℕ) → found es v ≡ rooms site made v)
     → IsSite site → IsMove site m → waits site made (move_path m) ≡ true
     → is_fit es m ≡ false → Lacks site made (move_path m)
-lacks_by es site made m true e same is move here no =
+lacks_by es site made m true e same is move here fails =
     lacks_from es site made m (from_word (move_line m).1) refl same is move here
-    (sym (ap (λ b. b && word_allowed es (from_word (move_line m).1) m.less.items) e) ∙ no)
-lacks_by es site made m false e same is move here no =
+    (sym (ap (λ b. b && word_allowed es (from_word (move_line m).1) m.less.items) e) ∙ fails)
+lacks_by es site made m false e same is move here fails =
     lacks_to es site made m (to_word (move_line m).1) refl same is move here e
 
 pub lacks : {A : Type 0} (es : Entries A) (site : Site) (made : List Path) (m : Move)
     → ((v : List ℕ) → found es v ≡ rooms site made v)
     → IsSite site → IsMove site m → waits site made (move_path m) ≡ true
     → is_fit es m ≡ false → Lacks site made (move_path m)
-lacks es site made m same is move here no =
-    lacks_by es site made m (word_allowed es (to_word (move_line m).1) m.more.items) refl same is move here no
+lacks es site made m same is move here fails =
+    lacks_by es site made m (word_allowed es (to_word (move_line m).1) m.more.items) refl same is move here fails
 
 -- ---- one move more
 
@@ -269,14 +270,14 @@ left_lacks : (site : Site) (run : Run) → IsRun site run
     → All (λ m. is_fit run.rooms.entries m ≡ false) run.left.items
     → (k : ℕ) (x : Move) → k < length run.left.items → x ≡ get_or run.left.items k x
     → is_fit run.rooms.entries x ≡ false → Lacks site (last_made run.made.items) (move_path x)
-left_lacks site run is none k x less here no =
+left_lacks site run is none k x less here fails =
     let rest = remove run.left.items k in
     let moved : IsPermutation (run.made.items ++ run.left.items) (run.made.items ++ x ∷ rest) = IsPermutation-append_right run.made.items run.left.items (x ∷ rest) (IsPermutation-remove run.left.items k x less here) in
     let every : All (IsMove site) (run.made.items ++ x ∷ rest) = All-permutation (IsMove site) (run.made.items ++ run.left.items) (run.made.items ++ x ∷ rest) moved is.each in
     let same : IsPermutation site.moves (map move_line (run.made.items ++ x ∷ rest)) = IsPermutation-trans site.moves (map move_line (run.made.items ++ run.left.items)) (map move_line (run.made.items ++ x ∷ rest)) is.same (IsPermutation-map move_line (run.made.items ++ run.left.items) (run.made.items ++ x ∷ rest) moved) in
     lacks run.rooms.entries site (last_made run.made.items) x is.rooms_are is.site_is
     (all_last (IsMove site) run.made.items x rest every)
-    (move_waits site run.made.items x rest is.site_is same) no
+    (move_waits site run.made.items x rest is.site_is same) fails
 
 default_same : {X : Type 0} (xs : List X) (k : ℕ) (d e : X) → k < length xs
     → slice_index_or xs k d ≡ slice_index_or xs k e

@@ -1,8 +1,9 @@
 -- What one move changes of the rooms, and when it fits.
-use Rattle.std.proofs.Common.{◌≡◌, ℕ, ℤ, pos, ◌+ℤ◌, ◌-ℤ◌, Bool, true, false, not, ◌&&◌, ◌||◌, cond, if◌then◌else◌, List, [], ◌∷◌, ◌++◌, Option, Some, None, map, option_map, option_and_then, is_eq, refl, sym, ap, ◌∙◌, subst, arith}
+use Rattle.std.proofs.Common.{◌≡◌, ℕ, ℤ, pos, ◌+ℤ◌, ◌-ℤ◌, Bool, true, false, not, ◌&&◌, ◌||◌, cond, if◌then◌else◌, List, [], ◌∷◌, ◌++◌, Option, Some, None, map, option_map, option_and_then, filter, is_eq, refl, sym, ap, ◌∙◌, subst, arith}
 use Rattle.std.specs.Prelude.{int_le}
 use Rattle.std.specs.List.{list_all}
 use Rattle.std.proofs.lemmas.Int.{ints}
+use Rattle.view_leaves.specs.Leaves.{PathLeaf}
 use Rattle.view_leaves.specs.Paths.{Path, path_cmp}
 use Rattle.view_picture.specs.Mentions.{owner}
 use Rattle.view_picture.specs.Parts.{parts}
@@ -60,12 +61,12 @@ load_step site made m w s is move here =
     (ap not (moved site made p)) (ap not here) (λ q h. ap not (sym (agree site made p q h)))
     ∙ ap (λ n. n +ℤ sum (λ q. not (t q)) site.new) (weight_named d s.name a w p (found_at p site.new) move.sized.named
     ∙ ap (λ b. cond b size (pos 0)) (move.new w)) in
-    sum_append d s.name a w _ _
+    sum_append d s.name a w (filter (λ (l : PathLeaf). u l.0) site.old) (filter (λ (l : PathLeaf). not (u l.0)) site.new)
     ∙ added (sum t site.old) (sum u site.old) (sum (λ q. not (t q)) site.new)
     (sum (λ q. not (u q)) site.new) (cond (goes_from m w) size (pos 0))
     (cond (goes_to m w) size (pos 0)) old new
     ∙ ap (λ n. n +ℤ (cond (goes_to m w) size (pos 0) -ℤ cond (goes_from m w) size (pos 0)))
-    (sym (sum_append d s.name a w _ _))
+    (sym (sum_append d s.name a w (filter (λ (l : PathLeaf). t l.0) site.old) (filter (λ (l : PathLeaf). not (t l.0)) site.new)))
 
 -- ---- rooms by loads
 

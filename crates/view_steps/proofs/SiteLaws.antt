@@ -93,10 +93,10 @@ single_word (object ms) h w = refl
 
 words_apart : (s t w : List ℕ) → bytes_eq s t ≡ false → bytes_eq w t ≡ true
     → (b : Bool) → bytes_eq w s ≡ b → b ≡ false
-words_apart s t w no to true from =
+words_apart s t w fails to true from =
     let same : s ≡ t = sym (same_word w s from) ∙ same_word w t to in
-    absurd (contrary (bytes_eq s t) no (ap (λ x. bytes_eq s x) (sym same) ∙ word_itself s))
-words_apart s t w no to false from = refl
+    absurd (contrary (bytes_eq s t) fails (ap (λ x. bytes_eq s x) (sym same) ∙ word_itself s))
+words_apart s t w fails to false from = refl
 
 apart_words : (d e : Data) → same_value d e ≡ false → (w : List ℕ)
     → is_word (as_str e) w ≡ true → is_word (as_str d) w ≡ false
@@ -145,20 +145,20 @@ removed_shift d plain = record {
 
 changed_shift : (d e : Data) → (is_single d && is_single e) ≡ true → same_value d e ≡ false
     → IsShift (Some d) (Some e) (Changed d e)
-changed_shift d e plain no = record {
+changed_shift d e plain fails = record {
   former = λ w. single_word d (both_first (is_single d) (is_single e) plain) w;
   new = λ w. single_word e (both_second (is_single d) (is_single e) plain) w;
-  apart = λ w h. apart_words d e no w h;
+  apart = λ w h. apart_words d e fails w h;
 }
 
 by_same : (d e : Data) (c : PlanChange) (b : Bool) → same_value d e ≡ b
     → (if b then None else Some (Changed d e)) ≡ Some c → is_plain c ≡ true
     → IsShift (Some d) (Some e) c
-by_same d e c true no h plain = absurd cc
-by_same d e c false no h plain =
+by_same d e c true fails h plain = absurd cc
+by_same d e c false fails h plain =
     let is = some_same (Changed d e) c h in
     subst (IsShift (Some d) (Some e)) is
-    (changed_shift d e (ap is_plain is ∙ plain) no)
+    (changed_shift d e (ap is_plain is ∙ plain) fails)
 
 no_members : (b : Bool) (added taken : Words) (both : Bool) (c : PlanChange)
     → ◌≡◌ {A = Option PlanChange} (if b then None else Some (Members added taken both)) (Some c)

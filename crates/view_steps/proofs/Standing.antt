@@ -29,8 +29,7 @@ eq_of o h = ap is_eq h
 
 same_bytes : (k l : List ℕ) → slice_cmp nat_cmp k l ≡ Equal → k ≡ l
 same_bytes k l h =
-    let same = sym (is_eq-slice_cmp k l) ∙ eq_of (slice_cmp nat_cmp k l) h in
-    grind (bytes_eq-Decides k l)
+    (bytes_eq-Decides k l).0 (sym (is_eq-slice_cmp k l) ∙ eq_of (slice_cmp nat_cmp k l) h)
 
 step_same : (s t : PathStep) → step_cmp s t ≡ Equal → s ≡ t
 step_same (index m) (index n) h = ap index (nat_same m n h)
@@ -51,7 +50,7 @@ path_same (s ∷ p) (t ∷ q) h =
     let both = then_equal (step_cmp s t) (path_cmp p q) h in
     ap (λ x. x ∷ p) (step_same s t both.0) ∙ ap (λ y. t ∷ y) (path_same p q both.1)
 
-equal_of : (o : Ordering) → is_eq o ≡ true → o ≡ Equal
+pub equal_of : (o : Ordering) → is_eq o ≡ true → o ≡ Equal
 equal_of Less h = absurd cc
 equal_of Equal h = refl
 equal_of Greater h = absurd cc
@@ -116,11 +115,11 @@ module _ (d : Data) (name a w : List ℕ) where
       → t p ≡ true → u p ≡ false → ((q : Path) → is_eq (path_cmp p q) ≡ false → t q ≡ u q)
       → AllByRecursion (λ q. path_cmp l.0 q ≡ Less) (paths ls)
       → sum_where t (l ∷ ls) ≡ weight l +ℤ sum_where u (l ∷ ls)
-  here t u p l ls same yes no agree h =
+  here t u p l ls same passes fails agree h =
       let ahead = subst (λ q. AllByRecursion (λ x. path_cmp q x ≡ Less) (paths ls)) (sym same) h in
-      where_by_case t true l ls (ap t (sym same) ∙ yes)
+      where_by_case t true l ls (ap t (sym same) ∙ passes)
       ∙ ap (λ n. weight l +ℤ n) (where_same t u ls (behind t u p (paths ls) agree ahead)
-      ∙ sym (where_by_case u false l ls (ap u (sym same) ∙ no) ∙ +ℤ_idl (sum_where u ls)))
+      ∙ sym (where_by_case u false l ls (ap u (sym same) ∙ fails) ∙ +ℤ_idl (sum_where u ls)))
 
   swapped : (x y z : ℤ) → x +ℤ (y +ℤ z) ≡ y +ℤ (x +ℤ z)
   swapped x y z = omega (arith, ints)
@@ -131,11 +130,11 @@ module _ (d : Data) (name a w : List ℕ) where
       → AllByRecursion (λ q. path_cmp l.0 q ≡ Less) (paths ls)
       → sum_where t ls ≡ weight_at p (found_at p ls) +ℤ sum_where u ls
       → sum_where t (l ∷ ls) ≡ weight_at p (found_at p (l ∷ ls)) +ℤ sum_where u (l ∷ ls)
-  found_by true t u p l ls e yes no agree h more =
+  found_by true t u p l ls e passes fails agree h more =
       let same = path_same p l.0 (equal_of (path_cmp p l.0) e) in
-      rw e (here t u p l ls same yes no agree h
+      rw e (here t u p l ls same passes fails agree h
       ∙ ap (λ q. weight (q, l.1) +ℤ sum_where u (l ∷ ls)) (sym same))
-  found_by false t u p l ls e yes no agree h more =
+  found_by false t u p l ls e passes fails agree h more =
       let one = λ (n : ℤ). cond (u l.0) (weight l) (pos 0) +ℤ n in
       rw e (where_by_case t (u l.0) l ls (agree l.0 e) ∙ ap one more
       ∙ swapped (cond (u l.0) (weight l) (pos 0)) (weight_at p (found_at p ls)) (sum_where u ls)
@@ -146,10 +145,10 @@ module _ (d : Data) (name a w : List ℕ) where
       → ((q : Path) → is_eq (path_cmp p q) ≡ false → t q ≡ u q)
       → sum_where t ls ≡ weight_at p (found_at p ls) +ℤ sum_where u ls
   unfolding IsStrictlySortedBy
-  where_more t u p [] h yes no agree = refl
-  where_more t u p (l ∷ ls) h yes no agree =
-      found_by (is_eq (path_cmp p l.0)) t u p l ls refl yes no agree h.0
-      (where_more t u p ls h.1 yes no agree)
+  where_more t u p [] h passes fails agree = refl
+  where_more t u p (l ∷ ls) h passes fails agree =
+      found_by (is_eq (path_cmp p l.0)) t u p l ls refl passes fails agree h.0
+      (where_more t u p ls h.1 passes fails agree)
 
   -- the weight of a leaf by where it refers
   pub weight_named : (p : Path) (o : Option Data) → is_named a p ≡ true
