@@ -3,3 +3,4 @@ pub mod OrderLaws
 pub mod RoomLaws
 pub mod SiteLaws
 pub mod Standing
+pub mod TextLaws

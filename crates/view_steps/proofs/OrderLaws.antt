@@ -1,12 +1,13 @@
 -- A move more, and what its fitting says.
 use Rattle.std.proofs.Common.{◌≡◌, ℕ, zero, suc, get_or, ◌+◌, ◌<◌, ◌≤◌, ℤ, Bool, true, false, not, ◌&&◌, ◌||◌, cond, List, [], ◌∷◌, ◌++◌, Option, Some, None, Ordering, Less, Equal, Greater, map, reverse, is_eq, bytes_eq, refl, sym, ap, ◌∙◌, subst, arith, append_assoc, length}
 use Rattle.std.specs.Prelude.{sum_by, All, IsPermutation, remove, slice_index_or}
+use Rattle.std.specs.List.{swap_remove}
 use Rattle.std.specs.Borrow.{Bor}
 use Rattle.std.specs.Ordering.{ordering_reverse}
 use Rattle.std.specs.List.{list_all, AllByRecursion}
 use Rattle.std.specs.List.Sorted.{IsStrictlySortedBy}
 use Rattle.std.proofs.lemmas.List.{reverse-append}
-use Rattle.std.proofs.lemmas.List.Sorted.{IsPermutation-map, IsPermutation-trans, IsPermutation-append_right, IsPermutation-middle, IsPermutation-remove, IsPermutation-reverse, All-permutation, list_any-IsPermutation, sum_by-IsPermutation}
+use Rattle.std.proofs.lemmas.List.Sorted.{IsPermutation-map, IsPermutation-trans, IsPermutation-append_right, IsPermutation-middle, IsPermutation-remove, IsPermutation-reverse, IsPermutation-swap_remove, All-permutation, list_any-IsPermutation, sum_by-IsPermutation}
 use Rattle.std.proofs.lemmas.List.Sums.{sum_by-append, sum_by-cons}
 use mathlib.Core.List.{map-append}
 use Rattle.view_leaves.specs.Ascending.{IsAscending}
@@ -14,7 +15,7 @@ use Rattle.view_leaves.specs.Paths.{Path, path_cmp}
 use Rattle.view_leaves.proofs.PathOrder.{path_total}
 use Rattle.view_plan.specs.Plan.{line_path}
 use Rattle.view_steps.specs.Rooms.{Entries, Room, found, rooms, word_allowed, some_allowed}
-use Rattle.view_steps.specs.Runs.{is_fit, last_made, put_by, IsSite, IsRun}
+use Rattle.view_steps.specs.Runs.{is_fit, last_made, put_by, IsFitAt, IsSite, IsRun}
 use Rattle.view_steps.specs.Steps.{Site, is_among, waits, Fits, Lacks, AllFit, bears_at}
 use Rattle.view_steps.specs.Views.{move_line, move_path, goes_from, goes_to, IsMove}
 use Rattle.view_steps.specs.declared.moves.Move.{Move}
@@ -291,3 +292,42 @@ pub all_lack : (site : Site) (run : Run) → IsRun site run
 all_lack site run is none = λ k d less.
     let x = slice_index_or run.left.items k d in
     left_lacks site run is none k x less (default_same run.left.items k d x less) (none k d less)
+
+-- those that are left in another order
+pub left_moved : (site : Site) (run new : Run) → IsRun site run
+    → IsPermutation run.left.items new.left.items → new.made.items ≡ run.made.items
+    → ((w : List ℕ) → found new.rooms.entries w ≡ found run.rooms.entries w)
+    → IsRun site new
+left_moved site run new is left made kept =
+    let moved : IsPermutation (run.made.items ++ run.left.items) (run.made.items ++ new.left.items) = IsPermutation-append_right run.made.items run.left.items new.left.items left in
+    let here = sym made in
+    record {
+      site_is = is.site_is;
+      each = subst (λ ms. All (IsMove site) (ms ++ new.left.items)) here
+          (All-permutation (IsMove site) (run.made.items ++ run.left.items) (run.made.items ++ new.left.items) moved is.each);
+      same = subst (λ ms. IsPermutation site.moves (map move_line (ms ++ new.left.items))) here
+          (IsPermutation-trans site.moves (map move_line (run.made.items ++ run.left.items)) (map move_line (run.made.items ++ new.left.items)) is.same
+          (IsPermutation-map move_line (run.made.items ++ run.left.items) (run.made.items ++ new.left.items) moved));
+      fit = subst (λ ms. AllFit site (last_made ms)) here is.fit;
+      rooms_are = λ w. kept w ∙ is.rooms_are w ∙ ap (λ ms. rooms site (last_made ms) w) here;
+    }
+
+-- a move that was found to fit, and the run behind it
+pub fits_at : (run : Run) (k : ℕ) (x : Move) → k < length run.left.items
+    → x ≡ get_or run.left.items k x → is_fit run.rooms.entries x ≡ true → IsFitAt run k
+fits_at run k x less here fit = record {
+  there = less;
+  fit = λ d. ap (is_fit run.rooms.entries) (default_same run.left.items k d x less ∙ sym here) ∙ fit;
+}
+
+pub made_one : (site : Site) (run new : Run) (k : ℕ) (x : Move) → IsRun site run → IsFitAt run k
+    → x ≡ get_or run.left.items k x → new.left.items ≡ swap_remove run.left.items k x
+    → new.made.items ≡ run.made.items ++ x ∷ []
+    → ((w : Bor (List ℕ)) → found new.rooms.entries w.now
+    ≡ put_by (goes_to x w.now) (goes_from x w.now) x.more.items x.less.items (found run.rooms.entries w.now))
+    → IsRun site new
+made_one site run new k x is at here left made put =
+    one_more site run new x is
+    (subst (λ ms. IsPermutation run.left.items (x ∷ ms)) (sym left)
+    (IsPermutation-swap_remove run.left.items k x at.there here))
+    made (ap (is_fit run.rooms.entries) here ∙ at.fit x) put

@@ -295,12 +295,14 @@ not_itself : (b : Bool) → (b && not b) ≡ false
 not_itself true = refl
 not_itself false = refl
 
-none_waits : (site : Site) (made : List Path) → map line_path site.moves ≡ made → (p : Path)
+none_waits : (site : Site) (made : List Path)
+    → ((p : Path) → is_among (map line_path site.moves) p ≡ is_among made p) → (p : Path)
     → waits site made p ≡ false
 none_waits site made h p =
-    ap (λ ps. is_among ps p && not (is_among made p)) h ∙ not_itself (is_among made p)
+    ap (λ b. b && not (is_among made p)) (h p) ∙ not_itself (is_among made p)
 
-stands_new : (site : Site) (made : List Path) → map line_path site.moves ≡ made
+pub stands_new : (site : Site) (made : List Path)
+    → ((p : Path) → is_among (map line_path site.moves) p ≡ is_among made p)
     → standing site made ≡ site.new
 stands_new site made h =
     ap (λ ls. ls ++ filter (λ (l : PathLeaf). not (waits site made l.0)) site.new)
@@ -350,7 +352,9 @@ rooms_among site made w (p ∷ ps) all =
 pub rooms_new : (site : Site) (made : List Path) (w : List ℕ)
     → map line_path site.moves ≡ made
     → first_rooms (map (scale_of site) (parts site.new)) w ≡ rooms site made w
-rooms_new site made w h = rooms_among site made w (parts site.new) (stands_new site made h)
+rooms_new site made w h =
+    rooms_among site made w (parts site.new)
+    (stands_new site made (λ p. ap (λ ps. is_among ps p) h))
 
 -- ---- before all of them
 

@@ -1,5 +1,5 @@
 -- How far a run of moves has come.
-use Rattle.std.specs.Prelude.{◌≡◌, ◌<◌, ℕ, Bool, true, false, ◌&&◌, if◌then◌else◌, List, [], ◌∷◌, ◌++◌, Option, Some, All, IsPermutation, length, map, reverse, slice_get, ℤ}
+use Rattle.std.specs.Prelude.{◌≡◌, ◌<◌, ℕ, Bool, true, false, ◌&&◌, if◌then◌else◌, List, [], ◌∷◌, ◌++◌, Option, All, IsPermutation, length, map, reverse, slice_index_or, ℤ}
 use Rattle.view_leaves.specs.Ascending.{IsAscending, paths}
 use Rattle.view_leaves.specs.Paths.{Path}
 use Rattle.view_plan.specs.Plan.{line_path}
@@ -28,9 +28,7 @@ last_made ms = reverse (map move_path ms)
 -- the move of a number, of those that are left, fits
 pub record IsFitAt (run : Run) (n : ℕ) : Type 0 where
   pub there : n < length run.left.items
-  pub step : Move
-  pub is : slice_get run.left.items n ≡ Some step
-  pub fit : is_fit run.rooms.entries step ≡ true
+  pub fit : (d : Move) → is_fit run.rooms.entries (slice_index_or run.left.items n d) ≡ true
 
 -- the facts of a site: the paths of its leaves and of its moves ascend
 pub record IsSite (site : Site) : Type 0 where

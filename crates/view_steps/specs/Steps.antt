@@ -74,12 +74,14 @@ AllFit site (p ∷ made) = Fits site made p × AllFit site made
 abbrev pub last_first : List PlanLine → List Path
 last_first ls = reverse (map line_path ls)
 
--- all the moves, each once, are in order or left; each fits behind those before it, and none of
--- those that are left fits behind all of them
+-- all the moves, each once, are in order or left; each fits behind those before it, none of those
+-- that are left fits behind all of them, and behind all the moves all stands as in the new
+-- configuration
 pub record IsOrder (site : Site) (order left : List PlanLine) : Type 0 where
   pub same : IsPermutation site.moves (order ++ left)
   pub fit : AllFit site (last_first order)
   pub stuck : All (λ (l : PlanLine). Lacks site (last_first order) l.0) left
+  pub last : left ≡ [] → standing site (last_first order) ≡ site.new
 
 -- the site of a plan
 abbrev pub site_of : Data → List ℕ → List PictureSize → List PathLeaf → List PathLeaf → List PlanLine → Site

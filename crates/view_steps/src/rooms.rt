@@ -76,7 +76,7 @@ fn all_taken(
 
 /// Whether a holder, if there is one of that spelling, can take so much.
 pub(crate) fn is_allowed(rooms: &Rooms<'_>, word: Option<&str>, amounts: &[i128]) -> bool
-    ensures { result ≡ word_allowed rooms.now.entries (option_map (λ w. w.now) word) amounts.now }
+    ensures { result ≡ word_allowed rooms.now.entries (option_map (λ w. w.now) word.entry) amounts.now }
 {
     match word {
         None => true,

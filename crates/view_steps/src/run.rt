@@ -99,3 +99,13 @@ pub(crate) fn settle(alloc: Global, run: &mut Run<'_, '_>) -> Result<(), AllocEr
     }
     Ok(())
 }
+
+/// Puts the moves that are left in order of number.
+pub(crate) fn arrange(run: &mut Run<'_, '_>) -> Result<(), AllocError>
+    ensures kept { OnOk result ((site : Site) → IsRun site run.old → IsRun site run.new) }
+    ensures none { OnOk result (All (λ m. is_fit run.old.rooms.entries m ≡ false) run.old.left.items
+        → All (λ m. is_fit run.new.rooms.entries m ≡ false) run.new.left.items) }
+{
+    run.left.sort_by_key(|step| step.number)?;
+    Ok(())
+}

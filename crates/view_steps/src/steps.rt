@@ -13,7 +13,7 @@ ghost use Rattle.view_steps.specs.declared.steps.StepsError.TheVariants.{Memory}
 use crate::hints::{all_ready, rush};
 use crate::moves::{Measure, Move, are_plain, moves_of};
 use crate::rooms::{Rooms, rooms_of};
-use crate::run::{Run, put_back, settle};
+use crate::run::{Run, arrange, put_back, settle};
 use crate::text::steps_text;
 use serde_json::Value;
 use std::alloc::{AllocError, Global};
@@ -86,18 +86,19 @@ fn begun<'l, 't>(
 /// stands on a holder that failed goes first.
 fn ran<'l, 't>(
     alloc: Global,
-    run: Run<'l, 't>,
+    start: Run<'l, 't>,
     sizes: usize,
     failed: &[&str],
 ) -> Result<Run<'l, 't>, AllocError>
-    ensures kept { IfOk result (λ made. (site : Site) → IsRun site run.entry → IsRun site made) }
+    ensures kept { IfOk result (λ made. (site : Site) → IsRun site start.entry → IsRun site made) }
     ensures none { IfOk result (λ made. All (λ m. is_fit made.rooms.entries m ≡ false)
         made.left.items) }
 {
-    let mut run = run;
+    let mut run = start;
     let mut hints = all_ready(alloc, &run.left, sizes, failed)?;
     rush(alloc, &mut run, &mut hints)?;
     settle(alloc, &mut run)?;
+    arrange(&mut run)?;
     Ok(run)
 }
 
@@ -122,8 +123,8 @@ pub fn steps_of(
         return Err(StepsError::Sets);
     }
     let scales = scales_of(alloc, measure.whole, &new, measure.attribute, measure.sizes)?;
-    let run = begun(alloc, &scales, moves)?;
-    let run = ran(alloc, run, measure.sizes.len(), failed)?;
+    let start = begun(alloc, &scales, moves)?;
+    let run = ran(alloc, start, measure.sizes.len(), failed)?;
     let text = steps_text(alloc, &run, measure.sizes)?;
     Ok(Steps {
         text,

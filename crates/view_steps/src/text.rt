@@ -2,7 +2,7 @@
 ghost use Rattle.std.specs.Prelude.{◌≡◌, ◌++◌, false, decimal, IfOk, OnOk, map};
 ghost use Rattle.std.specs.List.{flat_map, list_any};
 ghost use Rattle.view_plan.specs.Text.{line_text, shows_fraction};
-ghost use Rattle.view_steps.specs.Text.{IsStepsText};
+ghost use Rattle.view_steps.specs.Text.{counted_text, IsStepsText};
 ghost use Rattle.view_steps.specs.Views.{move_line};
 
 use crate::moves::{Move, from_word, to_word};
@@ -118,6 +118,20 @@ fn needs(
     Ok(text)
 }
 
+/// Writes a line for each move, and how many there are.
+fn push_counted(
+    alloc: Global,
+    text: &mut Vec<u8>,
+    moves: &[Move<'_, '_>],
+    what: &str,
+) -> Result<(), AllocError>
+    ensures { OnOk result (list_any shows_fraction (map move_line moves.now) ≡ false
+        → text.new.items ≡ text.old.items ++ counted_text what.now (map move_line moves.now)) }
+{
+    push_moves(alloc, text, moves)?;
+    push_count(alloc, text, moves.len(), what)
+}
+
 /// The text of an order: a line for each move, and how many; and where moves are left, a line for
 /// each of them, how many, and what they lack. The contract says nothing of what they lack, nor of
 /// the text where a number with a fraction or an exponent is shown.
@@ -130,16 +144,16 @@ pub(crate) fn steps_text(
         run.now.left.items) text.items) }
 {
     let mut text = Vec::new(alloc);
-    push_moves(alloc, &mut text, &run.made)?;
-    push_count(alloc, &mut text, run.made.len(), " steps\n")?;
-    if !run.left.is_empty() {
-        let board = Board {
-            rooms: &run.rooms,
-            sizes,
-        };
-        push_moves(alloc, &mut text, &run.left)?;
-        push_count(alloc, &mut text, run.left.len(), " left\n")?;
-        text.extend_from_slice(&needs(alloc, &board, &run.left)?)?;
+    push_counted(alloc, &mut text, &run.made, " steps\n")?;
+    if run.left.is_empty() {
+        return Ok(text);
     }
+    let board = Board {
+        rooms: &run.rooms,
+        sizes,
+    };
+    push_counted(alloc, &mut text, &run.left, " left\n")?;
+    let lacks = needs(alloc, &board, &run.left)?;
+    text.extend_from_slice(&lacks)?;
     Ok(text)
 }
