@@ -103,10 +103,10 @@ fn ran<'l, 't>(
 }
 
 /// An order of the moves from one configuration to another.
-pub fn steps_of(
+pub fn steps_of<'v>(
     alloc: Global,
-    former: &Value,
-    measure: Measure<'_, '_>,
+    former: &'v Value,
+    measure: Measure<'_, 'v>,
     failed: &[&str],
 ) -> Result<Steps, StepsError>
     ensures steps { IfOk result (λ made. IsSteps (view former.now) (view measure.entry.whole.now)
