@@ -1,4 +1,5 @@
 pub mod AnswerLaws
+pub mod ListLaws
 pub mod OrderLaws
 pub mod RoomLaws
 pub mod SiteLaws

@@ -146,19 +146,28 @@ fn release(
     Ok(())
 }
 
-/// Makes ready what waits for a holder and now has room there.
-fn wake<'t>(
-    hints: &mut Hints<'t>,
+/// Makes ready what waits for this size of a holder, where it has room now.
+fn wake_size(
+    hints: &mut Hints<'_>,
     rooms: &Rooms<'_>,
-    word: Option<&'t str>,
+    word: &str,
+    size: usize,
 ) -> Result<(), AllocError> {
+    if size < hints.waiting.len() {
+        if let Some(room) = room_at(rooms, word, size) {
+            if let Some(heap) = hints.waiting[size].get_mut(word.as_bytes()) {
+                release(&mut hints.ready, &hints.patient, heap, room)?;
+            }
+        }
+    }
+    Ok(())
+}
+
+/// Makes ready what waits for a holder and now has room there.
+fn wake(hints: &mut Hints<'_>, rooms: &Rooms<'_>, word: Option<&str>) -> Result<(), AllocError> {
     if let Some(word) = word {
         for size in 0..hints.waiting.len() {
-            if let Some(room) = room_at(rooms, word, size) {
-                if let Some(heap) = hints.waiting[size].get_mut(word.as_bytes()) {
-                    release(&mut hints.ready, &hints.patient, heap, room)?;
-                }
-            }
+            wake_size(hints, rooms, word, size)?;
         }
     }
     Ok(())

@@ -1,9 +1,9 @@
 //! What each holder can still take.
-ghost use Rattle.std.specs.Prelude.{◌≡◌, ◌∷◌, [], ℕ, List, map, drop, option_map, if◌then◌else◌, IfOk, OnOk};
+ghost use Rattle.std.specs.Prelude.{◌≡◌, ◌∷◌, [], None, Some, ℕ, List, map, drop, option_map, if◌then◌else◌, IfOk, OnOk};
 ghost use Rattle.std.specs.Borrow.{Bor};
 ghost use Rattle.view_picture.specs.PictureViews.{load_seen, scale_seen};
 ghost use Rattle.view_steps.specs.Moves.{is_word};
-ghost use Rattle.view_steps.specs.Rooms.{allowed, taken, first, all_allowed, all_taken, found, word_allowed, some_taken, load_room, first_rooms, first_of};
+ghost use Rattle.view_steps.specs.Rooms.{allowed, taken, first, all_allowed, all_taken, found, is_one, word_allowed, some_taken, load_room, first_rooms, first_of};
 
 use indexmap::IndexMap;
 use std::alloc::{AllocError, Global};
@@ -87,6 +87,29 @@ pub(crate) fn is_allowed(rooms: &Rooms<'_>, word: Option<&str>, amounts: &[i128]
     }
 }
 
+/// Takes the rooms of a holder out.
+fn take_out<'t>(rooms: &mut Rooms<'t>, word: &'t str) -> Option<Vec<Option<i128>>>
+    ensures taken { option_map (λ v. v.items) result ≡ found rooms.old.entries word.entry.now }
+    ensures left { (w : Bor (List ℕ)) → found rooms.new.entries w.now
+        ≡ (if is_one word.entry.now w.now then None else found rooms.old.entries w.now) }
+{
+    rooms.swap_remove(word.as_bytes())
+}
+
+/// Puts the rooms of a holder in.
+fn put_in<'t>(
+    rooms: &mut Rooms<'t>,
+    word: &'t str,
+    list: Vec<Option<i128>>,
+) -> Result<(), AllocError>
+    ensures { OnOk result ((w : Bor (List ℕ)) → found rooms.new.entries w.now
+        ≡ (if is_one word.entry.now w.now then Some list.entry.items
+        else found rooms.old.entries w.now)) }
+{
+    rooms.insert(word.as_bytes(), list)?;
+    Ok(())
+}
+
 /// Puts so much where a word says, if there is such a holder.
 pub(crate) fn put_at<'t>(
     alloc: Global,
@@ -101,12 +124,11 @@ pub(crate) fn put_at<'t>(
 {
     match word {
         None => Ok(()),
-        Some(word) => match rooms.swap_remove(word.as_bytes()) {
+        Some(word) => match take_out(rooms, word) {
             None => Ok(()),
             Some(list) => {
                 let left = all_taken(alloc, &list, amounts)?;
-                rooms.insert(word.as_bytes(), left)?;
-                Ok(())
+                put_in(rooms, word, left)
             }
         },
     }

@@ -4,8 +4,8 @@ use Rattle.view_steps.specs.Steps.{Site}
 use Rattle.view_steps.proofs.run.settle.Given as goal
 
 -- what was so stays so
-abbrev pub invariant-loop : goal.invariant-loop
-invariant-loop l = (site : Site) → IsRun site l.initial.run → IsRun site l.run
+abbrev pub invariant-loop-number : goal.invariant-loop-number
+invariant-loop-number l = (site : Site) → IsRun site l.initial.run → IsRun site l.run
 
-abbrev pub decreases-loop : goal.decreases-loop
-decreases-loop l = length l.run.left.items
+abbrev pub decreases-loop-number : goal.decreases-loop-number
+decreases-loop-number l = length l.run.left.items
