@@ -174,9 +174,9 @@ fn wake(hints: &mut Hints<'_>, rooms: &Rooms<'_>, word: Option<&str>) -> Result<
 }
 
 /// Tries a move.
-fn attempt<'l, 't>(
+fn attempt<'t>(
     alloc: Global,
-    run: &mut Run<'l, 't>,
+    run: &mut Run<'_, '_, 't>,
     hints: &mut Hints<'t>,
     number: usize,
 ) -> Result<(), AllocError>
@@ -201,7 +201,7 @@ fn attempt<'l, 't>(
 }
 
 /// Notes which move took this place.
-fn note_place(run: &Run<'_, '_>, hints: &mut Hints<'_>, place: usize) {
+fn note_place(run: &Run<'_, '_, '_>, hints: &mut Hints<'_>, place: usize) {
     if place < run.left.len() {
         let number = run.left[place].number;
         if number < hints.places.len() {
@@ -211,9 +211,9 @@ fn note_place(run: &Run<'_, '_>, hints: &mut Hints<'_>, place: usize) {
 }
 
 /// Tries what may be tried, until nothing is left to try.
-pub(crate) fn rush<'l, 't>(
+pub(crate) fn rush<'t>(
     alloc: Global,
-    run: &mut Run<'l, 't>,
+    run: &mut Run<'_, '_, 't>,
     hints: &mut Hints<'t>,
 ) -> Result<(), AllocError>
     ensures kept { OnOk result ((site : Site) → IsRun site run.old → IsRun site run.new) }

@@ -1,5 +1,5 @@
 //! What each holder can still take.
-ghost use Rattle.std.specs.Prelude.{◌≡◌, ◌∷◌, [], None, Some, ℕ, List, map, drop, option_map, if◌then◌else◌, IfOk, OnOk};
+ghost use Rattle.std.specs.Prelude.{◌≡◌, ◌∷◌, [], None, Some, ℕ, List, map, drop, option_map, if◌then◌else◌, IfOk, IfSome, OnOk, true};
 ghost use Rattle.std.specs.Borrow.{Bor};
 ghost use Rattle.view_picture.specs.PictureViews.{load_seen, scale_seen};
 ghost use Rattle.view_steps.specs.Moves.{is_word};
@@ -87,34 +87,35 @@ pub(crate) fn is_allowed(rooms: &Rooms<'_>, word: Option<&str>, amounts: &[i128]
     }
 }
 
-/// Takes the rooms of a holder out.
-fn take_out<'t>(rooms: &mut Rooms<'t>, word: &'t str) -> Option<Vec<Option<i128>>>
-    ensures taken { option_map (λ v. v.items) result ≡ found rooms.old.entries word.entry.now }
+/// Takes the rooms of a holder out, with the spelling under which they are kept.
+fn take_out<'t>(rooms: &mut Rooms<'t>, word: &str) -> Option<(&'t [u8], Vec<Option<i128>>)>
+    ensures taken { option_map (λ p. p.1.items) result ≡ found rooms.old.entries word.now }
+    ensures same { IfSome result (λ p. is_one word.now p.0.now ≡ true) }
     ensures left { (w : Bor (List ℕ)) → found rooms.new.entries w.now
-        ≡ (if is_one word.entry.now w.now then None else found rooms.old.entries w.now) }
+        ≡ (if is_one word.now w.now then None else found rooms.old.entries w.now) }
 {
-    rooms.swap_remove(word.as_bytes())
+    rooms.swap_remove_entry(word.as_bytes())
 }
 
 /// Puts the rooms of a holder in.
 fn put_in<'t>(
     rooms: &mut Rooms<'t>,
-    word: &'t str,
+    word: &'t [u8],
     list: Vec<Option<i128>>,
 ) -> Result<(), AllocError>
     ensures { OnOk result ((w : Bor (List ℕ)) → found rooms.new.entries w.now
-        ≡ (if is_one word.entry.now w.now then Some list.entry.items
+        ≡ (if is_one word.entry.now w.now then Some list.items
         else found rooms.old.entries w.now)) }
 {
-    rooms.insert(word.as_bytes(), list)?;
+    rooms.insert(word, list)?;
     Ok(())
 }
 
 /// Puts so much where a word says, if there is such a holder.
-pub(crate) fn put_at<'t>(
+pub(crate) fn put_at(
     alloc: Global,
-    rooms: &mut Rooms<'t>,
-    word: Option<&'t str>,
+    rooms: &mut Rooms<'_>,
+    word: Option<&str>,
     amounts: &[i128],
 ) -> Result<(), AllocError>
     ensures { OnOk result ((w : Bor (List ℕ)) → found rooms.new.entries w.now
@@ -126,9 +127,9 @@ pub(crate) fn put_at<'t>(
         None => Ok(()),
         Some(word) => match take_out(rooms, word) {
             None => Ok(()),
-            Some(list) => {
+            Some((text, list)) => {
                 let left = all_taken(alloc, &list, amounts)?;
-                put_in(rooms, word, left)
+                put_in(rooms, text, left)
             }
         },
     }

@@ -13,13 +13,13 @@ use std::alloc::{AllocError, Global};
 
 /// How far the moves have come.
 #[derive(Drop)]
-pub(crate) struct Run<'l, 't> {
+pub(crate) struct Run<'t, 'l, 'a> {
     /// What each holder can still take.
     pub rooms: Rooms<'t>,
     /// The moves so far, in order.
-    pub made: Vec<Move<'l, 't>>,
+    pub made: Vec<Move<'l, 'a>>,
     /// Those that are left.
-    pub left: Vec<Move<'l, 't>>,
+    pub left: Vec<Move<'l, 'a>>,
 }
 
 /// Whether a move fits.
@@ -31,10 +31,10 @@ pub(crate) fn is_fit(rooms: &Rooms<'_>, step: &Move<'_, '_>) -> bool
 }
 
 /// Puts a guest where its move goes.
-pub(crate) fn put<'t>(
+pub(crate) fn put(
     alloc: Global,
-    rooms: &mut Rooms<'t>,
-    step: &Move<'_, 't>,
+    rooms: &mut Rooms<'_>,
+    step: &Move<'_, '_>,
 ) -> Result<(), AllocError>
     ensures { OnOk result ((w : Bor (List ℕ)) → found rooms.new.entries w.now
         ≡ put_by (goes_to step.now w.now) (goes_from step.now w.now) step.now.more.items
@@ -45,10 +45,10 @@ pub(crate) fn put<'t>(
 }
 
 /// Puts a guest back where its move came from.
-pub(crate) fn put_back<'t>(
+pub(crate) fn put_back(
     alloc: Global,
-    rooms: &mut Rooms<'t>,
-    step: &Move<'_, 't>,
+    rooms: &mut Rooms<'_>,
+    step: &Move<'_, '_>,
 ) -> Result<(), AllocError>
     ensures { OnOk result ((w : Bor (List ℕ)) → found rooms.new.entries w.now
         ≡ put_by (goes_from step.now w.now) (goes_to step.now w.now) step.now.more.items
@@ -59,9 +59,9 @@ pub(crate) fn put_back<'t>(
 }
 
 /// Makes a move that fits.
-pub(crate) fn make<'l, 't>(
+pub(crate) fn make(
     alloc: Global,
-    run: &mut Run<'l, 't>,
+    run: &mut Run<'_, '_, '_>,
     number: usize,
 ) -> Result<(), AllocError>
     requires there { IsFitAt run.old number }
@@ -75,7 +75,7 @@ pub(crate) fn make<'l, 't>(
 }
 
 /// The first of the moves that are left that fits.
-fn first_fit(run: &Run<'_, '_>) -> Option<usize>
+fn first_fit(run: &Run<'_, '_, '_>) -> Option<usize>
     ensures some { IfSome result (λ number. IsFitAt run.now number) }
     ensures none { IfNone result (All (λ m. is_fit run.now.rooms.entries m ≡ false)
         run.now.left.items) }
@@ -89,7 +89,7 @@ fn first_fit(run: &Run<'_, '_>) -> Option<usize>
 }
 
 /// Makes moves until none of those that are left fits.
-pub(crate) fn settle(alloc: Global, run: &mut Run<'_, '_>) -> Result<(), AllocError>
+pub(crate) fn settle(alloc: Global, run: &mut Run<'_, '_, '_>) -> Result<(), AllocError>
     ensures kept { OnOk result ((site : Site) → IsRun site run.old → IsRun site run.new) }
     ensures none { OnOk result (All (λ m. is_fit run.new.rooms.entries m ≡ false)
         run.new.left.items) }
@@ -101,7 +101,7 @@ pub(crate) fn settle(alloc: Global, run: &mut Run<'_, '_>) -> Result<(), AllocEr
 }
 
 /// Puts the moves that are left in order of number.
-pub(crate) fn arrange(run: &mut Run<'_, '_>) -> Result<(), AllocError>
+pub(crate) fn arrange(run: &mut Run<'_, '_, '_>) -> Result<(), AllocError>
     ensures kept { OnOk result ((site : Site) → IsRun site run.old → IsRun site run.new) }
     ensures none { OnOk result (All (λ m. is_fit run.old.rooms.entries m ≡ false) run.old.left.items
         → All (λ m. is_fit run.new.rooms.entries m ≡ false) run.new.left.items) }

@@ -48,10 +48,10 @@ impl From<AllocError> for StepsError {
 }
 
 /// Puts all guests back where their moves come from.
-fn put_all_back<'t>(
+fn put_all_back(
     alloc: Global,
-    rooms: &mut Rooms<'t>,
-    moves: &[Move<'_, 't>],
+    rooms: &mut Rooms<'_>,
+    moves: &[Move<'_, '_>],
 ) -> Result<(), AllocError>
     ensures { OnOk result ((w : Bor (List ℕ)) → found rooms.new.entries w.now
         ≡ all_back moves.now w.now (found rooms.old.entries w.now)) }
@@ -63,11 +63,11 @@ fn put_all_back<'t>(
 }
 
 /// The run before the first move.
-fn begun<'l, 't>(
+fn begun<'t, 'l, 'a>(
     alloc: Global,
     scales: &'t [Scale<'_>],
-    moves: Vec<Move<'l, 't>>,
-) -> Result<Run<'l, 't>, AllocError>
+    moves: Vec<Move<'l, 'a>>,
+) -> Result<Run<'t, 'l, 'a>, AllocError>
     ensures moves { IfOk result (λ run. run.left.items ≡ moves.entry.items) }
     ensures none { IfOk result (λ run. run.made.items ≡ []) }
     ensures rooms { IfOk result (λ run. (w : Bor (List ℕ)) → found run.rooms.entries w.now
@@ -84,12 +84,12 @@ fn begun<'l, 't>(
 
 /// Makes the moves that fit, one after the other, until none of those that are left does. What
 /// stands on a holder that failed goes first.
-fn ran<'l, 't>(
+fn ran<'t, 'l, 'a>(
     alloc: Global,
-    start: Run<'l, 't>,
+    start: Run<'t, 'l, 'a>,
     sizes: usize,
     failed: &[&str],
-) -> Result<Run<'l, 't>, AllocError>
+) -> Result<Run<'t, 'l, 'a>, AllocError>
     ensures kept { IfOk result (λ made. (site : Site) → IsRun site start.entry → IsRun site made) }
     ensures none { IfOk result (λ made. All (λ m. is_fit made.rooms.entries m ≡ false)
         made.left.items) }

@@ -137,7 +137,7 @@ fn push_counted(
 /// the text where a number with a fraction or an exponent is shown.
 pub(crate) fn steps_text(
     alloc: Global,
-    run: &Run<'_, '_>,
+    run: &Run<'_, '_, '_>,
     sizes: &[Size<'_>],
 ) -> Result<Vec<u8>, AllocError>
     ensures { IfOk result (λ text. IsStepsText (map move_line run.now.made.items) (map move_line
