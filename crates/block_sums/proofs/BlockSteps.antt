@@ -118,6 +118,3 @@ blocks_again old new n m ts us vs g one e two = record {
 -- how many there are with those that were made, as they get fewer
 pub fewer : (old now new blocks more all : ℕ) → 32 * more ≤ blocks + 32 → 64 < blocks → now + blocks ≤ old + all → new ≤ now + more → new + more ≤ old + all
 fewer old now new blocks more all short many here next = omega (arith, short, many, here, next)
-
-pub shorter : (blocks more : ℕ) → 32 * more ≤ blocks + 32 → 64 < blocks → more < blocks
-shorter blocks more short many = omega (arith, short, many)

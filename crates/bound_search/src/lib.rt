@@ -1,5 +1,16 @@
 //! Branch and bound over the parts of a search; the lines that it writes are a run.
 //!
+//! Propagate to a fixpoint; split a box; learn from a conflict and go back; at a solution ask for a
+//! better one by clauses, and go on: until the empty clause is made, or the budget of decisions is
+//! spent. Each step writes its line first, so at every moment, also when memory runs out, the
+//! journal holds a run, and nothing has to be made up afterwards. An engine is tied to its lines by
+//! one record of equations (`Shows`), and each kind of line is one lemma on it. Choosers, kit and
+//! budget are the caller's. A decision costs a fixpoint, by far the most of which is propagators
+//! and opened clauses; and some 240 bytes of memory a line by sums, 540 by packings.
+//!
+//! MiniSat's loop (Een and Sorensson, 2003) over lazy clauses (Ohrimenko et al., 2009), with
+//! objectives one after the other as bounds.
+//!
 //! - `engine`: what goes with the lines, and one function for each kind of line.
 //! - `solving`: from the beginning to the end.
 //! - `settling`: on to the next decision.

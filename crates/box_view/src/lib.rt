@@ -1,9 +1,14 @@
 //! How boxes are looked at: whole, with one variable fixed, or cut by a clause. No box is built for
 //! that.
 //!
-//! The rules of constraints ask little of boxes: their ends, whether they have a value, how they
-//! lie to a set. What they ask is one trait, and each way to look at boxes answers it.
-//! `specs/Views.antt` says which boxes each way stands for.
+//! The same rule of a constraint is asked in three ways: whether the boxes refute it, whether they
+//! would if one variable had one value (to prune, and to know that nothing is left to prune), and
+//! whether a clause follows from it, which is whether it is refuted where the clause's literals are
+//! all false. What a rule asks of a box is little: its ends, whether it has a value, how it lies to
+//! a set. That is one trait, and each way to look at boxes answers it; so a rule is written, and
+//! proved, once. The price is a walk more here and there: nothing is built and nothing is kept.
+//!
+//! Propagators over views of variables: Schulte and Tack (2013).
 //!
 //! - `numbers`: small questions about numbers.
 //! - `view`: the trait; boxes as they are, and boxes of which one is a single value.

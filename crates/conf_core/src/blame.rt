@@ -6,7 +6,7 @@ ghost use Rattle.conf_core.specs.Searching.{EndsAccepted};
 
 use crate::indexes::marked_indexes;
 use conf_types::Constraint;
-use ground_model::{Origins, seems_to_fix};
+use ground_model::Origins;
 use log_check::trim;
 use log_form::Line;
 use model_rounds::last_round;
@@ -53,19 +53,19 @@ fn mark_lines(marks: &mut Vec<bool>, part: &[u32], origins: &Origins, lines: &[L
     }
 }
 
-/// Sets the marks of the constraints that seem to give cells their values.
-fn mark_fixing(marks: &mut Vec<bool>, constraints: &[Constraint])
+/// Sets the marks of the constraints of this part on which the values of known cells rest.
+fn mark_fixing(marks: &mut Vec<bool>, part: &[u32], origins: &Origins)
     ensures { length marks.new.items ≡ length marks.old.items }
 {
-    for (k, constraint) in constraints.iter().enumerate() {
-        if seems_to_fix(constraint) && k < marks.len() {
-            marks[k] = true;
+    for i in origins.fixing() {
+        if *i < part.len() {
+            mark(marks, part[*i]);
         }
     }
 }
 
-/// The constraints that the journal's last round blames, without and with those that seem to give
-/// cells their values: the lines of a log don't name these where others were stated by the values.
+/// The constraints that the journal's last round blames, without and with those on which the values
+/// of known cells rest: the lines of a log don't name these where others were stated by the values.
 #[derive(Drop)]
 pub(crate) struct Blamed {
     pub alone: Vec<u32>,
@@ -92,7 +92,7 @@ pub(crate) fn blamed_by(
     let mut marks = no_marks(alloc, constraints.len())?;
     mark_lines(&mut marks, round.part.items(), origins, lines.items());
     let alone = marked_indexes(alloc, &marks)?;
-    mark_fixing(&mut marks, constraints);
+    mark_fixing(&mut marks, round.part.items(), origins);
     let with_fixing = marked_indexes(alloc, &marks)?;
     Ok(Blamed { alone, with_fixing })
 }

@@ -1,10 +1,14 @@
 //! Sessions: one event after another, each by a round, and what each teaches.
 //!
-//! A session keeps the ground problem of a model, the former values, and what stands as failed.
-//! Each event is answered by a round: a search over the problem of a repair, made of the session's.
-//! Learnt clauses that rest on the session's problem alone are kept for the rounds behind, and the
-//! values of a best configuration are the former ones of the next round. It knows nothing of how a
-//! search goes: it is handed a `Finder`.
+//! Each event is a repair of the same model, so what was learnt of the model alone holds for the
+//! next. A learnt clause is kept where its chain leads to clauses of the session's own constraints;
+//! what a bound or a failure had a part in goes with its round. Kept clauses are stated as
+//! constraints, which changes nothing that the problem stands for, so a search needs no word on
+//! them. The values found are the former ones of the next event. A round costs a copy of the
+//! problem, whose clauses are shared, and its search; the journal keeps every round.
+//!
+//! Nogoods for dynamic problems: Schiex and Verfaillie (1994); clauses kept between calls: Een and
+//! Sorensson (2003), who mark by a literal what is to go; here the log tells.
 //!
 //! - `session`: `Session`, and its step.
 //! - `state`: what a session has come to.

@@ -1,5 +1,12 @@
 //! The top call `run`: from words to what is printed and how the run ends.
 //!
+//! It is the whole program but for `main`, over any desk: files and output are four calls of a
+//! trait, so tests and proofs run it in memory, and one text serves all. Its clauses go by stages:
+//! no request, unread, refused, answered, unwritten, lost. Everything is made before anything is
+//! written, then the log is written whole, then the answer printed: so a refusal prints nothing,
+//! and where writing fails a front of what was due is there and nothing else. What it says of a
+//! model it says of the tree that is the text's, of which there is one (`laws`).
+//!
 //! - `command`: `run`, which reads the words.
 //! - `source`: the text of the model, from its file or made for `gen`.
 //! - `answering`: from the text to what is asked of its model, and to the answer.

@@ -1,9 +1,13 @@
 //! Propagators of elements, equalities and conditionals.
 //!
-//! An equality and a conditional come down to clauses over a flag and two boxes: a quick test of
-//! how the boxes lie to each other finds which of them has something to say, and its literals are
-//! the explanation. Nothing is built where none has. An element is probed only where a variable
-//! stands twice in it.
+//! An element says that `out` is the item that an index picks, whose items may be variables. Three
+//! things can follow: an index value goes whose item has no value in common with out; a value of
+//! out goes that no possible item offers; and where only one item can be picked, it and out have
+//! the same values. Each is a clause of few literals but for the second, which names all items. An
+//! equality and a conditional are clauses over a flag and two boxes, of which a test of how the
+//! boxes lie to each other finds the one that says something. A call walks the items once or twice.
+//!
+//! Elements: Van Hentenryck and Carillon (1988).
 //!
 //! - `within`: the clause that a variable has a value that another's box has.
 //! - `equality`, `conditional`, `element`: one module for each kind.

@@ -10,7 +10,7 @@ ghost use Rattle.goal_rows.specs.Packings.{IsPacking};
 ghost use Rattle.goal_rows.specs.Rows.{IsNought};
 
 use crate::choice::{factors_of, sets_asked};
-use crate::definitions::definitions;
+use crate::definitions::definition_places;
 use crate::packing::{Packing, packing_at};
 use crate::shares::add_for_set;
 use crate::used::add_used;
@@ -152,7 +152,7 @@ pub fn add_goal_sums(maker: &mut Maker, number: &Linear, goal: u32) -> Result<()
     let zero = difference(maker, number, goal)?;
     let aim = Aim {
         factors: factors_of(maker, number)?,
-        places: definitions(maker)?,
+        places: definition_places(maker)?,
     };
     add_for_all(maker, &zero, &aim, number)?;
     Ok(())

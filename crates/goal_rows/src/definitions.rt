@@ -7,28 +7,29 @@ use form_build::Maker;
 use ground_form::Con;
 use std::alloc::AllocError;
 
-/// The flag that the constraint defines by a question about a variable, or by parts.
-fn flag_defined(con: &Con) -> Option<u32> {
+/// The variable that the constraint defines by a question about another, by parts, or by a flag.
+fn variable_defined(con: &Con) -> Option<u32> {
     match con {
         Con::MemberDef { flag, .. } => Some(*flag),
         Con::AndDef { flag, .. } => Some(*flag),
+        Con::CondDef { out, .. } => Some(*out),
         _ => None,
     }
 }
 
-/// Notes that constraint k defines a flag.
+/// Notes that constraint k defines a variable.
 fn note_place(places: &mut [usize], con: &Con, k: usize) {
-    if let Some(flag) = flag_defined(con) {
-        let x = flag as usize;
+    if let Some(found) = variable_defined(con) {
+        let x = found as usize;
         if x < places.len() {
             places[x] = k;
         }
     }
 }
 
-/// For each variable the number of a constraint: of a flag that of its definition. Who reads it
-/// looks whether it is.
-pub(crate) fn definitions(maker: &Maker) -> Result<Vec<usize>, AllocError> {
+/// For each variable the number of a constraint: of one that is defined by a question, by parts or
+/// by a flag that of its definition. Who reads it looks whether it is.
+pub fn definition_places(maker: &Maker) -> Result<Vec<usize>, AllocError> {
     let mut places = Vec::new(maker.alloc());
     places.resize(maker.domains().len(), 0)?;
     for (k, con) in maker.cons().iter().enumerate() {
@@ -38,7 +39,7 @@ pub(crate) fn definitions(maker: &Maker) -> Result<Vec<usize>, AllocError> {
 }
 
 /// The constraint that is noted for a variable.
-fn definition<'a>(maker: &'a Maker, places: &[usize], x: u32) -> Option<&'a Con>
+pub fn definition<'a>(maker: &'a Maker, places: &[usize], x: u32) -> Option<&'a Con>
     ensures { IfSome result (λ c. Contains maker.now.cons c.now) }
 {
     let x = x as usize;
@@ -73,7 +74,7 @@ fn asked_by(c: &Con, flag: u32) -> Option<(u32, u64)>
 }
 
 /// The variable and the value, where the flag tells whether the variable has that value.
-pub(crate) fn question(maker: &Maker, places: &[usize], flag: u32) -> Option<(u32, u64)>
+pub fn question(maker: &Maker, places: &[usize], flag: u32) -> Option<(u32, u64)>
     ensures { IfSome result (λ q. Contains maker.now.cons
         (con.MemberDef flag q.0 ((pos q.1, pos q.1) ∷ []))) }
 {

@@ -1,9 +1,13 @@
 //! Rows that follow from the packings of a problem and from what its goal is.
 //!
-//! A packing says how much is at each place at most. Added up over the places of a set, and over
-//! those outside it, that bounds the sizes of the items there. A multiple of what a goal's sum is
-//! less the goal, which is 0, then makes rows of the goal, by which bounds alone give what the
-//! linear relaxation gives. Nothing new is said.
+//! Where a goal counts items in some bins, or bins in use, each bin's room alone bounds nothing: it
+//! takes the rooms of all of them, added up. Such a sum of rows follows from the packing. With a
+//! multiple of the goal's own definition, which is 0, it is a row over the goal, one for each size
+//! that items have, and then bounds alone give what the linear relaxation gives; so the search can
+//! close where it would count. Which multiples are taken is free, since each row is proved to
+//! follow: nothing new is said, and no answer changes. A goal costs its rows once, at most sixteen.
+//!
+//! Surrogate constraints (Glover, 1968); that good multiples are dual values is linear programming.
 //!
 //! - `adding`: what is added for a goal.
 //! - `amounts`: sizes as numbers with a sign, and as sums.
@@ -35,3 +39,4 @@ mod used;
 mod weights;
 
 pub use adding::add_goal_sums;
+pub use definitions::{definition, definition_places, question};

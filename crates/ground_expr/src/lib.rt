@@ -1,5 +1,16 @@
 //! Typed expressions as forms, and what is required: the recursions over trees.
 //!
+//! An expression is ground inwards, by its resolved tree: numbers fold, a known object's attribute
+//! is its cell, a chosen one's is an element over what it may be. What is required outright goes
+//! another way: `and` and `forall` part by part, `or` as one clause, a comparison as a row, so that
+//! no flag is made for what has to hold anyhow. What operators, quantifiers and references make of
+//! forms is proved in crates of their own, which know no tree; here are the recursions that join
+//! them, each arm of which says what evaluation says there (`conf_eval`). An expression costs its
+//! weight, which the limits of the language bound by 2,000,000.
+//!
+//! Flattening, as of MiniZinc (Nethercote et al., 2007); required and reified contexts as its
+//! root and mixed contexts (Stuckey and Tack, 2013).
+//!
 //! - `comparisons`: comparisons of numbers that are stated.
 //! - `constraints`: what is required of a whole constraint.
 //! - `forms`: the form of an expression; the recursion is on the resolved tree.

@@ -52,6 +52,15 @@ whole_stands o ks gs start mid g goals e asked d made count values =
     (λ a w. and_true (satisfied_by o ks (take start.search a)) ∙ ap (λ (n : ℕ). satisfied_by o ks (take n a)) (sym added.grows.search))
     values
 
+-- a part of what a model requires, without objectives
+pub part_stands : (o : Outline) (start g f : Ground) (goals : List GroundGoal) (test : List ℤ → Bool) → start ≡ over_cells (cell_boxes o) → Requires [] start g test → goals ≡ [] → f ≡ with_goals g goals → IsWellMade f → StandsFor f (cell_boxes o) test []
+part_stands o start g f goals test e asked none is made =
+    let says : List ℤ → Bool = λ a. test (take start.search a) in
+    let whole : f ≡ with_goals g [] = is ∙ ap (with_goals g) none in
+    subst (λ (z : Ground). StandsFor z (cell_boxes o) test []) (sym whole)
+    (stands_from (cell_boxes o) g [] says test [] (subst (λ (z : Ground). Adds [] z g says) e asked) (subst IsWellMade whole made) refl
+    (λ a w. ap (λ (n : ℕ). test (take n a)) (sym asked.grows.search)) (λ a w. tt))
+
 -- ---- boxes of which one is empty
 
 no_point : (boxes : Boxes) (f : ℕ → ℤ) → list_any is_nil boxes ≡ true → ((x : ℕ) → x < length boxes → has (box_of boxes x) (f x) ≡ true) → ⊥

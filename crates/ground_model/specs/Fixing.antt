@@ -1,55 +1,51 @@
--- Constraints that are required before the others, since they seem to give cells their values. What
--- a reader believes after this file: which they are. No promise rests on this choice.
-use Rattle.std.specs.Prelude.{Bool, true, false, ◌&&◌, ◌||◌, cond, List, ℤ}
+-- Constraints that may give cells their values. What a reader believes after this file: which they
+-- are. No promise rests on this choice.
+use Rattle.std.specs.Prelude.{Bool, true, false, ◌&&◌, cond, List, ℤ}
 use Rattle.class_table.specs.Outline.{Outline}
-use Rattle.conf_syntax.specs.declared.tree.Op.{Op}
-use Rattle.conf_syntax.specs.declared.tree.Op.TheVariants as op
+use Rattle.conf_syntax.specs.declared.tree.QuantKind.{QuantKind}
+use Rattle.conf_syntax.specs.declared.tree.QuantKind.TheVariants as kind
 use Rattle.conf_types.specs.Programs.{ResolvedConstraint}
-use Rattle.conf_types.specs.Trees.{Tree}
+use Rattle.conf_types.specs.Trees.{Tree, Filter, Bodies}
 use Rattle.conf_types.specs.Trees as tree
 use Rattle.form_truths.specs.Tests.{wanted}
 use Rattle.ground_expr.specs.Asked.{holds_of}
 
-abbrev pub is_and : Op → Bool
-is_and op.And = true
-is_and q = false
+-- it says that something holds of all, or of some
+abbrev pub joins_truths : QuantKind → Bool
+joins_truths kind.Forall = true
+joins_truths kind.Exists = true
+joins_truths k = false
 
-abbrev pub is_equality : Op → Bool
-is_equality op.Eq = true
-is_equality q = false
+-- there is no quantifier in it
+abbrev pub is_simple : Tree → Bool
+is_simple (tree.Paren at e) = is_simple e
+is_simple (tree.Minus at e) = is_simple e
+is_simple (tree.Not at e) = is_simple e
+is_simple (tree.Dot at e k s) = is_simple e
+is_simple (tree.Pair at q l r) = is_simple l && is_simple r
+is_simple (tree.Quant at k over filter bodies) = false
+is_simple t = true
 
--- an attribute: named alone, or of an object that is named by dots
-abbrev pub is_attribute : Tree → Bool
-is_attribute (tree.Own at k s) = true
-is_attribute (tree.Root at k s) = true
-is_attribute (tree.This at) = true
-is_attribute (tree.Paren at e) = is_attribute e
-is_attribute (tree.Dot at e k s) = is_attribute e
-is_attribute t = false
+abbrev pub is_simple_filter : Filter → Bool
+is_simple_filter tree.NoFilter = true
+is_simple_filter (tree.Where e) = is_simple e
 
--- a number, a truth value or a value of an enumeration
-abbrev pub is_constant : Tree → Bool
-is_constant (tree.Number at n) = true
-is_constant (tree.Truth at b) = true
-is_constant (tree.Value at e k) = true
-is_constant (tree.Minus at e) = is_constant e
-is_constant (tree.Paren at e) = is_constant e
-is_constant t = false
+abbrev pub are_simple : Bodies → Bool
+are_simple tree.NoBody = true
+are_simple (tree.Body e es) = is_simple e && are_simple es
 
--- one of the two is an attribute, and the other a constant
-abbrev pub gives : Tree → Tree → Bool
-gives l r = (is_attribute l && is_constant r) || (is_attribute r && is_constant l)
-
--- an attribute equals a constant; a conjunction of such
+-- it needs no sum, count or packing, and its quantifiers have none within
 abbrev pub fixes : Tree → Bool
-fixes (tree.Pair at q l r) =
-    cond (is_and q) (fixes l && fixes r) (is_equality q && gives l r)
-fixes (tree.Own at k s) = true
-fixes (tree.Root at k s) = true
-fixes (tree.Not at e) = is_attribute e
 fixes (tree.Paren at e) = fixes e
-fixes t = false
+fixes (tree.Minus at e) = fixes e
+fixes (tree.Not at e) = fixes e
+fixes (tree.Dot at e k s) = fixes e
+fixes (tree.Pair at q l r) = fixes l && fixes r
+fixes (tree.Quant at k over filter bodies) =
+    joins_truths k && (is_simple over && (is_simple_filter filter && are_simple bodies))
+fixes t = true
 
--- what is asked of a constraint in the pass for those that fix something, or in that for the others
+-- what is asked of a constraint in the pass for those that may fix something, or in that for the
+-- others
 abbrev pub holds_in : Bool → Outline → List ℤ → ResolvedConstraint → Bool
 holds_in fixing o values k = cond (wanted fixing (fixes k.tree)) (holds_of o values k) true

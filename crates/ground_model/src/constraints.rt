@@ -10,7 +10,7 @@ ghost use Rattle.ground_model.specs.Requiring.{Requires};
 ghost use Rattle.ground_model.specs.Stated.{IsReady, IsReadyConstraint};
 
 use crate::fixing::is_of_pass;
-use crate::known::known_cells;
+use crate::known::{known_cells, require_values};
 use crate::origins::Origins;
 use crate::required::require_tree;
 use crate::rows::require_packed;
@@ -169,6 +169,7 @@ fn require_pass(
     ensures says { OnOk result (Requires known.now maker.old maker.new
         (λ values. list_all (holds_in fixing objects.now values) list.now)) }
 {
+    origins.begin();
     for constraint in list {
         origins.note(maker.cons().len())?;
         require_in_pass(maker, objects, known, constraint, fixing)?;
@@ -176,8 +177,8 @@ fn require_pass(
     Ok(())
 }
 
-/// States that those of these constraints hold that seem to give cells their values.
-fn require_fixing(
+/// States that those of these constraints hold that may give cells their values.
+pub(crate) fn require_fixing(
     maker: &mut Maker,
     objects: &Objects<'_>,
     list: &[Constraint],
@@ -192,24 +193,27 @@ fn require_fixing(
     Ok(())
 }
 
-/// States that the others hold: cells whose values are fixed by what was stated are taken as known.
-fn require_others(
+/// States that all of these constraints hold, where cells are known, those first that may give
+/// cells their values.
+fn require_both_passes(
     maker: &mut Maker,
     objects: &Objects<'_>,
+    known: &[(u32, i64)],
     list: &[Constraint],
     origins: &mut Origins,
 ) -> Result<(), AllocError>
     requires ready { All (IsReadyConstraint objects.now) list.now }
-    requires cells { HasCells objects.now maker.old }
-    ensures says { OnOk result (Requires [] maker.old maker.new
-        (λ values. list_all (holds_in false objects.now values) list.now)) }
+    requires known { HasKnown objects.now known.now maker.old }
+    ensures says { OnOk result (Requires known.now maker.old maker.new
+        (λ values. list_all (holds_of objects.now values) list.now)) }
 {
-    let known = known_cells(maker)?;
-    require_pass(maker, objects, known.as_slice(), list, false, origins)?;
+    require_pass(maker, objects, known, list, true, origins)?;
+    require_pass(maker, objects, known, list, false, origins)?;
     Ok(())
 }
 
-/// States that all of these constraints hold, those first that seem to give cells their values.
+/// States that all of these constraints hold. Cells whose values follow from those that may give
+/// cells their values are taken as known.
 pub(crate) fn require_constraints(
     maker: &mut Maker,
     objects: &Objects<'_>,
@@ -221,7 +225,9 @@ pub(crate) fn require_constraints(
     ensures says { OnOk result (Requires [] maker.old maker.new
         (λ values. list_all (holds_of objects.now values) list.now)) }
 {
-    require_fixing(maker, objects, list, origins)?;
-    require_others(maker, objects, list, origins)?;
+    let _some = maker.domains();
+    let known = known_cells(maker.alloc(), objects, list, origins)?;
+    require_values(maker, known.as_slice())?;
+    require_both_passes(maker, objects, known.as_slice(), list, origins)?;
     Ok(())
 }

@@ -1,108 +1,104 @@
-//! Which constraints seem to give cells their values: conjunctions of equalities of an attribute
-//! and a constant. They are required before the others. No promise rests on this choice.
-ghost use Rattle.std.specs.Prelude.{◌≡◌};
-ghost use Rattle.conf_types.specs.Trees.{tree_of};
+//! Which constraints may give cells their values: those that need no sum, count or packing. What
+//! follows from them alone is known where the others are stated. No promise rests on this choice.
+ghost use Rattle.std.specs.Prelude.{◌≡◌, ℕ};
+ghost use Rattle.conf_types.specs.Trees.{tree_of, trees_of, optional_tree, quant_tree};
 ghost use Rattle.form_truths.specs.Tests.{wanted};
-ghost use Rattle.ground_model.specs.Fixing.{is_and, is_attribute, is_constant, is_equality, gives, fixes};
+ghost use Rattle.ground_model.specs.Fixing.{joins_truths, is_simple, is_simple_filter, are_simple, fixes};
 
-use conf_syntax::Op;
-use conf_types::{Constraint, RExpr, RNode};
+use conf_syntax::QuantKind;
+use conf_types::{RExpr, RNode, RQuant};
 
-/// Whether it is `and`.
-fn is_and(op: Op) -> bool
-    ensures { result ≡ is_and op }
+/// Whether a quantifier of this kind says that something holds of all, or of some.
+fn joins_truths(kind: QuantKind) -> bool
+    ensures { result ≡ joins_truths kind }
 {
-    op == Op::And
+    match kind {
+        QuantKind::Forall | QuantKind::Exists => true,
+        QuantKind::Sum | QuantKind::Count | QuantKind::AllDifferent | QuantKind::Pack => false,
+    }
 }
 
-/// Whether it is `=`.
-fn is_equality(op: Op) -> bool
-    ensures { result ≡ is_equality op }
-{
-    op == Op::Eq
-}
-
-/// Whether an expression is an attribute: named alone, or of an object that is named by dots.
-fn is_attribute(e: &RExpr) -> bool
-    ensures { result ≡ is_attribute (tree_of e.now) }
+/// Whether an expression has no quantifier.
+fn is_simple(e: &RExpr) -> bool
+    ensures { result ≡ is_simple (tree_of e.now) }
 {
     match &e.node {
-        RNode::Own(_, _) | RNode::Root(_, _) => true,
-        RNode::Number(_) => false,
-        RNode::Truth(_) => false,
+        RNode::Paren(inner) => is_simple(inner),
+        RNode::Minus(inner) => is_simple(inner),
+        RNode::Not(inner) => is_simple(inner),
+        RNode::Dot(inner, _, _) => is_simple(inner),
+        RNode::Pair(_, left, right) => is_simple(left) && is_simple(right),
+        RNode::Quant(_) => false,
+        RNode::Number(_) => true,
+        RNode::Truth(_) => true,
         RNode::This => true,
-        RNode::Paren(inner) => is_attribute(inner),
-        RNode::Minus(_) => false,
-        RNode::Not(_) => false,
-        RNode::Pair(_, _, _) => false,
-        RNode::Local(_) => false,
-        RNode::Value(_, _) => false,
-        RNode::Class(_) => false,
-        RNode::Dot(inner, _, _) => is_attribute(inner),
-        RNode::Quant(_) => false,
+        RNode::Local(_) => true,
+        RNode::Own(_, _) => true,
+        RNode::Root(_, _) => true,
+        RNode::Value(_, _) => true,
+        RNode::Class(_) => true,
     }
 }
 
-/// Whether an expression is a number, a truth value or a value of an enumeration.
-fn is_constant(e: &RExpr) -> bool
-    ensures { result ≡ is_constant (tree_of e.now) }
+/// Whether a quantifier's filter has no quantifier.
+fn is_simple_filter(filter: &Option<RExpr>) -> bool
+    ensures { result ≡ is_simple_filter (optional_tree filter.now) }
 {
-    match &e.node {
-        RNode::Number(_) | RNode::Truth(_) | RNode::Value(_, _) => true,
-        RNode::Minus(inner) => is_constant(inner),
-        RNode::Paren(inner) => is_constant(inner),
-        RNode::This => false,
-        RNode::Not(_) => false,
-        RNode::Pair(_, _, _) => false,
-        RNode::Local(_) => false,
-        RNode::Own(_, _) => false,
-        RNode::Root(_, _) => false,
-        RNode::Class(_) => false,
-        RNode::Dot(_, _, _) => false,
-        RNode::Quant(_) => false,
+    match filter {
+        Some(e) => is_simple(e),
+        None => true,
     }
 }
 
-/// Whether one of the two is an attribute, and the other a constant.
-fn gives(left: &RExpr, right: &RExpr) -> bool
-    ensures { result ≡ gives (tree_of left.now) (tree_of right.now) }
+/// Whether none of the expressions has a quantifier.
+fn are_simple(list: &[RExpr]) -> bool
+    ensures { result ≡ are_simple (trees_of list.now) }
 {
-    (is_attribute(left) && is_constant(right)) || (is_attribute(right) && is_constant(left))
+    for e in list {
+        if !is_simple(e) {
+            return false;
+        }
+    }
+    true
 }
 
-/// Whether a constraint seems to give cells their values.
+/// Whether a quantifier joins truths in which there is no other quantifier.
+#[tactic(auto, using(crate::proofs::Fixings::joins))]
+fn joins_simple(quant: &RQuant) -> bool
+    ensures { (at : ℕ) → result ≡ fixes (quant_tree quant.now at) }
+{
+    if !joins_truths(quant.kind) {
+        return false;
+    }
+    if !is_simple(&quant.over) {
+        return false;
+    }
+    if !is_simple_filter(&quant.filter) {
+        return false;
+    }
+    are_simple(&quant.body)
+}
+
+/// Whether a constraint may give cells their values.
 fn fixes(e: &RExpr) -> bool
     ensures { result ≡ fixes (tree_of e.now) }
 {
     match &e.node {
-        RNode::Pair(op, left, right) => {
-            if is_and(*op) {
-                fixes(left) && fixes(right)
-            } else {
-                is_equality(*op) && gives(left, right)
-            }
-        }
-        RNode::Own(_, _) | RNode::Root(_, _) => true,
-        RNode::Not(inner) => is_attribute(inner),
         RNode::Paren(inner) => fixes(inner),
-        RNode::Number(_) => false,
-        RNode::Truth(_) => false,
-        RNode::This => false,
-        RNode::Minus(_) => false,
-        RNode::Local(_) => false,
-        RNode::Value(_, _) => false,
-        RNode::Class(_) => false,
-        RNode::Dot(_, _, _) => false,
-        RNode::Quant(_) => false,
+        RNode::Minus(inner) => fixes(inner),
+        RNode::Not(inner) => fixes(inner),
+        RNode::Dot(inner, _, _) => fixes(inner),
+        RNode::Pair(_, left, right) => fixes(left) && fixes(right),
+        RNode::Quant(quant) => joins_simple(quant),
+        RNode::Number(_) => true,
+        RNode::Truth(_) => true,
+        RNode::This => true,
+        RNode::Local(_) => true,
+        RNode::Own(_, _) => true,
+        RNode::Root(_, _) => true,
+        RNode::Value(_, _) => true,
+        RNode::Class(_) => true,
     }
-}
-
-/// Whether a constraint seems to give cells their values. Others may be stated by these values, so
-/// who blames them has to look at it, too.
-pub fn seems_to_fix(constraint: &Constraint) -> bool
-    ensures { result ≡ fixes constraint.now.tree }
-{
-    fixes(&constraint.expr)
 }
 
 /// Whether a constraint is required in the pass for those that fix something, or in that for the

@@ -1,19 +1,60 @@
-//! Cells whose values constraints fix, read off a maker's problem: unit clauses with one value.
-ghost use Rattle.std.specs.Prelude.{◌≡◌, ℕ, ℤ, List, [], ◌∷◌, ◌++◌, true, option_to_list, IfOk, IfSome, IfNone, OnOk};
-ghost use Rattle.std.specs.List.{All};
-ghost use Rattle.ground_form.specs.declared.con.Con.TheVariants.{ClauseCon};
-ghost use Rattle.form_build.specs.Worlds.{AllHold, AreKnown};
-ghost use Rattle.ground_model.specs.Known.{fixing_clause, HasAllFixed, IsKnownCell};
+//! Cells whose values follow from the constraints that need no sum, count or packing.
+//!
+//! These constraints are stated in a problem of their own, whose root boxes tell which cells have
+//! one value left. In the model's problem the values are stated first, and everything else may name
+//! them.
+ghost use Rattle.std.specs.Prelude.{◌≤◌, ◌≡◌, ◌<◌, ◌∷◌, ℕ, ℤ, List, [], true, false, length, IfOk, IfSome, OnOk};
+ghost use Rattle.std.specs.List.{All, list_all};
+ghost use Rattle.std.specs.Ordering.{int_eq};
+ghost use Rattle.signed_clause.specs.Ranges.{has, in_range};
+ghost use Rattle.signed_clause.specs.Clauses.{box_of};
+ghost use Rattle.ground_form.specs.Meaning.{value_of};
+ghost use Rattle.ground_form.specs.Solutions.{IsPoint};
+ghost use Rattle.ground_form.specs.StandsFor.{StandsFor};
+ghost use Rattle.ground_cells.specs.CellBoxes.{cell_boxes};
+ghost use Rattle.form_build.specs.Worlds.{AreSome, AreKnown};
+ghost use Rattle.ground_model.specs.Fixing.{holds_in};
+ghost use Rattle.ground_model.specs.Known.{IsSingle, IsValueOfCell, have_values};
+ghost use Rattle.ground_model.specs.Requiring.{Requires};
+ghost use Rattle.ground_model.specs.Stated.{IsReadyConstraint};
 
+use crate::constraints::require_fixing;
+use crate::origins::Origins;
+use conf_types::Constraint;
 use form_build::Maker;
-use ground_form::Con;
+use form_truths::{Test, literal, state};
+use ground_build::Builder;
+use ground_cells::cell_boxes;
+use ground_form::{Goals, Ground};
+use object_alloc::Objects;
+use root_boxes::{Root, root_of};
 use signed_clause::IntSet;
-use std::alloc::AllocError;
+use std::alloc::{AllocError, Global};
+
+/// The problem of a model's cells and of those constraints that may give some their values.
+fn fixing_problem(
+    alloc: Global,
+    objects: &Objects<'_>,
+    list: &[Constraint],
+    origins: &mut Origins,
+) -> Result<Ground, AllocError>
+    requires ready { All (IsReadyConstraint objects.now) list.now }
+    requires some { AreSome (cell_boxes objects.now) }
+    ensures some { IfOk result (λ g. AreSome g.domains) }
+    ensures stands { IfOk result (λ g. StandsFor g (cell_boxes objects.now)
+        (λ values. list_all (holds_in true objects.now values) list.now) []) }
+{
+    let _count = objects.count();
+    let cells = cell_boxes(alloc, objects)?;
+    let mut maker = Maker::over(alloc, Builder::new(alloc, &cells)?);
+    require_fixing(&mut maker, objects, list, origins)?;
+    let _some = maker.domains();
+    Ok(maker.into_builder().finish(Goals::of(Vec::new(alloc))))
+}
 
 /// The value of a set, where it has just one.
 fn only_value(set: &IntSet) -> Option<i64>
-    ensures some { IfSome result (λ v. set.now ≡ (v, v) ∷ []) }
-    ensures none { IfNone result ((v : ℤ) → set.now ≡ (v, v) ∷ [] → ⊥) }
+    ensures { IfSome result (λ v. set.now ≡ (v, v) ∷ []) }
 {
     match set.ranges() {
         [r] => { if r.0 == r.1 { Some(r.0) } else { None } }
@@ -21,80 +62,82 @@ fn only_value(set: &IntSet) -> Option<i64>
     }
 }
 
-/// The variable and the value of a clause that gives a variable a value.
-fn fixed_by(con: &Con) -> Option<(u32, i64)>
-    ensures some { IfSome result (λ k. con.now ≡ ClauseCon (fixing_clause k)) }
-    ensures none { IfNone result ((k : ℕ × ℤ) → con.now ≡ ClauseCon (fixing_clause k) → ⊥) }
+/// Adds the variable with the value of its box, where that has just one.
+fn push_single(found: &mut Vec<(u32, i64)>, boxes: &[IntSet], x: u32) -> Result<(), AllocError>
+    requires exists { x < length boxes.now }
+    ensures { OnOk result ((n : ℕ) → x < n → All (IsSingle boxes.now n) found.old.items
+        → All (IsSingle boxes.now n) found.new.items) }
 {
-    match con {
-        Con::ClauseCon { clause } => match clause.clause().literals() {
-            [l] => {
-                let v = only_value(&l.1)?;
-                Some((l.0, v))
-            }
-            _ => None,
-        },
-        _ => None,
-    }
-}
-
-/// Whether the variable is searched, and the value lies in its box.
-fn is_known_cell(maker: &Maker, k: (u32, i64)) -> bool
-    ensures cell { result ≡ true → IsKnownCell maker.now k }
-    ensures whole { IsKnownCell maker.now k → result ≡ true }
-{
-    k.0 < maker.search() && maker.domains()[k.0 as usize].contains(k.1)
-}
-
-/// The cell whose value a constraint fixes, with this value, where there is one.
-fn known_by(maker: &Maker, con: &Con) -> Option<(u32, i64)>
-    ensures clause { IfSome result (λ k. con.now ≡ ClauseCon (fixing_clause k)) }
-    ensures cell { IfSome result (λ k. IsKnownCell maker.now k) }
-    ensures none { IfNone result ((k : ℕ × ℤ) → con.now ≡ ClauseCon (fixing_clause k)
-        → IsKnownCell maker.now k → ⊥) }
-{
-    let k = fixed_by(con)?;
-    if is_known_cell(maker, k) {
-        Some(k)
-    } else {
-        None
-    }
-}
-
-/// Adds an item, where there is one.
-fn push_some(items: &mut Vec<(u32, i64)>, item: Option<(u32, i64)>) -> Result<(), AllocError>
-    ensures { OnOk result (items.new.items ≡ items.old.items ++ option_to_list item) }
-{
-    if let Some(k) = item {
-        items.push(k)?;
+    if let Some(v) = only_value(&boxes[x as usize]) {
+        found.push((x, v))?;
     }
     Ok(())
 }
 
-/// The cells whose values the constraints so far fix, with these values, in the order of the
-/// constraints.
-fn fixed_cells(maker: &Maker) -> Result<Vec<(u32, i64)>, AllocError>
-    ensures cells { IfOk result (λ ks. All (IsKnownCell maker.now) ks.items) }
-    ensures fixed { IfOk result (λ ks. (a : List ℤ)
-        → AllHold maker.now a → AreKnown ks.items a) }
-    ensures all { IfOk result (λ ks. HasAllFixed maker.now maker.now.cons ks.items) }
+/// Those of the first variables whose boxes have one value, with this value, in their order.
+fn singles(alloc: Global, boxes: &[IntSet], search: u32) -> Result<Vec<(u32, i64)>, AllocError>
+    requires exist { search ≤ length boxes.now }
+    ensures { IfOk result (λ ks. All (IsSingle boxes.now search) ks.items) }
 {
-    let mut known = Vec::new(maker.alloc());
-    for con in maker.cons() {
-        push_some(&mut known, known_by(maker, con))?;
+    let mut found = Vec::new(alloc);
+    for x in 0..search {
+        push_single(&mut found, boxes, x)?;
     }
+    Ok(found)
+}
+
+/// The cells whose values follow from the constraints that may fix some, with these values. The
+/// origins are told which constraints these rest on.
+pub(crate) fn known_cells(
+    alloc: Global,
+    objects: &Objects<'_>,
+    list: &[Constraint],
+    origins: &mut Origins,
+) -> Result<Vec<(u32, i64)>, AllocError>
+    requires ready { All (IsReadyConstraint objects.now) list.now }
+    requires some { AreSome (cell_boxes objects.now) }
+    ensures cells { IfOk result (λ ks. All (IsValueOfCell objects.now) ks.items) }
+    ensures follow { IfOk result (λ ks. (t : List ℤ) → IsPoint (cell_boxes objects.now) t
+        → list_all (holds_in true objects.now t) list.now ≡ true → AreKnown ks.items t) }
+{
+    let mut stated = Origins::new(alloc);
+    let g = fixing_problem(alloc, objects, list, &mut stated)?;
+    let root = root_of(alloc, &g)?;
+    origins.note_fixing(&stated, root.acted.as_slice())?;
+    let known = singles(alloc, root.boxes.as_slice(), g.search)?;
     Ok(known)
 }
 
-/// The cells whose values the constraints so far fix, with these values. They ascend, so that a
-/// cell is found by halves.
-pub(crate) fn known_cells(maker: &Maker) -> Result<Vec<(u32, i64)>, AllocError>
-    ensures cells { IfOk result (λ ks. All (IsKnownCell maker.now) ks.items) }
-    ensures fixed { IfOk result (λ ks. (a : List ℤ)
-        → AllHold maker.now a → AreKnown ks.items a) }
-    ensures all { IfOk result (λ ks. HasAllFixed maker.now maker.now.cons ks.items) }
+/// The set of a cell's value alone.
+fn own_set(alloc: Global, k: (u32, i64)) -> IntSet
+    ensures { (v : ℤ) → has result v ≡ in_range (k.1, k.1) v }
 {
-    let mut known = fixed_cells(maker)?;
-    known.sort_unstable();
-    Ok(known)
+    IntSet::range(alloc, k.1, k.1)
+}
+
+/// States that a cell has its value.
+fn require_value(maker: &mut Maker, k: (u32, i64)) -> Result<(), AllocError>
+    requires cell { k.0 < maker.old.search }
+    requires exists { k.0 < length maker.old.domains }
+    ensures says { OnOk result (Requires [] maker.old maker.new
+        (λ values. int_eq (value_of values k.0) k.1)) }
+{
+    maker.ask(2)?;
+    let only = own_set(maker.alloc(), k);
+    let test = Test::Holds(literal(maker.domains(), k.0, only));
+    state(maker, &test)?;
+    Ok(())
+}
+
+/// States that these cells have their values.
+pub(crate) fn require_values(maker: &mut Maker, known: &[(u32, i64)]) -> Result<(), AllocError>
+    requires cells { All (λ k. k.0 < maker.old.search) known.now }
+    requires exist { All (λ k. k.0 < length maker.old.domains) known.now }
+    ensures says { OnOk result (Requires [] maker.old maker.new
+        (λ values. have_values values known.now)) }
+{
+    for k in known {
+        require_value(maker, *k)?;
+    }
+    Ok(())
 }

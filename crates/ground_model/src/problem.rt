@@ -10,6 +10,7 @@ ghost use Rattle.conf_limits.specs.Measures.{model_narrow};
 ghost use Rattle.conf_eval.specs.Satisfying.{Satisfies};
 ghost use Rattle.ground_form.specs.StandsFor.{StandsFor};
 ghost use Rattle.ground_build.specs.Growing.{over_cells};
+ghost use Rattle.form_build.specs.Worlds.{Defines};
 ghost use Rattle.ground_cells.specs.CellBoxes.{cell_boxes};
 ghost use Rattle.expr_forms.specs.Standing.{HasCells};
 ghost use Rattle.ground_expr.specs.Asked.{satisfied_by, functions};
@@ -29,6 +30,7 @@ use ground_cells::cell_boxes;
 use ground_form::Ground;
 use object_alloc::Objects;
 use signed_clause::IntSet;
+use stated_rows::pack_stated;
 use std::alloc::{AllocError, Global};
 
 /// More variables than these, or more constraints, no ground problem of a model has.
@@ -76,12 +78,23 @@ fn require_model(
     Ok(())
 }
 
+/// Adds the packings that follow from what is stated, where they are wanted.
+fn add_packings(maker: &mut Maker, wanted: bool) -> Result<(), AllocError>
+    ensures { OnOk result (Defines maker.old maker.new) }
+{
+    if wanted {
+        pack_stated(maker)?;
+    }
+    Ok(())
+}
+
 /// The problem of a model, from a maker over its cells.
 fn whole_problem(
     maker: Maker,
     model: &TypedModel,
     objects: &Objects<'_>,
     origins: &mut Origins,
+    packings: bool,
 ) -> Result<Ground, AllocError>
     requires cells { maker ≡ over_cells (cell_boxes objects.now) }
     requires ready { IsReadyModel objects.now model.now.constraints model.now.goals }
@@ -92,6 +105,7 @@ fn whole_problem(
 {
     let mut maker = maker;
     require_model(&mut maker, model, objects, origins)?;
+    add_packings(&mut maker, packings)?;
     let goals = goals_of(&mut maker, objects, model.goals())?;
     let g = maker.into_builder().finish(goals);
     Ok(g)
@@ -103,6 +117,7 @@ fn problem(
     model: &TypedModel,
     objects: &Objects<'_>,
     origins: &mut Origins,
+    packings: bool,
 ) -> Result<Ground, AllocError>
     requires ready { IsReadyModel objects.now model.now.constraints model.now.goals }
     ensures stands { IfOk result (λ g. StandsFor g
@@ -117,13 +132,47 @@ fn problem(
         let g = idle_problem(alloc, builder, model)?;
         return Ok(g);
     }
-    let g = whole_problem(Maker::over(alloc, builder), model, objects, origins)?;
+    let g = whole_problem(
+        Maker::over(alloc, builder),
+        model,
+        objects,
+        origins,
+        packings,
+    )?;
+    Ok(g)
+}
+
+/// The problem of a model, where it keeps to the model's allowance.
+fn allowed_problem(
+    alloc: Global,
+    model: &TypedModel,
+    objects: &Objects<'_>,
+    origins: &mut Origins,
+    packings: bool,
+) -> Result<Ground, AllocError>
+    requires typed { IsTypedModel objects.now model.now.constraints model.now.goals }
+    requires narrow { model_narrow objects.now model.now.constraints model.now.goals ≡ true }
+    ensures stands { IfOk result (λ g. StandsFor g
+        (cell_boxes objects.now)
+        (satisfied_by objects.now model.now.constraints)
+        (functions objects.now model.now.goals)) }
+    ensures asks { (values : List ℤ) → satisfied_by objects.now model.now.constraints values ≡ true
+        ↔ Satisfies objects.now model.now.constraints values }
+    ensures few { IfOk result (λ g. HasAtMost (2 ^ 31) g) }
+    ensures allowance { IfOk result (λ g. HasAtMost
+        (allowance objects.now model.now.constraints model.now.goals) g) }
+{
+    let g = problem(alloc, model, objects, origins, packings)?;
+    if !has_at_most(&g, allowance(model, objects).min(MOST)) {
+        return Err(AllocError);
+    }
     Ok(g)
 }
 
 /// The ground problem of a model: its solutions are the configurations that satisfy the model, and
 /// its goals have the values of the model's objectives. The origins are told for which constraint
-/// of the model each of the problem's was stated.
+/// of the model each of the problem's was stated. Packings that follow from several constraints
+/// aren't added, since they would be of none.
 ///
 /// # Errors
 ///
@@ -146,10 +195,7 @@ pub fn ground_with_origins(
     ensures allowance { IfOk result (λ g. HasAtMost
         (allowance objects.now model.now.constraints model.now.goals) g) }
 {
-    let g = problem(alloc, model, objects, origins)?;
-    if !has_at_most(&g, allowance(model, objects).min(MOST)) {
-        return Err(AllocError);
-    }
+    let g = allowed_problem(alloc, model, objects, origins, false)?;
     Ok(g)
 }
 
@@ -177,6 +223,6 @@ pub fn ground(
         (allowance objects.now model.now.constraints model.now.goals) g) }
 {
     let mut origins = Origins::new(alloc);
-    let g = ground_with_origins(alloc, model, objects, &mut origins)?;
+    let g = allowed_problem(alloc, model, objects, &mut origins, true)?;
     Ok(g)
 }

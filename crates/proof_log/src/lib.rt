@@ -1,7 +1,13 @@
 //! The text of a log, read and written, and the journal of a search.
 //!
-//! `specs/Spelling` says how the lines of a log are written; what they are and which logs are
-//! accepted stands in `log_form`.
+//! Each line has one spelling, and each text is read as at most one line; so a log is the same
+//! thing as its lines, and what is said of a file can be said of lines. It is plain text, of words
+//! and decimal numbers, that a person can read and any tool can write. Lines are read where they
+//! stand in a piece of a file, some 120 nanoseconds a short one. A journal is rounds, each a ground
+//! problem with its lines: `solve` has one, a session one for each event, a core one for each part;
+//! what is promised of answers is said of rounds. After want of memory it is as it was.
+//!
+//! Text formats of proofs: TraceCheck (Biere, 2006), DRAT (Wetzler, Heule and Hunt, 2014).
 //!
 //! - `writing`: the lines' text.
 //! - `reading`, `words`, `pieces`, `numbers`, `parts`: lines from their bytes, from whole lines

@@ -2,9 +2,14 @@
 //! to what failed, as few former values as can be are changed, and among such configurations the
 //! model's objectives decide.
 //!
-//! `with_changes` is the entry. It takes the ground problem of a model, whatever that asks, and
-//! promises that the result stands for the same with these two things more. It knows nothing of a
-//! search.
+//! Of any problem that stands for a test and for functions of configurations `with_changes` makes
+//! one that stands for the same with two things more: a clause for each reference keeps it out of
+//! what failed, and for each leaf a truth says that it has another value than before. These are
+//! counted in one variable, which becomes the first goal. Domains stay whole, so the points are
+//! the model's configurations still, and a log of a repair is a log as any. It costs a few
+//! variables and constraints a leaf, and a look at each object.
+//!
+//! Minimal perturbation: Sakkout and Wallace (2000), Bartak, Muller and Rudova (2004).
 //!
 //! - `repair`: what a repair goes by.
 //! - `former_values`: how many former values a configuration changes.

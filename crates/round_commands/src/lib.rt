@@ -1,6 +1,12 @@
 //! What a run promises; former texts, `session`, `core`, and their finder. Former texts, sessions
 //! and cores are the parts of a run that stand on the former configuration or on several searches.
 //!
+//! What `run` promises is a crate's worth of definitions (`specs/`), one file for each question
+//! that a reader has: what is asked, what answers it, what the journal holds, what is refused and
+//! why, what was printed and written, and how a run ends. They stand below the call that keeps
+//! them, since a session and a core keep their parts of it here. A new command is a line in each.
+//! To read them is to know the program; the code below them needs no reading.
+//!
 //! - `former`: the text of a configuration as it was or is to be: its file, what it is read as, and
 //!   the repair that one asks for.
 //! - `session`: the answers to a text of events, each printed as it is found.

@@ -1,8 +1,15 @@
 //! The face of propagators, and what they share: explanations, plain probing, kits.
 //!
-//! A propagator finds a clause that a constraint justifies and that takes something away, or says
-//! that the constraint is quiet. What refutes, justifies and is quiet is told by the rules of the
-//! constraints (`box_rules`), which are handed on from here.
+//! A propagator answers a clause that its constraint justifies and that is false or unit in the
+//! boxes, or None, and then the constraint is quiet: no value that its rule probes would refute it.
+//! So whoever asks knows when to stop, and needs to know nothing of how the answer was found. For
+//! each kind plain probing answers too, at the price of the rule for each value of each box; what
+//! is cleverer than that only has to be right about None, since a clause is checked by its rule.
+//! The law of fixpoints is what a search rests on: where all are quiet and the searched variables
+//! have single values, the boxes are a solution.
+//!
+//! Clauses in place of prunings: lazy clause generation (Ohrimenko, Stuckey and Codish, 2009).
+//! Probing: singleton consistency (Debruyne and Bessiere, 1997), shaving (Martin and Shmoys, 1996).
 //!
 //! - `subject`: what a propagator is asked about.
 //! - `propagator`, `kit`: the face of what prunes by constraints, and kits that have a member for

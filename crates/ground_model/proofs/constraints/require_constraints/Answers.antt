@@ -1,19 +1,24 @@
-use Rattle.std.proofs.Common.{true, false, ◌&&◌, []}
+use Rattle.std.proofs.Common.{true, ℕ, ℤ, List, [], sym, subst}
 use Rattle.std.specs.List.{list_all}
-use Rattle.expr_forms.proofs.Configured.{cells_still}
 use Rattle.ground_expr.specs.Asked.{holds_of}
-use Rattle.ground_model.specs.Fixing.{holds_in}
-use Rattle.ground_model.proofs.Steps.{requires_more, requires_same, both_passes}
+use Rattle.ground_model.specs.Known.{HasKnown, have_values}
+use Rattle.ground_model.specs.Requiring.{Requires}
+use Rattle.ground_model.proofs.KnownCells.{values_low, values_known, fixing_hold, requires_by_values}
 use Rattle.ground_model.proofs.constraints.require_constraints.Goals as goal
-
-pub require_others-requires-clause-cells : goal.require_others-requires-clause-cells
-require_others-requires-clause-cells c = cells_still c.args.objects.now c.args.maker.now c.require_fixing.new.maker c.in_ok-require_fixing.ensures.says.grows c.requires.cells
 
 pub returns : goal.returns
 returns c =
     let o = c.args.objects.now in
     let ks = c.args.list.now in
+    let known = c.in_ok-known.known.items in
     record {
-      says = requires_same [] c.args.maker.now c.require_others.new.maker (λ values. list_all (holds_in true o values) ks && list_all (holds_in false o values) ks) (λ values. list_all (holds_of o values) ks) (λ values. both_passes o values ks)
-          (requires_more [] c.args.maker.now c.require_fixing.new.maker c.require_others.new.maker (λ values. list_all (holds_in true o values) ks) (λ values. list_all (holds_in false o values) ks) c.in_ok-require_fixing.ensures.says c.in_ok-require_others.ensures.says);
+      says = requires_by_values o known c.args.maker.now c.require_values.new.maker c.require_both_passes.new.maker (λ values. list_all (holds_of o values) ks) c.requires.cells (values_low o c.args.maker.now known c.requires.cells c.in_ok-known.ensures.cells)
+          (λ t p passes. c.in_ok-known.ensures.follow t p (fixing_hold o t ks passes))
+          (subst (λ (z : List (ℕ × ℤ)). Requires [] c.args.maker.now c.require_values.new.maker (λ values. have_values values z)) c.as_slice.ensures.value c.in_ok-require_values.ensures.says)
+          (subst (λ (z : List (ℕ × ℤ)). Requires z c.require_values.new.maker c.require_both_passes.new.maker (λ values. list_all (holds_of o values) ks)) c.as_slice-2.ensures.value c.in_ok-require_both_passes.ensures.says);
     }
+
+pub require_both_passes-requires-clause-known : goal.require_both_passes-requires-clause-known
+require_both_passes-requires-clause-known c =
+    subst (λ (z : List (ℕ × ℤ)). HasKnown c.args.objects.now z c.require_values.new.maker) (sym c.as_slice-2.ensures.value)
+    (values_known c.args.objects.now c.args.maker.now c.require_values.new.maker c.in_ok-known.known.items c.requires.cells c.in_ok-require_values.ensures.says.grows c.in_ok-known.ensures.cells)

@@ -1,16 +1,24 @@
-use Rattle.std.proofs.Common.{ℕ, ℤ, ◌≡◌}
-use Rattle.std.proofs.lemmas.List.Sorted.{All-permutation, Contains-permutation}
-use Rattle.ground_form.specs.Meaning.{value_of}
-use Rattle.ground_model.specs.Known.{IsKnownCell}
+use Rattle.std.proofs.Common.{true, [], All, ◌∙◌, sym, subst}
+use Rattle.std.specs.List.{list_all}
+use Rattle.signed_clause.specs.Clauses.{Boxes}
+use Rattle.ground_cells.specs.CellBoxes.{cell_boxes}
+use Rattle.ground_model.specs.Fixing.{holds_in}
+use Rattle.ground_model.specs.Known.{IsSingle}
+use Rattle.ground_model.proofs.KnownCells.{singles_lie, singles_known}
 use Rattle.ground_model.proofs.known.known_cells.Goals as goal
 
-pub returns : goal.returns
-returns c =
-    let before = c.in_ok-known.known.items in
-    let after = c.sort_unstable.new.self.items in
-    let same = c.sort_unstable.ensures.permutation in
-    record {
-      cells = All-permutation (IsKnownCell c.args.maker.now) before after same c.in_ok-known.ensures.cells;
-      fixed = λ a h. All-permutation (λ (k : ℕ × ℤ). value_of a k.0 ≡ k.1) before after same (c.in_ok-known.ensures.fixed a h);
-      all = λ k at cell. Contains-permutation before after k same (c.in_ok-known.ensures.all k at cell);
-    }
+pub returns-clause-cells : goal.returns-clause-cells
+returns-clause-cells c =
+    let o = c.args.objects.now in
+    let boxes = c.in_ok-root.root.boxes.items in
+    let g = c.in_ok-g.g in
+    let one = subst (λ (b : Boxes). All (IsSingle b g.search) c.in_ok-known.known.items) c.as_slice-2.ensures.value c.in_ok-known.ensures in
+    singles_lie o boxes g (λ values. list_all (holds_in true o values) c.args.list.now) [] c.in_ok-g.ensures.stands c.in_ok-root.ensures.within c.in_ok-root.ensures.holds c.in_ok-known.known.items one
+
+pub returns-clause-follow : goal.returns-clause-follow
+returns-clause-follow c t p passes =
+    let o = c.args.objects.now in
+    let boxes = c.in_ok-root.root.boxes.items in
+    let g = c.in_ok-g.g in
+    let one = subst (λ (b : Boxes). All (IsSingle b g.search) c.in_ok-known.known.items) c.as_slice-2.ensures.value c.in_ok-known.ensures in
+    singles_known (cell_boxes o) boxes g (λ values. list_all (holds_in true o values) c.args.list.now) [] c.in_ok-g.ensures.stands c.in_ok-root.ensures.within c.in_ok-root.ensures.holds c.in_ok-known.known.items t one p passes

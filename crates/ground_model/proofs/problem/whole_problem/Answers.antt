@@ -6,6 +6,7 @@ use Rattle.ground_form.specs.StandsFor.{AreGoalValues, StandsFor}
 use Rattle.ground_form.specs.WellMade.{IsWellMade}
 use Rattle.ground_build.specs.Growing.{with_goals}
 use Rattle.ground_cells.specs.CellBoxes.{cell_boxes}
+use Rattle.form_build.proofs.Growth.{defines_more}
 use Rattle.expr_forms.proofs.Configured.{cells_still}
 use Rattle.ground_expr.specs.Asked.{satisfied_by, functions}
 use Rattle.ground_model.specs.Stated.{IsReadyGoal}
@@ -19,7 +20,9 @@ pub goals_of-requires-clause-ready : goal.goals_of-requires-clause-ready
 goals_of-requires-clause-ready c = subst (λ (z : List ResolvedGoal). All (IsReadyGoal c.args.objects.now) z) (sym c.goals.ensures.goals) c.requires.ready.goals
 
 pub goals_of-requires-clause-cells : goal.goals_of-requires-clause-cells
-goals_of-requires-clause-cells c = cells_still c.args.objects.now c.args.maker c.require_model.new.maker c.in_ok-require_model.ensures.says.grows (cells_first c.args.objects.now c.args.maker c.requires.cells)
+goals_of-requires-clause-cells c =
+    cells_still c.args.objects.now c.require_model.new.maker c.add_packings.new.maker c.in_ok-add_packings.ensures.grows
+    (cells_still c.args.objects.now c.args.maker c.require_model.new.maker c.in_ok-require_model.ensures.says.grows (cells_first c.args.objects.now c.args.maker c.requires.cells))
 
 pub returns : goal.returns
 returns c =
@@ -34,5 +37,5 @@ returns c =
     λ a w. subst (λ (z : List ResolvedGoal). AreGoalValues goals (functions o z) (take g.search a) a) c.goals.ensures.goals (c.in_ok-goals.ensures.values a w) in
     record {
       stands = subst (λ (z : Ground). StandsFor z (cell_boxes o) (satisfied_by o c.args.model.now.constraints) (functions o gs)) (sym same)
-          (whole_stands o c.args.model.now.constraints gs c.args.maker c.require_model.new.maker g goals c.requires.cells c.in_ok-require_model.ensures.says c.in_ok-goals.ensures.adds made count values);
+          (whole_stands o c.args.model.now.constraints gs c.args.maker c.require_model.new.maker g goals c.requires.cells c.in_ok-require_model.ensures.says (defines_more c.require_model.new.maker c.add_packings.new.maker g c.in_ok-add_packings.ensures c.in_ok-goals.ensures.adds) made count values);
     }

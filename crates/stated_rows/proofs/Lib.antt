@@ -1,0 +1,3 @@
+pub mod ShareLaws
+pub mod LoadLaws
+pub mod RowLaws

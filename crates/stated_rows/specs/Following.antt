@@ -1,0 +1,29 @@
+-- Rows that follow from what is stated. What a reader believes after this file: such a row holds in
+-- every world in which all constraints hold.
+use Rattle.std.specs.Prelude.{◌≡◌, ℕ, true, cond, List, ℤ, pos, ◌+ℤ◌, ◌*ℤ◌, ◌≤ℤ◌}
+use Rattle.std.specs.Ordering.{int_eq}
+use Rattle.ground_form.specs.declared.ground.Ground.{Ground}
+use Rattle.ground_form.specs.Meaning.{value_of, sum_at}
+use Rattle.form_build.specs.Worlds.{IsWorld, AllHold}
+use Rattle.packed_rows.specs.declared.row.Row.{Row}
+use Rattle.packed_rows.specs.Loads.{load_of, row_holds}
+use Rattle.stated_rows.specs.declared.shares.Share.{Share}
+use Rattle.stated_rows.specs.declared.shares.Share.TheVariants.{Load, Least}
+
+abbrev pub FollowsIn : Ground → Row → Type 0
+FollowsIn g r = (a : List ℤ) → IsWorld g a → AllHold g a → row_holds a r ≡ true
+
+-- what a share adds to the bin
+abbrev pub share_at : ℤ → Share → List ℤ → ℤ
+share_at bin (Load x size) a = cond (int_eq (value_of a x) bin) size.value (pos 0)
+share_at bin (Least v) a = v.value
+
+-- in every world the term is at least what the share adds
+abbrev pub IsShareOf : Ground → ℤ → ℤ × ℕ → Share → Type 0
+IsShareOf g bin t s =
+    (a : List ℤ) → IsWorld g a → AllHold g a → share_at bin s a ≤ℤ (t.0 *ℤ value_of a t.1)
+
+-- in every world the terms add up to at least the loads of the bin and a number
+abbrev pub IsBelow : Ground → ℤ → List (ℕ × ℤ) → ℤ → List (ℤ × ℕ) → Type 0
+IsBelow g bin loads least terms =
+    (a : List ℤ) → IsWorld g a → AllHold g a → (load_of bin loads a +ℤ least) ≤ℤ sum_at terms a
