@@ -1,8 +1,8 @@
 //! Lines up to the next fixpoint of a search.
 //!
 //! Constraints are asked before clauses, and those that are watched before those of the last Bound
-//! line. A constraint that says again what it said lately uses that
-//! clause; else its clause is written.
+//! line. A constraint that says again what it said lately uses that clause; else its clause is
+//! written.
 ghost use Rattle.std.specs.Prelude.{◌≡◌, length, IfOk, OnOk, IfSome};
 ghost use Rattle.run_law.specs.Replay.{Going};
 ghost use Rattle.bound_search.specs.Standing.{IsReason};

@@ -19,8 +19,8 @@ use Rattle.conf_syntax.specs.OneModel.{AreOneModel}
 use Rattle.conf_syntax.proofs.WholeItems.{whole_items, one_whole}
 use Rattle.class_table.specs.declared.fault.TableFault.{TableFault}
 use Rattle.class_table.specs.declared.fault.TableFault.TheVariants.{Duplicate, InheritCycle}
-use Rattle.class_table.specs.declared.names.Meaning.{Meaning}
-use Rattle.class_table.specs.declared.names.Meaning.TheVariants as meaning
+use Rattle.class_table.specs.declared.names.NameMeaning.{NameMeaning}
+use Rattle.class_table.specs.declared.names.NameMeaning.TheVariants as meaning
 use Rattle.class_table.specs.Ancestry.{attributes_within}
 use Rattle.class_table.specs.Faults.{repeated, taken, is_abstract, abstract_object, named_faults, many_faults, shape_faults, parent_faults, member_faults, item_faults, parent_of, own_of, class_count, attributes_of, variable_ident, Holds, ContainsOne, IsParent, Stands, name_repeated, within_item, attribute_repeated, derives_itself, contains_itself}
 use Rattle.class_table.specs.Names.{Space, space, means, classes, declared, own}
@@ -49,13 +49,13 @@ listed_same {B = B} f d xs ys e = fun_ext (λ k. listed_by f d xs k ∙ ap (λ (
 abbrev AreAlike : List ClassDecl → List ClassDecl → Type 0
 AreAlike ds es = is_abstract ds ≡ is_abstract es
 
-named_alike : (ds es : List ClassDecl) (i : Ident) (m : Option Meaning) → AreAlike ds es → named_faults ds i m ≡ named_faults es i m
+named_alike : (ds es : List ClassDecl) (i : Ident) (m : Option NameMeaning) → AreAlike ds es → named_faults ds i m ≡ named_faults es i m
 named_alike ds es i None h = refl
 named_alike ds es i (Some (meaning.Variable v)) h = refl
 named_alike ds es i (Some (meaning.Enumeration e)) h = refl
 named_alike ds es i (Some (meaning.Class c)) h = ap (λ (f : ℕ → Bool). abstract_object (f c) i.at) h
 
-many_alike : (ds es : List ClassDecl) (i : Ident) (m : Option Meaning) → AreAlike ds es → many_faults ds i m ≡ many_faults es i m
+many_alike : (ds es : List ClassDecl) (i : Ident) (m : Option NameMeaning) → AreAlike ds es → many_faults ds i m ≡ many_faults es i m
 many_alike ds es i None h = refl
 many_alike ds es i (Some (meaning.Variable v)) h = refl
 many_alike ds es i (Some (meaning.Enumeration e)) h = refl

@@ -11,7 +11,7 @@ use Rattle.conf_syntax.specs.declared.tree.Member.TheVariants as member
 use Rattle.conf_syntax.specs.declared.tree.Node as node
 use Rattle.conf_syntax.specs.declared.tree.VarDecl.{VarDecl}
 use Rattle.conf_syntax.proofs.WholeItems.{WholeItem, WholeMember, AVar, AWhere, AnEnum, AClass, Alone, AGoal, whole_member, whole_items}
-use Rattle.class_table.specs.declared.names.Meaning.TheVariants as meaning
+use Rattle.class_table.specs.declared.names.NameMeaning.TheVariants as meaning
 use Rattle.class_table.specs.declared.table.Class.{Class}
 use Rattle.class_table.specs.Names.{Space, space_from, space, classes, enumerations, roots, declared, own, member_variable}
 use Rattle.class_table.specs.Outline.{Outline, outline, class_of, enumeration_of, variable_of, parent_named}

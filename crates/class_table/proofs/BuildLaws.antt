@@ -11,8 +11,8 @@ use Rattle.conf_syntax.specs.declared.tree.Item.TheVariants as item
 use Rattle.conf_syntax.specs.declared.tree.VarDecl.{VarDecl}
 use Rattle.class_table.specs.declared.fault.TableFault.{TableFault}
 use Rattle.class_table.specs.declared.fault.TableFault.TheVariants.{Duplicate, InheritCycle, ContainCycle}
-use Rattle.class_table.specs.declared.names.Meaning.{Meaning}
-use Rattle.class_table.specs.declared.names.Meaning.TheVariants as meaning
+use Rattle.class_table.specs.declared.names.NameMeaning.{NameMeaning}
+use Rattle.class_table.specs.declared.names.NameMeaning.TheVariants as meaning
 use Rattle.class_table.specs.declared.table.Class.{Class}
 use Rattle.class_table.specs.declared.table.Enumeration.{Enumeration}
 use Rattle.class_table.specs.declared.table.Variable.{Variable}
@@ -141,7 +141,7 @@ module _ (items : List Item) where
         by : (c q : ℕ) → (d : ClassDecl) × (slice_get (classes items) c ≡ Some d) × (parent_named (space items) d.parent ≡ Some q) → q < length (map (class_of (space items)) (classes items))
         by c q (d, is, up) = named d.parent up
           where
-            meant : (m : Option Meaning) (w : List ℕ) → means (space items) w ≡ m → class_meant m ≡ Some q → q < length (map (class_of (space items)) (classes items))
+            meant : (m : Option NameMeaning) (w : List ℕ) → means (space items) w ≡ m → class_meant m ≡ Some q → q < length (map (class_of (space items)) (classes items))
             meant None w e g = cc
             meant (Some (meaning.Class k)) w e g =
                 let same : k ≡ q = cc in

@@ -7,8 +7,8 @@ use Rattle.conf_syntax.specs.declared.tree.Item.TheVariants as item
 use Rattle.conf_syntax.specs.declared.tree.Shape.{Shape}
 use Rattle.conf_syntax.specs.declared.tree.Shape.TheVariants as shape
 use Rattle.conf_syntax.specs.declared.tree.VarDecl.{VarDecl}
-use Rattle.class_table.specs.declared.names.Meaning.{Meaning}
-use Rattle.class_table.specs.declared.names.Meaning.TheVariants as meaning
+use Rattle.class_table.specs.declared.names.NameMeaning.{NameMeaning}
+use Rattle.class_table.specs.declared.names.NameMeaning.TheVariants as meaning
 use Rattle.class_table.specs.declared.table.Class.{Class}
 use Rattle.class_table.specs.declared.table.Enumeration.{Enumeration}
 use Rattle.class_table.specs.declared.table.Resolved.{Resolved}
@@ -21,13 +21,13 @@ use Rattle.class_table.proofs.ScopeSteps.{length_map}
 
 -- Names
 
-meant_more : (x : Option Meaning) (n m r n' m' r' : ℕ) → n ≤ n' → m ≤ m' → r ≤ r' → IsMeant n m r x → IsMeant n' m' r' x
+meant_more : (x : Option NameMeaning) (n m r n' m' r' : ℕ) → n ≤ n' → m ≤ m' → r ≤ r' → IsMeant n m r x → IsMeant n' m' r' x
 meant_more (Some (meaning.Class c)) n m r n' m' r' a b d h = omega (arith, h, a)
 meant_more (Some (meaning.Enumeration e)) n m r n' m' r' a b d h = omega (arith, h, b)
 meant_more (Some (meaning.Variable v)) n m r n' m' r' a b d h = omega (arith, h, d)
 meant_more None n m r n' m' r' a b d h = tt
 
-first : (b : Bool) (n m r : ℕ) (x : Meaning) (y : Option Meaning) → IsMeant n m r (Some x) → IsMeant n m r y → IsMeant n m r (cond b (Some x) y)
+first : (b : Bool) (n m r : ℕ) (x : NameMeaning) (y : Option NameMeaning) → IsMeant n m r (Some x) → IsMeant n m r y → IsMeant n m r (cond b (Some x) y)
 first true n m r x y h k = h
 first false n m r x y h k = k
 
@@ -48,13 +48,13 @@ meant_from (item.Goal d ∷ is) c e v w = meant_from is c e v w
 -- Shapes
 
 module _ (names : Space) (n m r : ℕ) (each : (w : List ℕ) → IsMeant n m r (means names w)) where
-  by_name : (x : Option Meaning) → IsMeant n m r x → IsShapeOf n m (named x)
+  by_name : (x : Option NameMeaning) → IsMeant n m r x → IsShapeOf n m (named x)
   by_name (Some (meaning.Class c)) h = h
   by_name (Some (meaning.Enumeration e)) h = h
   by_name (Some (meaning.Variable v)) h = tt
   by_name None h = tt
 
-  by_class : (f : ℕ → Resolved) → ((c : ℕ) → c < n → IsShapeOf n m (f c)) → (x : Option Meaning) → IsMeant n m r x → IsShapeOf n m (of_class f x)
+  by_class : (f : ℕ → Resolved) → ((c : ℕ) → c < n → IsShapeOf n m (f c)) → (x : Option NameMeaning) → IsMeant n m r x → IsShapeOf n m (of_class f x)
   by_class f g (Some (meaning.Class c)) h = g c h
   by_class f g (Some (meaning.Enumeration e)) h = tt
   by_class f g (Some (meaning.Variable v)) h = tt

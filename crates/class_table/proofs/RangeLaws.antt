@@ -7,8 +7,8 @@ use Rattle.conf_syntax.specs.declared.token.Ident.{Ident}
 use Rattle.conf_syntax.specs.declared.tree.ClassDecl.{ClassDecl}
 use Rattle.conf_syntax.specs.declared.tree.Member.{Member}
 use Rattle.conf_syntax.specs.declared.tree.Member.TheVariants as member
-use Rattle.class_table.specs.declared.names.Meaning.{Meaning}
-use Rattle.class_table.specs.declared.names.Meaning.TheVariants as meaning
+use Rattle.class_table.specs.declared.names.NameMeaning.{NameMeaning}
+use Rattle.class_table.specs.declared.names.NameMeaning.TheVariants as meaning
 use Rattle.graph_walk.specs.declared.walk.Edge.{Edge}
 use Rattle.class_table.specs.Faults.{contained_name, IsNumbered, pointed}
 use Rattle.class_table.specs.Graphs.{to_class, named_edges, parent_edges, derivation, member_edges, class_edges, containment}
@@ -41,7 +41,7 @@ module _ (names : Space) (n : ℕ) (numbered : IsNumbered names n) where
   meant : (w : List ℕ) (c : ℕ) → class_meant (means names w) ≡ Some c → c < n
   meant w c h = by (means names w) refl h
     where
-      by : (m : Option Meaning) → means names w ≡ m → class_meant m ≡ Some c → c < n
+      by : (m : Option NameMeaning) → means names w ≡ m → class_meant m ≡ Some c → c < n
       by None e g = cc
       by (Some (meaning.Class k)) e g = let same : k ≡ c = cc in subst (λ x. x < n) same (numbered w k e)
       by (Some (meaning.Enumeration k)) e g = cc

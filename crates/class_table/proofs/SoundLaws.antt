@@ -6,8 +6,8 @@ use Rattle.conf_syntax.specs.declared.tree.Item.{Item}
 use Rattle.conf_syntax.specs.declared.tree.Shape.{Shape}
 use Rattle.conf_syntax.specs.declared.tree.Shape.TheVariants as shape
 use Rattle.conf_syntax.specs.declared.tree.ClassDecl.{ClassDecl}
-use Rattle.class_table.specs.declared.names.Meaning.{Meaning}
-use Rattle.class_table.specs.declared.names.Meaning.TheVariants as meaning
+use Rattle.class_table.specs.declared.names.NameMeaning.{NameMeaning}
+use Rattle.class_table.specs.declared.names.NameMeaning.TheVariants as meaning
 use Rattle.class_table.specs.declared.table.Class.{Class}
 use Rattle.class_table.specs.declared.table.Resolved.TheVariants.{Many, Ref, RefSet}
 use Rattle.class_table.specs.declared.table.Variable.{Variable}
@@ -35,28 +35,28 @@ holder names shape.Int d h = cc
 holder names shape.Bool d h = cc
 holder names (shape.Named i) d h = record { ident = i; name = refl; class = by (means names i.name) h }
   where
-    by : (m : Option Meaning) → held_class (named m) ≡ Some d → class_meant m ≡ Some d
+    by : (m : Option NameMeaning) → held_class (named m) ≡ Some d → class_meant m ≡ Some d
     by None g = cc
     by (Some (meaning.Class c)) g = g
     by (Some (meaning.Enumeration e)) g = cc
     by (Some (meaning.Variable v)) g = cc
 holder names (shape.Many i n) d h = record { ident = i; name = refl; class = by (means names i.name) h }
   where
-    by : (m : Option Meaning) → held_class (of_class (λ c. Many c n) m) ≡ Some d → class_meant m ≡ Some d
+    by : (m : Option NameMeaning) → held_class (of_class (λ c. Many c n) m) ≡ Some d → class_meant m ≡ Some d
     by None g = cc
     by (Some (meaning.Class c)) g = g
     by (Some (meaning.Enumeration e)) g = cc
     by (Some (meaning.Variable v)) g = cc
 holder names (shape.Ref i) d h = by (means names i.name) h
   where
-    by : (m : Option Meaning) → held_class (of_class Ref m) ≡ Some d → IsHolder names (shape.Ref i) d
+    by : (m : Option NameMeaning) → held_class (of_class Ref m) ≡ Some d → IsHolder names (shape.Ref i) d
     by None g = cc
     by (Some (meaning.Class c)) g = cc
     by (Some (meaning.Enumeration e)) g = cc
     by (Some (meaning.Variable v)) g = cc
 holder names (shape.RefSet i n) d h = by (means names i.name) h
   where
-    by : (m : Option Meaning) → held_class (of_class (λ c. RefSet c n) m) ≡ Some d → IsHolder names (shape.RefSet i n) d
+    by : (m : Option NameMeaning) → held_class (of_class (λ c. RefSet c n) m) ≡ Some d → IsHolder names (shape.RefSet i n) d
     by None g = cc
     by (Some (meaning.Class c)) g = cc
     by (Some (meaning.Enumeration e)) g = cc

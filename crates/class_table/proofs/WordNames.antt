@@ -21,7 +21,7 @@ use Rattle.conf_syntax.specs.declared.tree.VarDecl.{VarDecl}
 use Rattle.conf_syntax.specs.Spelling.{is_letter, is_word, goes_on}
 use Rattle.conf_syntax.specs.Trees.{item_tokens, member_tokens, var_tokens, shape_tokens, abstract_tokens, parent_tokens}
 use Rattle.conf_syntax.specs.Words.{is_worded, AreWords}
-use Rattle.class_table.specs.declared.names.Meaning.TheVariants as meaning
+use Rattle.class_table.specs.declared.names.NameMeaning.TheVariants as meaning
 use Rattle.class_table.specs.declared.table.Class.{Class}
 use Rattle.class_table.specs.declared.table.Enumeration.{Enumeration}
 use Rattle.class_table.specs.declared.table.Variable.{Variable}

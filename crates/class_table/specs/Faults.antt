@@ -15,8 +15,8 @@ use Rattle.conf_syntax.specs.declared.tree.Shape.TheVariants as shape
 use Rattle.conf_syntax.specs.declared.tree.VarDecl.{VarDecl}
 use Rattle.class_table.specs.declared.fault.TableFault.{TableFault}
 use Rattle.class_table.specs.declared.fault.TableFault.TheVariants.{Duplicate, Unknown, NotAClass, InheritCycle, ContainCycle, AbstractObject, EmptyRange, Memory}
-use Rattle.class_table.specs.declared.names.Meaning.{Meaning}
-use Rattle.class_table.specs.declared.names.Meaning.TheVariants as meaning
+use Rattle.class_table.specs.declared.names.NameMeaning.{NameMeaning}
+use Rattle.class_table.specs.declared.names.NameMeaning.TheVariants as meaning
 use Rattle.class_table.specs.Ancestry.{attributes_within}
 use Rattle.graph_walk.specs.Steps.{StepsBy}
 use Rattle.class_table.specs.Names.{Space, space, means, same_name, classes, enumerations, own, declared}
@@ -34,7 +34,7 @@ repeated (i ∷ is) seen =
     again (list_any (same_name i.name) seen) i.at ++ repeated is (seen ++ i.name ∷ [])
 
 -- an attribute may not have the name of an enumeration or of a class
-abbrev pub taken : Ident → Option Meaning → List TableFault
+abbrev pub taken : Ident → Option NameMeaning → List TableFault
 taken i (Some (meaning.Class c)) = Duplicate i.at ∷ []
 taken i (Some (meaning.Enumeration e)) = Duplicate i.at ∷ []
 taken i (Some (meaning.Variable v)) = []
@@ -50,21 +50,21 @@ abstract_object true at = AbstractObject at ∷ []
 abstract_object false at = []
 
 -- the name of a shape `NAME`
-abbrev pub named_faults : List ClassDecl → Ident → Option Meaning → List TableFault
+abbrev pub named_faults : List ClassDecl → Ident → Option NameMeaning → List TableFault
 named_faults decls i None = Unknown i.at ∷ []
 named_faults decls i (Some (meaning.Variable v)) = NotAClass i.at ∷ []
 named_faults decls i (Some (meaning.Enumeration e)) = []
 named_faults decls i (Some (meaning.Class c)) = abstract_object (is_abstract decls c) i.at
 
 -- the name of a shape `NAME[count]`
-abbrev pub many_faults : List ClassDecl → Ident → Option Meaning → List TableFault
+abbrev pub many_faults : List ClassDecl → Ident → Option NameMeaning → List TableFault
 many_faults decls i None = Unknown i.at ∷ []
 many_faults decls i (Some (meaning.Variable v)) = NotAClass i.at ∷ []
 many_faults decls i (Some (meaning.Enumeration e)) = NotAClass i.at ∷ []
 many_faults decls i (Some (meaning.Class c)) = abstract_object (is_abstract decls c) i.at
 
 -- a name behind `ref` or `extends`
-abbrev pub class_faults : Ident → Option Meaning → List TableFault
+abbrev pub class_faults : Ident → Option NameMeaning → List TableFault
 class_faults i None = Unknown i.at ∷ []
 class_faults i (Some (meaning.Variable v)) = NotAClass i.at ∷ []
 class_faults i (Some (meaning.Enumeration e)) = NotAClass i.at ∷ []

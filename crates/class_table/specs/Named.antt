@@ -2,7 +2,7 @@
 -- brackets between names, and no name of a variable or an attribute has one in it; and each
 -- top-level variable is found by its name.
 use Rattle.std.specs.Prelude.{◌≡◌, ℕ, Bool, true, not, ◌&&◌, List, [], ◌∷◌, Some, nat_eq, slice_get, All}
-use Rattle.class_table.specs.declared.names.Meaning.TheVariants as meaning
+use Rattle.class_table.specs.declared.names.NameMeaning.TheVariants as meaning
 use Rattle.class_table.specs.declared.table.Variable.{Variable}
 use Rattle.class_table.specs.Names.{means}
 use Rattle.class_table.specs.Outline.{Outline, attributes}

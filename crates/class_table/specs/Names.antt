@@ -13,12 +13,12 @@ use Rattle.conf_syntax.specs.declared.tree.Member.{Member}
 use Rattle.conf_syntax.specs.declared.tree.Member.TheVariants as member
 use Rattle.conf_syntax.specs.declared.tree.VarDecl.{VarDecl}
 pub use Rattle.class_table.specs.Same.{same_name}
-use Rattle.class_table.specs.declared.names.Meaning.{Meaning}
-use Rattle.class_table.specs.declared.names.Meaning.TheVariants as meaning
+use Rattle.class_table.specs.declared.names.NameMeaning.{NameMeaning}
+use Rattle.class_table.specs.declared.names.NameMeaning.TheVariants as meaning
 
 -- a space of names: what each declared name means, in order of declaration
 abbrev pub Space : Type 0
-Space = List (List ℕ × Meaning)
+Space = List (List ℕ × NameMeaning)
 
 -- the space of the items, from these numbers of classes, enumerations and variables on
 abbrev pub space_from : List Item → ℕ → ℕ → ℕ → Space
@@ -34,7 +34,7 @@ abbrev pub space : List Item → Space
 space items = space_from items 0 0 0
 
 -- what a name means in a space: its first declaration counts
-abbrev pub means : Space → List ℕ → Option Meaning
+abbrev pub means : Space → List ℕ → Option NameMeaning
 means names w = lookup (same_name w) names
 
 -- The declarations of each kind, in order

@@ -11,8 +11,8 @@ use Rattle.conf_syntax.specs.declared.tree.Item.{Item}
 use Rattle.conf_syntax.specs.declared.tree.Shape.{Shape}
 use Rattle.conf_syntax.specs.declared.tree.Shape.TheVariants as shape
 use Rattle.conf_syntax.specs.declared.tree.VarDecl.{VarDecl}
-use Rattle.class_table.specs.declared.names.Meaning.{Meaning}
-use Rattle.class_table.specs.declared.names.Meaning.TheVariants as meaning
+use Rattle.class_table.specs.declared.names.NameMeaning.{NameMeaning}
+use Rattle.class_table.specs.declared.names.NameMeaning.TheVariants as meaning
 use Rattle.class_table.specs.declared.table.Class.{Class}
 use Rattle.class_table.specs.declared.table.Enumeration.{Enumeration}
 use Rattle.class_table.specs.declared.table.Resolved.{Resolved}
@@ -44,13 +44,13 @@ any_int = Span least_int greatest_int
 abbrev pub unresolved : Resolved
 unresolved = Truth
 
-abbrev pub named : Option Meaning → Resolved
+abbrev pub named : Option NameMeaning → Resolved
 named (Some (meaning.Class c)) = One c
 named (Some (meaning.Enumeration e)) = Choice e
 named (Some (meaning.Variable v)) = unresolved
 named None = unresolved
 
-abbrev pub of_class : (ℕ → Resolved) → Option Meaning → Resolved
+abbrev pub of_class : (ℕ → Resolved) → Option NameMeaning → Resolved
 of_class shape_of (Some (meaning.Class c)) = shape_of c
 of_class shape_of (Some (meaning.Enumeration e)) = unresolved
 of_class shape_of (Some (meaning.Variable v)) = unresolved
@@ -67,7 +67,7 @@ resolved names (shape.RefSet i n) = of_class (λ c. RefSet c n) (means names i.n
 
 -- Classes, enumerations and variables
 
-abbrev pub class_meant : Option Meaning → Option ℕ
+abbrev pub class_meant : Option NameMeaning → Option ℕ
 class_meant (Some (meaning.Class c)) = Some c
 class_meant (Some (meaning.Enumeration e)) = None
 class_meant (Some (meaning.Variable v)) = None

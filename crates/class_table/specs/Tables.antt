@@ -1,8 +1,8 @@
 -- What holds of every table, and what its accessors answer.
 use Rattle.std.specs.Prelude.{◌≡◌, ℕ, ◌<◌, ◌^◌, Bool, true, false, cond, List, [], ◌∷◌, ◌++◌, Option, None, Some, length, map, slice_index, slice_index_or}
 use Rattle.std.specs.List.{list_any}
-use Rattle.class_table.specs.declared.names.Meaning.{Meaning}
-use Rattle.class_table.specs.declared.names.Meaning.TheVariants as meaning
+use Rattle.class_table.specs.declared.names.NameMeaning.{NameMeaning}
+use Rattle.class_table.specs.declared.names.NameMeaning.TheVariants as meaning
 use Rattle.class_table.specs.declared.table.Class.{Class}
 use Rattle.class_table.specs.declared.table.Enumeration.{Enumeration}
 use Rattle.class_table.specs.declared.table.Resolved.{Resolved}
@@ -16,14 +16,14 @@ use Rattle.class_table.specs.Same.{same_name}
 use Rattle.class_table.specs.Scopes.{Falls, HasParents}
 
 -- the enumeration that a name means
-abbrev pub enumeration_meant : Option Meaning → Option ℕ
+abbrev pub enumeration_meant : Option NameMeaning → Option ℕ
 enumeration_meant (Some (meaning.Enumeration e)) = Some e
 enumeration_meant (Some (meaning.Class c)) = None
 enumeration_meant (Some (meaning.Variable v)) = None
 enumeration_meant None = None
 
 -- the top-level variable that a name means
-abbrev pub root_meant : Option Meaning → Option ℕ
+abbrev pub root_meant : Option NameMeaning → Option ℕ
 root_meant (Some (meaning.Variable v)) = Some v
 root_meant (Some (meaning.Class c)) = None
 root_meant (Some (meaning.Enumeration e)) = None
@@ -51,7 +51,7 @@ IsShapeOf n m (Ref c) = c < n
 IsShapeOf n m (RefSet c k) = c < n
 
 -- what a name means is one of n classes, m enumerations or r top-level variables
-abbrev pub IsMeant : ℕ → ℕ → ℕ → Option Meaning → Type 0
+abbrev pub IsMeant : ℕ → ℕ → ℕ → Option NameMeaning → Type 0
 IsMeant n m r (Some (meaning.Class c)) = c < n
 IsMeant n m r (Some (meaning.Enumeration e)) = e < m
 IsMeant n m r (Some (meaning.Variable v)) = v < r

@@ -22,7 +22,7 @@ ghost use Rattle.class_table.specs.Tables.{enumeration_meant, root_meant, IsFew,
 
 use crate::build::check_classes;
 use crate::name_text::NameText;
-use crate::names::{Meaning, Space, names_of};
+use crate::names::{NameMeaning, Space, names_of};
 use crate::parents::{ClassList, parent_of};
 use crate::parts::{class_decls, resolve_items};
 use crate::paths::{Paths, number_on, path_at, paths_of, variable_at};
@@ -174,7 +174,7 @@ impl ClassTable {
     }
 
     /// What this name means: a class, an enumeration or a top-level variable.
-    pub fn meaning(&self, name: &Name) -> Option<Meaning>
+    pub fn meaning(&self, name: &Name) -> Option<NameMeaning>
         ensures meaning { result ≡ means self.now.names name.now }
         ensures exists { IsMeant (length self.now.classes) (length self.now.enumerations)
             (length self.now.roots) result }
@@ -188,7 +188,7 @@ impl ClassTable {
         ensures exists { IfSome result (λ c. c < length self.now.classes) }
     {
         match self.names.get(name).copied() {
-            Some(Meaning::Class(class)) => Some(class),
+            Some(NameMeaning::Class(class)) => Some(class),
             _ => None,
         }
     }
@@ -199,7 +199,7 @@ impl ClassTable {
         ensures exists { IfSome result (λ e. e < length self.now.enumerations) }
     {
         match self.names.get(name).copied() {
-            Some(Meaning::Enumeration(enumeration)) => Some(enumeration),
+            Some(NameMeaning::Enumeration(enumeration)) => Some(enumeration),
             _ => None,
         }
     }
@@ -218,7 +218,7 @@ impl ClassTable {
         ensures exists { IfSome result (λ k. k < length self.now.roots) }
     {
         match self.names.get(NameText { bytes: name }).copied() {
-            Some(Meaning::Variable(root)) => Some(root),
+            Some(NameMeaning::Variable(root)) => Some(root),
             _ => None,
         }
     }

@@ -6,7 +6,7 @@ ghost use Rattle.class_table.specs.Outline.{class_meant, parent_named};
 ghost use Rattle.class_table.specs.Faults.{pointed, contained_name};
 ghost use Rattle.class_table.specs.Graphs.{to_class, named_edges, parent_edges, derivation, member_edges, class_edges, containment};
 
-use crate::names::{Meaning, Space};
+use crate::names::{NameMeaning, Space};
 use conf_syntax::{ClassDecl, Ident, Member, Name, Shape};
 use graph_walk::{Edge, Edges};
 use std::alloc::{AllocError, Global};
@@ -16,7 +16,7 @@ fn class_of(names: &Space, name: &Name) -> Option<u32>
     ensures { result ≡ class_meant (means names.now.entries name.now) }
 {
     match names.get(name).copied() {
-        Some(Meaning::Class(class)) => Some(class),
+        Some(NameMeaning::Class(class)) => Some(class),
         _ => None,
     }
 }

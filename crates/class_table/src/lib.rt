@@ -25,5 +25,5 @@ mod table;
 pub use class_table::{Attribute, ClassTable};
 pub use fault::TableFault;
 pub use law::{names_are_words, one_model_declares_the_same};
-pub use names::Meaning;
+pub use names::NameMeaning;
 pub use table::{Class, Enumeration, Resolved, Values, Variable, Variables};

@@ -17,14 +17,14 @@ use std::alloc::Global;
 
 /// What a name of the one space means, by its number among its kind in order of declaration.
 #[derive(Clone, Copy, Debug, PartialEq, Eq)]
-pub enum Meaning {
+pub enum NameMeaning {
     Class(u32),
     Enumeration(u32),
     Variable(u32),
 }
 
 /// The names of the one space, in order of declaration.
-pub(crate) type Space = IndexMap<Name, Meaning>;
+pub(crate) type Space = IndexMap<Name, NameMeaning>;
 
 /// How many declarations of each kind were met.
 #[derive(Clone, Copy, Debug, PartialEq, Eq)]
@@ -44,7 +44,7 @@ fn is_declared(names: &Space, name: &Name) -> bool
 
 /// Adds a name that isn't declared.
 #[tactic(auto, using(crate::proofs::NameLaws::insert_absent))]
-fn add(names: &mut Space, name: Name, meaning: Meaning) -> Result<(), TableFault>
+fn add(names: &mut Space, name: Name, meaning: NameMeaning) -> Result<(), TableFault>
     requires new { list_any (same_name name) (keys_of names.old.entries) ≡ false }
     ensures added { OnOk result (names.new.entries ≡ names.old.entries ++ (name, meaning) ∷ []) }
     ensures fault { IfErr result (λ fault. fault ≡ TableFault.Memory) }
@@ -58,7 +58,7 @@ fn declare(
     alloc: Global,
     names: &mut Space,
     ident: &Ident,
-    meaning: Meaning,
+    meaning: NameMeaning,
 ) -> Result<(), TableFault>
     ensures new { OnOk result (list_any (same_name ident.now.name) (keys_of names.old.entries)
         ≡ false) }
@@ -100,7 +100,7 @@ fn declare_item(
 {
     match item {
         Item::Class(decl) => {
-            declare(alloc, names, &decl.name, Meaning::Class(counts.classes))?;
+            declare(alloc, names, &decl.name, NameMeaning::Class(counts.classes))?;
             counts.classes += 1;
         }
         Item::Enum(decl) => {
@@ -108,7 +108,7 @@ fn declare_item(
                 alloc,
                 names,
                 &decl.name,
-                Meaning::Enumeration(counts.enumerations),
+                NameMeaning::Enumeration(counts.enumerations),
             )?;
             counts.enumerations += 1;
         }
@@ -117,7 +117,7 @@ fn declare_item(
                 alloc,
                 names,
                 &decl.name,
-                Meaning::Variable(counts.variables),
+                NameMeaning::Variable(counts.variables),
             )?;
             counts.variables += 1;
         }

@@ -10,14 +10,14 @@ ghost use Rattle.class_table.specs.Names.{means, own, member_variable};
 ghost use Rattle.class_table.specs.Outline.{bound_value, resolved, any_int, named, of_class, class_meant, parent_named, variable_of, class_of, enumeration_of, value_name};
 ghost use Rattle.class_table.specs.Faults.{OnFault, is_abstract, abstract_object, named_faults, many_faults, class_faults, shape_faults, parent_faults, member_faults, taken, repeated, IsNumbered, pointed};
 
-use crate::names::{Meaning, Space};
+use crate::names::{NameMeaning, Space};
 use crate::{Class, Enumeration, Resolved, TableFault, Values, Variable, Variables};
 use conf_syntax::{Bound, ClassDecl, EnumDecl, Ident, Member, Name, Shape, VarDecl};
 use model_limits::{GREATEST_INT, LEAST_INT};
 use std::alloc::Global;
 
 /// What a name means.
-fn meaning_of(names: &Space, name: &Name) -> Option<Meaning>
+fn meaning_of(names: &Space, name: &Name) -> Option<NameMeaning>
     ensures { result ≡ means names.now.entries name.now }
 {
     names.get(name).copied()
@@ -51,13 +51,13 @@ fn span(low: &Bound, high: &Bound) -> Result<Resolved, TableFault>
 /// The class that a name means.
 fn class_named(names: &Space, ident: &Ident) -> Result<u32, TableFault>
     ensures class { IfOk result (λ class. means names.now.entries ident.now.name
-        ≡ Some (Meaning.Class class)) }
+        ≡ Some (NameMeaning.Class class)) }
     ensures fault { IfErr result (λ fault. class_faults ident.now
         (means names.now.entries ident.now.name) ≡ fault ∷ []) }
 {
     match meaning_of(names, &ident.name) {
-        Some(Meaning::Class(class)) => Ok(class),
-        Some(Meaning::Enumeration(_) | Meaning::Variable(_)) => Err(TableFault::NotAClass(
+        Some(NameMeaning::Class(class)) => Ok(class),
+        Some(NameMeaning::Enumeration(_) | NameMeaning::Variable(_)) => Err(TableFault::NotAClass(
             ident.at,
         )),
         None => Err(TableFault::Unknown(ident.at)),
@@ -91,12 +91,12 @@ fn named(names: &Space, decls: &[&ClassDecl], ident: &Ident) -> Result<Resolved,
         (means names.now.entries ident.now.name) ≡ fault ∷ []) }
 {
     match meaning_of(names, &ident.name) {
-        Some(Meaning::Class(class)) => match object_class(decls, ident, class) {
+        Some(NameMeaning::Class(class)) => match object_class(decls, ident, class) {
             Ok(class) => Ok(Resolved::One(class)),
             Err(fault) => Err(fault),
         },
-        Some(Meaning::Enumeration(enumeration)) => Ok(Resolved::Choice(enumeration)),
-        Some(Meaning::Variable(_)) => Err(TableFault::NotAClass(ident.at)),
+        Some(NameMeaning::Enumeration(enumeration)) => Ok(Resolved::Choice(enumeration)),
+        Some(NameMeaning::Variable(_)) => Err(TableFault::NotAClass(ident.at)),
         None => Err(TableFault::Unknown(ident.at)),
     }
 }
@@ -117,11 +117,11 @@ fn many(
         (means names.now.entries ident.now.name) ≡ fault ∷ []) }
 {
     match meaning_of(names, &ident.name) {
-        Some(Meaning::Class(class)) => match object_class(decls, ident, class) {
+        Some(NameMeaning::Class(class)) => match object_class(decls, ident, class) {
             Ok(class) => Ok(Resolved::Many(class, count)),
             Err(fault) => Err(fault),
         },
-        Some(Meaning::Enumeration(_) | Meaning::Variable(_)) => Err(TableFault::NotAClass(
+        Some(NameMeaning::Enumeration(_) | NameMeaning::Variable(_)) => Err(TableFault::NotAClass(
             ident.at,
         )),
         None => Err(TableFault::Unknown(ident.at)),
@@ -177,8 +177,10 @@ fn untaken(names: &Space, ident: &Ident) -> Result<(), TableFault>
         ≡ fault ∷ []) }
 {
     match meaning_of(names, &ident.name) {
-        Some(Meaning::Class(_) | Meaning::Enumeration(_)) => Err(TableFault::Duplicate(ident.at)),
-        Some(Meaning::Variable(_)) | None => Ok(()),
+        Some(NameMeaning::Class(_) | NameMeaning::Enumeration(_)) => Err(TableFault::Duplicate(
+            ident.at,
+        )),
+        Some(NameMeaning::Variable(_)) | None => Ok(()),
     }
 }
 

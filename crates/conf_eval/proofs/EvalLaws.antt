@@ -131,9 +131,9 @@ rest_narrow o vs g s i over f bs e ss is n =
     let all = subst (λ xs. All (Contains xs) (held ss)) is (All-contains_itself (held ss)) in
     sum_narrow o vs g.sound g.config i over f bs s e (held (drop n ss)) (omega (arith, fewer, ap length is)) (held_rest (Contains (objects_of (value over s))) ss n all)
 
-pub items_narrow : (o : Outline) (vs : List ℤ) (g : IsGiven o vs) (s : Setting) (i : ℕ) (over : Tree) (f : Filter) (bs : Bodies) → IsEvaluable o vs (tree.Quant i kind.Pack over f bs) s → (xs : List ℕ) → xs ≡ objects_of (value over s) → (ys : List Item) → ys ≡ map (λ x. item_of (values_of bs (bind s x))) xs → (place : Value) (n : ℕ) → IsNarrow (load place (drop n ys))
-items_narrow o vs g s i over f bs e xs is ys made place n =
-    subst (λ zs. IsNarrow (load place (drop n zs))) (sym (made ∙ ap (map (λ x. item_of (values_of bs (bind s x)))) is)) (load_back_narrow o vs g.sound g.config i over f bs s e place n)
+pub items_narrow : (o : Outline) (vs : List ℤ) (g : IsGiven o vs) (s : Setting) (i : ℕ) (over : Tree) (f : Filter) (bs : Bodies) → IsEvaluable o vs (tree.Quant i kind.Pack over f bs) s → (xs : List ℕ) → xs ≡ objects_of (value over s) → (ys : List Item) → ys ≡ map (λ x. item_of (values_of bs (bind s x))) xs → (bin : Value) (n : ℕ) → IsNarrow (load bin (drop n ys))
+items_narrow o vs g s i over f bs e xs is ys made bin n =
+    subst (λ zs. IsNarrow (load bin (drop n zs))) (sym (made ∙ ap (map (λ x. item_of (values_of bs (bind s x)))) is)) (load_back_narrow o vs g.sound g.config i over f bs s e bin n)
 
 -- Bodies by their numbers
 

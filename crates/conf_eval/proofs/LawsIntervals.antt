@@ -83,13 +83,13 @@ sum_within i r xs keeps bodies le h =
     (All-weaker (λ x. IsWithin i (int_of (slice_index_or (bodies x) 0 (Int (pos 0))))) (λ x. IsTerm i (cond (keeps x) (int_of (first_of (bodies x))) (pos 0)))
     (λ x g. term_if i (keeps x) (int_of (first_of (bodies x))) (subst (IsWithin i) (sym (first_same (bodies x))) g)) xs h))
 
--- the load of a place, where each size lies in the interval
-pub load_within : (i : Interval) (r : ℕ) (place : Value) (xs : List Item) → length xs ≤ r → All (λ (x : Item). IsWithin i x.size) xs → IsWithin (many r i) (load place xs)
-load_within i r place xs le h =
-    total_within i r (map (λ (x : Item). cond (same_value place x.place) x.size (pos 0)) xs) (omega (arith, le, length-map xs (λ (x : Item). cond (same_value place x.place) x.size (pos 0))))
-    (All-map (IsTerm i) (λ (x : Item). cond (same_value place x.place) x.size (pos 0)) xs
-    (All-weaker (λ (x : Item). IsWithin i x.size) (λ (x : Item). IsTerm i (cond (same_value place x.place) x.size (pos 0)))
-    (λ x g. term_if i (same_value place x.place) x.size g) xs h))
+-- the load of a bin, where each size lies in the interval
+pub load_within : (i : Interval) (r : ℕ) (bin : Value) (xs : List Item) → length xs ≤ r → All (λ (x : Item). IsWithin i x.size) xs → IsWithin (many r i) (load bin xs)
+load_within i r bin xs le h =
+    total_within i r (map (λ (x : Item). cond (same_value bin x.bin) x.size (pos 0)) xs) (omega (arith, le, length-map xs (λ (x : Item). cond (same_value bin x.bin) x.size (pos 0))))
+    (All-map (IsTerm i) (λ (x : Item). cond (same_value bin x.bin) x.size (pos 0)) xs
+    (All-weaker (λ (x : Item). IsWithin i x.size) (λ (x : Item). IsTerm i (cond (same_value bin x.bin) x.size (pos 0)))
+    (λ x g. term_if i (same_value bin x.bin) x.size g) xs h))
 
 quantified_within : (q : QuantKind) (r : ℕ) (i j : Interval) (xs : List ℕ) (keeps : ℕ → Bool) (bodies : ℕ → List Value) → length xs ≤ r → All (λ x. IsWithin i (int_of (slice_index_or (bodies x) 0 (Int (pos 0))))) xs → IsWithin (quantifier_interval q r i j) (int_of (quantified q xs keeps bodies))
 quantified_within kind.Sum r i j xs keeps bodies le h = sum_within i r xs keeps bodies le h

@@ -250,28 +250,28 @@ module _ (o : Outline) (vs : List ℤ) where
         let members = objects_of (value over s) in
         sum_narrow i over f bs s e (drop n members) (omega (arith, length-drop n members)) (All-drop (Contains members) n members (All-contains_itself members))
 
-    -- the load of a place by any of the items
-    load_narrow : (i : ℕ) (over : Tree) (f : Filter) (bs : Bodies) (s : Setting) → IsEvaluable o vs (tree.Quant i kind.Pack over f bs) s → (place : Value) (xs : List Item) → length xs ≤ length (objects_of (value over s)) → All (λ (x : Item). IsWithin (body_interval o bs 1) x.size) xs → IsNarrow (load place xs)
-    load_narrow i over f bs s e place xs le h =
+    -- the load of a bin by any of the items
+    load_narrow : (i : ℕ) (over : Tree) (f : Filter) (bs : Bodies) (s : Setting) → IsEvaluable o vs (tree.Quant i kind.Pack over f bs) s → (bin : Value) (xs : List Item) → length xs ≤ length (objects_of (value over s)) → All (λ (x : Item). IsWithin (body_interval o bs 1) x.size) xs → IsNarrow (load bin xs)
+    load_narrow i over f bs s e bin xs le h =
         let most = count_reached i kind.Pack over f bs s e in
-        narrow_is (many (reach o over) (body_interval o bs 1)) (load place xs) (whole i kind.Pack over f bs s e)
-        (load_within (body_interval o bs 1) (reach o over) place xs (omega (arith, le, most)) h)
+        narrow_is (many (reach o over) (body_interval o bs 1)) (load bin xs) (whole i kind.Pack over f bs s e)
+        (load_within (body_interval o bs 1) (reach o over) bin xs (omega (arith, le, most)) h)
 
     sizes_within : (i : ℕ) (over : Tree) (f : Filter) (bs : Bodies) (s : Setting) → IsEvaluable o vs (tree.Quant i kind.Pack over f bs) s → All (λ (x : Item). IsWithin (body_interval o bs 1) x.size) (map (packed bs s) (objects_of (value over s)))
     sizes_within i over f bs s e = All-map (λ (x : Item). IsWithin (body_interval o bs 1) x.size) (packed bs s) (objects_of (value over s)) (body_within i kind.Pack over f bs s e 1)
 
-    -- the load of a place by the first n items
-    pub load_front_narrow : (i : ℕ) (over : Tree) (f : Filter) (bs : Bodies) (s : Setting) → IsEvaluable o vs (tree.Quant i kind.Pack over f bs) s → (place : Value) (n : ℕ) → IsNarrow (load place (take n (map (packed bs s) (objects_of (value over s)))))
-    load_front_narrow i over f bs s e place n =
+    -- the load of a bin by the first n items
+    pub load_front_narrow : (i : ℕ) (over : Tree) (f : Filter) (bs : Bodies) (s : Setting) → IsEvaluable o vs (tree.Quant i kind.Pack over f bs) s → (bin : Value) (n : ℕ) → IsNarrow (load bin (take n (map (packed bs s) (objects_of (value over s)))))
+    load_front_narrow i over f bs s e bin n =
         let items = map (packed bs s) (objects_of (value over s)) in
-        load_narrow i over f bs s e place (take n items) (omega (arith, length-take n items, length-map (objects_of (value over s)) (packed bs s)))
+        load_narrow i over f bs s e bin (take n items) (omega (arith, length-take n items, length-map (objects_of (value over s)) (packed bs s)))
         (All-take (λ (x : Item). IsWithin (body_interval o bs 1) x.size) n items (sizes_within i over f bs s e))
 
-    -- the load of a place by all items but the first n
-    pub load_back_narrow : (i : ℕ) (over : Tree) (f : Filter) (bs : Bodies) (s : Setting) → IsEvaluable o vs (tree.Quant i kind.Pack over f bs) s → (place : Value) (n : ℕ) → IsNarrow (load place (drop n (map (packed bs s) (objects_of (value over s)))))
-    load_back_narrow i over f bs s e place n =
+    -- the load of a bin by all items but the first n
+    pub load_back_narrow : (i : ℕ) (over : Tree) (f : Filter) (bs : Bodies) (s : Setting) → IsEvaluable o vs (tree.Quant i kind.Pack over f bs) s → (bin : Value) (n : ℕ) → IsNarrow (load bin (drop n (map (packed bs s) (objects_of (value over s)))))
+    load_back_narrow i over f bs s e bin n =
         let items = map (packed bs s) (objects_of (value over s)) in
-        load_narrow i over f bs s e place (drop n items) (omega (arith, length-drop n items, length-map (objects_of (value over s)) (packed bs s)))
+        load_narrow i over f bs s e bin (drop n items) (omega (arith, length-drop n items, length-map (objects_of (value over s)) (packed bs s)))
         (All-drop (λ (x : Item). IsWithin (body_interval o bs 1) x.size) n items (sizes_within i over f bs s e))
 
 -- Sums, one member more

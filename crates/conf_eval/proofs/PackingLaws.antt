@@ -30,5 +30,5 @@ count_mapped : {X Y : Type 0} (f : X → Y) (xs : List X) → length (map f xs) 
 count_mapped f [] = refl
 count_mapped f (x ∷ xs) = ap suc (count_mapped f xs)
 
-pub load_next : (place : Value) (items : List Packed) (i : ℕ) (x : Packed) → i < length items → x ≡ get_or items i x → load place (drop i (map item_view items)) ≡ size_at place (item_view x) +ℤ load place (drop (i + 1) (map item_view items))
-load_next place items i x h e = ap (load place) (drop_next (map item_view items) i (item_view x) (omega (arith, h, count_mapped item_view items)) (mapped item_view items i x h e))
+pub load_next : (bin : Value) (items : List Packed) (i : ℕ) (x : Packed) → i < length items → x ≡ get_or items i x → load bin (drop i (map item_view items)) ≡ size_at bin (item_view x) +ℤ load bin (drop (i + 1) (map item_view items))
+load_next bin items i x h e = ap (load bin) (drop_next (map item_view items) i (item_view x) (omega (arith, h, count_mapped item_view items)) (mapped item_view items i x h e))

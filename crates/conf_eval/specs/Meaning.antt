@@ -134,16 +134,16 @@ abbrev pub first_of : List Value → Value
 first_of [] = Truth false
 first_of (v ∷ vs) = v
 
--- one member of a packing: its place, its size and its room
+-- one member of a packing: its bin, its size and its room
 pub record Item : Type 0 where
-  pub place : Value
+  pub bin : Value
   pub size : ℤ
   pub room : ℤ
 
 abbrev pub item_of : List Value → Item
 item_of vs =
     record {
-      place = first_of vs;
+      bin = first_of vs;
       size = int_of (slice_index_or vs 1 (Int (pos 0)));
       room = int_of
           (slice_index_or vs 2 (Int (pos 0)));
@@ -158,14 +158,14 @@ abbrev pub all_differ : List Value → Bool
 all_differ [] = true
 all_differ (v ∷ vs) = not (list_any (same_value v) vs) && all_differ vs
 
--- the sizes of the items at this place, the others give 0
+-- the sizes of the items at this bin, the others give 0
 abbrev pub load : Value → List Item → ℤ
-load place xs = total (map (λ (x : Item). cond (same_value place x.place) x.size (pos 0)) xs)
+load bin xs = total (map (λ (x : Item). cond (same_value bin x.bin) x.size (pos 0)) xs)
 
--- for each item the sizes at its place add up to at most its room
+-- for each item the sizes at its bin add up to at most its room
 abbrev pub fits_all : List Item → List Item → Bool
 fits_all all [] = true
-fits_all all (x ∷ xs) = int_le (load x.place all) x.room && fits_all all xs
+fits_all all (x ∷ xs) = int_le (load x.bin all) x.room && fits_all all xs
 
 abbrev pub all_true : List Value → Bool
 all_true vs = list_all truth_of vs

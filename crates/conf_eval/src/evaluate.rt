@@ -659,10 +659,10 @@ fn item_at(
     ensures item { IfOk result (λ item. item_view item
         ≡ item_of (values_of (trees_of body.now) (setting_at scene.now vars.now))) }
 {
-    let place = first_at(alloc, scene, vars, body)?;
+    let bin = first_at(alloc, scene, vars, body)?;
     let size = number_at(alloc, scene, vars, body, 1)?;
     let room = number_at(alloc, scene, vars, body, 2)?;
-    Ok(Item { place, size, room })
+    Ok(Item { bin, size, room })
 }
 
 /// The variables of the quantifiers round an expression, with room for one more.

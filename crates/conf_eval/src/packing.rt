@@ -17,10 +17,10 @@ pub(crate) struct Sum {
     pub value: i64,
 }
 
-/// What a member packs: its place, its size and its room.
+/// What a member packs: its bin, its size and its room.
 #[derive(Drop)]
 pub(crate) struct Item {
-    pub place: Value,
+    pub bin: Value,
     pub size: Sum,
     pub room: Sum,
 }
@@ -91,37 +91,37 @@ pub(crate) fn all_differ(values: &[Value]) -> bool
     true
 }
 
-/// The size of an item at this place, 0 at another.
-fn size_at(place: &Value, item: &Item) -> Sum
-    ensures size { result.value ≡ size_at place.now (item_view item.now) }
+/// The size of an item at this bin, 0 at another.
+fn size_at(bin: &Value, item: &Item) -> Sum
+    ensures size { result.value ≡ size_at bin.now (item_view item.now) }
 {
-    if same_value(place, &item.place) {
+    if same_value(bin, &item.bin) {
         item.size
     } else {
         Sum { value: 0 }
     }
 }
 
-/// The sizes of the items at this place.
-fn load(place: &Value, items: &[Item]) -> Sum
-    requires small { (i : ℕ) → IsNarrow (load place.now (drop i (map item_view items.now))) }
-    ensures load { result.value ≡ load place.now (map item_view items.now) }
+/// The sizes of the items at this bin.
+fn load(bin: &Value, items: &[Item]) -> Sum
+    requires small { (i : ℕ) → IsNarrow (load bin.now (drop i (map item_view items.now))) }
+    ensures load { result.value ≡ load bin.now (map item_view items.now) }
 {
     let mut sum = Sum { value: 0 };
     for item in items {
-        sum = plus(sum, size_at(place, item));
+        sum = plus(sum, size_at(bin, item));
     }
     sum
 }
 
-/// Whether for each item the sizes at its place add up to at most its room.
+/// Whether for each item the sizes at its bin add up to at most its room.
 pub(crate) fn fits_all(items: &[Item]) -> bool
-    requires small { (place : AValue) → (i : ℕ)
-        → IsNarrow (load place (drop i (map item_view items.now))) }
+    requires small { (bin : AValue) → (i : ℕ)
+        → IsNarrow (load bin (drop i (map item_view items.now))) }
     ensures fits { result ≡ fits_all (map item_view items.now) (map item_view items.now) }
 {
     for item in items {
-        if load(&item.place, items).value > item.room.value {
+        if load(&item.bin, items).value > item.room.value {
             return false;
         }
     }

@@ -4,7 +4,7 @@ use Rattle.std.specs.Prelude.{◌&&◌}
 use Rattle.std.specs.List.{list_all, sum_by}
 use Rattle.std.proofs.lemmas.List.Elements.{All-head, All-tail}
 use Rattle.std.proofs.lemmas.List.Sums.{sum_by-cons}
-use Rattle.conf_limits.specs.declared.limit.Total.{Total}
+use Rattle.conf_limits.specs.declared.limit.Measured.{Measured}
 use Rattle.conf_limits.specs.Counting.{IsTotalling}
 use Rattle.conf_limits.specs.Limits.{capped, IsTotal}
 use Rattle.conf_limits.proofs.BodyLaws.{next}
@@ -19,7 +19,7 @@ module _ {X : Type 0} (weigh : X → ℕ) (test : X → Bool) where
   and_true false = refl
 
   -- what was counted, and what was counted with one more
-  pub step : (es : List X) (k : ℕ) (e : X) (m n : Total) → k < length es → e ≡ get_or es k e
+  pub step : (es : List X) (k : ℕ) (e : X) (m n : Measured) → k < length es → e ≡ get_or es k e
       → IsTotalling m (sum_by weigh (drop k es)) (sum_by weigh es) (list_all test (drop k es)) (list_all test es)
       → ((w : ℕ) (b : Bool) → IsTotal m w b → IsTotal n (w + weigh e) (b && test e))
       → IsTotalling n (sum_by weigh (drop (k + 1) es)) (sum_by weigh es) (list_all test (drop (k + 1) es)) (list_all test es)
@@ -45,7 +45,7 @@ module _ {X : Type 0} (weigh : X → ℕ) (test : X → Bool) where
   at_end (e ∷ es) zero h = absurd (omega (arith, h))
   at_end (e ∷ es) (suc k) h = at_end es k (omega (arith, h))
 
-  pub done : (es : List X) (k : ℕ) (m : Total) → length es ≤ k
+  pub done : (es : List X) (k : ℕ) (m : Measured) → length es ≤ k
       → IsTotalling m (sum_by weigh (drop k es)) (sum_by weigh es) (list_all test (drop k es)) (list_all test es)
       → IsTotal m (sum_by weigh es) (list_all test es)
   done es k m h t =

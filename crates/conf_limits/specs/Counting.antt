@@ -2,7 +2,7 @@
 use Rattle.std.specs.Prelude.{◌≡◌, ℕ, ◌+◌, ◌-◌, ◌≤◌, nat_eq, Bool, ◌&&◌, Option, Some}
 use Rattle.class_table.specs.Outline.{Outline}
 use Rattle.conf_types.specs.Trees.{Bodies, NoBody, Body}
-use Rattle.conf_limits.specs.declared.limit.Total.{Total}
+use Rattle.conf_limits.specs.declared.limit.Measured.{Measured}
 use Rattle.conf_limits.specs.declared.measure.Bodies.{Bodies as BodiesMeasure}
 use Rattle.conf_limits.specs.Limits.{AreBodiesThere, bodies_size, capped, chosen, kept}
 use Rattle.conf_limits.specs.Measures.{Interval, bodies_weight, interval, narrow, none}
@@ -22,7 +22,7 @@ pub record IsMeasuring (o : Outline) (wanted : ℕ) (m : BodiesMeasure) (k : ℕ
   pub interval_is : joined o m.interval left k wanted ≡ joined o (Some none) all 0 wanted
 
 -- with what is left of some constraints or objectives it is that of all
-pub record IsTotalling (m : Total) (left all : ℕ) (left_narrow all_narrow : Bool) : Type 0 where
+pub record IsTotalling (m : Measured) (left all : ℕ) (left_narrow all_narrow : Bool) : Type 0 where
   pub light : left ≤ all
   pub weight_is : m.weight ≡ capped (all - left)
   pub narrow_is : m.narrow && left_narrow ≡ all_narrow

@@ -12,7 +12,7 @@ use Rattle.conf_types.specs.Programs.{ResolvedConstraint, ResolvedGoal}
 use Rattle.conf_types.specs.Trees.{Tree, Filter, NoFilter, Where, Bodies, NoBody, Body}
 use Rattle.conf_types.specs.Trees as tree
 use Rattle.conf_limits.specs.declared.limit.LimitFault.{LimitFault}
-use Rattle.conf_limits.specs.declared.limit.Total.{Total}
+use Rattle.conf_limits.specs.declared.limit.Measured.{Measured}
 use Rattle.conf_limits.specs.declared.limit.LimitFault.TheVariants.{TooHeavy, TooWide}
 use Rattle.conf_limits.specs.declared.measure.Measure.{Measure}
 use Rattle.conf_limits.specs.declared.measure.Bodies.{Bodies as BodiesMeasure}
@@ -153,6 +153,6 @@ pub record IsBodiesMeasure (m : BodiesMeasure) (o : Outline) (k : ℕ) (bs : Bod
   pub interval_is : m.interval ≡ kept (bodies_narrow o bs) (body_interval o bs k)
 
 -- what is measured of some constraints or objectives
-pub record IsTotal (m : Total) (weight : ℕ) (narrow : Bool) : Type 0 where
+pub record IsTotal (m : Measured) (weight : ℕ) (narrow : Bool) : Type 0 where
   pub weight_is : m.weight ≡ capped weight
   pub narrow_is : m.narrow ≡ narrow

@@ -25,7 +25,7 @@ pub enum LimitFault {
 
 /// What is measured of some constraints or objectives.
 #[derive(Clone, Copy, Debug)]
-pub(crate) struct Total {
+pub(crate) struct Measured {
     pub weight: u64,
     pub narrow: bool,
 }
@@ -42,24 +42,24 @@ fn times_stated(objects: &Objects<'_>, class: Option<u32>) -> u64
 }
 
 /// With one more expression, which is stated so many times.
-fn with_stated(so_far: Total, times: u64, found: Measure) -> Total
+fn with_stated(so_far: Measured, times: u64, found: Measure) -> Measured
     ensures { (o : Outline) (t : Tree) (w n : ℕ) (b : Bool) → times ≡ capped n → IsMeasure found o t
         → IsTotal so_far w b → IsTotal result (w + n * weight o t) (b && narrow o t) }
 {
     let weight = capped_product(times, found.weight);
-    Total {
+    Measured {
         weight: capped_sum(so_far.weight, weight),
         narrow: so_far.narrow && found.interval.is_some(),
     }
 }
 
 /// What is measured of some constraints.
-fn of_constraints(objects: &Objects<'_>, list: &[Constraint]) -> Total
+fn of_constraints(objects: &Objects<'_>, list: &[Constraint]) -> Measured
     requires there { All (IsConstraintThere objects.now) list.now }
     ensures total { IsTotal result (sum_by (constraint_weight objects.now) list.now)
         (list_all (constraint_narrow objects.now) list.now) }
 {
-    let mut total = Total {
+    let mut total = Measured {
         weight: 0,
         narrow: true,
     };
@@ -71,12 +71,12 @@ fn of_constraints(objects: &Objects<'_>, list: &[Constraint]) -> Total
 }
 
 /// What is measured of some objectives.
-fn of_goals(objects: &Objects<'_>, list: &[Goal]) -> Total
+fn of_goals(objects: &Objects<'_>, list: &[Goal]) -> Measured
     requires there { All (IsGoalThere objects.now) list.now }
     ensures total { IsTotal result (sum_by (goal_weight objects.now) list.now)
         (list_all (goal_narrow objects.now) list.now) }
 {
-    let mut total = Total {
+    let mut total = Measured {
         weight: 0,
         narrow: true,
     };
@@ -87,7 +87,11 @@ fn of_goals(objects: &Objects<'_>, list: &[Goal]) -> Total
 }
 
 /// What is measured of a model.
-pub(crate) fn of_model(objects: &Objects<'_>, constraints: &[Constraint], goals: &[Goal]) -> Total
+pub(crate) fn of_model(
+    objects: &Objects<'_>,
+    constraints: &[Constraint],
+    goals: &[Goal],
+) -> Measured
     requires typed { IsTypedModel objects.now constraints.now goals.now }
     ensures total { IsTotal result (model_weight objects.now constraints.now goals.now)
         (model_narrow objects.now constraints.now goals.now) }
@@ -95,7 +99,7 @@ pub(crate) fn of_model(objects: &Objects<'_>, constraints: &[Constraint], goals:
     let _objects = objects.count();
     let stated = of_constraints(objects, constraints);
     let wanted = of_goals(objects, goals);
-    Total {
+    Measured {
         weight: capped_sum(stated.weight, wanted.weight),
         narrow: stated.narrow && wanted.narrow,
     }

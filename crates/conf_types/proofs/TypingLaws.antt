@@ -4,8 +4,8 @@ use Rattle.std.specs.Option.{option_map_or}
 use Rattle.std.proofs.lemmas.Bool.{lt-ltb, eq-eqb, and_from}
 use Rattle.std.proofs.lemmas.Int.{ints}
 use Rattle.std.proofs.lemmas.List.Quantifiers.{position-Some}
-use Rattle.class_table.specs.declared.names.Meaning.{Meaning}
-use Rattle.class_table.specs.declared.names.Meaning.TheVariants as meaning
+use Rattle.class_table.specs.declared.names.NameMeaning.{NameMeaning}
+use Rattle.class_table.specs.declared.names.NameMeaning.TheVariants as meaning
 use Rattle.class_table.specs.declared.table.Enumeration.{Enumeration}
 use Rattle.class_table.specs.declared.table.Resolved.{Resolved}
 use Rattle.class_table.specs.declared.table.Resolved.TheVariants as shape
@@ -150,7 +150,7 @@ local_holds o p w (v ∷ vs) front (c ∷ cs) other e h g =
     local_holds o p w vs (front ++ c ∷ []) cs (cond (same_name w v.0) (ALocal (length vs) v.1) other) (e ∙ shifted front cs c) h.1
     (holds_cond o p (same_name w v.0) (ALocal (length vs) v.1) other here g)
 
-declared_holds : (o : Outline) (p : Place) (m : Option Meaning) → IsMeant (length o.classes) (length o.enumerations) (length o.roots) m → Holds o p (declared_sense o m)
+declared_holds : (o : Outline) (p : Place) (m : Option NameMeaning) → IsMeant (length o.classes) (length o.enumerations) (length o.roots) m → Holds o p (declared_sense o m)
 declared_holds o p (Some (meaning.Variable v)) h = variable_typed o.roots v h
 declared_holds o p (Some (meaning.Enumeration e)) h = tt
 declared_holds o p (Some (meaning.Class c)) h = lt-ltb c (length o.classes) h

@@ -1,8 +1,8 @@
 -- What a word at the head of an expression means where it stands: the first of these that fits is a
 -- quantifier's variable, an attribute of `this`, a top-level variable, an enumeration, a class.
 use Rattle.std.specs.Prelude.{ℕ, cond, List, [], ◌∷◌, ◌++◌, Option, None, Some, length, map, position, slice_index_or}
-use Rattle.class_table.specs.declared.names.Meaning.{Meaning}
-use Rattle.class_table.specs.declared.names.Meaning.TheVariants as meaning
+use Rattle.class_table.specs.declared.names.NameMeaning.{NameMeaning}
+use Rattle.class_table.specs.declared.names.NameMeaning.TheVariants as meaning
 use Rattle.class_table.specs.declared.table.Resolved.{Resolved}
 use Rattle.class_table.specs.declared.table.Resolved.TheVariants as shape
 use Rattle.class_table.specs.declared.table.Variable.{Variable}
@@ -61,7 +61,7 @@ own_or other (Some f) = AnOwn f.number f.shape
 own_or other None = other
 
 -- what a name of the one space of classes, enumerations and top-level variables means
-abbrev pub declared_sense : Outline → Option Meaning → Sense
+abbrev pub declared_sense : Outline → Option NameMeaning → Sense
 declared_sense o (Some (meaning.Variable v)) = ARoot v (shape_at o.roots v)
 declared_sense o (Some (meaning.Enumeration e)) = AnEnumeration e
 declared_sense o (Some (meaning.Class c)) = AClass c

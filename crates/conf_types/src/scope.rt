@@ -13,7 +13,7 @@ ghost use Rattle.conf_types.specs.Checked.{scope_of, local_of, locals_of, told, 
 ghost use Rattle.conf_types.specs.Scopes.{ALocal, attribute_named, own_named, own_or, local_or, declared_sense, sense, within};
 ghost use Rattle.conf_types.specs.Readings.{alone};
 
-use class_table::{ClassTable, Meaning, Resolved};
+use class_table::{ClassTable, NameMeaning, Resolved};
 use conf_syntax::{Expr, Name, Node};
 use std::alloc::{AllocError, Global};
 
@@ -113,9 +113,9 @@ fn declared_sense(table: &ClassTable, name: &Name) -> Sense
     ensures exists { IsSenseOf table.now result }
 {
     match table.meaning(name) {
-        Some(Meaning::Variable(root)) => Sense::Root(root, table.root(root).shape),
-        Some(Meaning::Enumeration(enumeration)) => Sense::Enumeration(enumeration),
-        Some(Meaning::Class(class)) => Sense::Class(class),
+        Some(NameMeaning::Variable(root)) => Sense::Root(root, table.root(root).shape),
+        Some(NameMeaning::Enumeration(enumeration)) => Sense::Enumeration(enumeration),
+        Some(NameMeaning::Class(class)) => Sense::Class(class),
         None => Sense::Nothing,
     }
 }

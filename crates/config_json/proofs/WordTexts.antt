@@ -15,7 +15,7 @@ use Rattle.class_table.specs.declared.table.Enumeration.{Enumeration}
 use Rattle.class_table.specs.declared.table.Resolved.{Resolved}
 use Rattle.class_table.specs.declared.table.Resolved.TheVariants.{Span, Truth, Choice, One, Many, Ref, RefSet}
 use Rattle.class_table.specs.declared.table.Variable.{Variable}
-use Rattle.class_table.specs.declared.names.Meaning.TheVariants as meaning
+use Rattle.class_table.specs.declared.names.NameMeaning.TheVariants as meaning
 use Rattle.class_table.specs.Names.{means}
 use Rattle.class_table.specs.Outline.{Outline, attributes}
 use Rattle.class_table.specs.Same.{same_name}

@@ -24,7 +24,7 @@ use crate::object::{Cell, Inside, Leaf, Object, ObjectList};
 use crate::paths::push_path;
 use crate::queue::{has_deep, queue_all};
 use crate::shapes::{class_of, shape_at, variable_count};
-use crate::spots::{Spot, Spots, part_at, spots_of};
+use crate::spots::{Held, Spots, part_at, spots_of};
 use class_table::{ClassTable, Resolved};
 use conf_syntax::PathText;
 use std::alloc::{AllocError, Global};
@@ -217,7 +217,7 @@ impl<'t> Objects<'t> {
         ensures part { (d : AnObject) → IsPart owner k element
             (slice_index_or (all_objects self.now) result d) }
     {
-        let spot = Spot {
+        let spot = Held {
             owner,
             attribute: k,
             element,

@@ -11,14 +11,14 @@ use std::alloc::{AllocError, Global};
 /// Where an object is held: an element of an attribute of its owner, or of a variable of the top
 /// level.
 #[derive(Clone, Copy, Debug, PartialEq, Eq, Hash)]
-pub(crate) struct Spot {
+pub(crate) struct Held {
     pub owner: Option<u32>,
     pub attribute: u32,
     pub element: u32,
 }
 
 /// The numbers of objects, by their spots.
-pub(crate) type Spots = IndexMap<Spot, u32>;
+pub(crate) type Spots = IndexMap<Held, u32>;
 
 /// The spots of these objects.
 pub(crate) fn spots_of(alloc: Global, objects: &[Object]) -> Result<Spots, AllocError>
@@ -27,7 +27,7 @@ pub(crate) fn spots_of(alloc: Global, objects: &[Object]) -> Result<Spots, Alloc
     let mut spots = IndexMap::new(alloc);
     for n in 0..objects.len() {
         let object = objects[n];
-        let spot = Spot {
+        let spot = Held {
             owner: object.owner,
             attribute: object.attribute,
             element: object.element,
@@ -38,7 +38,7 @@ pub(crate) fn spots_of(alloc: Global, objects: &[Object]) -> Result<Spots, Alloc
 }
 
 /// Whether the object of this number has this spot.
-fn is_at(objects: &[Object], n: u32, spot: Spot) -> bool
+fn is_at(objects: &[Object], n: u32, spot: Held) -> bool
     ensures there { IsTrue result → n < length objects.now }
     ensures part { IsTrue result → (d : AnObject) → IsPart spot.owner spot.attribute spot.element
         (slice_index_or objects.now n d) }
@@ -56,7 +56,7 @@ fn is_at(objects: &[Object], n: u32, spot: Spot) -> bool
 
 /// The number of the object that has this spot. The look-up gives it at once; it is only tested
 /// here.
-pub(crate) fn part_at(objects: &[Object], spots: &Spots, spot: Spot) -> u32
+pub(crate) fn part_at(objects: &[Object], spots: &Spots, spot: Held) -> u32
     requires part { HasPart objects.now spot.owner spot.attribute spot.element }
     requires few { length objects.now ≤ most_objects }
     ensures there { result < length objects.now }
@@ -72,7 +72,7 @@ pub(crate) fn part_at(objects: &[Object], spots: &Spots, spot: Spot) -> u32
 }
 
 /// The number of the object that has this spot, by a look at each.
-fn search(objects: &[Object], spot: Spot) -> u32
+fn search(objects: &[Object], spot: Held) -> u32
     requires part { HasPart objects.now spot.owner spot.attribute spot.element }
     requires few { length objects.now ≤ most_objects }
     ensures there { result < length objects.now }

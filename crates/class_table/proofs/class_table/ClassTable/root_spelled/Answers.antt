@@ -1,5 +1,5 @@
 use Rattle.std.proofs.Common.{◌≡◌, ◌<◌, Some, length, sym, ap, ◌∙◌, subst}
-use Rattle.class_table.specs.declared.names.Meaning.TheVariants as meaning
+use Rattle.class_table.specs.declared.names.NameMeaning.TheVariants as meaning
 use Rattle.class_table.specs.Names.{means}
 use Rattle.class_table.specs.Tables.{IsMeant}
 use Rattle.class_table.proofs.class_table.ClassTable.root_spelled.Goals as goal
