@@ -17,7 +17,7 @@ use Rattle.box_rules.specs.Refuted.{none_picked, excluded}
 use Rattle.rule_law.specs.Reasons.{Acts, IsReason}
 use Rattle.rule_law.specs.Plans.{literals_of}
 use Rattle.box_view.proofs.EndLaws.{single_has}
-use Rattle.box_view.proofs.Leaving.{less_within, missing_within, less_disjoint, missed_by_rest, has_one, one_within, left_over, value_valid}
+use Rattle.box_view.proofs.Leaving.{less_within, missing_within, less_disjoint, disjoint_rest, has_one, one_within, left_over, value_valid}
 use Rattle.rule_law.proofs.PlanLaws.{ArePlanned, plan_reason, plan_acts_head, plan_acts_tail, plan_acts_over}
 use Rattle.rule_law.proofs.FlagPlans.{AreGood, are_good, in_domain}
 use Rattle.element_prop.specs.Elements.{HasToPick, pick_plan}
@@ -175,7 +175,7 @@ out_reason con domains boxes o x items i d t lt named yx ox oy h =
     subst (λ (k : Con). IsReason k domains boxes (literals_of domains (pick_plan domains boxes x ((v, v) ∷ []) o y))) (sym t.is)
     (pick_reason (ElementDef o x items) domains boxes x o y v pick h (λ rest e f k.
     pick_rule (box_of rest o) (box_of rest x) items i d rest lt t.distinct e
-    (ap (λ (z : Ranges). is_disjoint z (box_of rest o)) k ∙ ap (λ (z : Ranges). is_disjoint (box_of boxes y) z) f ∙ missed_by_rest (box_of domains o) (box_of boxes y) (g.wide o) (g.narrow y))))
+    (ap (λ (z : Ranges). is_disjoint z (box_of rest o)) k ∙ ap (λ (z : Ranges). is_disjoint (box_of boxes y) z) f ∙ disjoint_rest (box_of domains o) (box_of boxes y) (g.wide o) (g.narrow y))))
 
 pub element_named : (con : Con) (domains : Boxes) (o x : ℕ) (items list : List (ℤ × ℕ)) → con ≡ ElementDef o x items → IsWellMadeCon domains con → list ≡ items → (x < length domains) × All (λ t. t.1 < length domains) list
 element_named con domains o x items list e w i =

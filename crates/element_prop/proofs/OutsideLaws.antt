@@ -46,14 +46,14 @@ apart_from items y z h k e = let no : has_number y (term_vars items) ≡ false =
 none_else : (out index : Ranges) (y : ℕ) (items : List (ℤ × ℕ)) (boxes rest : Boxes) → is_disjoint (box_of rest y) out ≡ true → all_meet items out index boxes ≡ true → some_other items y out index boxes ≡ false → none_picked out index items rest ≡ true
 none_else out index y [] boxes rest h m n = refl
 none_else out index y (t ∷ ts) boxes rest h m n =
-    let can = has index t.0 in let missed = is_disjoint (box_of boxes t.1) out in
-    let parts = and_parts (not can || not missed) (all_meet ts out index boxes) m in
-    let here : (not (t.1 == y) && (can && not missed)) ≡ false = grind arith in
+    let can = has index t.0 in let disjoint = is_disjoint (box_of boxes t.1) out in
+    let parts = and_parts (not can || not disjoint) (all_meet ts out index boxes) m in
+    let here : (not (t.1 == y) && (can && not disjoint)) ≡ false = grind arith in
     let more : some_other ts y out index boxes ≡ false = grind arith in
-    let P : Bool → Type 0 = λ b. (t.1 == y) ≡ b → (not b && (can && not missed)) ≡ false → (not can || is_disjoint (box_of rest t.1) out) ≡ true in
+    let P : Bool → Type 0 = λ b. (t.1 == y) ≡ b → (not b && (can && not disjoint)) ≡ false → (not can || is_disjoint (box_of rest t.1) out) ≡ true in
     and_from (not can || is_disjoint (box_of rest t.1) out) (none_picked out index ts rest) ((elim (t.1 == y) as P [
       | true ↦ λ e k. either_true (not can) (is_disjoint (box_of rest t.1) out) (ap (λ (z : ℕ). is_disjoint (box_of rest z) out) (by_test t.1 y e) ∙ h)
-      | false ↦ λ e k. unpicked can missed (is_disjoint (box_of rest t.1) out) k parts.0
+      | false ↦ λ e k. unpicked can disjoint (is_disjoint (box_of rest t.1) out) k parts.0
     ]) refl here) (none_else out index y ts boxes rest h parts.1 more)
   where
     by_test : (p q : ℕ) → (p == q) ≡ true → p ≡ q

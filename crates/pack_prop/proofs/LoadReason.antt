@@ -136,7 +136,7 @@ pub bin_said : (domains boxes : Boxes) (y : ℕ) (s : Ranges) → AreOver domain
 bin_said domains boxes y s o n f w = record {
   named = n;
   valid = f;
-  missed = (disjoint_law s (box_of boxes y) f (o.box_sets y)).1 (λ v q. false_from_ne_true (has (box_of boxes y) v) (λ t. let is = w v in grind arith));
+  disjoint = (disjoint_law s (box_of boxes y) f (o.box_sets y)).1 (λ v q. false_from_ne_true (has (box_of boxes y) v) (λ t. let is = w v in grind arith));
 }
 
 pub bin_fixed : (domains boxes : Boxes) (y : ℕ) (v : ℤ) (s : Ranges) (ls : Literals) → AreOver domains boxes → y < length boxes → AreCollected boxes ls → MaySay boxes y s →
