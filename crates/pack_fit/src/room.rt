@@ -19,7 +19,7 @@ ghost use Rattle.signed_clause.specs.Ranges.{is_nil, IsValid};
 ghost use Rattle.signed_clause.specs.Clauses.{box_of};
 ghost use Rattle.ground_form.specs.Meaning.{item_vars};
 ghost use Rattle.ground_form.specs.Bounds.{low_of, high_of};
-ghost use Rattle.box_rules.specs.Refuted.{fixed_load, first_place, last_place, least_sizes};
+ghost use Rattle.box_rules.specs.Refuted.{fixed_load, first_bin, last_bin, least_sizes};
 ghost use Rattle.box_rules.specs.Named.{AreItemsNamed, IsItemNamed};
 ghost use Rattle.rule_law.specs.Repeats.{is_one};
 ghost use Rattle.pack_fit.specs.Packing.{tight_room, fits, all_fit, growth};
@@ -248,7 +248,7 @@ fn growth_of(items: &[(u32, u32, u32)], boxes: &[IntSet]) -> Total
 /// The least of the number and what the bins' boxes begin with.
 pub fn first_bin(items: &[(u32, u32, u32)], boxes: &[IntSet], from: Number) -> Number
     requires { AreItemsNamed items.now boxes.now }
-    ensures value { result.value ≡ first_place from.value items.now boxes.now }
+    ensures value { result.value ≡ first_bin from.value items.now boxes.now }
     ensures order { result.value ≤ℤ from.value }
 {
     let mut first = from;
@@ -261,7 +261,7 @@ pub fn first_bin(items: &[(u32, u32, u32)], boxes: &[IntSet], from: Number) -> N
 /// The greatest of the number and what the bins' boxes end with.
 pub fn last_bin(items: &[(u32, u32, u32)], boxes: &[IntSet], from: Number) -> Number
     requires { AreItemsNamed items.now boxes.now }
-    ensures value { result.value ≡ last_place from.value items.now boxes.now }
+    ensures value { result.value ≡ last_bin from.value items.now boxes.now }
     ensures order { from.value ≤ℤ result.value }
 {
     let mut last = from;
@@ -290,9 +290,9 @@ pub fn bins_of(
 ) -> (Number, Number)
     requires items { AreItemsNamed items.now boxes.now }
     requires head { IsItemNamed head boxes.now }
-    ensures first { result.0.value ≡ first_place (low_of (box_of boxes.now head.0)) items.now
+    ensures first { result.0.value ≡ first_bin (low_of (box_of boxes.now head.0)) items.now
         boxes.now }
-    ensures last { result.1.value ≡ last_place (high_of (box_of boxes.now head.0)) items.now
+    ensures last { result.1.value ≡ last_bin (high_of (box_of boxes.now head.0)) items.now
         boxes.now }
     ensures order { result.0.value ≤ℤ result.1.value }
 {

@@ -6,8 +6,8 @@ use Rattle.std.proofs.lemmas.Int.{ints}
 use Rattle.signed_clause.specs.Ranges.{has}
 use Rattle.signed_clause.specs.Clauses.{Boxes, box_of}
 use Rattle.ground_form.specs.Bounds.{low_of, high_of}
-use Rattle.box_rules.specs.Refuted.{first_place, last_place, least_sizes}
-use Rattle.box_rules.proofs.PackLaws.{first_place-le, last_place-ge}
+use Rattle.box_rules.specs.Refuted.{first_bin, last_bin, least_sizes}
+use Rattle.box_rules.proofs.PackLaws.{first_bin-le, last_bin-ge}
 use Rattle.pack_prop.specs.declared.best_rooms.Best.{Best}
 use Rattle.pack_prop.specs.Tight.{IsBest, AreBestRooms, firsts, seconds, lefts, all_grow, may_be_in, may_move, may_shrink, all_loose, IsBetween, HasEach}
 use Rattle.rule_law.specs.Repeats.{is_one}
@@ -36,11 +36,11 @@ no_length v bs e = subst (λ (z : List Best). v +ℤ pos (length z) ≡ v) (sym 
 
 -- ---- bins lie among the values
 
-pub bins_between : (v w start end : ℤ) (is : List (ℕ × ℕ × ℕ)) (boxes : Boxes) → start ≤ℤ first_place v is boxes → last_place w is boxes <ℤ end → All (λ i. IsBetween start end i boxes) is
+pub bins_between : (v w start end : ℤ) (is : List (ℕ × ℕ × ℕ)) (boxes : Boxes) → start ≤ℤ first_bin v is boxes → last_bin w is boxes <ℤ end → All (λ i. IsBetween start end i boxes) is
 bins_between v w start end [] boxes h l k d lt = absurd (omega arith)
 bins_between v w start end (i ∷ is) boxes h l zero d lt =
-    let first = first_place-le (int_min v (low_of (box_of boxes i.0))) is boxes in
-    let last = last_place-ge (int_max w (high_of (box_of boxes i.0))) is boxes in
+    let first = first_bin-le (int_min v (low_of (box_of boxes i.0))) is boxes in
+    let last = last_bin-ge (int_max w (high_of (box_of boxes i.0))) is boxes in
     record { low = grind (arith, ints); high = grind (arith, ints) }
 bins_between v w start end (i ∷ is) boxes h l (suc k) d lt =
     bins_between (int_min v (low_of (box_of boxes i.0))) (int_max w (high_of (box_of boxes i.0))) start end is boxes h l k d (omega arith)
@@ -51,7 +51,7 @@ none_from : {X : Type 0} (r : Option X) (A B C D : Type 0) → (A → B → C �
 none_from None A B C D f a b c = f a b c
 none_from (Some x) A B C D f a b c = tt
 
-pub each_enough : {X : Type 0} (r : Option X) (items : List (ℕ × ℕ × ℕ)) (boxes : Boxes) (v w start last : ℤ) (rows : List Best) → start ≡ first_place v items boxes → last ≡ last_place w items boxes →
+pub each_enough : {X : Type 0} (r : Option X) (items : List (ℕ × ℕ × ℕ)) (boxes : Boxes) (v w start last : ℤ) (rows : List Best) → start ≡ first_bin v items boxes → last ≡ last_bin w items boxes →
     AreBestRooms start rows items boxes → start +ℤ pos (length rows) ≡ last +ℤ pos 1 → IfNone r (least_sizes items boxes ≤ℤ firsts rows) → IfNone r (all_grow (least_sizes items boxes) (firsts rows) items boxes ≡ true) →
     IfNone r (all_loose (least_sizes items boxes) rows items boxes ≡ true) → IfNone r (HasEach items boxes)
 each_enough r items boxes v w start last rows e f best_rooms all enough grow loose =

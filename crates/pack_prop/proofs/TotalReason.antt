@@ -62,8 +62,8 @@ part_over domains boxes items x s p =
 pub part_named : (boxes : Boxes) (x : ℕ) (s : Ranges) (items : List (ℕ × ℕ × ℕ)) → AreItemsNamed items boxes → AreItemsNamed items (with_part boxes x s)
 part_named boxes x s items h k d lt =
     let size = set_length boxes x s in let i = h k d lt in
-    let place = i.place in let size_var = i.size in let room = i.room in record {
-      place = omega arith;
+    let bin = i.bin in let size_var = i.size in let room = i.room in record {
+      bin = omega arith;
       size = omega arith;
       room = omega arith;
     }
@@ -228,7 +228,7 @@ pub short_said : (items : List (ℕ × ℕ × ℕ)) (domains boxes : Boxes) (k :
     IsValid s → ((v : ℤ) → has s v ≡ (has (box_of domains (slice_index_or items k (0, 0, 0)).0) v && is_short v h row)) → AreBest row items boxes → MaySay boxes (slice_index_or items k (0, 0, 0)).0 s
 short_said items domains boxes k h row s o n u e f w b =
     let i = slice_index_or items k (0, 0, 0) in record {
-      named = (n k (0, 0, 0) u).place;
+      named = (n k (0, 0, 0) u).bin;
       valid = f;
       disjoint = (disjoint_law s (box_of boxes i.0) f (o.box_sets i.0)).1 (λ v q. false_from_ne_true (has (box_of boxes i.0) v) (λ t.
           let is = w v in let short : is_short v h row ≡ true = grind arith in

@@ -19,7 +19,7 @@ use std::alloc::{AllocError, Global};
 /// What is kept between calls.
 #[derive(Drop)]
 pub struct Kept {
-    /// What is kept of places that differ.
+    /// What is kept of variables that differ.
     pub all_different: AllDifferent,
     /// The greatest rooms of values.
     pub best_rooms: BestRooms,
@@ -48,7 +48,7 @@ impl Kept {
     }
 }
 
-/// Prunes by places that differ and by items to be packed.
+/// Prunes by variables that differ and by items to be packed.
 pub struct PackProp {
     alloc: Global,
     kept: Kept,

@@ -1,4 +1,4 @@
--- No interval holds more boxes than there are places.
+-- No interval holds more boxes than there are variables.
 use Rattle.std.proofs.Common.{◌≡◌, ℕ, suc, ◌≤◌, true, false, ◌&&◌, cond, List, [], ◌∷◌, ℤ, pos, ◌+ℤ◌, ◌-ℤ◌, length, arith}
 use Rattle.std.specs.Prelude.{int_le, int_lt}
 use Rattle.std.proofs.lemmas.Int.{ints}
@@ -14,6 +14,6 @@ few a b (x ∷ xs) boxes =
       | false ↦ omega arith
     ]
 
--- so one of as many numbers as there are places isn't crowded
+-- so one of as many numbers as there are variables isn't crowded
 pub no_more : (a b : ℤ) (xs : List ℕ) (boxes : Boxes) → (int_le a b && int_lt ((b -ℤ a) +ℤ pos 1) (pos (length xs))) ≡ false → crowded a b xs boxes ≡ false
 no_more a b xs boxes h = let n = few a b xs boxes in grind (arith, ints)
