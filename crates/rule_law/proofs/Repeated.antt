@@ -78,10 +78,10 @@ rise_on low top x i xs is le h =
 
 -- ---- where none stands twice
 
-none_twice : (xs : List ℕ) → ((x : ℕ) → is_repeated x xs ≡ false) → no_repeat xs ≡ true
-none_twice [] h = refl
-none_twice (x ∷ xs) h =
-    let more = none_twice xs (λ y. let here = h y in grind arith) in
+none_repeated : (xs : List ℕ) → ((x : ℕ) → is_repeated x xs ≡ false) → no_repeat xs ≡ true
+none_repeated [] h = refl
+none_repeated (x ∷ xs) h =
+    let more = none_repeated xs (λ y. let here = h y in grind arith) in
     let P : Bool → Type 0 = λ b. has_number x xs ≡ b → (not b && no_repeat xs) ≡ true in
     (elim (has_number x xs) as P [
       | true ↦ λ e. let self : (x == x) ≡ true = grind (arith, nat_tests) in absurd (let bad = h x in grind arith)
@@ -108,28 +108,28 @@ open_number x (y ∷ xs) boxes h =
           ]) refl k
     ]) refl h
 
-open_twice : (x : ℕ) (xs : List ℕ) (boxes : Boxes) → is_repeated x (open_vars xs boxes) ≡ true → (is_repeated x xs ≡ true) × (is_one (box_of boxes x) ≡ false)
-open_twice x [] boxes h = absurd cc
-open_twice x (y ∷ xs) boxes h =
+open_repeated : (x : ℕ) (xs : List ℕ) (boxes : Boxes) → is_repeated x (open_vars xs boxes) ≡ true → (is_repeated x xs ≡ true) × (is_one (box_of boxes x) ≡ false)
+open_repeated x [] boxes h = absurd cc
+open_repeated x (y ∷ xs) boxes h =
     let P : Bool → Type 0 = λ b. is_one (box_of boxes y) ≡ b → is_repeated x (cond b (open_vars xs boxes) (y ∷ open_vars xs boxes)) ≡ true → (is_repeated x (y ∷ xs) ≡ true) × (is_one (box_of boxes x) ≡ false) in
     (elim (is_one (box_of boxes y)) as P [
-      | true ↦ λ e k. let more = open_twice x xs boxes k in let there = more.0 in (grind arith, more.1)
+      | true ↦ λ e k. let more = open_repeated x xs boxes k in let there = more.0 in (grind arith, more.1)
       | false ↦ λ e k.
           let Q : Bool → Type 0 = λ b. (y == x && has_number x (open_vars xs boxes)) ≡ b → (b || is_repeated x (open_vars xs boxes)) ≡ true → (is_repeated x (y ∷ xs) ≡ true) × (is_one (box_of boxes x) ≡ false) in
           (elim (y == x && has_number x (open_vars xs boxes)) as Q [
             | true ↦ λ f m.
                 let parts = and_parts (y == x) (has_number x (open_vars xs boxes)) f in
                 let there = open_number x xs boxes parts.1 in let same = parts.0 in let stands = there.0 in (grind arith, there.1)
-            | false ↦ λ f m. let more = open_twice x xs boxes m in let stands = more.0 in (grind arith, more.1)
+            | false ↦ λ f m. let more = open_repeated x xs boxes m in let stands = more.0 in (grind arith, more.1)
           ]) refl k
     ]) refl h
 
-pub never_twice : (x : ℕ) (xs : List ℕ) → no_repeat xs ≡ true → is_repeated x xs ≡ false
-never_twice x [] h = refl
-never_twice x (y ∷ xs) h =
+pub never_repeated : (x : ℕ) (xs : List ℕ) → no_repeat xs ≡ true → is_repeated x xs ≡ false
+never_repeated x [] h = refl
+never_repeated x (y ∷ xs) h =
     let p = and_parts (not (has_number y xs)) (no_repeat xs) h in
     let none = p.0 in
-    let more = never_twice x xs p.1 in
+    let more = never_repeated x xs p.1 in
     let P : Bool → Type 0 = λ b. (y == x) ≡ b → ((b && has_number x xs) || is_repeated x xs) ≡ false in
     (elim (y == x) as P [
       | true ↦ λ e. let same : y ≡ x = grind (arith, nat_tests) in let gone : has_number y xs ≡ false = grind arith in let here : has_number x xs ≡ false = ap (λ (z : ℕ). has_number z xs) (sym same) ∙ gone in rw (here, more) refl
@@ -155,10 +155,10 @@ stays_open x (y ∷ xs) boxes h =
       | false ↦ λ e. rw more refl
     ]) refl
 
-twice_open : (x : ℕ) (xs : List ℕ) (boxes : Boxes) → is_one (box_of boxes x) ≡ false → is_repeated x (open_vars xs boxes) ≡ is_repeated x xs
-twice_open x [] boxes h = refl
-twice_open x (y ∷ xs) boxes h =
-    let more = twice_open x xs boxes h in
+repeated_open : (x : ℕ) (xs : List ℕ) (boxes : Boxes) → is_one (box_of boxes x) ≡ false → is_repeated x (open_vars xs boxes) ≡ is_repeated x xs
+repeated_open x [] boxes h = refl
+repeated_open x (y ∷ xs) boxes h =
+    let more = repeated_open x xs boxes h in
     let there = stays_open x xs boxes h in
     let P : Bool → Type 0 = λ b. is_one (box_of boxes y) ≡ b → is_repeated x (cond b (open_vars xs boxes) (y ∷ open_vars xs boxes)) ≡ ((y == x && has_number x xs) || is_repeated x xs) in
     (elim (is_one (box_of boxes y)) as P [
@@ -184,46 +184,46 @@ all_one_from (y ∷ xs) boxes h =
     let more = all_one_from xs boxes (λ x k. h x (grind arith)) in rw (here, more) refl
 
 -- the open ones differ where those that stand twice are one value
-ones_differ : (twice xs : List ℕ) (boxes : Boxes) → AreRepeated twice xs → all_one twice boxes ≡ true → no_repeat (open_vars xs boxes) ≡ true
-ones_differ twice xs boxes are ones =
-    none_twice (open_vars xs boxes) (λ x. false_from_ne_true (is_repeated x (open_vars xs boxes)) (λ h.
-    let t = open_twice x xs boxes h in let one = one_at x twice boxes ones (are x ∙ t.0) in let none = t.1 in absurd cc))
+ones_differ : (repeated xs : List ℕ) (boxes : Boxes) → AreRepeated repeated xs → all_one repeated boxes ≡ true → no_repeat (open_vars xs boxes) ≡ true
+ones_differ repeated xs boxes are ones =
+    none_repeated (open_vars xs boxes) (λ x. false_from_ne_true (is_repeated x (open_vars xs boxes)) (λ h.
+    let t = open_repeated x xs boxes h in let one = one_at x repeated boxes ones (are x ∙ t.0) in let none = t.1 in absurd cc))
 
-differ_ones : (twice xs : List ℕ) (boxes : Boxes) → AreRepeated twice xs → no_repeat (open_vars xs boxes) ≡ true → all_one twice boxes ≡ true
-differ_ones twice xs boxes are h =
-    all_one_from twice boxes (λ x k.
+differ_ones : (repeated xs : List ℕ) (boxes : Boxes) → AreRepeated repeated xs → no_repeat (open_vars xs boxes) ≡ true → all_one repeated boxes ≡ true
+differ_ones repeated xs boxes are h =
+    all_one_from repeated boxes (λ x k.
     let P : Bool → Type 0 = λ b. is_one (box_of boxes x) ≡ b → b ≡ true in
     (elim (is_one (box_of boxes x)) as P [
       | true ↦ λ e. refl
-      | false ↦ λ e. absurd (let no = never_twice x (open_vars xs boxes) h in let open_too = twice_open x xs boxes e in let there = are x in cc)
+      | false ↦ λ e. absurd (let no = never_repeated x (open_vars xs boxes) h in let open_too = repeated_open x xs boxes e in let there = are x in cc)
     ]) refl)
 
 -- and nowhere else
-pub open_differ : (twice xs : List ℕ) (boxes : Boxes) → AreRepeated twice xs → all_one twice boxes ≡ no_repeat (open_vars xs boxes)
-open_differ twice xs boxes are = bool_same (all_one twice boxes) (no_repeat (open_vars xs boxes)) (ones_differ twice xs boxes are) (differ_ones twice xs boxes are)
+pub open_differ : (repeated xs : List ℕ) (boxes : Boxes) → AreRepeated repeated xs → all_one repeated boxes ≡ no_repeat (open_vars xs boxes)
+open_differ repeated xs boxes are = bool_same (all_one repeated boxes) (no_repeat (open_vars xs boxes)) (ones_differ repeated xs boxes are) (differ_ones repeated xs boxes are)
 
 -- where all differ
 pub all_differ : (xs : List ℕ) (boxes : Boxes) → no_repeat xs ≡ true → no_repeat (open_vars xs boxes) ≡ true
-all_differ xs boxes h = ones_differ [] xs boxes (λ x. sym (never_twice x xs h)) refl
+all_differ xs boxes h = ones_differ [] xs boxes (λ x. sym (never_repeated x xs h)) refl
 
 -- said of a list that is kept
-pub kept_twice : (known : List (List ℕ × List ℕ)) (i : ℕ) (d : List ℕ × List ℕ) (xs twice : List ℕ) → IsKept known i xs → AreRepeated twice (get_or known i d).0 → AreRepeated twice xs
-kept_twice known i d xs twice is are x = are x ∙ ap (is_repeated x) (is.1 d)
+pub kept_repeated : (known : List (List ℕ × List ℕ)) (i : ℕ) (d : List ℕ × List ℕ) (xs repeated : List ℕ) → IsKept known i xs → AreRepeated repeated (get_or known i d).0 → AreRepeated repeated xs
+kept_repeated known i d xs repeated is are x = are x ∙ ap (is_repeated x) (is.1 d)
 
 no_length : (xs : List ℕ) → length xs ≡ 0 → xs ≡ []
 no_length [] h = refl
 no_length (x ∷ xs) h = absurd (omega (arith, h))
 
 -- none of them stands twice exactly where nothing is listed
-pub none_listed : (twice xs : List ℕ) (test : Bool) → AreRepeated twice xs → (test ≡ true → length twice ≡ 0) → (length twice ≡ 0 → test ≡ true) → test ≡ no_repeat xs
-none_listed twice xs test are h k =
+pub none_listed : (repeated xs : List ℕ) (test : Bool) → AreRepeated repeated xs → (test ≡ true → length repeated ≡ 0) → (length repeated ≡ 0 → test ≡ true) → test ≡ no_repeat xs
+none_listed repeated xs test are h k =
     bool_same test (no_repeat xs)
-    (λ t. none_twice xs (λ x. sym (are x) ∙ ap (has_number x) (no_length twice (h t))))
-    (λ n. k (no_numbers twice (λ x. are x ∙ never_twice x xs n)))
+    (λ t. none_repeated xs (λ x. sym (are x) ∙ ap (has_number x) (no_length repeated (h t))))
+    (λ n. k (no_numbers repeated (λ x. are x ∙ never_repeated x xs n)))
 
 -- two variables of a list in which none stands twice
 pub both_once : (x y : ℕ) (xs : List ℕ) → no_repeat xs ≡ true → true ≡ (not (is_repeated x xs) && not (is_repeated y xs))
-both_once x y xs h = let first = never_twice x xs h in let second = never_twice y xs h in rw (first, second) refl
+both_once x y xs h = let first = never_repeated x xs h in let second = never_repeated y xs h in rw (first, second) refl
 
 -- ---- in order
 
@@ -272,9 +272,9 @@ found_again x (y ∷ ys) up h =
           let none = none_from x (y ∷ ys) (λ k d lt. let up2 = rest_in_order x (y ∷ ys) up 0 k d (omega arith) lt in omega arith) in absurd (omega arith)
     ]) refl
 
-found_twice : (last : Option ℕ) (x : ℕ) (ys : List ℕ) → IsNonDecreasing ys → 2 ≤ times x ys → has_number x (doubles_after last ys) ≡ true
-found_twice last x [] up h = absurd (let none : times x [] ≡ 0 = refl in omega arith)
-found_twice last x (y ∷ ys) up h =
+found_repeated : (last : Option ℕ) (x : ℕ) (ys : List ℕ) → IsNonDecreasing ys → 2 ≤ times x ys → has_number x (doubles_after last ys) ≡ true
+found_repeated last x [] up h = absurd (let none : times x [] ≡ 0 = refl in omega arith)
+found_repeated last x (y ∷ ys) up h =
     let here = times_cons x y ys in
     let rest : has_number x (doubles_after (Some y) ys) ≡ true =
     let P : Bool → Type 0 = λ b. (y == x) ≡ b → has_number x (doubles_after (Some y) ys) ≡ true in
@@ -284,7 +284,7 @@ found_twice last x (y ∷ ys) up h =
           let few : 1 ≤ times x ys = grind arith in
           let up2 : IsNonDecreasing (x ∷ ys) = rw same at up in
           ap (λ (z : ℕ). has_number x (doubles_after (Some z) ys)) same ∙ found_again x ys up2 few
-      | false ↦ λ e. found_twice (Some y) x ys (rest_in_order y ys up) (grind arith)
+      | false ↦ λ e. found_repeated (Some y) x ys (rest_in_order y ys up) (grind arith)
     ]) refl in
     let Q : Bool → Type 0 = λ b. has_number x (cond b (y ∷ doubles_after (Some y) ys) (doubles_after (Some y) ys)) ≡ true in
     elim (is_again last y) as Q [
@@ -323,20 +323,20 @@ number_times x (y ∷ xs) h =
       | false ↦ λ e. more (let none : one_of x y ≡ 0 = rw e refl in omega (arith, h, here, none))
     ]) refl
 
-twice_times : (x : ℕ) (xs : List ℕ) → 2 ≤ times x xs → is_repeated x xs ≡ true
-twice_times x [] h = absurd (let none : times x [] ≡ 0 = refl in omega (arith, h, none))
-twice_times x (y ∷ xs) h =
+repeated_times : (x : ℕ) (xs : List ℕ) → 2 ≤ times x xs → is_repeated x xs ≡ true
+repeated_times x [] h = absurd (let none : times x [] ≡ 0 = refl in omega (arith, h, none))
+repeated_times x (y ∷ xs) h =
     let here = times_cons x y xs in
     let P : Bool → Type 0 = λ b. (y == x) ≡ b → ((b && has_number x xs) || is_repeated x xs) ≡ true in
     (elim (y == x) as P [
       | true ↦ λ e. let there = number_times x xs (let one : one_of x y ≡ 1 = rw e refl in omega (arith, h, here, one)) in rw there refl
-      | false ↦ λ e. twice_times x xs (let none : one_of x y ≡ 0 = rw e refl in omega (arith, h, here, none))
+      | false ↦ λ e. repeated_times x xs (let none : one_of x y ≡ 0 = rw e refl in omega (arith, h, here, none))
     ]) refl
 
 -- those side by side in a copy in order are all that stand twice, and no others
-pub twice_in_order : (xs ys : List ℕ) → IsPermutation xs ys → IsNonDecreasing ys → AreRepeated (doubles_after None ys) xs
-twice_in_order xs ys p up x =
+pub repeated_in_order : (xs ys : List ℕ) → IsPermutation xs ys → IsNonDecreasing ys → AreRepeated (doubles_after None ys) xs
+repeated_in_order xs ys p up x =
     let e = sum_by-IsPermutation (λ y. one_of x y) xs ys p in
     bool_same (has_number x (doubles_after None ys)) (is_repeated x xs)
-    (λ h. let two = double_times None x ys h in twice_times x xs (omega (arith, e, two)))
-    (λ h. let two = two_times x xs h in found_twice None x ys up (omega (arith, e, two)))
+    (λ h. let two = double_times None x ys h in repeated_times x xs (omega (arith, e, two)))
+    (λ h. let two = two_times x xs h in found_repeated None x ys up (omega (arith, e, two)))
