@@ -137,7 +137,7 @@ member_affirmed domains boxes f x set p s e =
 disjoint_outside : (d s : Ranges) → IsValid d → IsValid s → (b : Ranges) → IsValid b → is_disjoint b s ≡ false → is_within b (less d (less d (less d s))) ≡ false
 disjoint_outside d s f g b i h =
     false_from_ne_true (is_within b (less d (less d (less d s)))) (λ q.
-    let apart : is_disjoint b s ≡ true = (disjoint_law b s i g).1 (λ v m.
+    let disjoint : is_disjoint b s ≡ true = (disjoint_law b s i g).1 (λ v m.
     let two = IsValid-less d s f g in let three = IsValid-less d (less d s) f two in
     let last = (within_law b (less d (less d (less d s))) i (IsValid-less d (less d (less d s)) f three)).0 q v m in
     let a = has-less_valid d (less d (less d s)) f three v in let b2 = has-less_valid d (less d s) f two v in let c = has-less_valid d s f g v in

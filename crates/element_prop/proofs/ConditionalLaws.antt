@@ -201,7 +201,7 @@ either_reason domains boxes o f i t h =
     let two = IsValid-less (less d ((pos 0, pos 0) ∷ [])) s one (g.narrow i) in
     let planned : ArePlanned domains (length boxes) (either_plan domains boxes o i) =
     (t.first, two, within_both d ((pos 0, pos 0) ∷ []) s (g.wide o) nought (g.narrow i), (t.second, g.narrow i, g.within i t.second, tt)) in
-    plan_reason (CondDef o f i) domains boxes (either_plan domains boxes o i) g.wide planned (two_differ o i t.apart)
+    plan_reason (CondDef o f i) domains boxes (either_plan domains boxes o i) g.wide planned (two_differ o i t.different)
     (λ rest k. both_rule (has (box_of rest f) (pos 1)) (has (box_of rest f) (pos 0)) (is_disjoint (box_of rest o) (box_of rest i)) (not (has (box_of rest o) (pos 0)))
     (ap (λ (z : Ranges). is_disjoint z (box_of rest i)) k.0 ∙ ap (λ (z : Ranges). is_disjoint (less (less d ((pos 0, pos 0) ∷ [])) s) z) k.1.0 ∙ less_disjoint (less d ((pos 0, pos 0) ∷ [])) s one (g.narrow i))
     (ap (λ (z : Ranges). not (has z (pos 0))) k.0 ∙ ap (λ (z : Bool). not z) (zero_gone d s (g.wide o) (g.narrow i))))

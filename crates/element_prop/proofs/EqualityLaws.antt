@@ -191,7 +191,7 @@ same_reason domains boxes f l r v t h =
         (t.second, one, one_within (box_of domains r) v (g.wide r) one (in_domain domains boxes r v g t.second can.right_has), tt),
       ),
     ) in
-    plan_reason (EqDef f l r) domains boxes (same_plan f l r v) g.wide planned (all_differ f l r t.first_differs t.second_differs t.apart)
+    plan_reason (EqDef f l r) domains boxes (same_plan f l r v) g.wide planned (all_differ f l r t.first_differs t.second_differs t.different)
     (λ rest k. denied_rule (has (box_of rest f) (pos 1)) (has (box_of rest f) (pos 0)) (is_disjoint (box_of rest l) (box_of rest r)) (same_single (box_of rest l) (box_of rest r))
     (ap (λ (z : Ranges). has z (pos 1)) k.0)
     (ap (λ (z : Ranges). same_single z (box_of rest r)) k.1.0 ∙ ap (λ (z : Ranges). same_single ((v, v) ∷ []) z) k.1.1.0 ∙ same_here v))
