@@ -4,8 +4,8 @@ use Rattle.signed_clause.specs.Clauses.{box_of}
 use Rattle.clause_watches.specs.Marks.{is_marked}
 use Rattle.clause_watches.specs.Rows.{IsWalked}
 use Rattle.clause_watches.specs.Sound.{row_of, sets_at, IsUnmarked}
-use Rattle.clause_watches.proofs.SettleLaws.{walk_begins, linked_after, known_after, sets_valid}
-use Rattle.clause_watches.proofs.settle.settle.Goals as goal
+use Rattle.clause_watches.proofs.VisitLaws.{walk_begins, linked_after, known_after, sets_valid}
+use Rattle.clause_watches.proofs.visiting.visit_row.Goals as goal
 
 pub returns-clause-sound : goal.returns-clause-sound
 returns-clause-sound c =

@@ -1,7 +1,7 @@
 use Rattle.std.proofs.Common.{◌≡◌, length}
 use Rattle.clause_watches.specs.Marks.{count_marked}
 use Rattle.clause_watches.specs.Sound.{IsSound, AreKnown}
-use Rattle.clause_watches.proofs.settle.settle_all.Given as goal
+use Rattle.clause_watches.proofs.visiting.visit_rows.Given as goal
 
 abbrev pub invariant-loop-x : goal.invariant-loop-x
 invariant-loop-x l = record {

@@ -2,7 +2,7 @@ use Rattle.std.proofs.Common.{List, length, subst, sym}
 use Rattle.clause_watches.specs.declared.watch.Watch.{Watch}
 use Rattle.clause_watches.specs.Rows.{IsWalked}
 use Rattle.clause_watches.proofs.RowLaws.{row_set_same, row_read}
-use Rattle.clause_watches.proofs.settle.walk_row.Goals as goal
+use Rattle.clause_watches.proofs.visiting.walk_row.Goals as goal
 
 pub returns-clause-walked : goal.returns-clause-walked
 returns-clause-walked c = λ sets before mask at valid walked.

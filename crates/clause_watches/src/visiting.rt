@@ -17,7 +17,7 @@ use signed_clause::IntSet;
 /// Walks the rows of all variables that were noted. It takes no memory, and costs the watches
 /// of those rows.
 #[tactic(auto, using(crate::proofs::MarkLaws::marked_below))]
-pub(crate) fn settle_all(table: &mut Table, boxes: &[IntSet])
+pub(crate) fn visit_rows(table: &mut Table, boxes: &[IntSet])
     requires sound { IsSound table.old }
     requires boxes { length boxes.now ≡ length table.old.rows.items }
     requires known { AreKnown boxes.now table.old.added.items table.old.rests table.old.changed }
@@ -29,7 +29,7 @@ pub(crate) fn settle_all(table: &mut Table, boxes: &[IntSet])
     ensures known { AreKnown boxes.now table.new.added.items table.new.rests table.new.changed }
 {
     while let Some(x) = table.changed.take() {
-        settle(table, boxes, x);
+        visit_row(table, boxes, x);
     }
 }
 
@@ -76,7 +76,7 @@ fn site_of(table: &Table, at: &IntSet, x: u32) -> Site
 }
 
 /// Walks the row of a variable that was noted and isn't any longer.
-fn settle(table: &mut Table, boxes: &[IntSet], x: u32)
+fn visit_row(table: &mut Table, boxes: &[IntSet], x: u32)
     requires sound { IsSound table.old }
     requires there { x < length table.old.rows.items }
     requires boxes { length boxes.now ≡ length table.old.rows.items }

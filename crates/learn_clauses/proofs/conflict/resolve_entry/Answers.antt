@@ -1,5 +1,5 @@
 use Rattle.std.proofs.Common.{sym, ◌∙◌}
-use Rattle.learn_clauses.proofs.conflict.turn.Goals as goal
+use Rattle.learn_clauses.proofs.conflict.resolve_entry.Goals as goal
 
 pub resolve-requires : goal.resolve-requires
 resolve-requires c =
