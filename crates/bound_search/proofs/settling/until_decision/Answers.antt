@@ -2,7 +2,7 @@ use Rattle.std.proofs.Common.{◌∙◌, arith, subst}
 use Rattle.bound_search.specs.declared.settling.Step.{Step}
 use Rattle.bound_search.specs.Engines.{StepOf}
 use Rattle.bound_search.proofs.UseAxiom.{kept_both}
-use Rattle.bound_search.proofs.settling.settle.Goals as goal
+use Rattle.bound_search.proofs.settling.until_decision.Goals as goal
 
 pub returns-in_err-now-in-Conflict-clause-kept : goal.returns-in_err-now-in-Conflict-clause-kept
 returns-in_err-now-in-Conflict-clause-kept g c =

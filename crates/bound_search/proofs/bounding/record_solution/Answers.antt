@@ -9,8 +9,8 @@ use Rattle.bound_search.specs.BoundLists.{values_of}
 use Rattle.bound_search.specs.Engines.{added_of, IsBounded}
 use Rattle.bound_search.proofs.MoreLines.{boxes_at}
 use Rattle.bound_search.proofs.UseAxiom.{IsWritten}
-use Rattle.bound_search.proofs.Finishing.{IsFoundHere, AreWritten, found_kept, kept_after, both_kept, vars_there, finish_step}
-use Rattle.bound_search.proofs.bounding.finish.Goals as goal
+use Rattle.bound_search.proofs.Recording.{IsFoundHere, AreWritten, found_kept, kept_after, both_kept, vars_there, record_step}
+use Rattle.bound_search.proofs.bounding.record_solution.Goals as goal
 
 pub solution-requires-clause-boxes : goal.solution-requires-clause-boxes
 solution-requires-clause-boxes c =
@@ -156,7 +156,7 @@ returns-clause-at c =
     let list = c.as_slice-3.ensures.value ∙ bounds in
     let bounded = subst (λ (cs : List Literals). IsBounded d c.take_all.new.e cs c.in_ok-after.after)
     list c.in_ok-after.ensures.bound in
-    (finish_step g c.args.journal.now c.push.new.self c.push-2.new.self d c.take_all.new.e a
+    (record_step g c.args.journal.now c.push.new.self c.push-2.new.self d c.take_all.new.e a
     c.in_ok-after.after c.requires.at here written bounded).at
 
 pub returns-clause-stops : goal.returns-clause-stops
@@ -195,7 +195,7 @@ returns-clause-stops c =
     let list = c.as_slice-3.ensures.value ∙ bounds in
     let bounded = subst (λ (cs : List Literals). IsBounded d c.take_all.new.e cs c.in_ok-after.after)
     list c.in_ok-after.ensures.bound in
-    (finish_step g c.args.journal.now c.push.new.self c.push-2.new.self d c.take_all.new.e a
+    (record_step g c.args.journal.now c.push.new.self c.push-2.new.self d c.take_all.new.e a
     c.in_ok-after.after c.requires.at here written bounded).stops
 
 pub returns-clause-alike : goal.returns-clause-alike
@@ -234,5 +234,5 @@ returns-clause-alike c =
     let list = c.as_slice-3.ensures.value ∙ bounds in
     let bounded = subst (λ (cs : List Literals). IsBounded d c.take_all.new.e cs c.in_ok-after.after)
     list c.in_ok-after.ensures.bound in
-    (finish_step g c.args.journal.now c.push.new.self c.push-2.new.self d c.take_all.new.e a
+    (record_step g c.args.journal.now c.push.new.self c.push-2.new.self d c.take_all.new.e a
     c.in_ok-after.after c.requires.at here written bounded).alike

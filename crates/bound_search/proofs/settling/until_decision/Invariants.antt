@@ -2,7 +2,7 @@ use Rattle.std.proofs.Common.{◌≡◌, ◌+◌, ◌*◌, ◌≤◌, length}
 use Rattle.run_law.specs.Decisions.{decisions}
 use Rattle.bound_search.specs.Modes.{rank}
 use Rattle.bound_search.specs.Engines.{Reached, IsKept}
-use Rattle.bound_search.proofs.settling.settle.Given as goal
+use Rattle.bound_search.proofs.settling.until_decision.Given as goal
 
 abbrev pub invariant-turns : goal.invariant-turns
 invariant-turns g l = record {

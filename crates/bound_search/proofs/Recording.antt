@@ -107,16 +107,16 @@ ranks (after.Conflict n) h = omega arith
 ranks after.Closed h = omega arith
 
 -- what the step comes to
-pub record HasFinished (g : Ground) (old new : Journal) (d e : Engine) (a : After) : Type 0 where
+pub record HasRecorded (g : Ground) (old new : Journal) (d e : Engine) (a : After) : Type 0 where
   pub at : Reached g new.lines e a
   pub stops : rank a ≤ 1
   pub below : length e.board.store.below ≡ length d.board.store.below
   pub alike : decisions new.lines ≡ decisions old.lines
 
-pub finish_step : (g : Ground) (old mid new : Journal) (d e : Engine) (a : List ℤ) (o : After) →
+pub record_step : (g : Ground) (old mid new : Journal) (d e : Engine) (a : List ℤ) (o : After) →
     Shows g old.lines d Going → IsFoundHere g d a → AreWritten g old mid new a →
-    IsBounded d e (bounds_of g.goals g.domains a) o → HasFinished g old new d e o
-finish_step g old mid new d e a o s f w b =
+    IsBounded d e (bounds_of g.goals g.domains a) o → HasRecorded g old new d e o
+record_step g old mid new d e a o s f w b =
     let bs = bounds_of g.goals g.domains a in
     let boxes = d.board.store.top.now in
     let line = Bound (values_of a g.goals) in

@@ -8,7 +8,7 @@ use Rattle.bound_search.specs.declared.engine.Engine.{Engine}
 use Rattle.bound_search.specs.Engines.{added_of}
 use Rattle.bound_search.proofs.MoreLines.{boxes_at}
 use Rattle.bound_search.proofs.Turning.{shows_asked, asked_there, all_idle}
-use Rattle.bound_search.proofs.lines.turn.Goals as goal
+use Rattle.bound_search.proofs.lines.propagate_once.Goals as goal
 
 pub next_cause-requires-clause-boxes : goal.next_cause-requires-clause-boxes
 next_cause-requires-clause-boxes g c =
