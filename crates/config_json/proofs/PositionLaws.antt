@@ -1,4 +1,4 @@
--- The place of an object, from that of its owner.
+-- The position of an object, from that of its owner.
 use Rattle.std.proofs.Common.{◌≡◌, ℕ, zero, suc, ◌<◌, List, Option, None, Some, length, refl, sym, ap, ◌∙◌, arith}
 use Rattle.std.specs.Prelude.{slice_get, slice_index_or, option_and_then, IfSome}
 use Rattle.std.specs.Borrow.{Bor}
@@ -10,16 +10,16 @@ use Rattle.object_alloc.specs.Walk.{objects}
 use Rattle.object_alloc.proofs.HeldLaws.{object_held}
 use Rattle.serde_json.specs.Data.{Data}
 use Rattle.serde_json.specs.declared.value.Value.{Value}
-use Rattle.config_json.specs.Former.{owner_place, place_within, object_place, step_to}
-use Rattle.config_json.specs.Places.{seen, ArePlaces}
+use Rattle.config_json.specs.Former.{owner_position, position_within, object_position, step_to}
+use Rattle.config_json.specs.Positions.{seen, ArePositions}
 use Rattle.config_json.proofs.Known.{item_within}
 
 module _ (o : Outline) (d : Data) where
-  -- from the place of its owner, as `place_of` gives it
+  -- from the position of its owner, as `position_of` gives it
   abbrev pub from_owner : (ℕ → Option Data) → Object → Option Data
-  from_owner place x = option_and_then (step_to (variables_of o x.owner) x) (owner_place place d x.owner)
+  from_owner position x = option_and_then (step_to (variables_of o x.owner) x) (owner_position position d x.owner)
 
-  same_owner : (f g : ℕ → Option Data) (n : ℕ) (p : Option ℕ) → ((q : ℕ) → q < n → f q ≡ g q) → IsBefore p n → owner_place f d p ≡ owner_place g d p
+  same_owner : (f g : ℕ → Option Data) (n : ℕ) (p : Option ℕ) → ((q : ℕ) → q < n → f q ≡ g q) → IsBefore p n → owner_position f d p ≡ owner_position g d p
   same_owner f g n None each h = refl
   same_owner f g n (Some q) each h = each q h
 
@@ -27,20 +27,20 @@ module _ (o : Outline) (d : Data) where
   same_step f g n x each e = ap (option_and_then (step_to (variables_of o x.owner) x)) (same_owner f g n x.owner each (object_held o n x e).owner)
 
   -- further steps change nothing
-  place_same : (f g n : ℕ) → n < f → n < g → place_within o d f n ≡ place_within o d g n
-  place_same zero g n hf hg = absurd (omega (arith, hf))
-  place_same (suc f) zero n hf hg = absurd (omega (arith, hg))
-  place_same (suc f) (suc g) n hf hg = by (λ p lt. place_same f g p (omega (arith, lt, hf)) (omega (arith, lt, hg))) (slice_get (objects o) n) refl
+  position_same : (f g n : ℕ) → n < f → n < g → position_within o d f n ≡ position_within o d g n
+  position_same zero g n hf hg = absurd (omega (arith, hf))
+  position_same (suc f) zero n hf hg = absurd (omega (arith, hg))
+  position_same (suc f) (suc g) n hf hg = by (λ p lt. position_same f g p (omega (arith, lt, hf)) (omega (arith, lt, hg))) (slice_get (objects o) n) refl
     where
-      by : ((p : ℕ) → p < n → place_within o d f p ≡ place_within o d g p) → (x : Option Object) → slice_get (objects o) n ≡ x → option_and_then (from_owner (place_within o d f)) x ≡ option_and_then (from_owner (place_within o d g)) x
+      by : ((p : ℕ) → p < n → position_within o d f p ≡ position_within o d g p) → (x : Option Object) → slice_get (objects o) n ≡ x → option_and_then (from_owner (position_within o d f)) x ≡ option_and_then (from_owner (position_within o d g)) x
       by each None e = refl
-      by each (Some x) e = same_step (place_within o d f) (place_within o d g) n x each e
+      by each (Some x) e = same_step (position_within o d f) (position_within o d g) n x each e
 
-  pub place_made : (n : ℕ) (x : Object) (places : List (Option (Bor Value))) → slice_get (objects o) n ≡ Some x → ArePlaces o d n places → from_owner (λ m. seen (slice_index_or places m None)) x ≡ object_place o d n
-  place_made n x places e are =
-      same_step (λ m. seen (slice_index_or places m None)) (place_within o d n) n x
-      (λ q lt. are.each q lt ∙ place_same (suc q) n q (omega arith) lt) e
-      ∙ ap (option_and_then (from_owner (place_within o d n))) (sym e)
+  pub position_made : (n : ℕ) (x : Object) (positions : List (Option (Bor Value))) → slice_get (objects o) n ≡ Some x → ArePositions o d n positions → from_owner (λ m. seen (slice_index_or positions m None)) x ≡ object_position o d n
+  position_made n x positions e are =
+      same_step (λ m. seen (slice_index_or positions m None)) (position_within o d n) n x
+      (λ q lt. are.each q lt ∙ position_same (suc q) n q (omega arith) lt) e
+      ∙ ap (option_and_then (from_owner (position_within o d n))) (sym e)
 
   owner_there : (p : Option ℕ) (n m : ℕ) → n < m → IsBefore p n → IfSome p (λ q. q < m)
   owner_there None n m h b = tt

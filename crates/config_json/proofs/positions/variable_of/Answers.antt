@@ -3,7 +3,7 @@ use Rattle.std.specs.Prelude.{slice_get}
 use Rattle.class_table.specs.Outline.{Outline}
 use Rattle.object_alloc.specs.Laid.{variables_of}
 use Rattle.config_json.proofs.Known.{variables_told, variable_told}
-use Rattle.config_json.proofs.places.variable_of.Goals as goal
+use Rattle.config_json.proofs.positions.variable_of.Goals as goal
 
 pub attribute-requires-clause-attribute : goal.attribute-requires-clause-attribute
 attribute-requires-clause-attribute c =

@@ -18,7 +18,7 @@ use Rattle.object_alloc.proofs.OwnParts.{part_place}
 use Rattle.serde_json.specs.Data.{Data, Members, no_members, object, put}
 use Rattle.serde_json.specs.Find.{get, get_item, get_member}
 use Rattle.serde_json.proofs.Views.{get_member-put, get_member-put_other}
-use Rattle.config_json.specs.Former.{element_of, leaf_place, object_place, owner_place, place_within, step_to, under_name}
+use Rattle.config_json.specs.Former.{element_of, leaf_position, object_position, owner_position, position_within, step_to, under_name}
 use Rattle.config_json.specs.Keys.{text_of}
 use Rattle.config_json.proofs.Texts.{HasTexts}
 use Rattle.config_json.specs.Tree.{all_data, attribute_data, class_member, config_data, first_data, leaf_data, object_data, with_variables}
@@ -85,9 +85,9 @@ module _ (o : Outline) (sound : IsSound o) (texts : HasTexts o) (t : List ℤ) w
       under_key (object_data o t) o t owner (variables_of o owner) 0 k v (started owner) (λ i j v w a b e. texts.differ owner i j v w a b e) g
       ∙ ap (λ n. Some (attribute_data (object_data o t) o t owner n v.shape)) at
 
-  owner_is : (place : ℕ → Option Data) (owner : Option ℕ) (n : ℕ) → IsBefore owner n → ((p : ℕ) → p < n → (p < length (objects o)) × (place p ≡ Some (object_data o t p))) → owner_place place (config_data o t) owner ≡ Some (object (members_of owner))
-  owner_is place None n before each = refl
-  owner_is place (Some p) n before each = let r = each p before in r.1 ∙ ap Some (sym (object_made o t p r.0))
+  owner_is : (position : ℕ → Option Data) (owner : Option ℕ) (n : ℕ) → IsBefore owner n → ((p : ℕ) → p < n → (p < length (objects o)) × (position p ≡ Some (object_data o t p))) → owner_position position (config_data o t) owner ≡ Some (object (members_of owner))
+  owner_is position None n before each = refl
+  owner_is position (Some p) n before each = let r = each p before in r.1 ∙ ap Some (sym (object_made o t p r.0))
 
   element_is : (owner : Option ℕ) (k i n : ℕ) (s : Resolved) (c : ℕ) → slice_get (parts_of o owner k) i ≡ Some n → HoldsAt s c i → option_and_then (element_of s i) (Some (attribute_data (object_data o t) o t owner k s)) ≡ Some (object_data o t n)
   element_is owner k i n (One d) c g h = ap Some (first_got (object_data o t) (parts_of o owner k) n (subst (λ j. slice_get (parts_of o owner k) j ≡ Some n) h.1 g))
@@ -106,14 +106,14 @@ module _ (o : Outline) (sound : IsSound o) (texts : HasTexts o) (t : List ℤ) w
       ∙ ap (option_and_then (element_of held.variable.shape x.element)) (named x.owner x.attribute held.variable held.has)
       ∙ element_is x.owner x.attribute x.element n held.variable.shape x.class (part_place o sound x.owner x.attribute x.element n x e (refl, refl, refl)) held.holds
 
-  place_is : (steps n : ℕ) → n < steps → n < length (objects o) → place_within o (config_data o t) steps n ≡ Some (object_data o t n)
-  place_is zero n h there = absurd (omega (arith, h))
-  place_is (suc steps) n h there =
+  position_is : (steps n : ℕ) → n < steps → n < length (objects o) → position_within o (config_data o t) steps n ≡ Some (object_data o t n)
+  position_is zero n h there = absurd (omega (arith, h))
+  position_is (suc steps) n h there =
       let x = item_at (objects o) n there in
       let held = object_held o n x.item x.has in
-      ap (option_and_then (λ (y : Object). option_and_then (step_to (variables_of o y.owner) y) (owner_place (place_within o (config_data o t) steps) (config_data o t) y.owner))) x.has
+      ap (option_and_then (λ (y : Object). option_and_then (step_to (variables_of o y.owner) y) (owner_position (position_within o (config_data o t) steps) (config_data o t) y.owner))) x.has
       ∙ ap (option_and_then (step_to (variables_of o x.item.owner) x.item))
-      (owner_is (place_within o (config_data o t) steps) x.item.owner n held.owner (λ p less. let in_all : p < length (objects o) = omega (arith, less, there) in (in_all, place_is steps p (omega (arith, less, h)) in_all)))
+      (owner_is (position_within o (config_data o t) steps) x.item.owner n held.owner (λ p less. let in_all : p < length (objects o) = omega (arith, less, there) in (in_all, position_is steps p (omega (arith, less, h)) in_all)))
       ∙ step_is n x.item x.has
 
   before_all : (w : Option ℕ) (m : ℕ) → IfSome w (λ n. n < m) → IsBefore w m
@@ -121,10 +121,10 @@ module _ (o : Outline) (sound : IsSound o) (texts : HasTexts o) (t : List ℤ) w
   before_all (Some n) m h = h
 
   -- a leaf, from its variable
-  pub leaf_stands : (l : Leaf) → IsHeldLeaf o l → ((c : ℕ) → l.shape ≡ One c → ⊥) → ((c n : ℕ) → l.shape ≡ Many c n → ⊥) → leaf_place o (config_data o t) l ≡ Some (leaf_data o t (own_cells o l.owner l.attribute) l.shape)
+  pub leaf_stands : (l : Leaf) → IsHeldLeaf o l → ((c : ℕ) → l.shape ≡ One c → ⊥) → ((c n : ℕ) → l.shape ≡ Many c n → ⊥) → leaf_position o (config_data o t) l ≡ Some (leaf_data o t (own_cells o l.owner l.attribute) l.shape)
   leaf_stands l held one many =
       ap (option_and_then (under_name (variables_of o l.owner) l.attribute))
-      (owner_is (object_place o (config_data o t)) l.owner (length (objects o)) (before_all l.owner (length (objects o)) held.owner) (λ p less. (less, place_is (suc p) p (omega arith) less)))
+      (owner_is (object_position o (config_data o t)) l.owner (length (objects o)) (before_all l.owner (length (objects o)) held.owner) (λ p less. (less, position_is (suc p) p (omega arith) less)))
       ∙ ap (option_and_then (λ (v : Variable). get (text_of v.name) (object (members_of l.owner)))) held.has
       ∙ named l.owner l.attribute held.variable held.has
       ∙ ap (λ s. Some (attribute_data (object_data o t) o t l.owner l.attribute s)) held.shape

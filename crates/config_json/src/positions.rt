@@ -1,13 +1,13 @@
-//! The places of objects and leaves in a JSON value: keys for names, elements for indexes.
+//! The positions of objects and leaves in a JSON value: keys for names, elements for indexes.
 ghost use Rattle.std.specs.Prelude.{◌≡◌, ◌<◌, None, Some, length, slice_get, slice_index_or, option_and_then, IfOk, IfSome};
 ghost use Rattle.class_table.specs.Tables.{IsShapeOf};
 ghost use Rattle.object_alloc.specs.Laid.{variables_of};
 ghost use Rattle.object_alloc.specs.Walk.{objects as all_objects};
 ghost use Rattle.serde_json.specs.Find.{get};
 ghost use Rattle.serde_json.specs.View.{view};
-ghost use Rattle.config_json.specs.Former.{element_of, step_to, under_name, owner_place, object_place};
+ghost use Rattle.config_json.specs.Former.{element_of, step_to, under_name, owner_position, object_position};
 ghost use Rattle.config_json.specs.Keys.{text_of};
-ghost use Rattle.config_json.specs.Places.{seen, ArePlaces};
+ghost use Rattle.config_json.specs.Positions.{seen, ArePositions};
 
 use class_table::{Attribute, Resolved};
 use conf_syntax::Name;
@@ -54,17 +54,17 @@ fn element_of<'v>(value: &'v Value, shape: Resolved, element: u32) -> Option<&'v
 }
 
 /// Where the owner of an object or of a leaf stands.
-pub(crate) fn owner_place<'v>(
+pub(crate) fn owner_position<'v>(
     former: &'v Value,
-    places: &[Option<&'v Value>],
+    positions: &[Option<&'v Value>],
     owner: Option<u32>,
 ) -> Option<&'v Value>
-    requires owner { IfSome owner (λ n. n < length places.now) }
-    ensures place { seen result ≡ owner_place (λ n. seen (slice_index_or places.now n None))
+    requires owner { IfSome owner (λ n. n < length positions.now) }
+    ensures position { seen result ≡ owner_position (λ n. seen (slice_index_or positions.now n None))
         (view former.now) owner }
 {
     match owner {
-        Some(n) => places[n as usize],
+        Some(n) => positions[n as usize],
         None => Some(former),
     }
 }
@@ -86,7 +86,7 @@ fn step_to<'v>(
 ) -> Result<Option<&'v Value>, AllocError>
     requires owner { IfSome object.owner (λ n. n < length (all_objects objects.now)) }
     requires attribute { object.attribute < length (variables_of objects.now object.owner) }
-    ensures place { IfOk result (λ found. seen found
+    ensures position { IfOk result (λ found. seen found
         ≡ step_to (variables_of objects.now object.owner) object (view owner.now)) }
 {
     let variable = variable_of(objects, object.owner, object.attribute);
@@ -96,22 +96,22 @@ fn step_to<'v>(
     }
 }
 
-/// The place of an object, from the places of those before it: an object is held by one with a
+/// The position of an object, from the positions of those before it: an object is held by one with a
 /// lesser number.
-fn place_of<'v>(
+fn position_of<'v>(
     alloc: Global,
     objects: &Objects<'_>,
     former: &'v Value,
-    places: &[Option<&'v Value>],
+    positions: &[Option<&'v Value>],
     n: u32,
 ) -> Result<Option<&'v Value>, AllocError>
     requires object { n < length (all_objects objects.now) }
-    requires places { ArePlaces objects.now (view former.now) n places.now }
-    ensures place { IfOk result (λ found. seen found
-        ≡ object_place objects.now (view former.now) n) }
+    requires positions { ArePositions objects.now (view former.now) n positions.now }
+    ensures position { IfOk result (λ found. seen found
+        ≡ object_position objects.now (view former.now) n) }
 {
     let object = object_of(objects, n);
-    match owner_place(former, places, object.owner) {
+    match owner_position(former, positions, object.owner) {
         Some(owner) => {
             let found = step_to(alloc, objects, object, owner)?;
             Ok(found)
@@ -120,19 +120,19 @@ fn place_of<'v>(
     }
 }
 
-/// The places of all objects.
-pub(crate) fn places_of<'v>(
+/// The positions of all objects.
+pub(crate) fn positions_of<'v>(
     alloc: Global,
     objects: &Objects<'_>,
     former: &'v Value,
 ) -> Result<Vec<Option<&'v Value>>, AllocError>
-    ensures places { IfOk result (λ places. ArePlaces objects.now (view former.now)
-        (length (all_objects objects.now)) places.items) }
+    ensures positions { IfOk result (λ positions. ArePositions objects.now (view former.now)
+        (length (all_objects objects.now)) positions.items) }
 {
-    let mut places = Vec::new(alloc);
+    let mut positions = Vec::new(alloc);
     for n in 0..objects.count() {
-        let place = place_of(alloc, objects, former, &places, n)?;
-        places.push(place)?;
+        let position = position_of(alloc, objects, former, &positions, n)?;
+        positions.push(position)?;
     }
-    Ok(places)
+    Ok(positions)
 }
