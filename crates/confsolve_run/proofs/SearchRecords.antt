@@ -9,7 +9,7 @@ use Rattle.proof_log.specs.Rounds.{Journal}
 use Rattle.reconfigure.specs.declared.repair.Repair.{Repair}
 use Rattle.run_status.specs.declared.status.Status.{Status}
 use Rattle.round_commands.specs.Answer.{searched_status, IsSearched}
-use Rattle.round_commands.specs.Recorded.{HasSearched}
+use Rattle.round_commands.specs.Recorded.{HasRecordedRun}
 use Rattle.confsolve_run.specs.Told.{HoldsLog}
 
 pub holds_log : (o : Outline) (ks : List ResolvedConstraint) (gs : List ResolvedGoal) (r : Option Repair) (order : Order) (budget : ℕ) (journal : Journal) (told : Finding) → HasRun o ks gs r order budget journal told → HoldsLog journal
@@ -17,7 +17,7 @@ holds_log o ks gs r order budget journal told h =
     record { ground = h.ground; kept = h.kept; well_made = h.problem.stands.well_made; taken = h.taken }
 
 module _ (o : Outline) (ks : List ResolvedConstraint) (gs : List ResolvedGoal) (order : Order) (budget : ℕ) (journal : Journal) (s : Status) (text : Finding → List ℕ) (printed : List ℕ) where
-  has_searched : (repaired : Bool) (r : Option Repair) → (repaired ≡ false → r ≡ None) → IsSearched o ks gs r order budget journal s text printed → HasSearched repaired order budget s journal
+  has_searched : (repaired : Bool) (r : Option Repair) → (repaired ≡ false → r ≡ None) → IsSearched o ks gs r order budget journal s text printed → HasRecordedRun repaired order budget s journal
   has_searched repaired r none a =
       let h = a.run in
       record {
@@ -35,8 +35,8 @@ module _ (o : Outline) (ks : List ResolvedConstraint) (gs : List ResolvedGoal) (
       }
 
   -- a search without a repair had no values to go by
-  pub has_solved : IsSearched o ks gs None order budget journal s text printed → HasSearched false order budget s journal
+  pub has_solved : IsSearched o ks gs None order budget journal s text printed → HasRecordedRun false order budget s journal
   has_solved a = has_searched false None (λ e. refl) a
 
-  pub has_repaired : (r : Option Repair) → IsSearched o ks gs r order budget journal s text printed → HasSearched true order budget s journal
+  pub has_repaired : (r : Option Repair) → IsSearched o ks gs r order budget journal s text printed → HasRecordedRun true order budget s journal
   has_repaired r a = has_searched true r (λ e. absurd cc) a

@@ -18,10 +18,10 @@ pub record HoldsLog (journal : Journal) : Type 0 where
   pub taken : accepted ground journal.lines ≡ true
 
 -- the text of the journal's log, where one is wanted
-abbrev pub IsLogOf : Bool → Journal → Option (List ℕ) → Type 0
-IsLogOf false journal log = log ≡ None
-IsLogOf true journal None = ⊥
-IsLogOf true journal (Some text) =
+abbrev pub IsToldLog : Bool → Journal → Option (List ℕ) → Type 0
+IsToldLog false journal log = log ≡ None
+IsToldLog true journal None = ⊥
+IsToldLog true journal (Some text) =
     (g : Ground) × (journal.ground ≡ Some g) × (text ≡ log_text g journal)
 
 -- the files with a log of this text under this name, where there are both
@@ -36,7 +36,7 @@ StoresSome (Some name) None before now = now ≡ before
 StoresSome None log before now = now ≡ before
 
 -- writing broke off: within the log, or behind it, within the text
-abbrev pub IsBroken : Option (List ℕ) → Option (List ℕ) → List ℕ → Outside → Outside → Type 0
-IsBroken name log text before now =
+abbrev pub IsToldBroken : Option (List ℕ) → Option (List ℕ) → List ℕ → Outside → Outside → Type 0
+IsToldBroken name log text before now =
     ((now.printed ≡ before.printed) × StoresSome name log before.files now.files)
     ⊎ ((now.files ≡ stored name log before.files) × PrintsFront text before.printed now.printed)

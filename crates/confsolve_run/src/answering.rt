@@ -21,13 +21,13 @@ ghost use Rattle.round_commands.specs.Refusal.{IsDenied, IsDeniedOf};
 ghost use Rattle.model_reader.specs.ModelRefusal.{IsRefusedFor, IsTextRefused};
 ghost use Rattle.run_status.specs.Stages.{Answered, stage_of, IsUnless};
 ghost use Rattle.round_commands.specs.Unreadable.{Unreadable};
-ghost use Rattle.confsolve_run.specs.Told.{IsLogOf};
+ghost use Rattle.confsolve_run.specs.Told.{IsToldLog};
 
 use crate::answer::Answer;
 use crate::blaming::blamed;
 use crate::checking::check;
 use crate::delivering::deliver;
-use crate::searching::{Wanted, generated, solve};
+use crate::searching::{SearchWish, generated, solve};
 use crate::verifying::verify;
 use conf_request::{FileName, Request};
 use conf_syntax::Program;
@@ -57,12 +57,12 @@ fn is_session(request: &Request) -> bool
 }
 
 /// What is wanted of a search that a request asks for.
-fn wanted(budget: u32, order: u8, log: &Option<FileName>) -> Wanted
+fn wanted(budget: u32, order: u8, log: &Option<FileName>) -> SearchWish
     ensures budget { result.budget ≡ budget }
     ensures order { result.order ≡ order }
     ensures logged { result.logged ≡ is_some log.now }
 {
-    Wanted {
+    SearchWish {
         budget,
         order,
         logged: log.is_some(),
@@ -94,7 +94,7 @@ fn asked<D: Desk>(
     ensures recorded { IfOk result (λ a. IsRecorded (map (λ c. c.order) with.entry.choosers.now)
         request.now
         a.status journal.new) }
-    ensures log { IfOk result (λ a. IsLogOf (is_some (log_file request.now)) journal.new
+    ensures log { IfOk result (λ a. IsToldLog (is_some (log_file request.now)) journal.new
         (option_map (λ text. text.items) a.log)) }
     ensures refused { IfErr result (λ s. Unreadable (D.read_faults desk.old)
         (D.read_faults desk.new) s (IsDenied (D.files desk.old) request.now journal.new s
@@ -179,7 +179,7 @@ fn outcome<D: Desk>(
     ensures recorded { IfOk result (λ a. IsRecorded (map (λ c. c.order) with.entry.choosers.now)
         request.now
         a.status journal.new) }
-    ensures log { IfOk result (λ a. IsLogOf (is_some (log_file request.now)) journal.new
+    ensures log { IfOk result (λ a. IsToldLog (is_some (log_file request.now)) journal.new
         (option_map (λ text. text.items) a.log)) }
     ensures refused { IfErr result (λ s. Unreadable (D.read_faults desk.old)
         (D.read_faults desk.new) s (IsRefusedFor s program.now
