@@ -1,5 +1,5 @@
 -- From a run that has ended to what is answered.
-use Rattle.std.proofs.Common.{◌≡◌, ℕ, suc, Bool, true, false, List, [], ◌∷◌, ◌++◌, map, reverse, filter, refl, sym, ap, ◌∙◌, subst, arith, is_eq, append-nil}
+use Rattle.std.proofs.Common.{◌≡◌, ℕ, ◌==◌, suc, not, length, Bool, true, false, List, [], ◌∷◌, ◌++◌, map, reverse, filter, refl, sym, ap, ◌∙◌, subst, arith, is_eq, append-nil}
 use Rattle.std.specs.Prelude.{All, IsPermutation}
 use Rattle.std.specs.Borrow.{Bor}
 use Rattle.std.proofs.lemmas.List.Elements.{All-nil, All-cons}
@@ -7,13 +7,16 @@ use Rattle.std.proofs.lemmas.List.Sorted.{IsPermutation-refl, IsPermutation-map,
 use mathlib.Core.List.{map-append}
 use Rattle.serde_json.specs.Data.{Data}
 use Rattle.view_leaves.specs.Ascending.{IsAscending, paths}
+use Rattle.view_leaves.specs.Leaves.{PathLeaf}
 use Rattle.view_leaves.specs.Paths.{Path, path_cmp}
-use Rattle.view_picture.specs.Picture.{PictureSize}
+use Rattle.view_picture.specs.Picture.{PictureLoad, PictureSize, carried}
 use Rattle.view_plan.specs.Plan.{PlanLine, line_path, IsPlan}
 use Rattle.view_steps.specs.Rooms.{found, first_rooms, rooms}
 use Rattle.view_steps.specs.Runs.{is_fit, all_back, last_made, IsSite, IsRun}
 use Rattle.view_steps.specs.Moves.{are_plain, moves_among}
-use Rattle.view_steps.specs.Steps.{Site, Lacks, AllFit, standing, last_first, IsOrder}
+use Rattle.view_steps.specs.Answer.{has_some, IsStepsOf, MovesSets}
+use Rattle.view_steps.specs.Steps.{Site, Lacks, AllFit, standing, last_first, site_of, IsOrder}
+use Rattle.view_steps.specs.Text.{IsStepsText}
 use Rattle.view_steps.specs.Views.{move_line, move_path, IsSized, IsMove}
 use Rattle.view_steps.specs.declared.moves.Move.{Move}
 use Rattle.view_steps.specs.declared.run.Run.{Run}
@@ -82,3 +85,46 @@ run_ends site run is none =
           (sym (lines_last run.made.items))
           (line_lacks site (last_made run.made.items) run.left.items (all_lack site run is none));
     }
+
+some_left_by : (ms : List Move) (b : Bool) → b ≡ not (length ms == 0)
+    → b ≡ has_some (map move_line ms)
+some_left_by [] b h = h
+some_left_by (m ∷ ms) b h = h
+
+-- what a run that has ended answers
+pub stepped : (e : Data) (a : List ℕ) (sizes : List PictureSize) (old new : List PathLeaf)
+    (lines : List PlanLine) (ms all : List Move) (start run : Run)
+    (scales : List (List ℕ × List PictureLoad)) (text : List ℕ) (stuck : Bool)
+    → IsPlan old new lines → IsAscending (paths old) → IsAscending (paths new)
+    → map move_line ms ≡ moves_among a lines → All (IsSized e a sizes) ms
+    → are_plain (map move_line all) ≡ true → all ≡ ms
+    → scales ≡ map (carried e a sizes new) (parts new)
+    → start.left.items ≡ ms → start.made.items ≡ []
+    → ((w : Bor (List ℕ)) → found start.rooms.entries w.now ≡ all_back ms w.now (first_rooms scales w.now))
+    → ((site : Site) → IsRun site start → IsRun site run)
+    → All (λ m. is_fit run.rooms.entries m ≡ false) run.left.items
+    → IsStepsText (map move_line run.made.items) (map move_line run.left.items) text
+    → stuck ≡ not (length run.left.items == 0)
+    → IsStepsOf e a sizes old new text stuck
+stepped e a sizes old new lines ms all start run scales text stuck plan before behind same sized plain these carry left made back kept none shown is =
+    let site = site_of e a sizes old new lines in
+    let begins : IsRun site start = run_begins site lines ms start refl same plan before behind sized
+        (ap (λ xs. are_plain (map move_line xs)) (sym these) ∙ plain) left made
+        (λ w. back w ∙ ap (λ ss. all_back ms w.now (first_rooms ss w.now)) carry) in
+    record {
+      made = map move_line run.made.items;
+      left = map move_line run.left.items;
+      ordered = record { lines = lines; plan = plan; ordered = run_ends site run (kept site begins) none };
+      some_left = some_left_by run.left.items stuck is;
+      shown = shown;
+    }
+
+-- a set among the moves
+pub moves_sets : (a : List ℕ) (old new : List PathLeaf) (lines : List PlanLine)
+    (ms all : List Move) → IsPlan old new lines → map move_line ms ≡ moves_among a lines
+    → are_plain (map move_line all) ≡ false → all ≡ ms → MovesSets a old new
+moves_sets a old new lines ms all plan same sets these = record {
+  lines = lines;
+  plan = plan;
+  sets = ap are_plain (sym same) ∙ ap (λ xs. are_plain (map move_line xs)) (sym these) ∙ sets;
+}

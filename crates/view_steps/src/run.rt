@@ -41,7 +41,8 @@ pub(crate) fn put(
         step.now.less.items (found rooms.old.entries w.now)) }
 {
     put_at(alloc, rooms, to_word(&step.line.change), &step.more)?;
-    put_at(alloc, rooms, from_word(&step.line.change), &step.less)
+    put_at(alloc, rooms, from_word(&step.line.change), &step.less)?;
+    Ok(())
 }
 
 /// Puts a guest back where its move came from.
@@ -55,7 +56,8 @@ pub(crate) fn put_back(
         step.now.less.items (found rooms.old.entries w.now)) }
 {
     put_at(alloc, rooms, from_word(&step.line.change), &step.more)?;
-    put_at(alloc, rooms, to_word(&step.line.change), &step.less)
+    put_at(alloc, rooms, to_word(&step.line.change), &step.less)?;
+    Ok(())
 }
 
 /// Makes a move that fits.

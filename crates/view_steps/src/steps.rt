@@ -3,8 +3,10 @@ ghost use Rattle.std.specs.Prelude.{◌≡◌, ℕ, List, [], false, map, IfErr,
 ghost use Rattle.std.specs.List.{All};
 ghost use Rattle.std.specs.Borrow.{Bor};
 ghost use Rattle.serde_json.specs.View.{view};
+ghost use Rattle.view_leaves.specs.Ascending.{IsAscending, paths};
+ghost use Rattle.view_leaves.specs.Views.{leaves_seen};
 ghost use Rattle.view_picture.specs.PictureViews.{scale_seen, size_seen};
-ghost use Rattle.view_steps.specs.Answer.{IsSteps, IsStepsRefused};
+ghost use Rattle.view_steps.specs.Answer.{IsSteps, IsStepsRefused, IsStepsOf, IsRefusedFor};
 ghost use Rattle.view_steps.specs.Rooms.{found, first_rooms};
 ghost use Rattle.view_steps.specs.Runs.{all_back, is_fit, IsRun};
 ghost use Rattle.view_steps.specs.Steps.{Site};
@@ -17,7 +19,7 @@ use crate::run::{Run, arrange, put_back, settle};
 use crate::text::steps_text;
 use serde_json::Value;
 use std::alloc::{AllocError, Global};
-use view_leaves::leaves_of;
+use view_leaves::{Leaf, leaves_of};
 use view_picture::{Scale, scales_of};
 use view_plan::plan;
 
@@ -102,6 +104,37 @@ fn ran<'t, 'l, 'a>(
     Ok(run)
 }
 
+/// An order of the moves from some leaves to those of the new configuration.
+fn steps_between<'v>(
+    alloc: Global,
+    old: &[Leaf<'v>],
+    new: &[Leaf<'v>],
+    measure: Measure<'_, 'v>,
+    failed: &[&str],
+) -> Result<Steps, StepsError>
+    requires old { IsAscending (paths (leaves_seen old.now)) }
+    requires new { IsAscending (paths (leaves_seen new.now)) }
+    ensures steps { IfOk result (λ made. IsStepsOf (view measure.entry.whole.now)
+        measure.entry.attribute.now (map size_seen measure.entry.sizes.now) (leaves_seen old.now)
+        (leaves_seen new.now) made.text.items made.stuck) }
+    ensures refused { IfErr result (IsRefusedFor measure.entry.attribute.now (leaves_seen old.now)
+        (leaves_seen new.now)) }
+{
+    let lines = plan(alloc, old, new)?;
+    let moves = moves_of(alloc, measure, lines)?;
+    if !are_plain(&moves) {
+        return Err(StepsError::Sets);
+    }
+    let scales = scales_of(alloc, measure.whole, new, measure.attribute, measure.sizes)?;
+    let start = begun(alloc, &scales, moves)?;
+    let run = ran(alloc, start, measure.sizes.len(), failed)?;
+    let text = steps_text(alloc, &run, measure.sizes)?;
+    Ok(Steps {
+        text,
+        stuck: !run.left.is_empty(),
+    })
+}
+
 /// An order of the moves from one configuration to another.
 pub fn steps_of<'v>(
     alloc: Global,
@@ -117,17 +150,6 @@ pub fn steps_of<'v>(
 {
     let old = leaves_of(alloc, former)?;
     let new = leaves_of(alloc, measure.whole)?;
-    let lines = plan(alloc, &old, &new)?;
-    let moves = moves_of(alloc, measure, lines)?;
-    if !are_plain(&moves) {
-        return Err(StepsError::Sets);
-    }
-    let scales = scales_of(alloc, measure.whole, &new, measure.attribute, measure.sizes)?;
-    let start = begun(alloc, &scales, moves)?;
-    let run = ran(alloc, start, measure.sizes.len(), failed)?;
-    let text = steps_text(alloc, &run, measure.sizes)?;
-    Ok(Steps {
-        text,
-        stuck: !run.left.is_empty(),
-    })
+    let steps = steps_between(alloc, &old, &new, measure, failed)?;
+    Ok(steps)
 }
