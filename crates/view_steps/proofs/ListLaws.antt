@@ -1,9 +1,10 @@
 -- Lists item by item, and rooms word by word.
-use Rattle.std.proofs.Common.{◌≡◌, ℕ, zero, suc, ◌+◌, ◌<◌, ◌≤◌, ℤ, Bool, true, false, List, [], ◌∷◌, ◌++◌, Option, None, Some, Vec, Bor, cond, if◌then◌else◌, length, drop, get_or, option_map, refl, sym, ap, ◌∙◌, subst, arith, add-one, append_assoc}
+use Rattle.std.proofs.Common.{◌≡◌, ℕ, zero, suc, ◌+◌, ◌<◌, ◌≤◌, ℤ, Bool, true, false, List, [], ◌∷◌, ◌++◌, Option, None, Some, Vec, Bor, if◌then◌else◌, length, drop, get_or, option_map, refl, sym, ap, ◌∙◌, subst, arith, add-one, append_assoc}
 use Rattle.std.specs.List.{All}
 use Rattle.std.specs.Prelude.{IfSome}
 use Rattle.std.specs.Map.{lookup, lookup_key}
 use Rattle.std.proofs.lemmas.List.{drop_all}
+use Rattle.std.proofs.lemmas.Map.Made.{lookup_key_passes}
 use Rattle.std.proofs.lemmas.List.Elements.{All-nil, All-cons}
 use Rattle.view_steps.specs.Moves.{is_word}
 use Rattle.view_steps.specs.Rooms.{Room, Entries, allowed, taken, first, rest, all_allowed, all_taken, found, is_one, some_allowed, some_taken, word_allowed}
@@ -141,21 +142,9 @@ put_nowhere old new v vs is out w =
     (λ e. ap (found old) (sym (same_word v w.now e)) ∙ sym is)
     (out w)
 
-key_by : {A : Type 0} (t : Bor (List ℕ) → Bool) (c : Bool) (k b : Bor (List ℕ)) (es : Entries A)
-    → t k ≡ c → Some b ≡ cond c (Some k) (lookup_key t es)
-    → (Some b ≡ lookup_key t es → t b ≡ true) → t b ≡ true
-key_by t true k b es is h more =
-    let same : b ≡ k = cc in ap t same ∙ is
-key_by t false k b es is h more = more h
-
-key_passes : {A : Type 0} (t : Bor (List ℕ) → Bool) (es : Entries A) (b : Bor (List ℕ))
-    → Some b ≡ lookup_key t es → t b ≡ true
-key_passes t [] b h = absurd cc
-key_passes t (e ∷ es) b h = key_by t (t e.0) e.0 b es refl h (key_passes t es b)
-
 -- a key that was found passes the test
 pub found_passes : {A : Type 0} (t : Bor (List ℕ) → Bool) (es : Entries A)
     (o : Option (Bor (List ℕ) × Vec Room A)) → option_map (λ p. p.0) o ≡ lookup_key t es
     → IfSome o (λ p. t p.0 ≡ true)
 found_passes t es None h = tt
-found_passes t es (Some p) h = key_passes t es p.0 h
+found_passes t es (Some p) h = lookup_key_passes t es p.0 (sym h)

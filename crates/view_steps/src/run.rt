@@ -91,7 +91,7 @@ fn first_fit(run: &Run<'_, '_, '_>) -> Option<usize>
 }
 
 /// Makes moves until none of those that are left fits.
-pub(crate) fn settle(alloc: Global, run: &mut Run<'_, '_, '_>) -> Result<(), AllocError>
+pub(crate) fn make_fitting(alloc: Global, run: &mut Run<'_, '_, '_>) -> Result<(), AllocError>
     ensures kept { OnOk result ((site : Site) → IsRun site run.old → IsRun site run.new) }
     ensures none { OnOk result (All (λ m. is_fit run.new.rooms.entries m ≡ false)
         run.new.left.items) }

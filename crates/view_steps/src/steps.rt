@@ -12,10 +12,10 @@ ghost use Rattle.view_steps.specs.Runs.{all_back, is_fit, IsRun};
 ghost use Rattle.view_steps.specs.Steps.{Site};
 ghost use Rattle.view_steps.specs.declared.steps.StepsError.TheVariants.{Memory};
 
-use crate::hints::{all_ready, rush};
+use crate::agenda::{all_ready, rush};
 use crate::moves::{Measure, Move, are_plain, moves_of};
 use crate::rooms::{Rooms, rooms_of};
-use crate::run::{Run, arrange, put_back, settle};
+use crate::run::{Run, arrange, put_back, make_fitting};
 use crate::text::steps_text;
 use serde_json::Value;
 use std::alloc::{AllocError, Global};
@@ -97,9 +97,9 @@ fn ran<'t, 'l, 'a>(
         made.left.items) }
 {
     let mut run = start;
-    let mut hints = all_ready(alloc, &run.left, sizes, failed)?;
-    rush(alloc, &mut run, &mut hints)?;
-    settle(alloc, &mut run)?;
+    let mut agenda = all_ready(alloc, &run.left, sizes, failed)?;
+    rush(alloc, &mut run, &mut agenda)?;
+    make_fitting(alloc, &mut run)?;
     arrange(&mut run)?;
     Ok(run)
 }
