@@ -26,7 +26,7 @@ pub record IsStepped (d e : Data) (a : StepsAsked) (text : List ℕ) (stuck : Bo
 
 -- a set is among what moves
 abbrev pub HasSetAmong : StepsAsked → Data → Data → Type 0
-HasSetAmong a d e = MovesSomeSet a.attribute (leaves d) (leaves e)
+HasSetAmong a d e = MovesSomeSet d e a.attribute
 
 -- why there is no order
 abbrev pub IsUnstepped : Data → Data → StepsAsked → Ended → Type 0

@@ -7,15 +7,15 @@ use Rattle.std.proofs.lemmas.List.Sorted.{IsPermutation-refl, IsPermutation-map,
 use mathlib.Core.List.{map-append}
 use Rattle.serde_json.specs.Data.{Data}
 use Rattle.view_leaves.specs.Ascending.{IsAscending, paths}
-use Rattle.view_leaves.specs.Leaves.{PathLeaf}
+use Rattle.view_leaves.specs.Leaves.{PathLeaf, leaves}
 use Rattle.view_leaves.specs.Paths.{Path, path_cmp}
 use Rattle.view_picture.specs.Picture.{PictureLoad, PictureSize, carried}
 use Rattle.view_plan.specs.Plan.{PlanLine, line_path, IsPlan}
 use Rattle.view_steps.specs.Rooms.{found, first_rooms, rooms}
 use Rattle.view_steps.specs.Runs.{is_fit, all_back, last_made, IsSite, IsRun}
 use Rattle.view_steps.specs.Moves.{are_plain, moves_among}
-use Rattle.view_steps.specs.Answer.{has_some, IsStepsOf, MovesSets}
-use Rattle.view_steps.specs.Steps.{Site, Lacks, AllFit, standing, last_first, site_of, IsOrder}
+use Rattle.view_steps.specs.Answer.{has_some, IsSteps, MovesSets}
+use Rattle.view_steps.specs.Steps.{Site, Lacks, AllFit, standing, last_first, site_of, IsOrder, IsOrdered}
 use Rattle.view_steps.specs.Text.{IsStepsText}
 use Rattle.view_steps.specs.Views.{move_line, move_path, IsSized, IsMove}
 use Rattle.view_steps.specs.declared.moves.Move.{Move}
@@ -92,9 +92,10 @@ some_left_by [] b h = h
 some_left_by (m ∷ ms) b h = h
 
 -- what a run that has ended answers
-pub stepped : (e : Data) (a : List ℕ) (sizes : List PictureSize) (old new : List PathLeaf)
+pub stepped : (d e : Data) (a : List ℕ) (sizes : List PictureSize) (old new : List PathLeaf)
     (lines : List PlanLine) (ms all : List Move) (start run : Run)
     (scales : List (List ℕ × List PictureLoad)) (text : List ℕ) (stuck : Bool)
+    → old ≡ leaves d → new ≡ leaves e
     → IsPlan old new lines → IsAscending (paths old) → IsAscending (paths new)
     → map move_line ms ≡ moves_among a lines → All (IsSized e a sizes) ms
     → are_plain (map move_line all) ≡ true → all ≡ ms
@@ -105,26 +106,31 @@ pub stepped : (e : Data) (a : List ℕ) (sizes : List PictureSize) (old new : Li
     → All (λ m. is_fit run.rooms.entries m ≡ false) run.left.items
     → IsStepsText (map move_line run.made.items) (map move_line run.left.items) text
     → stuck ≡ not (length run.left.items == 0)
-    → IsStepsOf e a sizes old new text stuck
-stepped e a sizes old new lines ms all start run scales text stuck plan before behind same sized plain these carry left made back kept none shown is =
+    → IsSteps d e a sizes text stuck
+stepped d e a sizes old new lines ms all start run scales text stuck olds news plan before behind same sized plain these carry left made back kept none shown is =
     let site = site_of e a sizes old new lines in
     let begins : IsRun site start = run_begins site lines ms start refl same plan before behind sized
         (ap (λ xs. are_plain (map move_line xs)) (sym these) ∙ plain) left made
         (λ w. back w ∙ ap (λ ss. all_back ms w.now (first_rooms ss w.now)) carry) in
+    let order = map move_line run.made.items in
+    let rest = map move_line run.left.items in
+    let ordered : IsOrdered e a sizes old new order rest = record { lines = lines; plan = plan; ordered = run_ends site run (kept site begins) none } in
     record {
-      made = map move_line run.made.items;
-      left = map move_line run.left.items;
-      ordered = record { lines = lines; plan = plan; ordered = run_ends site run (kept site begins) none };
+      made = order;
+      left = rest;
+      ordered = subst (λ ls. IsOrdered e a sizes ls (leaves e) order rest) olds
+          (subst (λ ls. IsOrdered e a sizes old ls order rest) news ordered);
       some_left = some_left_by run.left.items stuck is;
       shown = shown;
     }
 
 -- a set among the moves
-pub moves_sets : (a : List ℕ) (old new : List PathLeaf) (lines : List PlanLine)
-    (ms all : List Move) → IsPlan old new lines → map move_line ms ≡ moves_among a lines
-    → are_plain (map move_line all) ≡ false → all ≡ ms → MovesSets a old new
-moves_sets a old new lines ms all plan same sets these = record {
+pub moves_sets : (d e : Data) (a : List ℕ) (old new : List PathLeaf) (lines : List PlanLine)
+    (ms all : List Move) → old ≡ leaves d → new ≡ leaves e → IsPlan old new lines
+    → map move_line ms ≡ moves_among a lines
+    → are_plain (map move_line all) ≡ false → all ≡ ms → MovesSets d e a
+moves_sets d e a old new lines ms all olds news plan same sets these = record {
   lines = lines;
-  plan = plan;
+  plan = subst (λ ls. IsPlan ls (leaves e) lines) olds (subst (λ ls. IsPlan old ls lines) news plan);
   sets = ap are_plain (sym same) ∙ ap (λ xs. are_plain (map move_line xs)) (sym these) ∙ sets;
 }

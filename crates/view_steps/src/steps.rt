@@ -4,9 +4,10 @@ ghost use Rattle.std.specs.List.{All};
 ghost use Rattle.std.specs.Borrow.{Bor};
 ghost use Rattle.serde_json.specs.View.{view};
 ghost use Rattle.view_leaves.specs.Ascending.{IsAscending, paths};
+ghost use Rattle.view_leaves.specs.Leaves.{leaves};
 ghost use Rattle.view_leaves.specs.Views.{leaves_seen};
 ghost use Rattle.view_picture.specs.PictureViews.{scale_seen, size_seen};
-ghost use Rattle.view_steps.specs.Answer.{IsSteps, IsStepsRefused, IsStepsOf, IsRefusedFor};
+ghost use Rattle.view_steps.specs.Answer.{IsSteps, IsStepsRefused};
 ghost use Rattle.view_steps.specs.Rooms.{found, first_rooms};
 ghost use Rattle.view_steps.specs.Runs.{all_back, is_fit, IsRun};
 ghost use Rattle.view_steps.specs.Steps.{Site};
@@ -104,21 +105,24 @@ fn ran<'t, 'l, 'a>(
     Ok(run)
 }
 
-/// An order of the moves from some leaves to those of the new configuration.
+/// An order of the moves from one configuration to another, of which these are the leaves.
 fn steps_between<'v>(
     alloc: Global,
+    former: &'v Value,
     old: &[Leaf<'v>],
     new: &[Leaf<'v>],
     measure: Measure<'_, 'v>,
     failed: &[&str],
 ) -> Result<Steps, StepsError>
-    requires old { IsAscending (paths (leaves_seen old.now)) }
-    requires new { IsAscending (paths (leaves_seen new.now)) }
-    ensures steps { IfOk result (λ made. IsStepsOf (view measure.entry.whole.now)
-        measure.entry.attribute.now (map size_seen measure.entry.sizes.now) (leaves_seen old.now)
-        (leaves_seen new.now) made.text.items made.stuck) }
-    ensures refused { IfErr result (IsRefusedFor measure.entry.attribute.now (leaves_seen old.now)
-        (leaves_seen new.now)) }
+    requires old { leaves_seen old.now ≡ leaves (view former.now) }
+    requires new { leaves_seen new.now ≡ leaves (view measure.entry.whole.now) }
+    requires before { IsAscending (paths (leaves_seen old.now)) }
+    requires behind { IsAscending (paths (leaves_seen new.now)) }
+    ensures steps { IfOk result (λ made. IsSteps (view former.now) (view measure.entry.whole.now)
+        measure.entry.attribute.now (map size_seen measure.entry.sizes.now) made.text.items
+        made.stuck) }
+    ensures refused { IfErr result (IsStepsRefused (view former.now) (view measure.entry.whole.now)
+        measure.entry.attribute.now) }
 {
     let lines = plan(alloc, old, new)?;
     let moves = moves_of(alloc, measure, lines)?;
@@ -150,6 +154,6 @@ pub fn steps_of<'v>(
 {
     let old = leaves_of(alloc, former)?;
     let new = leaves_of(alloc, measure.whole)?;
-    let steps = steps_between(alloc, &old, &new, measure, failed)?;
+    let steps = steps_between(alloc, former, &old, &new, measure, failed)?;
     Ok(steps)
 }

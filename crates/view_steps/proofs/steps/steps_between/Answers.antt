@@ -8,20 +8,21 @@ use Rattle.view_steps.proofs.steps.steps_between.Goals as goal
 
 pub returns-then-not-are_plain-clause-refused : goal.returns-then-not-are_plain-clause-refused
 returns-then-not-are_plain-clause-refused c =
-    moves_sets c.args.measure.attribute.now (leaves_seen c.args.old.now) (leaves_seen c.args.new.now)
+    moves_sets (view c.args.former.now) (view c.args.measure.whole.now) c.args.measure.attribute.now
+    (leaves_seen c.args.old.now) (leaves_seen c.args.new.now)
     (lines_seen c.in_ok-lines.lines.items) c.in_ok-moves.moves.items c.deref.result.now
-    c.in_ok-lines.ensures c.in_ok-moves.ensures.lines
+    c.requires.old c.requires.new c.in_ok-lines.ensures.plan c.in_ok-moves.ensures.lines
     (sym c.are_plain.ensures ∙ c.if-not-are_plain.true) c.deref.ensures.value
 
 pub returns-clause-steps : goal.returns-clause-steps
 returns-clause-steps c =
     let m = c.args.measure in
-    stepped (view m.whole.now) m.attribute.now (map size_seen m.sizes.now)
+    stepped (view c.args.former.now) (view m.whole.now) m.attribute.now (map size_seen m.sizes.now)
     (leaves_seen c.args.old.now) (leaves_seen c.args.new.now) (lines_seen c.in_ok-lines.lines.items)
     c.in_ok-moves.moves.items c.deref.result.now c.in_ok-start.start c.in_ok-run.run
     (map scale_seen c.deref-2.result.now) c.in_ok-text.text.items (not c.is_empty.result)
-    c.in_ok-lines.ensures c.requires.old c.requires.new c.in_ok-moves.ensures.lines
-    c.in_ok-moves.ensures.sized (sym c.are_plain.ensures ∙ c.if-not-are_plain.false)
+    c.requires.old c.requires.new c.in_ok-lines.ensures.plan c.requires.before c.requires.behind
+    c.in_ok-moves.ensures.lines c.in_ok-moves.ensures.sized (sym c.are_plain.ensures ∙ c.if-not-are_plain.false)
     c.deref.ensures.value
     (ap (map scale_seen) c.deref-2.ensures.value ∙ c.in_ok-scales.ensures)
     c.in_ok-start.ensures.moves c.in_ok-start.ensures.none c.in_ok-start.ensures.rooms
