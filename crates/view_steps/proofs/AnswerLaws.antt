@@ -1,5 +1,5 @@
 -- From a run that has ended to what is answered.
-use Rattle.std.proofs.Common.{◌≡◌, ℕ, ◌==◌, suc, not, length, Bool, true, false, List, [], ◌∷◌, ◌++◌, map, reverse, filter, refl, sym, ap, ◌∙◌, subst, arith, is_eq, append-nil}
+use Rattle.std.proofs.Common.{◌≡◌, ℕ, suc, Bool, true, false, List, [], ◌∷◌, ◌++◌, map, reverse, filter, refl, sym, ap, ◌∙◌, subst, arith, is_eq, append-nil}
 use Rattle.std.specs.Prelude.{All, IsPermutation}
 use Rattle.std.specs.Borrow.{Bor}
 use Rattle.std.proofs.lemmas.List.Elements.{All-nil, All-cons}
@@ -86,11 +86,6 @@ run_ends site run is none =
           (line_lacks site (last_made run.made.items) run.left.items (all_lack site run is none));
     }
 
-some_left_by : (ms : List Move) (b : Bool) → b ≡ not (length ms == 0)
-    → b ≡ has_some (map move_line ms)
-some_left_by [] b h = h
-some_left_by (m ∷ ms) b h = h
-
 -- what a run that has ended answers
 pub stepped : (d e : Data) (a : List ℕ) (sizes : List PictureSize) (old new : List PathLeaf)
     (lines : List PlanLine) (ms all : List Move) (start run : Run)
@@ -105,7 +100,7 @@ pub stepped : (d e : Data) (a : List ℕ) (sizes : List PictureSize) (old new : 
     → ((site : Site) → IsRun site start → IsRun site run)
     → All (λ m. is_fit run.rooms.entries m ≡ false) run.left.items
     → IsStepsText (map move_line run.made.items) (map move_line run.left.items) text
-    → stuck ≡ not (length run.left.items == 0)
+    → stuck ≡ has_some (map move_line run.left.items)
     → IsSteps d e a sizes text stuck
 stepped d e a sizes old new lines ms all start run scales text stuck olds news plan before behind same sized plain these carry left made back kept none shown is =
     let site = site_of e a sizes old new lines in
@@ -120,7 +115,7 @@ stepped d e a sizes old new lines ms all start run scales text stuck olds news p
       left = rest;
       ordered = subst (λ ls. IsOrdered e a sizes ls (leaves e) order rest) olds
           (subst (λ ls. IsOrdered e a sizes old ls order rest) news ordered);
-      some_left = some_left_by run.left.items stuck is;
+      some_left = is;
       shown = shown;
     }
 

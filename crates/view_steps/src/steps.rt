@@ -7,10 +7,11 @@ ghost use Rattle.view_leaves.specs.Ascending.{IsAscending, paths};
 ghost use Rattle.view_leaves.specs.Leaves.{leaves};
 ghost use Rattle.view_leaves.specs.Views.{leaves_seen};
 ghost use Rattle.view_picture.specs.PictureViews.{scale_seen, size_seen};
-ghost use Rattle.view_steps.specs.Answer.{IsSteps, IsStepsRefused};
+ghost use Rattle.view_steps.specs.Answer.{has_some, IsSteps, IsStepsRefused};
 ghost use Rattle.view_steps.specs.Rooms.{found, first_rooms};
 ghost use Rattle.view_steps.specs.Runs.{all_back, is_fit, IsRun};
 ghost use Rattle.view_steps.specs.Steps.{Site};
+ghost use Rattle.view_steps.specs.Views.{move_line};
 ghost use Rattle.view_steps.specs.declared.steps.StepsError.TheVariants.{Memory};
 
 use crate::agenda::{all_ready, rush};
@@ -105,6 +106,13 @@ fn ran<'t, 'l, 'a>(
     Ok(run)
 }
 
+/// Whether moves are left.
+fn has_left(run: &Run<'_, '_, '_>) -> bool
+    ensures { result ≡ has_some (map move_line run.now.left.items) }
+{
+    !run.left.is_empty()
+}
+
 /// An order of the moves from one configuration to another, of which these are the leaves.
 fn steps_between<'v>(
     alloc: Global,
@@ -115,7 +123,7 @@ fn steps_between<'v>(
     failed: &[&str],
 ) -> Result<Steps, StepsError>
     requires old { leaves_seen old.now ≡ leaves (view former.now) }
-    requires new { leaves_seen new.now ≡ leaves (view measure.entry.whole.now) }
+    requires new { leaves_seen new.now ≡ leaves (view measure.whole.now) }
     requires before { IsAscending (paths (leaves_seen old.now)) }
     requires behind { IsAscending (paths (leaves_seen new.now)) }
     ensures steps { IfOk result (λ made. IsSteps (view former.now) (view measure.entry.whole.now)
@@ -131,12 +139,10 @@ fn steps_between<'v>(
     }
     let scales = scales_of(alloc, measure.whole, new, measure.attribute, measure.sizes)?;
     let start = begun(alloc, &scales, moves)?;
-    let run = ran(alloc, start, measure.sizes.len(), failed)?;
-    let text = steps_text(alloc, &run, measure.sizes)?;
-    Ok(Steps {
-        text,
-        stuck: !run.left.is_empty(),
-    })
+    let ended = ran(alloc, start, measure.sizes.len(), failed)?;
+    let text = steps_text(alloc, &ended, measure.sizes)?;
+    let stuck = has_left(&ended);
+    Ok(Steps { text, stuck })
 }
 
 /// An order of the moves from one configuration to another.

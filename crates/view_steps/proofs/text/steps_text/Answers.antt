@@ -13,5 +13,5 @@ returns c =
     c.push_left.new.text.items c.extend_from_slice.new.self.items c.in_ok-lacks.lacks.items
     c.in_ok-text.ensures c.in_ok-push_left.ensures
     (c.in_ok-extend_from_slice.ensures.items
-    ∙ ap (λ xs. c.push_left.new.text.items ++ xs) c.deref.ensures.value)
+    ∙ ap (λ xs. c.push_left.new.text.items ++ xs) c.deref-2.ensures.value)
     (search rules)
