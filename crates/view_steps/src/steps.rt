@@ -17,7 +17,7 @@ ghost use Rattle.view_steps.specs.declared.steps.StepsError.TheVariants.{Memory}
 use crate::agenda::{all_ready, rush};
 use crate::moves::{Measure, Move, are_plain, moves_of};
 use crate::rooms::{Rooms, rooms_of};
-use crate::run::{Run, arrange, put_back, make_fitting};
+use crate::run::{Run, arrange, make_fitting, put_back};
 use crate::text::steps_text;
 use serde_json::Value;
 use std::alloc::{AllocError, Global};
