@@ -89,11 +89,12 @@ _confsolve_view() {
     [ -z "$_confsolve_option" ] || return
     case ${_confsolve_plain[0]-}:${#_confsolve_plain[@]} in
         :0)
-            _confsolve_words plan picture
+            _confsolve_words plan picture steps
             [[ $_confsolve_current != -* ]] || _confsolve_words --help --version --prove
             ;;
-        plan:1 | plan:2 | picture:1) _confsolve_files .json ;;
+        plan:1 | plan:2 | picture:1 | steps:1 | steps:2) _confsolve_files .json ;;
         picture:*) [[ $_confsolve_current != -* ]] || _confsolve_words --svg --failed ;;
+        steps:*) [[ $_confsolve_current != -* ]] || _confsolve_words --failed ;;
     esac
 }
 

@@ -7,10 +7,10 @@ use Rattle.view_leaves.specs.Leaves.{PathLeaf}
 use Rattle.view_leaves.specs.Paths.{Path}
 use Rattle.view_leaves.specs.Spelling.{path_text}
 use Rattle.view_picture.specs.declared.mentions.Mention.{Mention}
-use Rattle.view_picture.specs.Held.{held_at}
+use Rattle.view_picture.specs.Held.{held_at, carried_at}
 use Rattle.view_picture.specs.Mentioned.{mention_seen, is_one, those, found, mention_paths}
 use Rattle.view_picture.specs.Mentions.{guests, numbered}
-use Rattle.view_picture.specs.Picture.{PictureHolding, PictureSize, holding_of, if_held, guests_at, holdings_among}
+use Rattle.view_picture.specs.Picture.{PictureHolding, PictureSize, load_of, carried, holding_of, if_held, guests_at, holdings_among}
 use Rattle.view_picture.proofs.MentionLaws.{numbered_guests}
 
 some_held : (d : Data) (sizes : List PictureSize) (p : Path) (ms : List Mention)
@@ -41,3 +41,14 @@ all_held d a sizes ls es h (p ∷ ps) =
     let same : mention_paths (found es (path_text p)) ≡ guests_at a ls p = ap mention_paths (h (path_text p)) ∙ numbered_guests a (path_text p) 0 ls in
     ap (λ gs. if_held d sizes p gs ++ flat_map (held_at d sizes es) ps) same
     ∙ ap (λ hs. if_held d sizes p (guests_at a ls p) ++ hs) (all_held d a sizes ls es h ps)
+
+-- what all the parts carry, by the leaves
+pub all_carried : {A : Type 0} (d : Data) (a : List ℕ) (sizes : List PictureSize)
+    (ls : List PathLeaf) (es : List (Bor (List ℕ) × Vec Mention A))
+    → ((w : List ℕ) → found es w ≡ numbered a w 0 ls) → (ps : List Path)
+    → map (carried_at d sizes es) ps ≡ map (carried d a sizes ls) ps
+all_carried d a sizes ls es h [] = refl
+all_carried d a sizes ls es h (p ∷ ps) =
+    let same : mention_paths (found es (path_text p)) ≡ guests_at a ls p = ap mention_paths (h (path_text p)) ∙ numbered_guests a (path_text p) 0 ls in
+    ap (λ gs. (path_text p, map (load_of d p gs) sizes) ∷ map (carried_at d sizes es) ps) same
+    ∙ ap (λ xs. carried d a sizes ls p ∷ xs) (all_carried d a sizes ls es h ps)

@@ -65,6 +65,10 @@ if_held d sizes p (g ∷ gs) = holding_of d sizes p (g ∷ gs) ∷ []
 abbrev pub guests_at : List ℕ → List PathLeaf → Path → List Path
 guests_at a ls p = guests a (path_text p) ls
 
+-- what a part carries: how it is spelled, and a load for each size
+abbrev pub carried : Data → List ℕ → List PictureSize → List PathLeaf → Path → List ℕ × List PictureLoad
+carried d a sizes ls p = (path_text p, map (load_of d p (guests_at a ls p)) sizes)
+
 -- the picture, of these parts
 abbrev pub holdings_among : Data → List ℕ → List PictureSize → List PathLeaf → List Path → List PictureHolding
 holdings_among d a sizes ls ps = flat_map (λ p. if_held d sizes p (guests_at a ls p)) ps

@@ -4,6 +4,7 @@ use Rattle.view_leaves.specs.Paths.{Path}
 use Rattle.view_picture.specs.declared.holding.Guest.{Guest}
 use Rattle.view_picture.specs.declared.holding.Holding.{Holding}
 use Rattle.view_picture.specs.declared.holding.Load.{Load}
+use Rattle.view_picture.specs.declared.holding.Scale.{Scale}
 use Rattle.view_picture.specs.declared.holding.Size.{Size}
 use Rattle.view_picture.specs.Picture.{PictureGuest, PictureLoad, PictureHolding, PictureSize}
 use Rattle.view_picture.specs.Views.{path_seen}
@@ -29,3 +30,6 @@ holding_seen h = record {
 
 abbrev pub holdings_seen : List Holding → List PictureHolding
 holdings_seen hs = map holding_seen hs
+
+abbrev pub scale_seen : Scale → List ℕ × List PictureLoad
+scale_seen s = (s.text.items, map load_seen s.loads.items)

@@ -41,3 +41,12 @@ pub struct Holding<'s, 'l, 'a> {
     /// Its guests, in order of path.
     pub guests: Vec<Guest<'l, 'a>>,
 }
+
+/// What a part carries.
+#[derive(Drop)]
+pub struct Scale<'s> {
+    /// How the part's path is spelled.
+    pub text: Vec<u8>,
+    /// What its guests come to, a load for each size.
+    pub loads: Vec<Load<'s>>,
+}

@@ -6,10 +6,14 @@ mod lookup;
 mod mentions;
 mod named;
 mod pictures;
+mod scales;
 mod totals;
 mod ways;
 
-pub use holding::{Guest, Holding, Load, Size};
+pub use holding::{Guest, Holding, Load, Scale, Size};
+pub use mentions::guest_by;
 pub use named::{are_parts, has_attribute};
 pub use pictures::holdings;
+pub use scales::scales_of;
+pub use totals::amount;
 pub use ways::parts;

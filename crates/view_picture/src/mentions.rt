@@ -22,7 +22,7 @@ pub(crate) struct Mention<'l, 'a> {
 pub(crate) type Mentions<'l, 'a> = IndexMap<&'a [u8], Vec<Mention<'l, 'a>>>;
 
 /// Who has the leaf of this path, where its attribute has this name.
-pub(crate) fn guest_by<'l, 'a>(path: &'l [Step<'a>], attribute: &str) -> Option<&'l [Step<'a>]>
+pub fn guest_by<'l, 'a>(path: &'l [Step<'a>], attribute: &str) -> Option<&'l [Step<'a>]>
     ensures { option_map (λ p. map step_seen p.now) result
         ≡ guest_by attribute.now (map step_seen path.now) }
 {

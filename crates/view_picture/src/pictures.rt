@@ -33,7 +33,7 @@ fn guest_of<'l, 'a>(whole: &'a Value, path: &'l [Step<'a>]) -> Guest<'l, 'a>
 }
 
 /// The guests by whom a word is mentioned.
-fn guests_of<'l, 'a>(
+pub(crate) fn guests_of<'l, 'a>(
     alloc: Global,
     whole: &'a Value,
     mentions: &[Mention<'l, 'a>],
@@ -52,13 +52,13 @@ fn guests_of<'l, 'a>(
 
 /// What a picture is drawn from.
 #[derive(Drop)]
-struct Scene<'s, 'l, 'a> {
+pub(crate) struct Scene<'s, 'l, 'a> {
     /// The configuration.
-    whole: &'a Value,
+    pub whole: &'a Value,
     /// The sizes that are asked for.
-    sizes: &'s [Size<'s>],
+    pub sizes: &'s [Size<'s>],
     /// Who refers to which word.
-    mentions: Mentions<'l, 'a>,
+    pub mentions: Mentions<'l, 'a>,
 }
 
 /// What a holder is, by the mentions of it.

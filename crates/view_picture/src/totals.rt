@@ -19,7 +19,7 @@ fn number_at(whole: &Value, path: &[Step<'_>], name: &str) -> Option<i64>
 }
 
 /// The size of a guest; 0 where it has none.
-fn amount(whole: &Value, guest: &[Step<'_>], name: &str) -> i64
+pub fn amount(whole: &Value, guest: &[Step<'_>], name: &str) -> i64
     ensures { result ≡ amount (view whole.now) name.now (map step_seen guest.now) }
 {
     number_at(whole, guest, name).unwrap_or(0)

@@ -8,4 +8,4 @@ mod text;
 
 pub use change::{Change, change_between};
 pub use merge::{Line, plan};
-pub use text::plan_text;
+pub use text::{plan_text, push_line};

@@ -62,7 +62,7 @@ fn push_change(alloc: Global, text: &mut Vec<u8>, change: &Change<'_>) -> Result
 }
 
 /// Writes a line of a plan.
-fn push_line(alloc: Global, text: &mut Vec<u8>, line: &Line<'_, '_>) -> Result<(), AllocError>
+pub fn push_line(alloc: Global, text: &mut Vec<u8>, line: &Line<'_, '_>) -> Result<(), AllocError>
     ensures { OnOk result (shows_fraction (line_seen line.now) ≡ false → text.new.items
         ≡ text.old.items ++ line_text (line_seen line.now)) }
 {

@@ -11,7 +11,7 @@ use Rattle.view_picture.specs.Picture.{PictureHolding, holdings}
 use Rattle.view_run.specs.Options.{sizes_of, failed_of, wants_svg}
 use Rattle.view_run.specs.Words.{PictureAsked}
 use Rattle.view_run.specs.declared.status.Status.{Status as Ended}
-use Rattle.view_run.specs.declared.status.Status.TheVariants.{Same, Differs, Shown, Usage, Unreadable, TooLong, NotJson, NotObject, NoAttribute, NoPart, WriteFault, Memory}
+use Rattle.view_run.specs.declared.status.Status.TheVariants.{Same, Differs, Shown, Stuck, Usage, Unreadable, TooLong, NotJson, NotObject, NoAttribute, NoPart, MovesSets, WriteFault, Memory}
 
 -- the picture that is asked for
 abbrev pub pictured : Data → PictureAsked → List PictureHolding
@@ -41,6 +41,7 @@ abbrev pub IsBlank : Data → PictureAsked → Ended → Type 0
 IsBlank d a Same = ⊥
 IsBlank d a Differs = ⊥
 IsBlank d a Shown = ⊥
+IsBlank d a Stuck = ⊥
 IsBlank d a Usage = ⊥
 IsBlank d a (Unreadable s) = ⊥
 IsBlank d a (TooLong s) = ⊥
@@ -48,6 +49,7 @@ IsBlank d a (NotJson s) = ⊥
 IsBlank d a (NotObject s) = ⊥
 IsBlank d a NoAttribute = is_known d a ≡ false
 IsBlank d a NoPart = is_there d a ≡ false
+IsBlank d a MovesSets = ⊥
 IsBlank d a WriteFault = ⊥
 IsBlank d a Memory = ⊤
 

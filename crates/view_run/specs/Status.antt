@@ -3,12 +3,13 @@ use Rattle.std.specs.Prelude.{ℕ, List, [], codes}
 use Rattle.view_run.specs.declared.status.Source.{Source}
 use Rattle.view_run.specs.declared.status.Source.TheVariants.{Former, New, Config}
 use Rattle.view_run.specs.declared.status.Status.{Status as Ended}
-use Rattle.view_run.specs.declared.status.Status.TheVariants.{Same, Differs, Shown, Usage, Unreadable, TooLong, NotJson, NotObject, NoAttribute, NoPart, WriteFault, Memory}
+use Rattle.view_run.specs.declared.status.Status.TheVariants.{Same, Differs, Shown, Stuck, Usage, Unreadable, TooLong, NotJson, NotObject, NoAttribute, NoPart, MovesSets, WriteFault, Memory}
 
 abbrev pub number_of : Ended → ℕ
 number_of Same = 0
 number_of Differs = 1
 number_of Shown = 0
+number_of Stuck = 9
 number_of Usage = 2
 number_of (Unreadable s) = 3
 number_of (TooLong s) = 4
@@ -16,6 +17,7 @@ number_of (NotJson s) = 5
 number_of (NotObject s) = 5
 number_of NoAttribute = 6
 number_of NoPart = 6
+number_of MovesSets = 6
 number_of WriteFault = 7
 number_of Memory = 8
 
@@ -23,8 +25,9 @@ abbrev pub line_of : Ended → List ℕ
 line_of Same = []
 line_of Differs = []
 line_of Shown = []
+line_of Stuck = codes "stuck"
 line_of Usage =
-    codes "usage: confsolve-view plan FORMER NEW, or picture CONFIG ATTRIBUTE [SIZE ..]"
+    codes "usage: confsolve-view plan FORMER NEW, picture CONFIG .., or steps FORMER NEW .."
 line_of (Unreadable Former) = codes "former unreadable"
 line_of (Unreadable New) = codes "new unreadable"
 line_of (Unreadable Config) = codes "configuration unreadable"
@@ -39,5 +42,6 @@ line_of (NotObject New) = codes "new not an object"
 line_of (NotObject Config) = codes "configuration not an object"
 line_of NoAttribute = codes "no such attribute"
 line_of NoPart = codes "failed part not in the configuration"
+line_of MovesSets = codes "a set among the moves"
 line_of WriteFault = codes "output not written"
 line_of Memory = codes "no memory"

@@ -2,9 +2,10 @@
 use Rattle.std.specs.Prelude.{ℕ, Bool, true, false, not, ◌&&◌, ◌||◌, ◌==◌, if◌then◌else◌, nat_eq, List, [], ◌∷◌, ◌++◌, Option, None, Some, codes, bytes_eq, map, string_bytes}
 use Rattle.std.specs.List.{starts_with, list_any}
 use Rattle.view_picture.specs.Picture.{PictureSize}
-use Rattle.view_run.specs.Options.{is_option, are_options}
+use Rattle.view_run.specs.Options.{is_option, are_options, wants_svg}
 use Rattle.view_run.specs.declared.request.PlanRequest.{PlanRequest}
 use Rattle.view_run.specs.declared.request.PictureRequest.{PictureRequest}
+use Rattle.view_run.specs.declared.request.StepsRequest.{StepsRequest}
 use Rattle.view_run.specs.declared.request.Request.{Request}
 use Rattle.view_run.specs.declared.request.Request.TheVariants as request
 
@@ -19,9 +20,17 @@ pub record PictureAsked : Type 0 where
   pub attribute : List ℕ
   pub options : List (List ℕ)
 
+-- the files and the attribute that steps are asked of, and the words behind
+pub record StepsAsked : Type 0 where
+  pub former : List ℕ
+  pub new : List ℕ
+  pub attribute : List ℕ
+  pub options : List (List ℕ)
+
 pub data Asked : Type 0 where
   plan : PlanAsked → Asked
   picture : PictureAsked → Asked
+  steps : StepsAsked → Asked
 
 -- `plan` is asked of two files
 abbrev pub plan_asked : List (List ℕ) → Option Asked
@@ -40,12 +49,26 @@ picture_asked (a ∷ b ∷ more) =
     if not (is_option a) && not (is_option b) && are_options false more
     then Some (picture (record { config = a; attribute = b; options = more })) else None
 
+-- the options of `steps`: sizes and `--failed`
+abbrev pub are_sizes : List (List ℕ) → Bool
+are_sizes words = are_options false words && not (wants_svg false words)
+
+-- `steps` of two files and an attribute, with sizes and `--failed` behind
+abbrev pub steps_asked : List (List ℕ) → Option Asked
+steps_asked [] = None
+steps_asked (a ∷ []) = None
+steps_asked (a ∷ b ∷ []) = None
+steps_asked (a ∷ b ∷ c ∷ more) =
+    if not (is_option a) && not (is_option b) && not (is_option c) && are_sizes more
+    then Some (steps (record { former = a; new = b; attribute = c; options = more })) else None
+
 -- what the words behind the program's name ask for
 abbrev pub asked : List (List ℕ) → Option Asked
 asked [] = None
 asked (command ∷ words) =
     if bytes_eq command (codes "plan") then plan_asked words
-    else if bytes_eq command (codes "picture") then picture_asked words else None
+    else if bytes_eq command (codes "picture") then picture_asked words
+    else if bytes_eq command (codes "steps") then steps_asked words else None
 
 abbrev pub plan_seen : PlanRequest → PlanAsked
 plan_seen r = record { former = r.former.now; new = r.new.now }
@@ -57,6 +80,15 @@ picture_seen r = record {
   options = map string_bytes r.options.now;
 }
 
+abbrev pub steps_seen : StepsRequest → StepsAsked
+steps_seen r = record {
+  former = r.former.now;
+  new = r.new.now;
+  attribute = r.attribute.now;
+  options = map string_bytes r.options.now;
+}
+
 abbrev pub request_seen : Request → Asked
 request_seen (request.Plan r) = plan (plan_seen r)
 request_seen (request.Picture r) = picture (picture_seen r)
+request_seen (request.Steps r) = steps (steps_seen r)

@@ -8,8 +8,9 @@ mod picture;
 mod request;
 mod source;
 mod status;
+mod steps;
 
 pub use answer::{Plan, plan_between};
 pub use command::run;
-pub use request::{PictureRequest, PlanRequest, Request, request_of};
+pub use request::{PictureRequest, PlanRequest, Request, StepsRequest, request_of};
 pub use status::{Source, Status};

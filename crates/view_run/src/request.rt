@@ -1,7 +1,9 @@
 //! What the words ask for.
 ghost use Rattle.std.specs.Prelude.{◌≡◌, false, map, string_bytes, option_map};
 ghost use Rattle.view_run.specs.Options.{is_option, are_options};
-ghost use Rattle.view_run.specs.Words.{asked, plan_asked, picture_asked, request_seen};
+ghost use Rattle.view_run.specs.Words.{asked, plan_asked, picture_asked, are_sizes, steps_asked, request_seen};
+
+use crate::options::wants_svg;
 
 /// The files that a plan is asked of.
 #[derive(Clone, Copy)]
@@ -23,6 +25,19 @@ pub struct PictureRequest<'a> {
     pub options: &'a [String],
 }
 
+/// What steps are asked of.
+#[derive(Clone, Copy)]
+pub struct StepsRequest<'a> {
+    /// The file of the former configuration.
+    pub former: &'a str,
+    /// The file of the new one.
+    pub new: &'a str,
+    /// The attribute by which guests refer to holders.
+    pub attribute: &'a str,
+    /// The words behind: sizes and `--failed`.
+    pub options: &'a [String],
+}
+
 /// A request, over the words that it is read from.
 #[derive(Clone, Copy)]
 pub enum Request<'a> {
@@ -30,6 +45,8 @@ pub enum Request<'a> {
     Plan(PlanRequest<'a>),
     /// The picture of a configuration.
     Picture(PictureRequest<'a>),
+    /// The steps from one configuration to another.
+    Steps(StepsRequest<'a>),
 }
 
 /// Whether a word begins with a dash.
@@ -95,6 +112,40 @@ fn picture_asked(words: &[String]) -> Option<Request<'_>>
     }
 }
 
+/// Whether words are the options of steps.
+fn are_sizes(words: &[String]) -> bool
+    ensures { result ≡ are_sizes (map string_bytes words.now) }
+{
+    are_options(words) && !wants_svg(words)
+}
+
+/// What the words behind `steps` ask for.
+fn steps_asked(words: &[String]) -> Option<Request<'_>>
+    ensures { option_map request_seen result ≡ steps_asked (map string_bytes words.now) }
+{
+    match words {
+        [former, new, attribute, options @ ..] => {
+            if !is_option(former)
+                && !is_option(new)
+                && !is_option(attribute)
+                && are_sizes(options)
+            {
+                Some(Request::Steps(StepsRequest {
+                    former,
+                    new,
+                    attribute,
+                    options,
+                }))
+            } else {
+                None
+            }
+        }
+        [] => None,
+        [_] => None,
+        [_, _] => None,
+    }
+}
+
 /// What the words behind the program's name ask for, if they are a request.
 pub fn request_of(words: &[String]) -> Option<Request<'_>>
     ensures { option_map request_seen result ≡ asked (map string_bytes words.now) }
@@ -106,6 +157,8 @@ pub fn request_of(words: &[String]) -> Option<Request<'_>>
                 plan_asked(more)
             } else if command.as_str() == "picture" {
                 picture_asked(more)
+            } else if command.as_str() == "steps" {
+                steps_asked(more)
             } else {
                 None
             }

@@ -23,8 +23,10 @@ pub enum Status {
     Same,
     /// Something differs.
     Differs,
-    /// A picture was printed.
+    /// A picture was printed, or an order of all moves.
     Shown,
+    /// An order was printed, and moves of which none fits.
+    Stuck,
     /// The words are no request.
     Usage,
     /// A file can't be read.
@@ -39,6 +41,8 @@ pub enum Status {
     NoAttribute,
     /// What is said to have failed isn't there.
     NoPart,
+    /// A set is among what moves.
+    MovesSets,
     /// The answer couldn't be written.
     WriteFault,
     /// There was no memory.
@@ -65,9 +69,10 @@ impl Status {
             Status::Unreadable(_) => 3,
             Status::TooLong(_) => 4,
             Status::NotJson(_) | Status::NotObject(_) => 5,
-            Status::NoAttribute | Status::NoPart => 6,
+            Status::NoAttribute | Status::NoPart | Status::MovesSets => 6,
             Status::WriteFault => 7,
             Status::Memory => 8,
+            Status::Stuck => 9,
         }
     }
 
@@ -78,8 +83,9 @@ impl Status {
     {
         match self {
             Status::Same | Status::Differs | Status::Shown => "",
+            Status::Stuck => "stuck",
             Status::Usage =>
-                "usage: confsolve-view plan FORMER NEW, or picture CONFIG ATTRIBUTE [SIZE ..]",
+                "usage: confsolve-view plan FORMER NEW, picture CONFIG .., or steps FORMER NEW ..",
             Status::Unreadable(Source::Former) => "former unreadable",
             Status::Unreadable(Source::New) => "new unreadable",
             Status::Unreadable(Source::Config) => "configuration unreadable",
@@ -94,6 +100,7 @@ impl Status {
             Status::NotObject(Source::Config) => "configuration not an object",
             Status::NoAttribute => "no such attribute",
             Status::NoPart => "failed part not in the configuration",
+            Status::MovesSets => "a set among the moves",
             Status::WriteFault => "output not written",
             Status::Memory => "no memory",
         }

@@ -1,9 +1,11 @@
-//! Tests of `confsolve-view`: the cases of its plans and of its pictures. The program runs those of
-//! `data/plan.cases` and `data/picture.cases`, and prints how many came out as they say.
+//! Tests of `confsolve-view`: the cases of its plans, pictures and steps. The program runs those of
+//! `data/plan.cases`, `data/picture.cases` and `data/steps.cases`, and prints how many came out as
+//! they say.
 //!
 //! - `given TEXT` and `more TEXT`: the text of the former configuration.
 //! - `plan TEXT`: a plan to this text: what is printed, the status's number, and its line.
 //! - `picture WORDS`: a picture of it, by these words.
+//! - `steps WORDS TEXT`: the steps from it to this text, by these words.
 //! - `words TEXT`: a run of these words where there are no files.
 //! - `fails N`: a plan from the text to itself where the call of the desk with that number fails,
 //!   and each handles 4 bytes.
@@ -82,6 +84,29 @@ fn pictured(alloc: Global, config: &[u8], more: &[u8]) -> Result<String, AllocEr
     )
 }
 
+/// Words, and the text of a configuration behind them.
+fn parted(text: &[u8]) -> (&[u8], &[u8]) {
+    match text.iter().position(|byte| *byte == b'{') {
+        Some(at) => text.split_at(at),
+        None => (text, b""),
+    }
+}
+
+/// The steps from one text to another, by words before the second.
+fn stepped(alloc: Global, former: &[u8], text: &[u8]) -> Result<String, AllocError> {
+    let (more, new) = parted(text);
+    let mut words = owned(alloc, &["steps", "former", "new"])?;
+    for word in words_of(alloc, more)? {
+        words.push(String::from_str(alloc, word)?)?;
+    }
+    let files = vec![in alloc; file(alloc, "former", former)?, file(alloc, "new", new)?]?;
+    ran(
+        alloc,
+        &words,
+        MemoryDesk::new(alloc, files, Vec::new(alloc)),
+    )
+}
+
 /// The text with so many spaces behind it.
 fn spaced(alloc: Global, text: &[u8], count: i64) -> Result<Vec<u8>, AllocError> {
     let mut bytes = text.to_vec(alloc)?;
@@ -97,6 +122,7 @@ impl Subject for Runs {
         match case.ask {
             "plan" => planned(alloc, &case.given, &case.text, Vec::new(alloc), 0),
             "picture" => pictured(alloc, &case.given, &case.text),
+            "steps" => stepped(alloc, &case.given, &case.text),
             "words" => {
                 let words = owned(alloc, &words_of(alloc, &case.text)?)?;
                 let desk = MemoryDesk::new(alloc, Vec::new(alloc), Vec::new(alloc));
@@ -122,7 +148,7 @@ impl Subject for Runs {
 }
 
 fn main(rt: HostRuntime) -> ExitCode {
-    for file in ["plan.cases", "picture.cases"] {
+    for file in ["plan.cases", "picture.cases", "steps.cases"] {
         if run_file(&rt, file, &mut Runs).is_err() {
             return ExitCode::from(12);
         }
