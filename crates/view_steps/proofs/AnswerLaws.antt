@@ -105,8 +105,8 @@ pub stepped : (d e : Data) (a : List ℕ) (sizes : List PictureSize) (old new : 
 stepped d e a sizes old new lines ms all start run scales text stuck olds news plan before behind same sized plain these carry left made back kept none shown is =
     let site = site_of e a sizes old new lines in
     let begins : IsRun site start = run_begins site lines ms start refl same plan before behind sized
-        (ap (λ xs. are_plain (map move_line xs)) (sym these) ∙ plain) left made
-        (λ w. back w ∙ ap (λ ss. all_back ms w.now (first_rooms ss w.now)) carry) in
+    (ap (λ xs. are_plain (map move_line xs)) (sym these) ∙ plain) left made
+    (λ w. back w ∙ ap (λ ss. all_back ms w.now (first_rooms ss w.now)) carry) in
     let order = map move_line run.made.items in
     let rest = map move_line run.left.items in
     let ordered : IsOrdered e a sizes old new order rest = record { lines = lines; plan = plan; ordered = run_ends site run (kept site begins) none } in

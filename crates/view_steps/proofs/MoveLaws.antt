@@ -27,9 +27,9 @@ pub move_pushed : (a : List ℕ) (P : Move → Type 0) (l : PlanLine) (ls all : 
 move_pushed a P l ls all ms ns m pushed here one h each =
     let left = moves_among a ls in (
       ap (λ xs. map move_line xs ++ left) pushed
-      ∙ ap (λ xs. xs ++ left) (map-append move_line ms (m ∷ []))
-      ∙ append_assoc (map move_line ms) (map move_line (m ∷ [])) left
-      ∙ ap (λ xs. map move_line ms ++ (xs ++ left)) here
-      ∙ ap (λ xs. map move_line ms ++ xs) (sym (among_next a l ls)) ∙ h,
+          ∙ ap (λ xs. xs ++ left) (map-append move_line ms (m ∷ []))
+          ∙ append_assoc (map move_line ms) (map move_line (m ∷ [])) left
+          ∙ ap (λ xs. map move_line ms ++ (xs ++ left)) here
+          ∙ ap (λ xs. map move_line ms ++ xs) (sym (among_next a l ls)) ∙ h,
       subst (All P) (sym pushed) (All-append P ms (m ∷ []) each one),
     )
