@@ -1,6 +1,6 @@
 //! In what order to move: a plan's moves, so that no holder is filled in between.
 //!
-//! - `steps`: the moves in order, or those that are stuck. `moves`: what is to be moved, and how much.
+//! - `steps`: the moves in order, or those that are stuck. `moves`: what goes where, and how much.
 //! - `rooms`: what each holder has room for, and what a move changes of it.
 //! - `run`: the next move that fits, until none does. `agenda`: which moves may fit now.
 //! - `text`: what is printed.
