@@ -5,8 +5,8 @@
 //! out goes that no possible item offers; and where only one item can be picked, it and out have
 //! the same values. Each is a clause of few literals but for the second, which names all items. An
 //! equality and a conditional are clauses over a flag and two boxes, of which a test of how the
-//! boxes lie to each other finds the one that says something. A call walks once
-//! or twice over the items that the index may pick.
+//! boxes lie to each other finds the one that says something. A call walks once or twice over the
+//! items that the index may pick.
 //!
 //! Elements: Van Hentenryck and Carillon (1988).
 //!
