@@ -84,6 +84,7 @@ fn is_out_out(t: (i64, u32), out: &IntSet, index: &IntSet, boxes: &[IntSet]) -> 
 }
 
 /// The first item that tells something.
+#[tactic(auto, using(crate::proofs::NearLaws::meet_from, crate::proofs::NearLaws::meet_to))]
 fn find(items: &[(i64, u32)], near: Near, out: &IntSet, index: &IntSet, boxes: &[IntSet]) -> Finding
     requires items { All (λ t. t.1 < length boxes.now) items.now }
     requires near { IsNear items.now index.now near }
@@ -111,6 +112,7 @@ fn can_pick(t: (i64, u32), out: &IntSet, index: &IntSet, boxes: &[IntSet]) -> bo
 }
 
 /// The place of the first item that can be picked.
+#[tactic(auto, using(crate::proofs::NearLaws::picked_from, crate::proofs::NearLaws::picked_to))]
 fn first_pick(
     items: &[(i64, u32)],
     near: Near,
@@ -136,6 +138,7 @@ fn first_pick(
 }
 
 /// Whether an item of another variable can be picked.
+#[tactic(auto, using(crate::proofs::NearLaws::other_from, crate::proofs::NearLaws::other_to))]
 fn has_another(
     items: &[(i64, u32)],
     near: Near,
@@ -159,6 +162,7 @@ fn has_another(
 }
 
 /// Whether the variable is that of an item whose value the index can be.
+#[tactic(auto, using(crate::proofs::NearLaws::lacks_from, crate::proofs::NearLaws::lacks_to))]
 fn has_var(items: &[(i64, u32)], near: Near, x: u32, index: &IntSet) -> bool
     requires near { IsNear items.now index.now near }
     ensures { result ≡ not (lacks_var x items.now index.now) }

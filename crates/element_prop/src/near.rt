@@ -98,6 +98,7 @@ pub fn possible_items(items: &[(i64, u32)], from: usize, to: usize, index: &IntS
 }
 
 /// All items.
+#[tactic(auto, using(crate::proofs::NearLaws::near_all))]
 fn all_items(items: &[(i64, u32)], index: &IntSet) -> Near
     ensures { IsNear items.now index.now result }
 {
@@ -111,6 +112,7 @@ fn all_items(items: &[(i64, u32)], index: &IntSet) -> Near
 
 /// Where the items stand that the index may pick. It costs two searches by halves, and a walk over
 /// these items.
+#[tactic(auto, using(crate::proofs::NearLaws::near_counted))]
 pub fn near_items(items: &[(i64, u32)], index: &IntSet) -> Near
     requires distinct { distinct_values items.now ≡ true }
     requires index { IsValid index.now }

@@ -28,6 +28,7 @@ fn does_cover(t: (i64, u32), out: &IntSet, index: &IntSet, boxes: &[IntSet]) -> 
 }
 
 /// Whether one of the items can be whatever out can.
+#[tactic(auto, using(crate::proofs::NearLaws::covers_from, crate::proofs::NearLaws::covers_to))]
 fn is_covered(
     items: &[(i64, u32)],
     near: Near,
@@ -117,6 +118,7 @@ fn reach_of(t: (i64, u32), at: Number, index: &IntSet, boxes: &[IntSet]) -> Opti
 }
 
 /// How far, from the value on, the first item that offers it does so of each value.
+#[tactic(auto, using(crate::proofs::NearLaws::offers_from, crate::proofs::NearLaws::offers_to))]
 fn reach(
     items: &[(i64, u32)],
     near: Near,
