@@ -52,10 +52,10 @@ before more xs b k h j =
 
 added_more : (k : ℕ) (s : Sweep) → HasMore k (sweep_order (added k s)) (sweep_order s)
 added_more k s =
-    let P : Bool → Type 0 = λ c. HasMore k (s.now ++ cond c (k ∷ s.later) (s.later ++ k ∷ [])) (s.now ++ s.later) in
+    let P : Bool → Type 0 = λ c. HasMore k (s.current ++ cond c (k ∷ s.later) (s.later ++ k ∷ [])) (s.current ++ s.later) in
     elim s.turned as P [
-      | true ↦ behind s.now (k ∷ s.later) s.later k (λ j. refl)
-      | false ↦ behind s.now (s.later ++ k ∷ []) s.later k (last s.later k)
+      | true ↦ behind s.current (k ∷ s.later) s.later k (λ j. refl)
+      | false ↦ behind s.current (s.later ++ k ∷ []) s.later k (last s.later k)
     ]
 
 pub queued_more : (u : Urgency) (k : ℕ) (w : Waiting) →
@@ -77,8 +77,8 @@ queued_more urgency.Packing k w =
 added_length : (k : ℕ) (s : Sweep) →
     length (sweep_order (added k s)) ≡ suc (length (sweep_order s))
 added_length k s =
-    let P : Bool → Type 0 = λ c. length (s.now ++ cond c (k ∷ s.later) (s.later ++ k ∷ []))
-        ≡ suc (length (s.now ++ s.later)) in
+    let P : Bool → Type 0 = λ c. length (s.current ++ cond c (k ∷ s.later) (s.later ++ k ∷ []))
+        ≡ suc (length (s.current ++ s.later)) in
     elim s.turned as P [
       | true ↦ grind (arith, common_steps)
       | false ↦ grind (arith, common_steps)

@@ -23,22 +23,22 @@ urgency_of kind.Pack = urgency.Packing
 -- numbers of one urgency that wait: those that this sweep takes, those that were listed since it
 -- began, whether these are taken with the newest first, and how many may wait
 pub record Sweep : Type 0 where
-  pub now : List ℕ
+  pub current : List ℕ
   pub later : List ℕ
   pub turned : Bool
   pub room : ℕ
 
 abbrev pub sweep : List ℕ → List ℕ → Bool → ℕ → Sweep
-sweep now later turned room =
-    record { now = now; later = later; turned = turned; room = room }
+sweep current later turned room =
+    record { current = current; later = later; turned = turned; room = room }
 
 -- in the order in which they are taken
 abbrev pub sweep_order : Sweep → List ℕ
-sweep_order s = s.now ++ s.later
+sweep_order s = s.current ++ s.later
 
 -- one more
 abbrev pub added : ℕ → Sweep → Sweep
-added k s = sweep s.now (cond s.turned (k ∷ s.later) (s.later ++ k ∷ [])) s.turned s.room
+added k s = sweep s.current (cond s.turned (k ∷ s.later) (s.later ++ k ∷ [])) s.turned s.room
 
 -- numbers that wait, a sweep for each urgency, and how many there may be
 pub record Waiting : Type 0 where

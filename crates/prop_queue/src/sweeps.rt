@@ -19,7 +19,7 @@ const TURN: u32 = 16;
 /// Numbers in the order in which they are taken.
 #[derive(Drop)]
 pub struct Sweeps {
-    now: VecDeque<u32>,
+    current: VecDeque<u32>,
     later: VecDeque<u32>,
     turned: bool,
     begun: u32,
@@ -32,9 +32,9 @@ impl Model for Sweeps {
 
     ghost Value = { Sweep };
 
-    ghost view = { λ s. sweep s.now.items s.later.items s.turned (deque_capacity s.now) };
+    ghost view = { λ s. sweep s.current.items s.later.items s.turned (deque_capacity s.current) };
 
-    ghost invariant = { λ s. deque_capacity s.later ≡ deque_capacity s.now };
+    ghost invariant = { λ s. deque_capacity s.later ≡ deque_capacity s.current };
 }
 
 impl Sweeps {
@@ -45,10 +45,10 @@ impl Sweeps {
     pub fn with_room(alloc: Global, room: usize) -> Result<Sweeps, AllocError>
         ensures { IfOk result (λ s. s ≡ sweep [] [] false room) }
     {
-        let now = VecDeque::with_capacity(alloc, room)?;
+        let current = VecDeque::with_capacity(alloc, room)?;
         let later = VecDeque::with_capacity(alloc, room)?;
         Ok(Sweeps {
-            now,
+            current,
             later,
             turned: false,
             begun: 0,
@@ -59,7 +59,7 @@ impl Sweeps {
     pub fn front(&self) -> Option<u32>
         ensures { result ≡ first_of (sweep_order self.now) }
     {
-        if let Some(k) = self.now.front() {
+        if let Some(k) = self.current.front() {
             return Some(*k);
         }
         self.later.front().copied()
@@ -69,10 +69,10 @@ impl Sweeps {
     fn begin(&mut self)
         ensures order { sweep_order self.new ≡ sweep_order self.old }
         ensures room { self.new.room ≡ self.old.room }
-        ensures left { self.new.now ≡ [] → sweep_order self.old ≡ [] }
+        ensures left { self.new.current ≡ [] → sweep_order self.old ≡ [] }
     {
-        if self.now.is_empty() {
-            mem::swap(&mut self.now, &mut self.later);
+        if self.current.is_empty() {
+            mem::swap(&mut self.current, &mut self.later);
             self.begun = self.begun.saturating_add(1);
             self.turned = self.begun > TURN;
         }
@@ -83,7 +83,7 @@ impl Sweeps {
         ensures order { sweep_order self.new ≡ sweep_order self.old }
         ensures room { self.new.room ≡ self.old.room }
     {
-        if self.now.is_empty() && self.later.is_empty() {
+        if self.current.is_empty() && self.later.is_empty() {
             self.begun = 0;
             self.turned = false;
         }
@@ -97,7 +97,7 @@ impl Sweeps {
         ensures room { self.new.room ≡ self.old.room }
     {
         self.begin();
-        let first = self.now.pop_front();
+        let first = self.current.pop_front();
         self.rest();
         first
     }
