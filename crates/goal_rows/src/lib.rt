@@ -15,6 +15,7 @@
 //! - `choice`: the sets that a goal's flags ask about, and which multiples are added.
 //! - `constants`: variables that have one value.
 //! - `definitions`: what flags are, by the constraints that define them.
+//! - `equals`: cells of a goal that are what rows say.
 //! - `hosts`: bins of which a flag tells whether some item is there that may be elsewhere.
 //! - `inside`: the sizes of the items in a set, as a sum.
 //! - `packing`: packings whose sizes and rooms are constants, as lists of bins and sizes.
@@ -30,6 +31,7 @@ mod away;
 mod choice;
 mod constants;
 mod definitions;
+mod equals;
 mod hosts;
 mod inside;
 mod packing;

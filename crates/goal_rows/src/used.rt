@@ -13,10 +13,10 @@ ghost use Rattle.goal_rows.specs.Packings.{IsPacking};
 ghost use Rattle.goal_rows.specs.Rows.{IsNought};
 
 use crate::amounts::{amount, amount_less, less_amount, signed};
-use crate::choice::{distinct, factor};
+use crate::choice::{Aim, distinct, factor_at};
 use crate::hosts::{Host, host_of};
 use crate::packing::Packing;
-use crate::rows::state_multiples;
+use crate::rows::{Multiple, Nought, state_multiples};
 use crate::shares::room_in;
 use crate::weights::is_light;
 use form_build::{Linear, Maker, variable};
@@ -105,20 +105,14 @@ fn take_all(maker: &Maker, p: &Packing, hosts: &[Host]) -> Result<Option<Taken>,
 }
 
 /// The bins of which flags tell that are terms of the sum, with this coefficient.
-fn hosts_of(
-    maker: &Maker,
-    indexes: &[usize],
-    p: &Packing,
-    number: &Linear,
-    rises: bool,
-) -> Result<Vec<Host>, AllocError>
+fn hosts_of(maker: &Maker, p: &Packing, aim: &Aim, rises: bool) -> Result<Vec<Host>, AllocError>
     requires { IsPacking maker.now p.now }
     ensures { IfOk result (λ hosts. All (IsHost maker.now p.now) hosts.items) }
 {
     let mut hosts = Vec::new(maker.alloc());
-    for t in number.terms.items() {
-        if t.0 == factor(rises) {
-            push_host(maker, indexes, p, &mut hosts, t.1)?;
+    for t in aim.terms.as_slice() {
+        if t.0 != 0 && (t.0 > 0) == rises {
+            push_host(maker, aim.indexes.as_slice(), p, &mut hosts, t.1)?;
         }
     }
     Ok(hosts)
@@ -142,28 +136,35 @@ fn push_host(
     Ok(())
 }
 
-/// The multiples that are added for bins: the distinct numbers of what they have room for
-/// besides.
-fn multiples(maker: &Maker, hosts: &[Host]) -> Result<Vec<u64>, AllocError> {
-    let mut numbers = Vec::new(maker.alloc());
+/// The multiples that are added for bins: by the distinct pairs of what they have room for besides
+/// and of what their flags count.
+fn multiples(maker: &Maker, hosts: &[Host], aim: &Aim) -> Result<Vec<Multiple>, AllocError> {
+    let mut pairs = Vec::new(maker.alloc());
     for h in hosts {
-        numbers.push(h.more)?;
+        let own = factor_at(&aim.factors, h.flag);
+        pairs.push((own.unsigned_abs(), h.more))?;
     }
-    numbers.sort_unstable();
-    let out = distinct(maker.alloc(), numbers.as_slice())?;
+    pairs.sort_unstable();
+    let mut all = Vec::new(maker.alloc());
+    for p in pairs.as_slice() {
+        all.push(Multiple {
+            row: p.0,
+            zero: p.1,
+        })?;
+    }
+    let out = distinct(maker.alloc(), all.as_slice())?;
     Ok(out)
 }
 
 /// States that all items fit into the bins, with multiples of what is 0.
 fn state_used(
     maker: &mut Maker,
-    zero: &Linear,
+    zero: &Nought,
     p: &Packing,
     t: &Taken,
-    sizes: &[u64],
+    sizes: &[Multiple],
     rises: bool,
 ) -> Result<(), AllocError>
-    requires zero { IsLinear (2 ^ 20) maker.old.domains zero.now }
     requires nought { IsNought maker.old zero.now }
     requires packing { IsPacking maker.old p.now }
     requires taken { IsTaken maker.old p.now t.now }
@@ -181,22 +182,20 @@ fn state_used(
 /// Adds the rows of a packing for the bins of which flags tell that are terms of the goal's sum.
 pub(crate) fn add_used(
     maker: &mut Maker,
-    zero: &Linear,
+    zero: &Nought,
     p: &Packing,
-    indexes: &[usize],
-    number: &Linear,
+    aim: &Aim,
     rises: bool,
 ) -> Result<(), AllocError>
-    requires zero { IsLinear (2 ^ 20) maker.old.domains zero.now }
     requires nought { IsNought maker.old zero.now }
     requires packing { IsPacking maker.old p.now }
     ensures { OnOk result (Defines maker.old maker.new) }
 {
-    let hosts = hosts_of(maker, indexes, p, number, rises)?;
+    let hosts = hosts_of(maker, p, aim, rises)?;
     if hosts.is_empty() {
         return Ok(());
     }
-    let sizes = multiples(maker, hosts.as_slice())?;
+    let sizes = multiples(maker, hosts.as_slice(), aim)?;
     let Some(t) = take_all(maker, p, hosts.as_slice())? else {
         return Ok(());
     };

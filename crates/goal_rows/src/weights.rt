@@ -37,7 +37,7 @@ fn term_weight(boxes: &[IntSet], t: (i64, u32)) -> u64
 }
 
 /// Those of the terms, added up.
-fn weight(boxes: &[IntSet], terms: &[(i64, u32)]) -> u64
+pub(crate) fn weight(boxes: &[IntSet], terms: &[(i64, u32)]) -> u64
     requires exist { All (λ t. t.1 < length boxes.now) terms.now }
     requires fits { weight_of terms.now boxes.now ≤ most_sum }
     ensures { result ≡ weight_of terms.now boxes.now }
