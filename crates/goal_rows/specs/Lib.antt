@@ -1,4 +1,3 @@
 pub mod Loads
 pub mod Packings
-pub mod Rows
 pub mod Hosts

@@ -7,17 +7,15 @@ ghost use Rattle.form_build.specs.Forms.{linear_at};
 ghost use Rattle.form_build.specs.Worlds.{IsWorld, AllHold, Defines};
 ghost use Rattle.form_build.specs.Sums.{IsLinear};
 ghost use Rattle.goal_rows.specs.Packings.{IsPacking};
-ghost use Rattle.goal_rows.specs.Rows.{IsNought};
+ghost use Rattle.stated_facts.specs.Rows.{IsNought};
 
 use crate::choice::{Aim, aim_of, sets_asked};
-use crate::equals::with_rows;
 use crate::packing::{Packing, packing_at};
-use crate::rows::Nought;
 use crate::shares::add_for_set;
 use crate::used::add_used;
-use crate::weights::{is_near, weighs_within};
 use form_build::{Linear, Maker, variable};
 use ground_form::Con;
+use stated_facts::{Nought, is_near, weighs_within, with_rows};
 use std::alloc::AllocError;
 
 /// Whether the numbers of a goal's sum and of the goal are small.
@@ -107,7 +105,7 @@ fn add_for_all(maker: &mut Maker, zero: &Nought, aim: &Aim) -> Result<(), AllocE
 }
 
 /// Whether some constraint is a packing.
-fn has_packing(maker: &Maker) -> bool {
+pub fn has_packing(maker: &Maker) -> bool {
     for con in maker.cons() {
         if let Con::Pack { .. } = con {
             return true;
@@ -125,7 +123,7 @@ pub fn add_goal_sums(maker: &mut Maker, number: &Linear, goal: u32) -> Result<()
         → value_of a goal ≡ linear_at number.now a }
     ensures adds { OnOk result (Defines maker.old maker.new) }
 {
-    if !has_packing(maker) || !are_small(maker, number, goal) {
+    if !are_small(maker, number, goal) {
         return Ok(());
     }
     let zero = difference(maker, number, goal)?;

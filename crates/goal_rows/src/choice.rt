@@ -2,12 +2,12 @@
 //!
 //! No promise rests on what is chosen here: what follows for one set follows for each, and so with
 //! each multiple.
-use crate::definitions::definition_indexes;
 use crate::packing::Packing;
-use crate::rows::{MOST_TIMES, Multiple, Nought};
-use form_build::{Linear, Maker};
+use crate::rows::Multiple;
+use form_build::Maker;
 use ground_form::Con;
 use signed_clause::IntSet;
+use stated_facts::{MOST_TIMES, Nought, definition_indexes, factor_at, factors_of};
 use std::alloc::{AllocError, Global};
 
 /// How many sets are looked at.
@@ -45,30 +45,6 @@ pub(crate) struct Asked {
     pub factor: u64,
     /// Whether it adds so much.
     pub rises: bool,
-}
-
-/// The coefficient of each variable in a sum, 0 where it has none.
-pub(crate) fn factors_of(maker: &Maker, f: &Linear) -> Result<Vec<i64>, AllocError> {
-    let mut factors = Vec::new(maker.alloc());
-    factors.resize(maker.domains().len(), 0)?;
-    for t in f.terms.items() {
-        set_factor(&mut factors, *t);
-    }
-    Ok(factors)
-}
-
-/// Notes the coefficient of a term.
-fn set_factor(factors: &mut [i64], t: (i64, u32)) {
-    let x = t.1 as usize;
-    if x < factors.len() {
-        factors[x] = t.0;
-    }
-}
-
-/// The coefficient of a variable.
-pub(crate) fn factor_at(factors: &[i64], x: u32) -> i64 {
-    let x = x as usize;
-    if x < factors.len() { factors[x] } else { 0 }
 }
 
 /// For each variable whether it is the bin of an item.

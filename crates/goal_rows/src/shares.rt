@@ -6,16 +6,16 @@ ghost use Rattle.form_build.specs.Worlds.{IsWorld, Defines};
 ghost use Rattle.form_build.specs.Sums.{IsLinear};
 ghost use Rattle.goal_rows.specs.Loads.{sizes_where};
 ghost use Rattle.goal_rows.specs.Packings.{IsPacking};
-ghost use Rattle.goal_rows.specs.Rows.{IsNought};
+ghost use Rattle.stated_facts.specs.Rows.{IsNought};
 
 use crate::amounts::{amount_less, less_amount};
 use crate::choice::{Asked, multiples};
 use crate::inside::sizes_inside;
 use crate::packing::{HEAVIEST, Packing};
-use crate::rows::{Nought, state_multiples};
-use crate::weights::is_light;
+use crate::rows::state_multiples;
 use form_build::{Linear, Maker};
 use signed_clause::IntSet;
+use stated_facts::{Nought, is_light};
 use std::alloc::AllocError;
 
 /// How much the bins in a set have room for. None where all items fit there, so that nothing

@@ -6,7 +6,7 @@ use Rattle.form_build.specs.declared.form.Linear.{Linear}
 use Rattle.form_build.specs.Forms.{linear_at}
 use Rattle.form_build.specs.Sums.{IsLinear}
 use Rattle.form_build.specs.Worlds.{IsWorld, AllHold}
-use Rattle.goal_rows.specs.declared.rows.Nought.{Nought}
+use Rattle.stated_facts.specs.declared.noughts.Nought.{Nought}
 
 -- where all constraints hold the sum is at most 0
 abbrev pub Follows : Ground → Linear → Type 0

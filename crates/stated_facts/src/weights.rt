@@ -19,7 +19,7 @@ fn reach(boxes: &[IntSet], x: u32) -> u64
 }
 
 /// Whether a variable's box has no greater absolute value than this.
-pub(crate) fn is_near(boxes: &[IntSet], x: u32, most: u64) -> bool
+pub fn is_near(boxes: &[IntSet], x: u32, most: u64) -> bool
     requires { x < length boxes.now }
     ensures { result ≡ true → reach_of (box_of boxes.now x) ≤ most }
 {
@@ -37,7 +37,7 @@ fn term_weight(boxes: &[IntSet], t: (i64, u32)) -> u64
 }
 
 /// Those of the terms, added up.
-pub(crate) fn weight(boxes: &[IntSet], terms: &[(i64, u32)]) -> u64
+pub fn weight(boxes: &[IntSet], terms: &[(i64, u32)]) -> u64
     requires exist { All (λ t. t.1 < length boxes.now) terms.now }
     requires fits { weight_of terms.now boxes.now ≤ most_sum }
     ensures { result ≡ weight_of terms.now boxes.now }
@@ -50,7 +50,7 @@ pub(crate) fn weight(boxes: &[IntSet], terms: &[(i64, u32)]) -> u64
 }
 
 /// Whether a sum's numbers add up to at most so much.
-pub(crate) fn weighs_within(boxes: &[IntSet], f: &Linear, most: u64) -> bool
+pub fn weighs_within(boxes: &[IntSet], f: &Linear, most: u64) -> bool
     requires { IsLinear most_sum boxes.now f.now }
     ensures { result ≡ true → IsLinear most boxes.now f.now }
 {
@@ -58,7 +58,7 @@ pub(crate) fn weighs_within(boxes: &[IntSet], f: &Linear, most: u64) -> bool
 }
 
 /// Whether the numbers of a sum are small enough for a row.
-pub(crate) fn is_light(maker: &Maker, f: &Linear) -> bool
+pub fn is_light(maker: &Maker, f: &Linear) -> bool
     requires { IsLinear most_sum maker.now.domains f.now }
     ensures { result ≡ true → IsLinear (2 ^ 39) maker.now.domains f.now }
 {

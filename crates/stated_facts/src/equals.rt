@@ -8,10 +8,10 @@ ghost use Rattle.ground_form.specs.declared.con.Con.TheVariants as con;
 ghost use Rattle.ground_form.specs.Bounds.{weight_of, most_sum};
 ghost use Rattle.form_build.specs.Forms.{linear_at};
 ghost use Rattle.form_build.specs.Sums.{IsOpen, AreTerms, IsLinear};
-ghost use Rattle.goal_rows.specs.Rows.{Follows, IsAbove, IsNought};
+ghost use Rattle.stated_facts.specs.Rows.{Follows, IsAbove, IsNought};
 
-use crate::choice::{factor_at, factors_of};
-use crate::rows::{Nought, combined};
+use crate::factors::{factor_at, factors_of};
+use crate::noughts::{Nought, combined};
 use crate::weights::weight;
 use form_build::{Linear, Maker};
 use ground_form::{Con, ends_of};
@@ -264,7 +264,7 @@ fn with_each(maker: &Maker, zero: Nought, cells: &mut Cells) -> Result<Nought, A
 
 /// What is 0, a goal's sum less the goal, with the cells of the sum taken out by rows that say what
 /// they are.
-pub(crate) fn with_rows(maker: &Maker, zero: Nought, number: &Linear) -> Result<Nought, AllocError>
+pub fn with_rows(maker: &Maker, zero: Nought, number: &Linear) -> Result<Nought, AllocError>
     requires { IsNought maker.now zero }
     ensures { IfOk result (λ z. IsNought maker.now z) }
 {

@@ -1,0 +1,15 @@
+use Rattle.std.proofs.Common.{◌^◌, ◌+◌, arith, refl}
+use Rattle.form_build.proofs.Linears.{numbers_within, linear_more}
+use Rattle.stated_facts.proofs.NoughtLaws.{combined_nought}
+use Rattle.stated_facts.proofs.noughts.combined.Goals as goal
+
+pub plus-requires-clause-left : goal.plus-requires-clause-left
+plus-requires-clause-left c = numbers_within c.args.maker.now.domains (2 ^ 20) (2 ^ 61) c.args.zero.now.sum (omega arith) c.requires.zero.linear
+
+pub plus-requires-clause-right : goal.plus-requires-clause-right
+plus-requires-clause-right c = numbers_within c.args.maker.now.domains (2 ^ 58) (2 ^ 61) c.in_ok-more.more (omega arith) c.in_ok-more.ensures.linear
+
+pub weighs_within-requires : goal.weighs_within-requires
+weighs_within-requires c =
+    linear_more (2 ^ 20 + 2 ^ 58) (2 ^ 60) c.args.maker.now.domains c.in_ok-sum.sum (omega arith)
+    (c.in_ok-sum.ensures.linear c.args.maker.now.domains (2 ^ 20) (2 ^ 58) c.requires.zero.linear c.in_ok-more.ensures.linear)
