@@ -1,19 +1,22 @@
 -- What follows from values of variables.
-use Rattle.std.proofs.Common.{◌≡◌, ℕ, zero, suc, ◌<◌, ◌+◌, Bool, true, false, ◌&&◌, not, List, [], ◌∷◌, ◌++◌, ℤ, pos, negsuc, neg_ℤ, ◌+ℤ◌, ◌*ℤ◌, ◌<ℤ◌, ◌≤ℤ◌, int_le, All, length, take, get_or, refl, sym, ap, ◌∙◌, subst, arith}
+use Rattle.std.proofs.Common.{◌≡◌, ℕ, zero, suc, ◌<◌, ◌+◌, Bool, true, false, ◌&&◌, not, List, [], ◌∷◌, ◌++◌, ℤ, pos, negsuc, neg_ℤ, ◌+ℤ◌, ◌*ℤ◌, ◌<ℤ◌, ◌≤ℤ◌, int_le, Contains, All, length, take, get_or, refl, sym, ap, ◌∙◌, subst, arith}
 use Rattle.std.specs.Ordering.{int_eq}
 use Rattle.std.proofs.lemmas.Bool.{and_parts}
 use Rattle.std.proofs.lemmas.Bool.Decides.{Decides-int_eq}
 use Rattle.std.proofs.lemmas.Int.{ints}
-use Rattle.std.proofs.lemmas.List.Elements.{All-nil, All-cons, All-head, All-tail, All-push}
+use Rattle.std.proofs.lemmas.List.Elements.{All-nil, All-cons, All-head, All-tail, All-push, All-contains}
 use Rattle.std.proofs.Math.IntN.{suc_ℤ-*ℤ}
 use Rattle.signed_clause.specs.Ranges.{Ranges, has, IsValid}
 use Rattle.signed_clause.specs.Clauses.{Boxes, box_of}
-use Rattle.ground_form.specs.Meaning.{value_of, bit, sum_at, parts_true}
+use Rattle.ground_form.specs.declared.con.Con.{Con}
+use Rattle.ground_form.specs.declared.con.Con.TheVariants.{MemberDef, AndDef, ReifLe, LinDef}
+use Rattle.ground_form.specs.declared.ground.Ground.{Ground}
+use Rattle.ground_form.specs.Meaning.{value_of, bit, sum_at, parts_true, con_true}
 use Rattle.ground_form.specs.Bounds.{low_of}
 use Rattle.ground_form.proofs.Ends.{low_le}
-use Rattle.form_build.specs.Worlds.{IsInBoxes, AreKnown}
+use Rattle.form_build.specs.Worlds.{IsInBoxes, AllHold, AreKnown}
 use Rattle.stated_facts.specs.declared.claims.Claims.{Claims}
-use Rattle.stated_facts.specs.Claims.{IsLoad, AreZero, Hold}
+use Rattle.stated_facts.specs.Claims.{IsLoad, AreZero, Hold, Leads}
 use Rattle.stated_facts.proofs.NoughtLaws.{pos_above, neg_below}
 
 -- ---- one claim more
@@ -66,6 +69,27 @@ pub flag_parts : (ps : List (ℕ × Bool)) (a : List ℤ) (v : ℤ) → v ≡ bi
 flag_parts ps a v e h = bit_true (parts_true ps a) v e h
 
 -- ---- sums
+
+-- what stands in the problem
+is_defined : (g : Ground) (c : Con) (a : List ℤ) (v w : ℤ) → Contains g.cons c → AllHold g a → con_true c a ≡ int_eq v w → v ≡ w
+is_defined g c a v w there all e = (Decides-int_eq v w).0 (sym e ∙ All-contains (λ (d : Con). con_true d a ≡ true) g.cons c all there)
+
+module _ (g : Ground) (k : ℕ × ℤ) (x : ℕ) (old new : Claims) (e : x ≡ k.0) where
+  leads : (c : Con) (w : List ℤ → ℤ) → Contains g.cons c → ((a : List ℤ) → con_true c a ≡ int_eq (value_of a x) (w a)) → ((a : List ℤ) → IsInBoxes g.domains a → k.1 ≡ w a → Hold old a → Hold new a) → Leads g k old new
+  leads c w there means h a world all is held =
+      h a world.within (sym is ∙ ap (value_of a) (sym e) ∙ is_defined g c a (value_of a x) (w a) there all (means a)) held
+
+  pub member_leads : (y : ℕ) (set : Ranges) → Contains g.cons (MemberDef x y set) → ((a : List ℤ) → IsInBoxes g.domains a → k.1 ≡ bit (has set (value_of a y)) → Hold old a → Hold new a) → Leads g k old new
+  member_leads y set there h = leads (MemberDef x y set) (λ a. bit (has set (value_of a y))) there (λ a. refl) h
+
+  pub parts_lead : (ps : List (ℕ × Bool)) → Contains g.cons (AndDef x ps) → ((a : List ℤ) → k.1 ≡ bit (parts_true ps a) → Hold old a → Hold new a) → Leads g k old new
+  parts_lead ps there h = leads (AndDef x ps) (λ a. bit (parts_true ps a)) there (λ a. refl) (λ a within is held. h a is held)
+
+  pub bound_leads : (ts : List (ℤ × ℕ)) (bound : ℤ) → Contains g.cons (ReifLe x ts bound) → ((a : List ℤ) → IsInBoxes g.domains a → k.1 ≡ bit (int_le (sum_at ts a) bound) → Hold old a → Hold new a) → Leads g k old new
+  bound_leads ts bound there h = leads (ReifLe x ts bound) (λ a. bit (int_le (sum_at ts a) bound)) there (λ a. refl) h
+
+  pub sum_leads : (ts : List (ℤ × ℕ)) (offset : ℤ) → Contains g.cons (LinDef x ts offset) → ((a : List ℤ) → IsInBoxes g.domains a → k.1 ≡ (sum_at ts a +ℤ offset) → Hold old a → Hold new a) → Leads g k old new
+  sum_leads ts offset there h = leads (LinDef x ts offset) (λ a. sum_at ts a +ℤ offset) there (λ a. refl) h
 
 term_up : (c v : ℤ) → pos 0 <ℤ c → pos 0 ≤ℤ v → v ≤ℤ (c *ℤ v)
 term_up (pos zero) v h k = absurd (omega (arith, ints, h))

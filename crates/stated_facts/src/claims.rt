@@ -39,21 +39,28 @@ fn single(set: &IntSet) -> Option<i64>
     }
 }
 
-/// The values that are left to a variable where the flag that asks whether it is in a set has this
-/// value. None where the variable or the value doesn't exist.
-fn left_to(maker: &Maker, x: u32, set: &IntSet, value: i64) -> Result<Option<IntSet>, AllocError>
+/// The values that are left to a variable in a set.
+fn left_in(maker: &Maker, x: u32, set: &IntSet) -> Result<Option<IntSet>, AllocError>
     ensures { IfOk result (λ o. IfSome o (λ left. (a : List ℤ) → IsInBoxes maker.now.domains a
-        → value ≡ bit (has set.now (value_of a x)) → has left (value_of a x) ≡ true)) }
+        → has set.now (value_of a x) ≡ true → has left (value_of a x) ≡ true)) }
 {
     let Some(at) = maker.domains().get(x as usize) else {
         return Ok(None);
     };
-    if value == 1 {
-        let left = at.meet(set)?;
-        return Ok(Some(left));
-    }
+    let left = at.meet(set)?;
+    Ok(Some(left))
+}
+
+/// The values that are left to a variable outside a set.
+fn left_out(maker: &Maker, x: u32, set: &IntSet) -> Result<Option<IntSet>, AllocError>
+    ensures { IfOk result (λ o. IfSome o (λ left. (a : List ℤ) → IsInBoxes maker.now.domains a
+        → has set.now (value_of a x) ≡ false → has left (value_of a x) ≡ true)) }
+{
+    let Some(at) = maker.domains().get(x as usize) else {
+        return Ok(None);
+    };
     let left = at.less(set)?;
-    Ok(if value == 0 { Some(left) } else { None })
+    Ok(Some(left))
 }
 
 /// Whether a constraint defines the variable as a flag or a sum.
@@ -84,7 +91,74 @@ fn claim_other(c: &mut Claims, x: u32, v: u64) -> Result<(), AllocError>
     Ok(())
 }
 
-/// Claims what the flag that asks whether a variable is in a set tells of it by this value. Says
+/// Claims that a variable has the value that is left to it. Says whether it is one.
+fn claim_only(c: &mut Claims, x: u32, left: &IntSet) -> Result<bool, AllocError>
+    ensures { IfOk result (λ ok. ok ≡ true → (a : List ℤ) → has left.now (value_of a x) ≡ true
+        → Hold c.old a → Hold c.new a) }
+{
+    match single(left) {
+        Some(v) => {
+            claim_value(c, x, v)?;
+            Ok(true)
+        }
+        None => Ok(false),
+    }
+}
+
+/// Claims what it tells of a variable that it is in a set. Says whether it tells something.
+fn claim_inside(maker: &Maker, c: &mut Claims, x: u32, set: &IntSet) -> Result<bool, AllocError>
+    ensures { IfOk result (λ ok. ok ≡ true → (a : List ℤ) → IsInBoxes maker.now.domains a
+        → has set.now (value_of a x) ≡ true → Hold c.old a → Hold c.new a) }
+{
+    match left_in(maker, x, set)? {
+        Some(left) => {
+            let ok = claim_only(c, x, &left)?;
+            Ok(ok)
+        }
+        None => Ok(false),
+    }
+}
+
+/// Claims that a variable isn't the value of a set that has one alone. Says whether it has.
+fn claim_away(c: &mut Claims, x: u32, set: &IntSet) -> Result<bool, AllocError>
+    ensures { IfOk result (λ ok. ok ≡ true → (a : List ℤ) → has set.now (value_of a x) ≡ false
+        → Hold c.old a → Hold c.new a) }
+{
+    match only_value(set) {
+        Some(v) => {
+            claim_other(c, x, v)?;
+            Ok(true)
+        }
+        None => Ok(false),
+    }
+}
+
+/// Claims what it tells of a variable that it isn't in a set: of one that is defined by others its
+/// value, of a cell a value that it doesn't have. Says whether it tells something.
+fn claim_outside(
+    maker: &Maker,
+    indexes: &[usize],
+    c: &mut Claims,
+    x: u32,
+    set: &IntSet,
+) -> Result<bool, AllocError>
+    ensures { IfOk result (λ ok. ok ≡ true → (a : List ℤ) → IsInBoxes maker.now.domains a
+        → has set.now (value_of a x) ≡ false → Hold c.old a → Hold c.new a) }
+{
+    if !is_defined(maker, indexes, x) {
+        let ok = claim_away(c, x, set)?;
+        return Ok(ok);
+    }
+    match left_out(maker, x, set)? {
+        Some(left) => {
+            let ok = claim_only(c, x, &left)?;
+            Ok(ok)
+        }
+        None => Ok(false),
+    }
+}
+
+/// Claims what the flag that asks whether a variable is in a set tells of it by its value. Says
 /// whether it tells something.
 fn claim_member(
     maker: &Maker,
@@ -97,23 +171,15 @@ fn claim_member(
     ensures { IfOk result (λ ok. ok ≡ true → (a : List ℤ) → IsInBoxes maker.now.domains a
         → value ≡ bit (has set.now (value_of a x)) → Hold c.old a → Hold c.new a) }
 {
-    if value == 0
-        && !is_defined(maker, indexes, x)
-        && let Some(v) = only_value(set)
-    {
-        claim_other(c, x, v)?;
-        return Ok(true);
+    if value == 1 {
+        let ok = claim_inside(maker, c, x, set)?;
+        return Ok(ok);
     }
-    let Some(left) = left_to(maker, x, set, value)? else {
-        return Ok(false);
-    };
-    match single(&left) {
-        Some(v) => {
-            claim_value(c, x, v)?;
-            Ok(true)
-        }
-        None => Ok(false),
+    if value == 0 {
+        let ok = claim_outside(maker, indexes, c, x, set)?;
+        return Ok(ok);
     }
+    Ok(false)
 }
 
 /// The value that stands for a truth.
@@ -234,6 +300,19 @@ fn claim_sum(
 
 // ---- all that follows
 
+/// Claims what the flag that asks whether parts have the truths that they want tells of them by its
+/// value. Says whether it tells something.
+fn claim_all(c: &mut Claims, parts: &[(u32, bool)], value: i64) -> Result<bool, AllocError>
+    ensures { IfOk result (λ ok. ok ≡ true → (a : List ℤ) → value ≡ bit (parts_true parts.now a)
+        → Hold c.old a → Hold c.new a) }
+{
+    if value != 1 {
+        return Ok(false);
+    }
+    claim_parts(c, parts)?;
+    Ok(true)
+}
+
 /// Claims what a constraint tells that defines the variable, by the value. Says whether it does.
 fn claim_by(
     maker: &Maker,
@@ -247,22 +326,31 @@ fn claim_by(
 {
     match con {
         Con::MemberDef { flag, var, set } => {
-            let ok = *flag == k.0 && claim_member(maker, indexes, c, *var, set, k.1)?;
+            if *flag != k.0 {
+                return Ok(false);
+            }
+            let ok = claim_member(maker, indexes, c, *var, set, k.1)?;
             Ok(ok)
         }
         Con::AndDef { flag, parts } => {
-            if *flag != k.0 || k.1 != 1 {
+            if *flag != k.0 {
                 return Ok(false);
             }
-            claim_parts(c, parts.items())?;
-            Ok(true)
+            let ok = claim_all(c, parts.items(), k.1)?;
+            Ok(ok)
         }
         Con::ReifLe { flag, terms, bound } => {
-            let ok = *flag == k.0 && claim_bounded(maker, c, terms.items(), *bound, k.1)?;
+            if *flag != k.0 {
+                return Ok(false);
+            }
+            let ok = claim_bounded(maker, c, terms.items(), *bound, k.1)?;
             Ok(ok)
         }
         Con::LinDef { out, terms, offset } => {
-            let ok = *out == k.0 && claim_sum(maker, c, terms.items(), *offset, k.1)?;
+            if *out != k.0 {
+                return Ok(false);
+            }
+            let ok = claim_sum(maker, c, terms.items(), *offset, k.1)?;
             Ok(ok)
         }
         _ => Ok(false),
