@@ -1,5 +1,6 @@
 -- Bins of which flags tell.
 use Rattle.std.proofs.Common.{◌≡◌, ℕ, zero, suc, max, unsigned_abs, All, ◌≤◌, negsuc, ◌+◌, ◌<◌, ◌*◌, Bool, true, false, not, ◌&&◌, ◌||◌, cond, List, [], ◌∷◌, ◌++◌, take, get_or, length, ℤ, pos, ◌+ℤ◌, ◌-ℤ◌, ◌*ℤ◌, ◌≤ℤ◌, refl, sym, ap, ◌∙◌, subst, arith}
+use Rattle.std.specs.Prelude.{slice_index_or}
 use Rattle.std.specs.Ordering.{int_eq}
 use Rattle.std.proofs.lemmas.Int.{ints}
 use Rattle.std.proofs.lemmas.List.{take_more}
@@ -22,6 +23,10 @@ use Rattle.stated_facts.specs.Rows.{Follows}
 use Rattle.goal_rows.specs.Hosts.{NoneAt, use_of, StaysAt, StayAt, IsHost, IsTaken}
 use Rattle.goal_rows.proofs.LoadLaws.{split, all_there, set_room}
 use Rattle.goal_rows.proofs.PackingLaws.{bins_used}
+
+-- values that variables don't have, where they are one bin
+pub same_bins : (others : List (ℕ × ℕ)) (bin : ℕ) (a : List ℤ) → All (λ q. q.1 ≡ bin) others → All (λ q. int_eq (value_of a q.0) (pos q.1) ≡ false) others → All (λ q. int_eq (value_of a q.0) (pos bin) ≡ false) others
+same_bins others bin a same h k d lt = subst (λ (n : ℕ). int_eq (value_of a (slice_index_or others k d).0) (pos n) ≡ false) (same k d lt) (h k d lt)
 
 -- ---- what stays
 

@@ -123,7 +123,7 @@ pub fn add_goal_sums(maker: &mut Maker, number: &Linear, goal: u32) -> Result<()
         → value_of a goal ≡ linear_at number.now a }
     ensures adds { OnOk result (Defines maker.old maker.new) }
 {
-    if !are_small(maker, number, goal) {
+    if !has_packing(maker) || !are_small(maker, number, goal) {
         return Ok(());
     }
     let zero = difference(maker, number, goal)?;

@@ -7,7 +7,7 @@ ghost use Rattle.goal_rows.specs.Hosts.{NoneAt, AreAway};
 
 use crate::packing::HEAVIEST;
 use form_build::Maker;
-use stated_facts::claims_of;
+use stated_facts::{bit_of, claims_of};
 use std::alloc::{AllocError, Global};
 
 /// Variables, and a bin at which they aren't.
@@ -64,12 +64,13 @@ pub(crate) fn away_from(
 ) -> Result<Option<Away>, AllocError>
     ensures { IfOk result (λ o. IfSome o (λ w. AreAway maker.now flag truth w)) }
 {
-    let Some(c) = claims_of(maker, indexes, flag, i64::from(truth))? else {
+    let Some(claims) = claims_of(maker, indexes, flag, bit_of(truth))? else {
         return Ok(None);
     };
-    let Some(bin) = only_bin(c.others.as_slice()) else {
+    let Some(bin) = only_bin(claims.others.as_slice()) else {
         return Ok(None);
     };
-    let vars = sorted(listed(maker.alloc(), c.others.as_slice())?);
+    let list = listed(maker.alloc(), claims.others.as_slice())?;
+    let vars = sorted(list);
     Ok(Some(Away { bin, vars }))
 }

@@ -183,7 +183,7 @@ fn claim_member(
 }
 
 /// The value that stands for a truth.
-fn bit_of(b: bool) -> i64
+pub fn bit_of(b: bool) -> i64
     ensures { result ≡ bit b }
 {
     if b { 1 } else { 0 }

@@ -21,7 +21,7 @@ mod factors;
 mod noughts;
 mod weights;
 
-pub use claims::{Claims, claims_of};
+pub use claims::{Claims, bit_of, claims_of};
 pub use constants::{constant, only_value};
 pub use definitions::{definition, definition_indexes, question};
 pub use equals::with_rows;
