@@ -1,2 +1,1 @@
-pub mod ClaimLaws
 pub mod NoughtLaws
