@@ -1,3 +1,4 @@
 pub mod Loads
 pub mod Packings
 pub mod Hosts
+pub mod Quotients

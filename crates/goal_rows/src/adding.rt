@@ -7,12 +7,15 @@ ghost use Rattle.form_build.specs.Forms.{linear_at};
 ghost use Rattle.form_build.specs.Worlds.{IsWorld, AllHold, Defines};
 ghost use Rattle.form_build.specs.Sums.{IsLinear};
 ghost use Rattle.goal_rows.specs.Packings.{IsPacking};
+ghost use Rattle.goal_rows.specs.Quotients.{IsGoalBy};
 ghost use Rattle.stated_facts.specs.Rows.{IsNought};
 
 use crate::choice::{Aim, aim_of, sets_asked};
+use crate::dividing::{Quotient, quotient, state_link};
 use crate::packing::{Packing, packing_at};
 use crate::shares::add_for_set;
 use crate::used::add_used;
+use block_sums::settled_in_blocks;
 use form_build::{Linear, Maker, variable};
 use ground_form::Con;
 use stated_facts::{Nought, is_near, weighs_within, with_rows};
@@ -114,6 +117,53 @@ pub fn has_packing(maker: &Maker) -> bool {
     false
 }
 
+/// Adds the rows that follow from what is 0, a goal's sum less the goal.
+fn add_by(maker: &mut Maker, zero: &Nought) -> Result<(), AllocError>
+    requires nought { IsNought maker.old zero.now }
+    ensures { OnOk result (Defines maker.old maker.new) }
+{
+    let aim = aim_of(maker, zero)?;
+    add_for_all(maker, zero, &aim)?;
+    Ok(())
+}
+
+/// Whether the values of a variable are small.
+fn has_small_values(maker: &Maker, x: u32) -> bool
+    requires { x < length maker.now.domains }
+    ensures { result ≡ true → reach_of (box_of maker.now.domains x) ≤ 2 ^ 19 }
+{
+    is_near(maker.domains(), x, 1 << 19)
+}
+
+/// Adds the rows of a sum whose variable this is.
+fn add_for_sum(maker: &mut Maker, sum: &Linear, own: u32) -> Result<(), AllocError>
+    requires own { own < length maker.old.domains }
+    requires sum { IsLinear (2 ^ 19) maker.old.domains sum.now }
+    requires value { (a : List ℤ) → IsWorld maker.old a → AllHold maker.old a
+        → value_of a own ≡ linear_at sum.now a }
+    ensures { OnOk result (Defines maker.old maker.new) }
+{
+    if !has_small_values(maker, own) {
+        return Ok(());
+    }
+    let zero = difference(maker, sum, own)?;
+    add_by(maker, &zero)?;
+    Ok(())
+}
+
+/// Adds the rows of a goal by its sum without a factor, for which a variable is made.
+fn add_divided(maker: &mut Maker, q: &Quotient, goal: u32) -> Result<(), AllocError>
+    requires goal { goal < length maker.old.domains }
+    requires near { reach_of (box_of maker.old.domains goal) ≤ 2 ^ 19 }
+    requires quotient { IsGoalBy maker.old goal q.now }
+    ensures { OnOk result (Defines maker.old maker.new) }
+{
+    let own = settled_in_blocks(maker, &q.sum)?;
+    state_link(maker, q, own, goal)?;
+    add_for_sum(maker, &q.sum, own)?;
+    Ok(())
+}
+
 /// Adds rows that follow from the packings of a problem and from what a goal is, so that bounds
 /// alone give what the linear relaxation gives. Nothing new is said.
 pub fn add_goal_sums(maker: &mut Maker, number: &Linear, goal: u32) -> Result<(), AllocError>
@@ -128,7 +178,14 @@ pub fn add_goal_sums(maker: &mut Maker, number: &Linear, goal: u32) -> Result<()
     }
     let zero = difference(maker, number, goal)?;
     let zero = with_rows(maker, zero, number)?;
-    let aim = aim_of(maker, &zero)?;
-    add_for_all(maker, &zero, &aim)?;
-    Ok(())
+    match quotient(maker, &zero, goal)? {
+        Some(q) => {
+            add_divided(maker, &q, goal)?;
+            Ok(())
+        }
+        None => {
+            add_by(maker, &zero)?;
+            Ok(())
+        }
+    }
 }

@@ -1,1 +1,2 @@
+pub mod EqualLaws
 pub mod NoughtLaws

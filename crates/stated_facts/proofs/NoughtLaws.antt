@@ -103,12 +103,12 @@ pub row_says : (g : Ground) (row more f : Linear) → Follows g row → Follows 
 row_says g row more f one two plus a w all = at_most (linear_at f a) (both_below g row more f one two plus a w all)
 
 -- what is 0 with a multiple of something else that is
-pub combined_nought : (g : Ground) (zero other : Nought) (up down : Bool) (more : Linear) (r : Nought) → IsNought g zero → (up ≡ true → Follows g more) → (down ≡ true → IsAbove g more) →
-    ((a : List ℤ) → linear_at r.sum a ≡ (linear_at zero.sum a +ℤ linear_at more a)) → IsLinear (2 ^ 20) g.domains r.sum → r.adds ≡ (zero.adds && up) → r.takes ≡ (zero.takes && down) → IsNought g r
-combined_nought g zero other up down more r h below above plus linear e f = record {
+pub combined_nought : (g : Ground) (own other : Nought) (up down : Bool) (more : Linear) (r : Nought) → IsNought g own → (up ≡ true → Follows g more) → (down ≡ true → IsAbove g more) →
+    ((a : List ℤ) → linear_at r.sum a ≡ (linear_at own.sum a +ℤ linear_at more a)) → IsLinear (2 ^ 20) g.domains r.sum → r.adds ≡ (own.adds && up) → r.takes ≡ (own.takes && down) → IsNought g r
+combined_nought g own other up down more r h below above plus linear e f = record {
   linear = linear;
-  adds = λ t. let both = and_parts zero.adds up (sym e ∙ t) in both_below g zero.sum more r.sum (h.adds both.0) (below both.1) plus;
-  takes = λ t. let both = and_parts zero.takes down (sym f ∙ t) in both_above g zero.sum more r.sum (h.takes both.0) (above both.1) plus;
+  adds = λ t. let both = and_parts own.adds up (sym e ∙ t) in both_below g own.sum more r.sum (h.adds both.0) (below both.1) plus;
+  takes = λ t. let both = and_parts own.takes down (sym f ∙ t) in both_above g own.sum more r.sum (h.takes both.0) (above both.1) plus;
 }
 
 small_product : (c n : ℕ) → c ≤ 2 ^ 38 → n ≤ 2 ^ 20 → c * n ≤ 2 ^ 58

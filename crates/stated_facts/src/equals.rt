@@ -14,7 +14,7 @@ use crate::factors::{factor_at, factors_of};
 use crate::noughts::{Nought, combined};
 use crate::weights::weight;
 use form_build::{Linear, Maker};
-use ground_form::{Con, ends_of};
+use ground_form::{Con, Terms, ends_of};
 use signed_clause::IntSet;
 use std::alloc::AllocError;
 
@@ -56,7 +56,7 @@ fn is_term(boxes: &[IntSet], next: u64, t: (i64, u32)) -> bool
 }
 
 /// Whether the terms are in good order.
-fn are_terms(boxes: &[IntSet], terms: &[(i64, u32)]) -> bool
+pub(crate) fn are_terms(boxes: &[IntSet], terms: &[(i64, u32)]) -> bool
     ensures { result ≡ true → AreTerms boxes.now 0 terms.now }
 {
     let mut next = 0u64;
@@ -70,7 +70,7 @@ fn are_terms(boxes: &[IntSet], terms: &[(i64, u32)]) -> bool
 }
 
 /// Whether the terms are in good order, and their numbers small.
-fn are_light(boxes: &[IntSet], terms: &[(i64, u32)]) -> bool
+fn are_light_over(boxes: &[IntSet], terms: &[(i64, u32)]) -> bool
     requires { weight_of terms.now boxes.now ≤ most_sum }
     ensures terms { result ≡ true → AreTerms boxes.now 0 terms.now }
     ensures light { result ≡ true → weight_of terms.now boxes.now ≤ 2 ^ 19 }
@@ -78,22 +78,63 @@ fn are_light(boxes: &[IntSet], terms: &[(i64, u32)]) -> bool
     are_terms(boxes, terms) && weight(boxes, terms) <= 1 << 19
 }
 
-/// The row that a constraint says, as a sum that is at most 0, where its numbers are small.
+/// The same over the problem.
+fn are_light(maker: &Maker, terms: &Terms) -> bool
+    requires { weight_of terms.now maker.now.domains ≤ most_sum }
+    ensures terms { result ≡ true → AreTerms maker.now.domains 0 terms.now }
+    ensures light { result ≡ true → weight_of terms.now maker.now.domains ≤ 2 ^ 19 }
+{
+    are_light_over(maker.domains(), terms.items())
+}
+
+/// Whether a number is small.
+fn is_near_zero(v: i64) -> bool
+    ensures { result ≡ true → unsigned_abs v ≤ 2 ^ 19 }
+{
+    v.unsigned_abs() <= 1 << 19
+}
+
+/// A number with its sign turned.
+fn turned(v: i64) -> i64
+    requires { unsigned_abs v ≤ 2 ^ 19 }
+    ensures { result ≡ neg_ℤ v }
+{
+    -v
+}
+
+/// The row of these terms as a sum that is at most 0, where its numbers are small.
+fn row_of(maker: &Maker, terms: &Terms, bound: i64) -> Result<Option<Linear>, AllocError>
+    requires stands { Contains maker.now.cons (con.LinLe terms.now bound) }
+    requires bounded { weight_of terms.now maker.now.domains ≤ most_sum }
+    ensures linear { IfOk result (λ o. IfSome o (λ r. IsLinear (2 ^ 20) maker.now.domains r)) }
+    ensures follows { IfOk result (λ o. IfSome o (λ r. Follows maker.now r)) }
+{
+    if !is_near_zero(bound) {
+        return Ok(None);
+    }
+    if !are_light(maker, terms) {
+        return Ok(None);
+    }
+    let own = terms.copy()?;
+    let offset = turned(bound);
+    Ok(Some(Linear { terms: own, offset }))
+}
+
+/// The row that a constraint says, as a sum that is at most 0.
+#[tactic(auto, using(crate::proofs::EqualLaws::row_bounded))]
 fn row_in(maker: &Maker, c: &Con) -> Result<Option<Linear>, AllocError>
     requires { Contains maker.now.cons c.now }
     ensures linear { IfOk result (λ o. IfSome o (λ r. IsLinear (2 ^ 20) maker.now.domains r)) }
     ensures follows { IfOk result (λ o. IfSome o (λ r. Follows maker.now r)) }
 {
-    let Con::LinLe { terms, bound } = c else {
-        return Ok(None);
-    };
-    if bound.unsigned_abs() > 1 << 19 || !are_light(maker.domains(), terms.items()) {
-        return Ok(None);
+    let _made = maker.domains();
+    match c {
+        Con::LinLe { terms, bound } => {
+            let r = row_of(maker, terms, *bound)?;
+            Ok(r)
+        }
+        _ => Ok(None),
     }
-    Ok(Some(Linear {
-        terms: terms.copy()?,
-        offset: -*bound,
-    }))
 }
 
 /// The row that constraint k says.
@@ -110,14 +151,23 @@ fn row_at(maker: &Maker, k: usize) -> Result<Option<Linear>, AllocError>
     }
 }
 
-/// Whether the one is the other with its signs turned.
+/// Whether two sums are the same.
+fn is_same(f: &Linear, o: &Linear) -> bool
+    ensures terms { result ≡ true → f.now.terms ≡ o.now.terms }
+    ensures offset { result ≡ true → f.now.offset ≡ o.now.offset }
+{
+    f.offset == o.offset && f.terms.same(&o.terms)
+}
+
+/// Whether a row that follows is this one with its signs turned, so that this is at least 0.
 fn is_opposite(maker: &Maker, r: &Linear, o: &Linear) -> Result<bool, AllocError>
-    requires { IsLinear (2 ^ 20) maker.now.domains r.now }
-    ensures { IfOk result (λ b. b ≡ true → (a : List ℤ)
-        → linear_at o.now a ≡ neg_ℤ (linear_at r.now a)) }
+    requires linear { IsLinear (2 ^ 20) maker.now.domains r.now }
+    requires follows { Follows maker.now o.now }
+    ensures { IfOk result (λ b. b ≡ true → IsAbove maker.now r.now) }
 {
     let turned = r.times(maker.alloc(), -1)?;
-    Ok(turned.offset == o.offset && turned.terms.same(&o.terms))
+    let b = is_same(&turned, o);
+    Ok(b)
 }
 
 /// Whether constraint k says that the sum, which is at most 0, is at least 0 as well.
@@ -134,19 +184,31 @@ fn is_equal(maker: &Maker, r: &Linear, k: usize) -> Result<bool, AllocError>
     }
 }
 
+/// A row that constraint k says, with what the next one says of the same terms.
+fn balance_of(maker: &Maker, sum: Linear, k: usize) -> Result<Nought, AllocError>
+    requires linear { IsLinear (2 ^ 20) maker.now.domains sum }
+    requires follows { Follows maker.now sum }
+    ensures { IfOk result (λ z. IsNought maker.now z) }
+{
+    let takes = is_equal(maker, &sum, k.saturating_add(1))?;
+    Ok(Nought {
+        sum,
+        adds: true,
+        takes,
+    })
+}
+
 /// The row that constraint k says, with what the next one says of the same terms.
 fn balance_at(maker: &Maker, k: usize) -> Result<Option<Nought>, AllocError>
     ensures { IfOk result (λ o. IfSome o (λ z. IsNought maker.now z)) }
 {
-    let Some(sum) = row_at(maker, k)? else {
-        return Ok(None);
-    };
-    let takes = is_equal(maker, &sum, k.saturating_add(1))?;
-    Ok(Some(Nought {
-        sum,
-        adds: true,
-        takes,
-    }))
+    match row_at(maker, k)? {
+        Some(sum) => {
+            let z = balance_of(maker, sum, k)?;
+            Ok(Some(z))
+        }
+        None => Ok(None),
+    }
 }
 
 // ---- which rows are taken

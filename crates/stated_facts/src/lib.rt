@@ -24,4 +24,4 @@ pub use definitions::{definition, definition_indexes, parts_of, question};
 pub use equals::with_rows;
 pub use factors::{factor_at, factors_of};
 pub use noughts::{MOST_TIMES, Nought, combined, is_allowed, multiple_of, signed};
-pub use weights::{is_light, is_near, weighs_within};
+pub use weights::{is_light, is_near, is_small, light_sum, weighs_within};

@@ -3,7 +3,7 @@ ghost use Rattle.std.specs.Prelude.{◌≡◌, ◌≤◌, ◌^◌, true, false, 
 ghost use Rattle.form_build.specs.Sums.{IsLinear};
 ghost use Rattle.stated_facts.specs.Rows.{Follows, IsAbove, IsNought, IsAllowed};
 
-use crate::weights::weighs_within;
+use crate::weights::is_small;
 use form_build::{Linear, Maker};
 use std::alloc::AllocError;
 
@@ -75,14 +75,16 @@ pub fn combined(
     if n > MOST_TIMES {
         return Ok(None);
     }
+    let up = is_allowed(other, rises);
+    let down = is_allowed(other, !rises);
     let more = multiple_of(maker, other, n, rises)?;
     let sum = zero.sum.plus(maker.alloc(), &more)?;
-    if !weighs_within(maker.domains(), &sum, 1 << 20) {
+    if !is_small(maker, &sum) {
         return Ok(None);
     }
     Ok(Some(Nought {
         sum,
-        adds: zero.adds && is_allowed(other, rises),
-        takes: zero.takes && is_allowed(other, !rises),
+        adds: zero.adds && up,
+        takes: zero.takes && down,
     }))
 }

@@ -3,8 +3,9 @@ ghost use Rattle.std.specs.Prelude.{◌≡◌, ◌<◌, ◌≤◌, ◌+◌, ◌^
 ghost use Rattle.std.specs.List.{All};
 ghost use Rattle.signed_clause.specs.Clauses.{box_of};
 ghost use Rattle.ground_form.specs.Bounds.{low_of, high_of, reach_of, term_weight, weight_of, most_sum};
-ghost use Rattle.form_build.specs.Sums.{linear_weight, IsLinear};
+ghost use Rattle.form_build.specs.Sums.{linear_weight, AreTerms, IsLinear};
 
+use crate::equals::are_terms;
 use form_build::{Linear, Maker};
 use ground_form::ends_of;
 use signed_clause::IntSet;
@@ -63,4 +64,60 @@ pub fn is_light(maker: &Maker, f: &Linear) -> bool
     ensures { result ≡ true → IsLinear (2 ^ 39) maker.now.domains f.now }
 {
     weighs_within(maker.domains(), f, 1 << 39)
+}
+
+/// Whether the numbers of a sum are small enough for what is 0.
+pub fn is_small(maker: &Maker, f: &Linear) -> bool
+    requires { IsLinear most_sum maker.now.domains f.now }
+    ensures { result ≡ true → IsLinear (2 ^ 20) maker.now.domains f.now }
+{
+    weighs_within(maker.domains(), f, 1 << 20)
+}
+
+// ---- any terms
+
+/// The greatest absolute value of a term over the boxes, where that fits.
+#[tactic(auto, unfolding(ground_form::specs::Bounds::term_weight))]
+fn term_weight_of(boxes: &[IntSet], t: (i64, u32)) -> Option<u64>
+    requires exists { t.1 < length boxes.now }
+    ensures { IfSome result (λ n. n ≡ term_weight t boxes.now) }
+{
+    t.0.unsigned_abs().checked_mul(reach(boxes, t.1))
+}
+
+/// Those of the terms, added up, where that fits.
+fn weight_of(boxes: &[IntSet], terms: &[(i64, u32)]) -> Option<u64>
+    requires exist { All (λ t. t.1 < length boxes.now) terms.now }
+    ensures { IfSome result (λ n. n ≡ weight_of terms.now boxes.now) }
+{
+    let mut sum = 0u64;
+    for t in terms {
+        sum = sum.checked_add(term_weight_of(boxes, *t)?)?;
+    }
+    Some(sum)
+}
+
+/// Whether the terms are in good order, and their numbers small.
+fn are_small(boxes: &[IntSet], terms: &[(i64, u32)]) -> bool
+    ensures terms { result ≡ true → AreTerms boxes.now 0 terms.now }
+    ensures light { result ≡ true → weight_of terms.now boxes.now ≤ 2 ^ 19 }
+{
+    if !are_terms(boxes, terms) {
+        return false;
+    }
+    match weight_of(boxes, terms) {
+        Some(n) => n <= 1 << 19,
+        None => false,
+    }
+}
+
+/// The sum of these terms, where they are in good order, and their numbers small.
+pub fn light_sum(maker: &Maker, terms: Vec<(i64, u32)>) -> Option<Linear>
+    ensures { IfSome result (λ f. IsLinear (2 ^ 19) maker.now.domains f) }
+{
+    if are_small(maker.domains(), terms.as_slice()) {
+        Some(Linear::of(terms, 0))
+    } else {
+        None
+    }
 }
