@@ -14,7 +14,7 @@ use crate::factors::{factor_at, factors_of};
 use crate::noughts::{Nought, combined};
 use crate::weights::weight;
 use form_build::{Linear, Maker};
-use ground_form::{Con, Terms, ends_of};
+use ground_form::{Con, Number, Terms, ends_of};
 use signed_clause::IntSet;
 use std::alloc::AllocError;
 
@@ -88,23 +88,23 @@ fn are_light(maker: &Maker, terms: &Terms) -> bool
 }
 
 /// Whether a number is small.
-fn is_near_zero(v: i64) -> bool
-    ensures { result ≡ true → unsigned_abs v ≤ 2 ^ 19 }
+fn is_near_zero(v: Number) -> bool
+    ensures { result ≡ true → unsigned_abs v.value ≤ 2 ^ 19 }
 {
-    v.unsigned_abs() <= 1 << 19
+    v.value.unsigned_abs() <= 1 << 19
 }
 
 /// A number with its sign turned.
-fn turned(v: i64) -> i64
-    requires { unsigned_abs v ≤ 2 ^ 19 }
-    ensures { result ≡ neg_ℤ v }
+fn turned(v: Number) -> Number
+    requires { unsigned_abs v.value ≤ 2 ^ 19 }
+    ensures { result.value ≡ neg_ℤ v.value }
 {
-    -v
+    Number { value: -v.value }
 }
 
 /// The row of these terms as a sum that is at most 0, where its numbers are small.
-fn row_of(maker: &Maker, terms: &Terms, bound: i64) -> Result<Option<Linear>, AllocError>
-    requires stands { Contains maker.now.cons (con.LinLe terms.now bound) }
+fn row_of(maker: &Maker, terms: &Terms, bound: Number) -> Result<Option<Linear>, AllocError>
+    requires stands { Contains maker.now.cons (con.LinLe terms.now bound.value) }
     requires bounded { weight_of terms.now maker.now.domains ≤ most_sum }
     ensures linear { IfOk result (λ o. IfSome o (λ r. IsLinear (2 ^ 20) maker.now.domains r)) }
     ensures follows { IfOk result (λ o. IfSome o (λ r. Follows maker.now r)) }
@@ -117,7 +117,10 @@ fn row_of(maker: &Maker, terms: &Terms, bound: i64) -> Result<Option<Linear>, Al
     }
     let own = terms.copy()?;
     let offset = turned(bound);
-    Ok(Some(Linear { terms: own, offset }))
+    Ok(Some(Linear {
+        terms: own,
+        offset: offset.value,
+    }))
 }
 
 /// The row that a constraint says, as a sum that is at most 0.
@@ -130,7 +133,8 @@ fn row_in(maker: &Maker, c: &Con) -> Result<Option<Linear>, AllocError>
     let _made = maker.domains();
     match c {
         Con::LinLe { terms, bound } => {
-            let r = row_of(maker, terms, *bound)?;
+            let bound = Number { value: *bound };
+            let r = row_of(maker, terms, bound)?;
             Ok(r)
         }
         _ => Ok(None),

@@ -1,5 +1,5 @@
 //! Sums that are 0 wherever all constraints hold, or lie on one side of 0 there.
-ghost use Rattle.std.specs.Prelude.{◌≡◌, ◌≤◌, ◌^◌, true, false, not, pos, neg_ℤ, unsigned_abs, IfOk, IfSome};
+ghost use Rattle.std.specs.Prelude.{◌≡◌, ◌≤◌, ◌^◌, true, false, not, ◌&&◌, pos, neg_ℤ, unsigned_abs, IfOk, IfSome};
 ghost use Rattle.form_build.specs.Sums.{IsLinear};
 ghost use Rattle.stated_facts.specs.Rows.{Follows, IsAbove, IsNought, IsAllowed};
 
@@ -59,6 +59,13 @@ pub fn multiple_of(maker: &Maker, zero: &Nought, n: u64, rises: bool) -> Result<
     Ok(r)
 }
 
+/// Whether both are so.
+fn both(a: bool, b: bool) -> bool
+    ensures { result ≡ (a && b) }
+{
+    a && b
+}
+
 /// What is 0 with a multiple of something else that is, where the numbers stay small.
 pub fn combined(
     maker: &Maker,
@@ -82,9 +89,7 @@ pub fn combined(
     if !is_small(maker, &sum) {
         return Ok(None);
     }
-    Ok(Some(Nought {
-        sum,
-        adds: zero.adds && up,
-        takes: zero.takes && down,
-    }))
+    let adds = both(zero.adds, up);
+    let takes = both(zero.takes, down);
+    Ok(Some(Nought { sum, adds, takes }))
 }

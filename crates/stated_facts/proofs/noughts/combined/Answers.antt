@@ -16,5 +16,5 @@ is_small-requires c =
 
 pub returns : goal.returns
 returns c =
-    combined_nought c.args.maker.now c.args.zero.now c.args.other.now c.is_allowed-up.result c.is_allowed-down.result c.in_ok-more.more _ c.requires.zero
-    (λ t. c.in_ok-more.ensures.below (c.is_allowed-up.ensures t)) (λ t. c.in_ok-more.ensures.above (c.is_allowed-down.ensures t)) c.in_ok-sum.ensures.value (c.if-not-is_small.ensures refl) refl refl
+    combined_nought c.args.maker.now c.args.zero.now c.args.other.now c.is_allowed-up.result c.is_allowed-down.result c.in_ok-more.more (record { sum = c.in_ok-sum.sum; adds = c.both-adds.result; takes = c.both-takes.result }) c.requires.zero
+    (λ t. c.in_ok-more.ensures.below (c.is_allowed-up.ensures t)) (λ t. c.in_ok-more.ensures.above (c.is_allowed-down.ensures t)) c.in_ok-sum.ensures.value (c.if-not-is_small.ensures refl) c.both-adds.ensures c.both-takes.ensures
