@@ -73,8 +73,8 @@ quotient_value f whole rest sum n a none times less =
 pub small_signed : (v : ℤ) (n : ℕ) → v ≡ pos n → n ≤ 2 ^ 38 → unsigned_abs v ≤ 2 ^ 38
 small_signed v n e h = let size = ap unsigned_abs e in omega (arith, size, h)
 
-pub once_linear : (boxes : Boxes) (f : Linear) (c : ℤ) → unsigned_abs c ≤ 2 ^ 38 → IsLinear (unsigned_abs c * 1) boxes f → IsLinear (2 ^ 38) boxes f
-once_linear boxes f c h k = linear_more (unsigned_abs c * 1) (2 ^ 38) boxes f (omega (arith, h)) k
+pub twice_linear : (boxes : Boxes) (f : Linear) (c : ℤ) → unsigned_abs c ≤ 2 ^ 38 → IsLinear (unsigned_abs c * 2) boxes f → IsLinear (2 ^ 39) boxes f
+twice_linear boxes f c h k = linear_more (unsigned_abs c * 2) (2 ^ 39) boxes f (omega (arith, h)) k
 
 -- ---- what the items in a set, and those outside it, have room for
 

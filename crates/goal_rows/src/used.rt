@@ -8,7 +8,7 @@ ghost use Rattle.ground_form.specs.Bounds.{reach_of};
 ghost use Rattle.form_build.specs.Forms.{linear_at};
 ghost use Rattle.form_build.specs.Worlds.{IsWorld, Defines};
 ghost use Rattle.form_build.specs.Sums.{IsLinear};
-ghost use Rattle.goal_rows.specs.Hosts.{IsHost, IsTaken};
+ghost use Rattle.goal_rows.specs.Hosts.{use_of, IsHost, IsTaken};
 ghost use Rattle.goal_rows.specs.Packings.{IsPacking};
 ghost use Rattle.stated_facts.specs.Rows.{IsNought};
 
@@ -32,6 +32,22 @@ pub(crate) struct Taken {
     pub rest: IntSet,
 }
 
+/// Whether a bin is in use, as a sum.
+fn use_of(maker: &Maker, h: &Host) -> Result<Linear, AllocError>
+    requires exists { h.now.flag < length maker.now.domains }
+    requires near { reach_of (box_of maker.now.domains h.now.flag) ≤ 1 }
+    ensures value { IfOk result (λ r. (a : List ℤ) → IsWorld maker.now a → linear_at r a
+        ≡ use_of h.now.turned (value_of a h.now.flag)) }
+    ensures linear { IfOk result (λ r. IsLinear 2 maker.now.domains r) }
+{
+    let own = variable(maker, h.flag)?;
+    if !h.turned {
+        return Ok(own);
+    }
+    let r = amount_less(maker, 1, &own)?;
+    Ok(r)
+}
+
 /// What a bin has room for, by its flag.
 fn share_of(maker: &Maker, h: &Host) -> Result<Linear, AllocError>
     requires exists { h.now.flag < length maker.now.domains }
@@ -39,11 +55,11 @@ fn share_of(maker: &Maker, h: &Host) -> Result<Linear, AllocError>
     requires stays { h.now.stays ≤ 2 ^ 38 }
     requires more { h.now.more ≤ 2 ^ 38 }
     ensures value { IfOk result (λ r. (a : List ℤ) → IsWorld maker.now a → linear_at r a
-        ≡ pos h.now.stays +ℤ (pos h.now.more *ℤ value_of a h.now.flag)) }
-    ensures linear { IfOk result (λ r. IsLinear (2 ^ 39) maker.now.domains r) }
+        ≡ pos h.now.stays +ℤ (pos h.now.more *ℤ use_of h.now.turned (value_of a h.now.flag))) }
+    ensures linear { IfOk result (λ r. IsLinear (2 ^ 40) maker.now.domains r) }
 {
     let stays = amount(maker.alloc(), h.stays);
-    let own = variable(maker, h.flag)?;
+    let own = use_of(maker, h)?;
     let more = own.times(maker.alloc(), signed(h.more))?;
     let r = more.plus(maker.alloc(), &stays)?;
     Ok(r)
@@ -104,7 +120,8 @@ fn take_all(maker: &Maker, p: &Packing, hosts: &[Host]) -> Result<Option<Taken>,
     Ok(Some(t))
 }
 
-/// The bins of which flags tell that are terms of the sum, where these raise it, or lower it.
+/// The bins of which flags tell that are terms of the sum, where use of a bin raises it, or where
+/// use lowers it.
 fn hosts_of(maker: &Maker, p: &Packing, aim: &Aim, rises: bool) -> Result<Vec<Host>, AllocError>
     requires { IsPacking maker.now p.now }
     ensures { IfOk result (λ hosts. All (IsHost maker.now p.now) hosts.items) }
@@ -116,7 +133,7 @@ fn hosts_of(maker: &Maker, p: &Packing, aim: &Aim, rises: bool) -> Result<Vec<Ho
     Ok(hosts)
 }
 
-/// Adds the bin of which a term's flag tells, where it is one, and the term raises the sum, or
+/// Adds the bin of which a term's flag tells, where it is one, and its use raises the sum, or
 /// lowers it.
 fn push_host(
     maker: &Maker,
@@ -130,10 +147,9 @@ fn push_host(
     requires hosts { All (IsHost maker.now p.now) hosts.old.items }
     ensures { OnOk result (All (IsHost maker.now p.now) hosts.new.items) }
 {
-    if (t.0 > 0) != rises {
-        return Ok(());
-    }
-    if let Some(h) = host_of(maker, aim.indexes.as_slice(), p, t.1)? {
+    if let Some(h) = host_of(maker, aim.indexes.as_slice(), p, t.1)?
+        && ((t.0 > 0) != h.turned) == rises
+    {
         hosts.push(h)?;
     }
     Ok(())

@@ -7,11 +7,13 @@ use form_build::Maker;
 use ground_form::Con;
 use std::alloc::AllocError;
 
-/// The variable that the constraint defines by a question about another, by parts, or by a flag.
+/// The variable that the constraint defines by others.
 fn variable_defined(con: &Con) -> Option<u32> {
     match con {
         Con::MemberDef { flag, .. } => Some(*flag),
         Con::AndDef { flag, .. } => Some(*flag),
+        Con::ReifLe { flag, .. } => Some(*flag),
+        Con::LinDef { out, .. } => Some(*out),
         Con::CondDef { out, .. } => Some(*out),
         _ => None,
     }
@@ -80,29 +82,4 @@ pub fn question(maker: &Maker, indexes: &[usize], flag: u32) -> Option<(u32, u64
 {
     let c = definition(maker, indexes, flag)?;
     asked_by(c, flag)
-}
-
-/// The parts, where the constraint says that the flag tells whether all have the truths that they
-/// want.
-fn parts_in(c: &Con, flag: u32) -> Option<&[(u32, bool)]>
-    ensures { IfSome result (λ ps. c.now ≡ con.AndDef flag ps.now) }
-{
-    match c {
-        Con::AndDef { flag: own, parts } => {
-            if *own == flag {
-                Some(parts.items())
-            } else {
-                None
-            }
-        }
-        _ => None,
-    }
-}
-
-/// The parts of which the flag tells whether all have the truths that they want.
-pub fn parts_of<'a>(maker: &'a Maker, indexes: &[usize], flag: u32) -> Option<&'a [(u32, bool)]>
-    ensures { IfSome result (λ ps. Contains maker.now.cons (con.AndDef flag ps.now)) }
-{
-    let c = definition(maker, indexes, flag)?;
-    parts_in(c, flag)
 }

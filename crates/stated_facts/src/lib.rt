@@ -4,6 +4,7 @@
 //! what a row says, and a sum less what it is said to be is 0. Such facts hold wherever all
 //! constraints do, which is all that a row that follows needs. Nothing is made here but sums.
 //!
+//! - `claims`: what follows from the value of a variable, by definitions.
 //! - `constants`: variables that have one value.
 //! - `definitions`: what flags are, by the constraints that define them.
 //! - `equals`: cells that are what rows say.
@@ -12,6 +13,7 @@
 //! - `weights`: whether a sum's numbers are small.
 #![tactic(auto)]
 
+mod claims;
 mod constants;
 mod definitions;
 mod equals;
@@ -19,8 +21,9 @@ mod factors;
 mod noughts;
 mod weights;
 
+pub use claims::{Claims, bit_of, claims_of};
 pub use constants::{constant, only_value};
-pub use definitions::{definition, definition_indexes, parts_of, question};
+pub use definitions::{definition, definition_indexes, question};
 pub use equals::with_rows;
 pub use factors::{factor_at, factors_of};
 pub use noughts::{MOST_TIMES, Nought, combined, is_allowed, multiple_of, signed};
