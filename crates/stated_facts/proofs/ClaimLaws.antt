@@ -31,19 +31,19 @@ other_claimed a old new x v e is h =
 
 -- ---- flags that ask about a variable
 
-bit_true : (b : Bool) (v : ℤ) → v ≡ bit b → v ≡ pos 1 → b ≡ true
+pub bit_true : (b : Bool) (v : ℤ) → v ≡ bit b → v ≡ pos 1 → b ≡ true
 bit_true true v e h = refl
 bit_true false v e h = absurd (omega (arith, ints, e, h))
 
-bit_false : (b : Bool) (v : ℤ) → v ≡ bit b → v ≡ pos 0 → b ≡ false
+pub bit_false : (b : Bool) (v : ℤ) → v ≡ bit b → v ≡ pos 0 → b ≡ false
 bit_false true v e h = absurd (omega (arith, ints, e, h))
 bit_false false v e h = refl
 
-pub left_in : (at set left : Ranges) (v value : ℤ) → ((w : ℤ) → has left w ≡ (has at w && has set w)) → has at v ≡ true → value ≡ bit (has set v) → value ≡ pos 1 → has left v ≡ true
-left_in at set left v value meets there e h = meets v ∙ ap (λ (b : Bool). b && has set v) there ∙ bit_true (has set v) value e h
+pub left_inside : (at set left : Ranges) (v : ℤ) → ((w : ℤ) → has left w ≡ (has at w && has set w)) → has at v ≡ true → has set v ≡ true → has left v ≡ true
+left_inside at set left v meets there h = meets v ∙ ap (λ (b : Bool). b && has set v) there ∙ h
 
-pub left_out : (at set left : Ranges) (v value : ℤ) → ((w : ℤ) → has left w ≡ (has at w && not (has set w))) → has at v ≡ true → value ≡ bit (has set v) → value ≡ pos 0 → has left v ≡ true
-left_out at set left v value less there e h = less v ∙ ap (λ (b : Bool). b && not (has set v)) there ∙ ap not (bit_false (has set v) value e h)
+pub left_outside : (at set left : Ranges) (v : ℤ) → ((w : ℤ) → has left w ≡ (has at w && not (has set w))) → has at v ≡ true → has set v ≡ false → has left v ≡ true
+left_outside at set left v less there h = less v ∙ ap (λ (b : Bool). b && not (has set v)) there ∙ ap not h
 
 only_one : (v w : ℤ) → has ((v, v) ∷ []) w ≡ true → w ≡ v
 only_one v w h = grind (arith, ints)
@@ -54,8 +54,8 @@ not_one v w h = grind (arith, ints)
 pub single_is : (left : Ranges) (v w : ℤ) → left ≡ (v, v) ∷ [] → has left w ≡ true → w ≡ v
 single_is left v w e h = only_one v w (subst (λ (z : Ranges). has z w ≡ true) e h)
 
-pub other_is : (set : Ranges) (v : ℕ) (w value : ℤ) → set ≡ (pos v, pos v) ∷ [] → value ≡ bit (has set w) → value ≡ pos 0 → int_eq w (pos v) ≡ false
-other_is set v w value e is h = not_one (pos v) w (subst (λ (z : Ranges). has z w ≡ false) e (bit_false (has set w) value is h))
+pub other_is : (set : Ranges) (v : ℕ) (w : ℤ) → set ≡ (pos v, pos v) ∷ [] → has set w ≡ false → int_eq w (pos v) ≡ false
+other_is set v w e h = not_one (pos v) w (subst (λ (z : Ranges). has z w ≡ false) e h)
 
 -- ---- parts
 

@@ -39,16 +39,31 @@ fn single(set: &IntSet) -> Option<i64>
     }
 }
 
+/// The box of a variable, in which its value lies.
+fn box_at(maker: &Maker, x: u32) -> Option<&IntSet>
+    ensures { IfSome result (λ s. (a : List ℤ) → IsInBoxes maker.now.domains a
+        → has s.now (value_of a x) ≡ true) }
+{
+    let boxes = maker.domains();
+    if (x as usize) < boxes.len() {
+        Some(&boxes[x as usize])
+    } else {
+        None
+    }
+}
+
 /// The values that are left to a variable in a set.
 fn left_in(maker: &Maker, x: u32, set: &IntSet) -> Result<Option<IntSet>, AllocError>
     ensures { IfOk result (λ o. IfSome o (λ left. (a : List ℤ) → IsInBoxes maker.now.domains a
         → has set.now (value_of a x) ≡ true → has left (value_of a x) ≡ true)) }
 {
-    let Some(at) = maker.domains().get(x as usize) else {
-        return Ok(None);
-    };
-    let left = at.meet(set)?;
-    Ok(Some(left))
+    match box_at(maker, x) {
+        Some(at) => {
+            let left = at.meet(set)?;
+            Ok(Some(left))
+        }
+        None => Ok(None),
+    }
 }
 
 /// The values that are left to a variable outside a set.
@@ -56,11 +71,13 @@ fn left_out(maker: &Maker, x: u32, set: &IntSet) -> Result<Option<IntSet>, Alloc
     ensures { IfOk result (λ o. IfSome o (λ left. (a : List ℤ) → IsInBoxes maker.now.domains a
         → has set.now (value_of a x) ≡ false → has left (value_of a x) ≡ true)) }
 {
-    let Some(at) = maker.domains().get(x as usize) else {
-        return Ok(None);
-    };
-    let left = at.less(set)?;
-    Ok(Some(left))
+    match box_at(maker, x) {
+        Some(at) => {
+            let left = at.less(set)?;
+            Ok(Some(left))
+        }
+        None => Ok(None),
+    }
 }
 
 /// Whether a constraint defines the variable as a flag or a sum.
