@@ -30,6 +30,8 @@ use ground_cells::cell_boxes;
 use ground_form::Ground;
 use object_alloc::Objects;
 use signed_clause::IntSet;
+use stated_cases::tabulate_stated;
+use stated_pairs::differ_stated;
 use stated_rows::pack_stated;
 use std::alloc::{AllocError, Global};
 
@@ -78,12 +80,15 @@ fn require_model(
     Ok(())
 }
 
-/// Adds the packings that follow from what is stated, where they are wanted.
+/// Adds the packings, the bounds of tables and the differences that follow from what is stated,
+/// where they are wanted.
 fn add_packings(maker: &mut Maker, wanted: bool) -> Result<(), AllocError>
     ensures { OnOk result (Defines maker.old maker.new) }
 {
     if wanted {
         pack_stated(maker)?;
+        tabulate_stated(maker)?;
+        differ_stated(maker)?;
     }
     Ok(())
 }
