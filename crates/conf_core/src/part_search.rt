@@ -5,15 +5,16 @@ ghost use Rattle.conf_core.specs.Searching.{HasClosed};
 ghost use Rattle.conf_limits.specs.Measures.{model_narrow};
 ghost use Rattle.conf_types.specs.Typing.{IsTypedModel};
 ghost use Rattle.ground_form.specs.WellMade.{IsWellMade};
-ghost use Rattle.model_rounds.specs.Problems.{IsProblemOf};
+ghost use Rattle.model_search.specs.Problems.{IsProblemOf};
 
 use conf_types::TypedModel;
 use ground_form::Ground;
 use ground_model::{Origins, ground_with_origins};
-use model_rounds::{Question, last_round, no_hints, round_is_run};
+use log_check::{Verdict, VerdictKind};
+use model_search::{Question, last_round, no_hints, round_is_run};
 use object_alloc::Objects;
 use proof_log::Journal;
-use run_finder::{Finder, Outcome};
+use run_finder::Finder;
 use std::alloc::{AllocError, Global};
 
 /// A model whose parts are searched, with its objects, and how many decisions a search may take.
@@ -29,7 +30,7 @@ pub(crate) struct Subject<'a> {
 /// stated.
 #[derive(Drop)]
 pub(crate) struct Tried {
-    pub end: Outcome,
+    pub end: VerdictKind,
     pub origins: Origins,
 }
 
@@ -62,22 +63,23 @@ fn problem_of(
     Ok(g)
 }
 
-/// Searches the problem of a part, without objectives, and closes the round.
+/// Searches the problem of a part, without objectives, and closes the round. With the verdict comes
+/// for which constraints of the part each of the problem's was stated.
 fn closed_round<F: Finder>(
     with: Subject<'_>,
     model: &TypedModel,
     part: Vec<u32>,
     finder: &mut F,
     journal: &mut Journal,
-) -> Result<Tried, AllocError>
+) -> Result<(Verdict, Origins), AllocError>
     requires typed { IsTypedModel with.objects.now model.now.constraints model.now.goals }
     requires narrow { model_narrow with.objects.now model.now.constraints model.now.goals ≡ true }
     requires goals { model.now.goals ≡ [] }
     requires budget { F.allowed finder.old ≡ with.budget }
     requires ground { journal.old.ground ≡ None }
     requires lines { journal.old.lines ≡ [] }
-    ensures closed { IfOk result (λ t. HasClosed with.entry.objects.now model.now.constraints
-        with.entry.budget part.items journal.old.rounds journal.new.rounds t.end) }
+    ensures closed { IfOk result (λ r. HasClosed with.entry.objects.now model.now.constraints
+        with.entry.budget part.items journal.old.rounds journal.new.rounds r.0) }
     ensures rounds { OnErr result (journal.new.rounds ≡ journal.old.rounds) }
     ensures ground { OnOk result (journal.new.ground ≡ None) }
     ensures lines { OnOk result (journal.new.lines ≡ []) }
@@ -86,9 +88,9 @@ fn closed_round<F: Finder>(
     let mut origins = Origins::new(with.alloc);
     let g = problem_of(with, model, &mut origins)?;
     let hints = no_hints(with.alloc, g.search)?;
-    let end = finder.find(g, &hints, journal)?;
+    let verdict = finder.find(g, &hints, journal)?;
     journal.close_part(part)?;
-    Ok(Tried { end, origins })
+    Ok((verdict, origins))
 }
 
 /// Searches a part of the model, which is then the journal's last round.
@@ -118,13 +120,14 @@ pub(crate) fn try_part<F: Finder>(
     ensures budget { F.allowed finder.new ≡ F.allowed finder.old }
 {
     let model = with.model.only(with.alloc, &part)?;
-    let tried = closed_round(with, &model, part, finder, journal)?;
+    let (verdict, origins) = closed_round(with, &model, part, finder, journal)?;
     let round = last_round(journal);
     round_is_run(
         question_about(&model, with.objects),
         round,
-        tried.end,
+        &verdict,
         with.budget,
     );
-    Ok(tried)
+    let end = verdict.kind();
+    Ok(Tried { end, origins })
 }
