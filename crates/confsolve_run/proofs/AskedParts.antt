@@ -4,24 +4,24 @@ use Rattle.branch_choice.specs.declared.split.Order.{Order}
 use Rattle.class_table.specs.Outline.{Outline}
 use Rattle.conf_request.specs.declared.request.Request.{Request}
 use Rattle.conf_request.specs.declared.request.Request.TheVariants.{Core}
-use Rattle.round_commands.specs.Blaming.{IsBlamed, IsSearchedSoFar}
+use Rattle.run_promise.specs.Blaming.{IsBlamed, IsSearchedSoFar}
 use Rattle.desk_io.specs.Desk.{Files}
 use Rattle.proof_log.specs.Rounds.{Journal}
 use Rattle.run_status.specs.declared.status.Status.{Status}
-use Rattle.confsolve_run.specs.declared.answer.Answer.{Answer}
-use Rattle.round_commands.specs.Answer.{IsModelAnswer, IsModelSearched, IsAnswer, IsAnswerSearched}
-use Rattle.round_commands.specs.Asking.{OfAsked}
+use Rattle.round_commands.specs.declared.answer.Answer.{Answer}
+use Rattle.run_promise.specs.Answer.{IsModelAnswer, IsModelSearched, IsAnswer, IsAnswerSearched}
+use Rattle.run_promise.specs.Asking.{OfAsked}
 use Rattle.round_commands.proofs.Asking.{asked_map}
 use Rattle.conf_syntax.specs.declared.tree.Program.{Program}
 use Rattle.conf_types.specs.Programs.{ResolvedConstraint, ResolvedGoal}
 use Rattle.model_reader.specs.Building.{IsResolved}
 use Rattle.model_reader.specs.Models.{IsWithin}
 use Rattle.model_reader.specs.ModelRefusal.{IsRefusedFor}
-use Rattle.round_commands.specs.Refusal.{IsDenied, IsDeniedOf}
+use Rattle.run_promise.specs.Refusal.{IsDenied, IsDeniedOf}
 use Rattle.model_reader.proofs.ModelParts.{at_model}
 use Rattle.round_commands.proofs.Reading.{unread_map}
 use Rattle.round_commands.proofs.Rounds.{has_blamed}
-use Rattle.round_commands.specs.Recorded.{IsRecorded}
+use Rattle.run_promise.specs.Recorded.{IsRecorded}
 use Rattle.round_commands.specs.Unreadable.{Unreadable}
 
 pub on_ok : {T E : Type 0} (r : Result T E) (P : Type 0) → P → OnOk r P

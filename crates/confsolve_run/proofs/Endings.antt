@@ -9,18 +9,19 @@ use Rattle.desk_io.specs.Desk.{Files, with_file, with_printed}
 use Rattle.desk_io.specs.Whole.{StoresFront}
 use Rattle.proof_log.specs.Rounds.{Journal}
 use Rattle.run_status.specs.declared.status.Status.{Status}
-use Rattle.round_commands.specs.Answer.{IsAnswer}
-use Rattle.round_commands.specs.Asking.{OfAsked, OfText, log_file}
+use Rattle.run_promise.specs.Answer.{IsAnswer}
+use Rattle.run_promise.specs.Asking.{OfAsked, OfText, log_file}
 use Rattle.model_reader.specs.TextModel.{IsModelOf}
-use Rattle.round_commands.specs.Delivery.{Outside, outside, log_text, IsLoggedIn, IsLogFrontIn, IsLogFront, IsCutOff}
+use Rattle.run_promise.specs.Delivery.{Outside, outside, log_text, IsLoggedIn, IsLogFrontIn, IsLogFront, IsCutOff}
 use Rattle.round_commands.specs.Ending.{Trace, trace, Searches, IsBegun, EndsModel, EndsModelAt, Ends, EndsAt, RunEnds, RunEndsAt}
 use Rattle.model_reader.specs.Models.{IsWithin, outline_of, constraints_of, goals_of}
-use Rattle.round_commands.specs.Recorded.{IsRecorded}
-use Rattle.round_commands.specs.Refusal.{IsReason, IsDeniedOf, IsTooLongText}
+use Rattle.run_promise.specs.Recorded.{IsRecorded}
+use Rattle.run_promise.specs.Refusal.{IsReason, IsDeniedOf, IsTooLongText}
 use Rattle.model_reader.specs.ModelRefusal.{IsRefusedFor, IsTextRefused}
 use Rattle.run_status.specs.Stages.{Stage, Unasked, Unread, Refused, Answered, Unwritten, Lost, stage_of, Denied}
 use Rattle.round_commands.specs.Unreadable.{Unreadable}
-use Rattle.confsolve_run.specs.Told.{IsLogOf, stored, StoresSome, IsBroken}
+use Rattle.round_commands.specs.Told.{IsLogOf}
+use Rattle.confsolve_run.specs.Told.{stored, StoresSome, IsBroken}
 use Rattle.round_commands.proofs.Begun.{answer_begun}
 use Rattle.round_commands.proofs.Reading.{risen_earlier}
 use Rattle.round_commands.proofs.Asking.{asked_map, text_map, text_read}

@@ -10,10 +10,10 @@ use Rattle.answer_text.specs.Texts.{solve_text}
 use Rattle.proof_log.specs.Rounds.{Journal}
 use Rattle.reconfigure.specs.declared.repair.Repair.{Repair}
 use Rattle.run_status.specs.declared.status.Status.{Status}
-use Rattle.confsolve_run.specs.declared.answer.Answer.{Answer}
-use Rattle.round_commands.specs.Answer.{IsChecked, IsModelAnswer, IsRepairOf, IsSearched, order_at}
-use Rattle.round_commands.specs.Asking.{OfAsked, former_text}
-use Rattle.round_commands.specs.Refusal.{IsDenied, IsUnchecked}
+use Rattle.round_commands.specs.declared.answer.Answer.{Answer}
+use Rattle.run_promise.specs.Answer.{IsChecked, IsModelAnswer, IsRepairOf, IsSearched, order_at}
+use Rattle.run_promise.specs.Asking.{OfAsked, former_text}
+use Rattle.run_promise.specs.Refusal.{IsDenied, IsUnchecked}
 use Rattle.round_commands.specs.Unreadable.{Unreadable}
 use Rattle.round_commands.proofs.Reading.{unread_map, unread_earlier}
 use Rattle.round_commands.proofs.Asking.{file_map}

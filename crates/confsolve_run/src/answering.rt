@@ -10,31 +10,30 @@ ghost use Rattle.conf_syntax.specs.Words.{AreWords};
 ghost use Rattle.model_limits.specs.Limits.{model_bytes, most_nesting};
 ghost use Rattle.proof_log.specs.Rounds.{empty};
 ghost use Rattle.run_status.specs.declared.status.Status.{Status as AStatus};
-ghost use Rattle.round_commands.specs.Answer.{IsModelAnswer, IsModelSearched, IsAnswer, IsAnswerSearched};
-ghost use Rattle.round_commands.specs.Asking.{IsFurther, OfAsked, closes_rounds, is_session, log_file};
-ghost use Rattle.round_commands.specs.Delivery.{outside};
+ghost use Rattle.run_promise.specs.Answer.{IsModelAnswer, IsModelSearched, IsAnswer, IsAnswerSearched};
+ghost use Rattle.run_promise.specs.Asking.{IsFurther, OfAsked, closes_rounds, is_session, log_file};
+ghost use Rattle.run_promise.specs.Delivery.{outside};
 ghost use Rattle.round_commands.specs.Ending.{Ends, EndsModel, trace};
 ghost use Rattle.model_reader.specs.Models.{IsWithin};
 ghost use Rattle.model_reader.specs.Ready.{IsReady};
-ghost use Rattle.round_commands.specs.Recorded.{IsRecorded};
-ghost use Rattle.round_commands.specs.Refusal.{IsDenied, IsDeniedOf};
+ghost use Rattle.run_promise.specs.Recorded.{IsRecorded};
+ghost use Rattle.run_promise.specs.Refusal.{IsDenied, IsDeniedOf};
 ghost use Rattle.model_reader.specs.ModelRefusal.{IsRefusedFor, IsTextRefused};
 ghost use Rattle.run_status.specs.Stages.{Answered, stage_of, IsUnless};
 ghost use Rattle.round_commands.specs.Unreadable.{Unreadable};
-ghost use Rattle.confsolve_run.specs.Told.{IsLogOf};
+ghost use Rattle.round_commands.specs.Told.{IsLogOf};
 
-use crate::answer::Answer;
-use crate::blaming::blamed;
 use crate::checking::check;
 use crate::delivering::deliver;
-use crate::searching::{Wanted, generated, solve};
 use crate::verifying::verify;
 use conf_request::{FileName, Request};
 use conf_syntax::Program;
 use desk_io::{Desk, WriteError};
 use model_reader::{Built, objects_of, read_model, table_of, typed_model};
 use proof_log::Journal;
-use round_commands::{Resources, hold_model, repair_of};
+use round_commands::{
+    Answer, Resources, Wanted, blame_model, generated, hold_model, repair_of, solve,
+};
 use rule_law::Kit;
 use run_status::Status;
 use std::alloc::Global;
@@ -147,7 +146,7 @@ fn asked<D: Desk>(
         },
         Request::Verify { config, .. } => verify(with.alloc, desk, config, built),
         Request::Core { budget, order, .. } => {
-            Ok(blamed(with, built, *budget, *order, kit, journal)?)
+            Ok(blame_model(with, built, *budget, *order, kit, journal)?)
         }
         Request::Session { .. } => unreachable!(),
     }

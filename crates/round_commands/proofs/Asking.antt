@@ -6,7 +6,7 @@ use Rattle.conf_request.specs.declared.request.Request.TheVariants.{Solve, Recon
 use Rattle.conf_syntax.specs.declared.tree.Program.{Program}
 use Rattle.desk_io.specs.Desk.{Files, OfFile}
 use Rattle.model_generator.specs.Generated.{generated}
-use Rattle.round_commands.specs.Asking.{Asked, Best, Generated, Checked, Satisfied, Held, Blamed, OfChecked, OfText, OfAsked, former_text, is_session, closes_rounds, text_of}
+use Rattle.run_promise.specs.Asking.{Asked, Best, Generated, Checked, Satisfied, Held, Blamed, OfChecked, OfText, OfAsked, former_text, is_session, closes_rounds, text_of}
 use Rattle.model_reader.specs.TextModel.{HasModel}
 
 pub file_map : (told : Option Files) (name : List ℕ) (P Q : List ℕ → Type 0) → ((bytes : List ℕ) → P bytes → Q bytes) → OfFile told name P → OfFile told name Q

@@ -3,9 +3,9 @@ use Rattle.std.proofs.Common.{◌≡◌, ◌⊎◌, inl, inr, [], subst, sym}
 use Rattle.conf_syntax.specs.declared.tree.Program.{Program}
 use Rattle.model_reader.specs.ModelRefusal.{IsRefusedFor}
 use Rattle.model_reader.specs.Models.{IsWithin}
-use Rattle.round_commands.specs.Asking.{OfAsked}
+use Rattle.run_promise.specs.Asking.{OfAsked}
 use Rattle.round_commands.specs.Ending.{Trace, Searches, EndsModel, EndsModelAt}
-use Rattle.round_commands.specs.Refusal.{IsDeniedOf}
+use Rattle.run_promise.specs.Refusal.{IsDeniedOf}
 use Rattle.round_commands.specs.Unreadable.{Unreadable}
 use Rattle.run_status.specs.Stages.{stage_of}
 use Rattle.run_status.specs.declared.status.Status.{Status}

@@ -11,22 +11,18 @@ use Rattle.conf_syntax.specs.declared.tree.Program.{Program}
 use Rattle.conf_types.specs.Programs.{ResolvedConstraint, ResolvedGoal}
 use Rattle.conf_session.specs.Standing.{Standing}
 use Rattle.desk_io.specs.Desk.{Files, OfFile}
-use Rattle.ground_cells.specs.CellBoxes.{domain_box}
-use Rattle.model_rounds.specs.Asked.{functions}
+use Rattle.model_search.specs.Asked.{functions}
 use Rattle.ground_form.specs.declared.ground.Ground.{Ground}
 use Rattle.model_reader.proofs.ModelParts.{at_model}
 use Rattle.desk_io.specs.declared.whole.WriteError.{WriteError}
 use Rattle.model_reader.specs.Building.{IsResolved}
 use Rattle.model_reader.specs.ModelRefusal.{IsRefusedFor}
 use Rattle.model_reader.specs.Models.{IsWithin}
-use Rattle.model_rounds.specs.Rounds.{told_by}
-use Rattle.model_rounds.specs.Problems.{IsProblemOf}
-use Rattle.model_rounds.specs.Runs.{is_open}
-use Rattle.model_rounds.specs.Finding.{Finding}
-use Rattle.object_alloc.proofs.HintLaws.{hints_lie}
-use Rattle.object_alloc.specs.Cells.{cells}
-use Rattle.object_alloc.specs.Hints.{AreCellHints, AreHints}
-use Rattle.object_alloc.specs.declared.object.Cell.{Cell}
+use Rattle.model_search.specs.Rounds.{told_by}
+use Rattle.model_search.specs.Problems.{IsProblemOf}
+use Rattle.model_search.specs.Runs.{is_open}
+use Rattle.model_search.specs.declared.finding.Finding.{Finding}
+use Rattle.object_alloc.specs.Hints.{AreHints}
 use Rattle.proof_log.specs.Rounds.{Journal}
 use Rattle.proof_log.specs.declared.journal.Round.{Round}
 use Rattle.reconfigure.specs.Failing.{unknown_word}
@@ -34,37 +30,23 @@ use Rattle.run_status.specs.declared.status.FormerKind.TheVariants as former
 use Rattle.run_status.specs.declared.status.Status.TheVariants as status
 use Rattle.run_status.specs.Stages.{Answered, Denied, stage_of}
 use Rattle.run_status.specs.declared.status.Status.{Status}
-use Rattle.session_run.specs.Holding.{StandsAt, situation_of}
-use Rattle.session_run.specs.Sessions.{Situation, Subject, situation, situation_behind, subject, session_status, is_none_told, IsAnswered, AreAnswered, AreHeld, AreBegun}
-use Rattle.round_commands.specs.Answer.{IsModelAnswer, IsModelBegun, IsDay}
-use Rattle.round_commands.specs.Asking.{Asked, Best, Generated, Checked, Satisfied, Held, Blamed, FormerText, OfAsked, former_text}
-use Rattle.round_commands.specs.Delivery.{IsLogged, IsLogFront}
+use Rattle.round_commands.specs.Events.{StandsAt, situation_of}
+use Rattle.run_promise.specs.Sessions.{Situation, Subject, situation, situation_behind, subject, session_status, is_none_told, IsAnswered, AreAnswered, AreHeld, AreBegun}
+use Rattle.run_promise.specs.Answer.{IsModelAnswer, IsModelBegun, IsDay}
+use Rattle.run_promise.specs.Asking.{Asked, Best, Generated, Checked, Satisfied, Held, Blamed, FormerText, OfAsked, former_text}
+use Rattle.run_promise.specs.Delivery.{IsLogged, IsLogFront}
 use Rattle.round_commands.specs.Ending.{Trace, Prints, Breaks, IsBegun, IsHeldWhole}
 use Rattle.round_commands.proofs.Asking.{asked_map, file_map}
 use Rattle.round_commands.specs.Holding.{AreTextsRefused, ForModel, IsDayOf, IsDayRefused, IsOpenedBy, IsOpenedFor, HasBudget, HasWhole, HasPart}
-use Rattle.round_commands.specs.Refusal.{IsDenied, IsDeniedOf, IsEventsRefused, IsFormerRefused, IsUnread}
+use Rattle.run_promise.specs.Refusal.{IsDenied, IsDeniedOf, IsEventsRefused, IsFormerRefused, IsUnread}
 use Rattle.round_commands.specs.Unreadable.{Unreadable}
 use Rattle.round_commands.proofs.Reading.{unread_map}
 use Rattle.round_commands.proofs.Rounds.{round_of}
-use Rattle.round_commands.specs.Recorded.{HasHeld, IsRecorded, IsRoundOf}
+use Rattle.run_promise.specs.Recorded.{HasHeld, IsRecorded, IsRoundOf}
 use Rattle.round_commands.specs.declared.session.Day.{Day}
 use Rattle.round_commands.specs.declared.session.Opened.{Opened}
 
 -- ---- a session that is opened
-
-one_each : (o : Outline) (cs : List Cell) (hs : List (Option ℤ)) → AreCellHints o cs hs → length hs ≡ length cs
-one_each o [] [] h = refl
-one_each o [] (k ∷ hs) h = absurd h
-one_each o (c ∷ cs) [] h = absurd h
-one_each o (c ∷ cs) (k ∷ hs) h = ap suc (one_each o cs hs h.1)
-
-boxes_size : (o : Outline) (cs : List Cell) → length (map (λ (c : Cell). domain_box o c.domain) cs) ≡ length cs
-boxes_size o [] = refl
-boxes_size o (c ∷ cs) = ap suc (boxes_size o cs)
-
--- there is a hint, or none, for each searched variable
-pub as_many_hints : (o : Outline) (ks : List ResolvedConstraint) (gs : List ResolvedGoal) (g : Ground) (hs : List (Option ℤ)) → IsProblemOf o ks gs None g → AreHints o hs → length hs ≡ g.search
-as_many_hints o ks gs g hs p h = one_each o (cells o) hs (hints_lie o hs h) ∙ sym (p.stands.searched ∙ boxes_size o (cells o))
 
 pub opened_situation : (state : Option Standing) (former : List (Option ℤ)) → IsSome state → IfSome state (λ s. s.former ≡ former) → IfSome state (λ s. s.failed ≡ []) → situation_of state ≡ situation former []
 opened_situation None former some f w = absurd cc

@@ -17,11 +17,11 @@ use Rattle.object_alloc.specs.Named.{object_named}
 use Rattle.proof_log.specs.Rounds.{Journal}
 use Rattle.reconfigure.specs.declared.repair.Repair.{Repair}
 use Rattle.run_status.specs.declared.status.Status.{Status}
-use Rattle.session_run.specs.Holding.{StandsAt, situation_of}
-use Rattle.session_run.specs.Sessions.{situation, subject, AreHeld, AreBegun}
-use Rattle.round_commands.specs.Answer.{IsRepairOf}
-use Rattle.round_commands.specs.Asking.{Asked, Best, Generated, Checked, Satisfied, Held, Blamed, former_text}
-use Rattle.round_commands.specs.Refusal.{IsEventsRefused, IsFormerRefused, IsUnread}
+use Rattle.round_commands.specs.Events.{StandsAt, situation_of}
+use Rattle.run_promise.specs.Sessions.{situation, subject, AreHeld, AreBegun}
+use Rattle.run_promise.specs.Answer.{IsRepairOf}
+use Rattle.run_promise.specs.Asking.{Asked, Best, Generated, Checked, Satisfied, Held, Blamed, former_text}
+use Rattle.run_promise.specs.Refusal.{IsEventsRefused, IsFormerRefused, IsUnread}
 use Rattle.round_commands.specs.declared.session.Day.{Day}
 use Rattle.round_commands.specs.declared.session.Opened.{Opened}
 

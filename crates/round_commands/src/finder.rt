@@ -1,13 +1,14 @@
-//! Who searches for rounds: whoever has a kit and a chooser at hand.
+//! Who searches for what is asked of a model: whoever has a kit and a chooser at hand.
 ghost use Rattle.std.specs.Prelude.{◌≡◌};
 
 use bound_search::Limits;
 use branch_choice::Chooser;
 use ground_form::Ground;
+use log_check::Verdict;
+use model_search::find;
 use proof_log::Journal;
 use rule_law::Kit;
-use run_finder::{Finder, Outcome};
-use search_finder::find;
+use run_finder::Finder;
 use std::alloc::{AllocError, Global};
 
 /// Where memory comes from, and a chooser for each of the orders first, small and former.
@@ -29,6 +30,8 @@ pub(crate) struct Searching<'a> {
 impl<'a> Finder for Searching<'a> {
     ghost allowed = { λ f. f.limits.budget };
 
+    ghost order = { λ f. f.chooser.now.order };
+
     fn budget(&self) -> u32 {
         self.limits.budget
     }
@@ -38,7 +41,7 @@ impl<'a> Finder for Searching<'a> {
         g: Ground,
         hints: &[Option<i64>],
         journal: &mut Journal,
-    ) -> Result<Outcome, AllocError> {
+    ) -> Result<Verdict, AllocError> {
         find(self.limits, self.kit, self.chooser, g, hints, journal)
     }
 }

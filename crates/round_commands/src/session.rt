@@ -13,22 +13,24 @@ ghost use Rattle.model_limits.specs.Limits.{model_bytes, most_nesting};
 ghost use Rattle.model_reader.specs.ModelRefusal.{IsRefusedFor};
 ghost use Rattle.model_reader.specs.Models.{IsWithin};
 ghost use Rattle.model_reader.specs.Ready.{IsReady};
-ghost use Rattle.model_rounds.specs.Problems.{IsProblemOf};
+ghost use Rattle.model_search.specs.Problems.{IsProblemOf};
 ghost use Rattle.object_alloc.specs.Hints.{AreHints};
 ghost use Rattle.object_alloc.specs.Named.{object_named};
 ghost use Rattle.proof_log.specs.Rounds.{Journal as AJournal, empty};
-ghost use Rattle.session_run.specs.Holding.{StandsAt, situation_of};
-ghost use Rattle.session_run.specs.Sessions.{situation, subject};
+ghost use Rattle.round_commands.specs.Events.{StandsAt, situation_of};
+ghost use Rattle.run_promise.specs.Sessions.{situation, subject};
 ghost use Rattle.run_status.specs.Stages.{Denied};
-ghost use Rattle.round_commands.specs.Asking.{IsFurther, IsShort, OfAsked, former_text, is_session};
-ghost use Rattle.round_commands.specs.Delivery.{outside};
+ghost use Rattle.run_promise.specs.Asking.{IsFurther, IsShort, OfAsked, former_text, is_session};
+ghost use Rattle.run_promise.specs.Delivery.{outside};
 ghost use Rattle.round_commands.specs.Ending.{EndsModel, IsBegun, IsHeldWhole, trace};
 ghost use Rattle.round_commands.specs.Holding.{IsDayOf, IsDayRefused, AreTextsRefused, IsOpenedFor, IsOpen, ForModel, HasBudget, HasWhole, HasPart};
-ghost use Rattle.round_commands.specs.Refusal.{IsDenied, IsDeniedOf, IsEventsRefused, IsFormerRefused};
+ghost use Rattle.run_promise.specs.Refusal.{IsDenied, IsDeniedOf, IsEventsRefused, IsFormerRefused};
 ghost use Rattle.round_commands.specs.Unreadable.{Unreadable};
 
+use crate::event::Setting;
 use crate::finder::{Resources, Searching};
 use crate::former::{config_bytes, repair_in};
+use crate::holding::hold_session;
 use bound_search::Limits;
 use command_limits::EVENTS_BYTES;
 use conf_events::{Events, EventsError, read_events};
@@ -43,7 +45,6 @@ use object_alloc::{Hints, Objects};
 use proof_log::Journal;
 use rule_law::Kit;
 use run_status::{LimitKind, Status};
-use session_run::{Setting, hold_session};
 use std::alloc::{AllocError, Global};
 
 /// What a session goes by: the former values, and the events.

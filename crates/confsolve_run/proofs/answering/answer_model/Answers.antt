@@ -1,7 +1,7 @@
 use Rattle.std.proofs.Common.{Err, ap, inl, inr, map, option_copied, subst}
 use Rattle.std.specs.Option.{option_map}
 use Rattle.desk_io.specs.Fault.{HasRisen}
-use Rattle.round_commands.specs.Delivery.{outside}
+use Rattle.run_promise.specs.Delivery.{outside}
 use Rattle.round_commands.specs.Ending.{trace}
 use Rattle.confsolve_run.proofs.Endings.{begun_from, answered_from}
 use Rattle.confsolve_run.proofs.answering.answer_model.Goals as goal

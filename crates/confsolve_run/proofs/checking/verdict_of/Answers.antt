@@ -2,7 +2,7 @@ use Rattle.std.proofs.Common.{List, Err, ap, sym, subst, ℕ}
 use Rattle.desk_io.specs.Desk.{OfFile}
 use Rattle.log_check.specs.Fed.{IsLogOf}
 use Rattle.run_status.specs.declared.status.Status.TheVariants as status
-use Rattle.round_commands.specs.Refusal.{IsUnfit}
+use Rattle.run_promise.specs.Refusal.{IsUnfit}
 use Rattle.round_commands.specs.Unreadable.{Unreadable}
 use Rattle.confsolve_run.proofs.LogFiles.{file_refused, rest_refused, log_of}
 use Rattle.confsolve_run.proofs.checking.verdict_of.Goals as goal

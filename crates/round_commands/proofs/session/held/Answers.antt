@@ -1,5 +1,5 @@
 use Rattle.std.proofs.Common.{map}
-use Rattle.round_commands.specs.Delivery.{outside}
+use Rattle.run_promise.specs.Delivery.{outside}
 use Rattle.round_commands.specs.Ending.{trace}
 use Rattle.round_commands.proofs.Holdings.{model_whole, model_part, model_denies}
 use Rattle.round_commands.proofs.session.held.Goals as goal

@@ -1,5 +1,5 @@
 use Rattle.std.proofs.Common.{◌∙◌, map}
-use Rattle.round_commands.specs.Delivery.{outside}
+use Rattle.run_promise.specs.Delivery.{outside}
 use Rattle.round_commands.specs.Ending.{trace}
 use Rattle.round_commands.proofs.Holdings.{wholes, parts}
 use Rattle.round_commands.proofs.session.held_built.Goals as goal
