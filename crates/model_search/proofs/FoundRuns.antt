@@ -1,5 +1,5 @@
 -- What the journal holds when a search over a model has ended.
-use Rattle.std.proofs.Common.{◌≡◌, ◌∙◌, ℕ, ◌+◌, ◌≤◌, ◌×◌, Bool, true, false, List, ℤ, Option, Some, None, ap, subst, sym, refl}
+use Rattle.std.proofs.Common.{◌≡◌, ◌∙◌, ℕ, ◌+◌, ◌≤◌, Bool, true, false, List, ℤ, Option, Some, None, ap, subst, sym, refl}
 use Rattle.bound_search.specs.declared.solving.Ended.{Ended}
 use Rattle.bound_search.specs.declared.solving.Ended.TheVariants as ended
 use Rattle.branch_choice.specs.declared.split.Order.{Order}
@@ -35,10 +35,10 @@ spent_by : (g : Ground) (budget : ℕ) (ls : List Line) (end : Ended) (v : Endin
     (end ≡ ended.Closed → has_empty (made g ls).clauses ≡ true) →
     (end ≡ ended.Spent → (decisions ls ≡ budget) × MayDecide g ls) → v.closed ≡ false →
     (decisions ls ≡ budget) × MayDecide g ls
-spent_by g budget ls ended.Closed v is closed spent open =
+spent_by g budget ls ended.Closed v is closed spent lacks =
     let yes : v.closed ≡ true = ap (λ (x : Ending). x.closed) is ∙ closed refl in
     absurd cc
-spent_by g budget ls ended.Spent v is closed spent open = spent refl
+spent_by g budget ls ended.Spent v is closed spent lacks = spent refl
 
 -- the lines that were checked are those of the search, and the journal keeps them
 pub has_searched : (g : Ground) (budget : ℕ) (ls read kept : List Line) (end : Ended) (v : Ending) →
@@ -53,7 +53,7 @@ has_searched g budget ls read kept end v r k run is sound found closed spent =
       verdict_is = here;
       sound = sound;
       found = found;
-      spent = λ open. spent_by g budget ls end v here closed spent open;
+      spent = λ lacks. spent_by g budget ls end v here closed spent lacks;
     })
 
 -- ---- a search over a model
@@ -93,7 +93,7 @@ has_run o ks gs r g order budget j told v kept problem searched ordered is more 
       shown = is ∙ ap (λ e. finding g e) searched.verdict_is;
       tells = subst (λ f. Tells o ks gs r f) (sym is)
           (verdict_tells o ks gs r g v problem searched.sound searched.found);
-      spent = λ open. spent_of o g budget j v searched more (subst (λ f. is_open f ≡ true) is open);
+      spent = λ told_open. spent_of o g budget j v searched more (subst (λ f. is_open f ≡ true) is told_open);
     }
 
 some_same : (g h : Ground) → Some g ≡ Some h → g ≡ h
