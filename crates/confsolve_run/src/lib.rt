@@ -10,7 +10,7 @@
 //! - `command`: `run`, which reads the words.
 //! - `source`: the text of the model, from its file or made for `gen`.
 //! - `answering`: from the text to what is asked of its model, and to the answer.
-//! - `checking`, `verifying`: what a log shows of a model, and whether a configuration satisfies it.
+//! - `checking`, `verifying`: what a log shows of a model; whether a configuration satisfies it.
 //! - `delivering`: the log is written, and the answer printed.
 //! - `laws`: a text has one model.
 //!
