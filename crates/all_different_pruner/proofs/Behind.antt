@@ -15,7 +15,7 @@ use Rattle.box_rules.proofs.CrowdLaws.{in_parts, in_from, at_least}
 use Rattle.box_view.proofs.EndLaws.{has_high}
 use Rattle.signed_clause.proofs.RangeLaws.{Ascends-ends}
 use Rattle.signed_clause.proofs.RangeSteps.{left_at}
-use Rattle.all_different_pruner.specs.Intervals.{apart, AreApart, IsFixpointAt, IsFixpointFrom, AreAtFixpoint, is_narrow}
+use Rattle.all_different_pruner.specs.Intervals.{is_outside, AreOutside, IsFixpointAt, IsFixpointFrom, AreAtFixpoint, is_narrow}
 use Rattle.all_different_pruner.specs.Counters.{begins_in, count_begun, reaches}
 use Rattle.all_different_pruner.specs.Sweeps.{ReachesEnd, IsFixpointBehind, ArePassed, IsKept, newest}
 use Rattle.all_different_pruner.proofs.FixpointQuiet.{disjoint_none}
@@ -70,9 +70,9 @@ begun_lies a b (x ∷ xs) boxes s h k d lt =
     let both = both_or (lies_in a b (box_of boxes x)) (begins_in a b (box_of boxes x)) (count_in a b xs boxes) (count_begun a b xs boxes) (lies_begins a b (box_of boxes x) (s x)) (lies_at_most a b xs boxes s) h in
     begun_case a b x xs boxes both.0 (begun_lies a b xs boxes s both.1) k d lt
 
-late_apart : (a b : ℤ) (box : Ranges) → IsValid box → (begins_in a b box ≡ true → lies_in a b box ≡ true) → int_le a (low_of box) ≡ true → apart a b box ≡ true
-late_apart a b box s h k =
-    let P : Bool → Type 0 = λ t. int_le (low_of box) b ≡ t → apart a b box ≡ true in
+late_outside : (a b : ℤ) (box : Ranges) → IsValid box → (begins_in a b box ≡ true → lies_in a b box ≡ true) → int_le a (low_of box) ≡ true → is_outside a b box ≡ true
+late_outside a b box s h k =
+    let P : Bool → Type 0 = λ t. int_le (low_of box) b ≡ t → is_outside a b box ≡ true in
     (elim (int_le (low_of box) b) as P [
       | true ↦ λ e. let lies = h (grind arith) in rw lies refl
       | false ↦ λ e. let later : b <ℤ low_of box = grind (arith, ints) in let out = disjoint_later a b box s later in grind arith
@@ -81,11 +81,11 @@ late_apart a b box s h k =
 pub fixpoint_behind : (a : ℤ) (d : ℕ) (xs : List ℕ) (boxes : Boxes) → All (λ s. IsValid s) boxes → count_in a (a +ℤ pos d) xs boxes ≤ suc d → (count_in a (a +ℤ pos d) xs boxes ≡ suc d → count_begun a (a +ℤ pos d) xs boxes ≤ count_in a (a +ℤ pos d) xs boxes) → IsFixpointBehind a d xs boxes
 fixpoint_behind a d xs boxes s few h = record {
   few = few;
-  apart = λ e. let all = begun_lies a (a +ℤ pos d) xs boxes (are_sets boxes s) (h e) in λ k x lt. late_apart a (a +ℤ pos d) (box_of boxes (slice_index_or xs k x)) (are_sets boxes s (slice_index_or xs k x)) (all k x lt);
+  outside = λ e. let all = begun_lies a (a +ℤ pos d) xs boxes (are_sets boxes s) (h e) in λ k x lt. late_outside a (a +ℤ pos d) (box_of boxes (slice_index_or xs k x)) (are_sets boxes s (slice_index_or xs k x)) (all k x lt);
 }
 
-pub fixpoint_apart : (a : ℤ) (d : ℕ) (xs : List ℕ) (boxes : Boxes) → count_in a (a +ℤ pos d) xs boxes ≤ suc d → AreApart a (a +ℤ pos d) xs boxes → IsFixpointBehind a d xs boxes
-fixpoint_apart a d xs boxes few h = record { few = few; apart = λ e k x lt late. h k x lt }
+pub fixpoint_outside : (a : ℤ) (d : ℕ) (xs : List ℕ) (boxes : Boxes) → count_in a (a +ℤ pos d) xs boxes ≤ suc d → AreOutside a (a +ℤ pos d) xs boxes → IsFixpointBehind a d xs boxes
+fixpoint_outside a d xs boxes few h = record { few = few; outside = λ e k x lt late. h k x lt }
 
 -- ---- the whole sweep
 
@@ -93,27 +93,27 @@ right_true : (x : Bool) → (x || true) ≡ true
 right_true true = refl
 right_true false = refl
 
-early_apart : (a b c : ℤ) (box : Ranges) → IsValid box → c ≤ℤ b → int_le a (low_of box) ≡ false → apart a b box ≡ true → apart a c box ≡ true
-early_apart a b c box s l e h =
+early_outside : (a b c : ℤ) (box : Ranges) → IsValid box → c ≤ℤ b → int_le a (low_of box) ≡ false → is_outside a b box ≡ true → is_outside a c box ≡ true
+early_outside a b c box s l e h =
     let out : is_disjoint box ((a, b) ∷ []) ≡ true = grind arith in let shorter = disjoint_shorter a b c box s l out in rw shorter (right_true (lies_in a c box))
 
-apart_all : (a : ℤ) (e : ℕ) (full : Option ℕ) (xs : List ℕ) (boxes : Boxes) → AreSets boxes → reaches full e ≡ true → IsKept a full xs boxes →
-    All (λ x. int_le a (low_of (box_of boxes x)) ≡ true → apart a (a +ℤ pos e) (box_of boxes x) ≡ true) xs → AreApart a (a +ℤ pos e) xs boxes
-apart_all a e None xs boxes s r k h i x lt = absurd cc
-apart_all a e (Some d) xs boxes s r k h i x lt =
+outside_all : (a : ℤ) (e : ℕ) (full : Option ℕ) (xs : List ℕ) (boxes : Boxes) → AreSets boxes → reaches full e ≡ true → IsKept a full xs boxes →
+    All (λ x. int_le a (low_of (box_of boxes x)) ≡ true → is_outside a (a +ℤ pos e) (box_of boxes x) ≡ true) xs → AreOutside a (a +ℤ pos e) xs boxes
+outside_all a e None xs boxes s r k h i x lt = absurd cc
+outside_all a e (Some d) xs boxes s r k h i x lt =
     let box = box_of boxes (slice_index_or xs i x) in
     let valid = s (slice_index_or xs i x) in
     let upto : e ≤ d = grind (arith, nat_tests) in
     let le : (a +ℤ pos e) ≤ℤ (a +ℤ pos d) = omega (arith, ints) in
-    (elim (int_le a (low_of box)) as (λ t. int_le a (low_of box) ≡ t → apart a (a +ℤ pos e) box ≡ true) [
+    (elim (int_le a (low_of box)) as (λ t. int_le a (low_of box) ≡ t → is_outside a (a +ℤ pos e) box ≡ true) [
       | true ↦ λ late. h i x lt late
-      | false ↦ λ early. early_apart a (a +ℤ pos d) (a +ℤ pos e) box valid le early (k i x lt)
+      | false ↦ λ early. early_outside a (a +ℤ pos d) (a +ℤ pos e) box valid le early (k i x lt)
     ]) refl
 
 fixpoint_upto : (a : ℤ) (m e : ℕ) (full : Option ℕ) (xs : List ℕ) (boxes : Boxes) → AreSets boxes → ArePassed a m full xs boxes → IsKept a full xs boxes → e < m → IsFixpointAt a e xs boxes
 fixpoint_upto a m e full xs boxes s p k lt =
     let fixpoint = p.fixpoint e lt in
-    record { few = fixpoint.few; apart = λ q. apart_all a e full xs boxes s (p.last e lt q) k (fixpoint.apart q) }
+    record { few = fixpoint.few; outside = λ q. outside_all a e full xs boxes s (p.last e lt q) k (fixpoint.outside q) }
 
 top_within : (low top : ℤ) (rs : Ranges) (v : ℤ) → Ascends low top rs → has rs v ≡ true → v ≤ℤ top
 top_within low top [] v s h = absurd (grind arith)
@@ -145,7 +145,7 @@ fixpoint_past : (a : ℤ) (m e : ℕ) (xs : List ℕ) (boxes : Boxes) → AreSet
 fixpoint_past a m e xs boxes s h c k =
     let less = count_early a (a +ℤ pos e) (a +ℤ pos m) xs boxes s (omega (arith, ints)) in
     let few = c.few in
-    record { few = omega arith; apart = λ q. absurd (omega arith) }
+    record { few = omega arith; outside = λ q. absurd (omega arith) }
 
 past : (a : ℤ) (m e : ℕ) (full : Option ℕ) (xs : List ℕ) (boxes : Boxes) → AreSets boxes → 0 < m → a +ℤ pos m ≡ pos 9223372036854775808 → ArePassed a m full xs boxes → IsKept a full xs boxes → m ≤ e → IsFixpointAt a e xs boxes
 past a zero e full xs boxes s n t p k le = absurd (omega arith)
@@ -236,7 +236,7 @@ pub none_map : {T : Type 0} (P Q : Type 0) (r : Option T) → (P → Q) → IfNo
 none_map P Q None f k = f k
 none_map P Q (Some x) f k = k
 
--- ---- one place more
+-- ---- one variable more
 
 fixpoint_cons : (x : ℕ) (ys xs : List ℕ) (boxes : Boxes) → (is_narrow (length xs) (box_of boxes x) ≡ true → IsFixpointFrom (low_of (box_of boxes x)) xs boxes) → AreAtFixpoint ys xs boxes → AreAtFixpoint (x ∷ ys) xs boxes
 fixpoint_cons x ys xs boxes here rest zero d lt = here

@@ -1,4 +1,4 @@
--- Places at a fixpoint are quiet. A value that refutes them would stand in a full interval, or
+-- Variables at a fixpoint are quiet. A value that refutes them would stand in a full interval, or
 -- there would be a crowded one; and such an interval begins where some box within it begins.
 use Rattle.std.proofs.Common.{◌≡◌, ℕ, suc, ◌<◌, ◌≤◌, Bool, true, false, not, ◌||◌, cond, List, [], ◌∷◌, ℤ, ◌≤ℤ◌, All, length, refl, arith, inl, inr, subst, sym}
 use Rattle.std.specs.Prelude.{◌==◌}
@@ -38,18 +38,18 @@ all_at P x (y ∷ ys) h k =
 -- ---- where a full interval begins
 
 pub record StartIn (a b : ℤ) (xs : List ℕ) (boxes : Boxes) : Type 0 where
-  pub place : ℕ
-  pub there : has_number place xs ≡ true
-  pub lies : lies_in a b (box_of boxes place) ≡ true
-  pub keeps : Starts (low_of (box_of boxes place)) a b xs boxes
+  pub variable : ℕ
+  pub there : has_number variable xs ≡ true
+  pub lies : lies_in a b (box_of boxes variable) ≡ true
+  pub keeps : Starts (low_of (box_of boxes variable)) a b xs boxes
 
 start_here : (a b : ℤ) (x : ℕ) (xs : List ℕ) (boxes : Boxes) → lies_in a b (box_of boxes x) ≡ true → Starts (low_of (box_of boxes x)) a b xs boxes → StartIn a b (x ∷ xs) boxes
 start_here a b x xs boxes h k =
-    record { place = x; there = left_or _ _ (same_stands x); lies = h; keeps = ((λ e. omega (arith, ints)), k) }
+    record { variable = x; there = left_or _ _ (same_stands x); lies = h; keeps = ((λ e. omega (arith, ints)), k) }
 
-start_later : (a b : ℤ) (x : ℕ) (xs : List ℕ) (boxes : Boxes) (t : StartIn a b xs boxes) → (lies_in a b (box_of boxes x) ≡ true → low_of (box_of boxes t.place) ≤ℤ low_of (box_of boxes x)) → StartIn a b (x ∷ xs) boxes
+start_later : (a b : ℤ) (x : ℕ) (xs : List ℕ) (boxes : Boxes) (t : StartIn a b xs boxes) → (lies_in a b (box_of boxes x) ≡ true → low_of (box_of boxes t.variable) ≤ℤ low_of (box_of boxes x)) → StartIn a b (x ∷ xs) boxes
 start_later a b x xs boxes t h =
-    record { place = t.place; there = right_or _ _ t.there; lies = t.lies; keeps = (h, t.keeps) }
+    record { variable = t.variable; there = right_or _ _ t.there; lies = t.lies; keeps = (h, t.keeps) }
 
 pub find_start : (a b : ℤ) (xs : List ℕ) (boxes : Boxes) → 1 ≤ count_in a b xs boxes → StartIn a b xs boxes
 find_start a b [] boxes h = absurd (omega arith)
@@ -58,8 +58,8 @@ find_start a b (x ∷ xs) boxes h =
     let P : Bool → Type 0 = λ t. lies_in a b box ≡ t → 1 ≤ cond t (suc (count_in a b xs boxes)) (count_in a b xs boxes) → StartIn a b (x ∷ xs) boxes in
     (elim (lies_in a b box) as P [
       | true ↦ λ e k. elim (cases_lt 0 (count_in a b xs boxes)) [
-        | inl more ↦ let t = find_start a b xs boxes (omega arith) in elim (order_cases (low_of box) (low_of (box_of boxes t.place))) [
-          | inl here ↦ start_here a b x xs boxes e (starts_on (low_of box) (low_of (box_of boxes t.place)) a b xs boxes here t.keeps)
+        | inl more ↦ let t = find_start a b xs boxes (omega arith) in elim (order_cases (low_of box) (low_of (box_of boxes t.variable))) [
+          | inl here ↦ start_here a b x xs boxes e (starts_on (low_of box) (low_of (box_of boxes t.variable)) a b xs boxes here t.keeps)
           | inr there ↦ start_later a b x xs boxes t (λ q. there)
         ]
         | inr none ↦ start_here a b x xs boxes e (none_starts (low_of box) a b xs boxes none)

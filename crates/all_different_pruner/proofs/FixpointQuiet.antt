@@ -1,4 +1,4 @@
--- Places that are at a fixpoint are quiet.
+-- Variables that are at a fixpoint are quiet.
 use Rattle.std.proofs.Common.{◌≡◌, ℕ, suc, ◌<◌, ◌≤◌, Bool, true, false, ◌&&◌, cond, List, [], ◌∷◌, ℤ, pos, ◌+ℤ◌, ◌-ℤ◌, ◌≤ℤ◌, ◌<ℤ◌, unsigned_abs, All, length, refl, arith, inl, inr, ◌⊎◌, subst, sym}
 use Rattle.std.specs.Prelude.{int_lt, int_le, nat_lt}
 use Rattle.std.proofs.lemmas.Int.{ints}
@@ -17,7 +17,7 @@ use Rattle.box_view.proofs.EndLaws.{AreSets, ends_in_order}
 use Rattle.box_view.proofs.SetLaws.{fixing_same, fixing_other}
 use Rattle.box_rules.proofs.CrowdLaws.{in_parts, start_keeps, somewhere}
 use Rattle.rule_law.specs.Reasons.{has_number, no_repeat}
-use Rattle.all_different_pruner.specs.Intervals.{apart, AreApart, IsFixpointFrom, is_narrow, AreAtFixpoint}
+use Rattle.all_different_pruner.specs.Intervals.{is_outside, AreOutside, IsFixpointFrom, is_narrow, AreAtFixpoint}
 use Rattle.all_different_pruner.proofs.Fixpoint.{all_at, find_start, count_at_most, count_below, count_more, fixed_once}
 
 -- ---- where an interval begins
@@ -44,29 +44,29 @@ begun a b v high n h k l m =
 
 pub record IsFixpoint (a b : ℤ) (xs : List ℕ) (boxes : Boxes) : Type 0 where
   pub few : count_in a b xs boxes ≤ width a b
-  pub apart : width a b ≤ count_in a b xs boxes → AreApart a b xs boxes
+  pub outside : width a b ≤ count_in a b xs boxes → AreOutside a b xs boxes
 
 -- what is at a fixpoint from the starts of narrow boxes is so in all intervals that aren't as wide
--- as there are places
+-- as there are variables
 pub fixpoint_in : (a b : ℤ) (xs : List ℕ) (boxes : Boxes) → AreSets boxes → AreAtFixpoint xs xs boxes → width a b < length xs → 1 ≤ count_in a b xs boxes → IsFixpoint a b xs boxes
 fixpoint_in a b xs boxes s h w c =
     let start = find_start a b xs boxes c in
-    let box = box_of boxes start.place in
+    let box = box_of boxes start.variable in
     let v = low_of box in
     let parts = in_parts a b box start.lies in
-    let t = begun a b v (high_of box) (length xs) parts.0 (ends_in_order box (s start.place)) parts.1 w in
+    let t = begun a b v (high_of box) (length xs) parts.0 (ends_in_order box (s start.variable)) parts.1 w in
     let many = start_keeps v a b xs boxes start.keeps in
-    let fixpoint = all_at (λ y. is_narrow (length xs) (box_of boxes y) ≡ true → IsFixpointFrom (low_of (box_of boxes y)) xs boxes) start.place xs h start.there t.narrow t.steps t.less in
+    let fixpoint = all_at (λ y. is_narrow (length xs) (box_of boxes y) ≡ true → IsFixpointFrom (low_of (box_of boxes y)) xs boxes) start.variable xs h start.there t.narrow t.steps t.less in
     let few : count_in v b xs boxes ≤ suc t.steps = subst (λ (z : ℤ). count_in v z xs boxes ≤ suc t.steps) t.end fixpoint.few in
     record {
       few = let m = t.within in omega arith;
-      apart = λ q.
+      outside = λ q.
           let same : v ≡ a = t.same (omega arith) in
           let m = t.within in
           let full : count_in v b xs boxes ≡ suc t.steps = omega arith in
           let full_at : count_in v (v +ℤ pos t.steps) xs boxes ≡ suc t.steps = subst (λ (z : ℤ). count_in v z xs boxes ≡ suc t.steps) (sym t.end) full in
-          let keeps : AreApart v (v +ℤ pos t.steps) xs boxes = fixpoint.apart full_at in
-          subst (λ (z : ℤ). AreApart z b xs boxes) same (subst (λ (z : ℤ). AreApart v z xs boxes) t.end keeps);
+          let keeps : AreOutside v (v +ℤ pos t.steps) xs boxes = fixpoint.outside full_at in
+          subst (λ (z : ℤ). AreOutside z b xs boxes) same (subst (λ (z : ℤ). AreOutside v z xs boxes) t.end keeps);
     }
 
 -- ---- crowded intervals
@@ -144,8 +144,8 @@ fixed_crowd a b v x xs boxes s h once there n member c =
             let one = fixed_once a b v x xs boxes once in
             let below = count_below a b x xs boxes there f in
             let fixpoint = fixpoint_in a b xs boxes s h (omega arith) (omega arith) in
-            let keeps : AreApart a b xs boxes = fixpoint.apart (omega arith) in
-            let out = all_at (λ y. apart a b (box_of boxes y) ≡ true) x xs keeps there in
+            let keeps : AreOutside a b xs boxes = fixpoint.outside (omega arith) in
+            let out = all_at (λ y. is_outside a b (box_of boxes y) ≡ true) x xs keeps there in
             let disjoint_it : is_disjoint (box_of boxes x) ((a, b) ∷ []) ≡ true = grind arith in
             let parts = in_parts a b ((v, v) ∷ []) e in
             let within_it : (int_le a v && int_le v b) ≡ true = grind (arith, ints) in

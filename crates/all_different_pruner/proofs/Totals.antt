@@ -6,7 +6,7 @@ use Rattle.std.proofs.lemmas.Bool.Decides.{nat_tests}
 use Rattle.signed_clause.specs.Clauses.{Boxes, box_of}
 use Rattle.signed_clause.proofs.RangeSteps.{left_at}
 use Rattle.rule_law.specs.Reasons.{has_number}
-use Rattle.all_different_pruner.specs.Intervals.{apart, AreApart}
+use Rattle.all_different_pruner.specs.Intervals.{is_outside, AreOutside}
 use Rattle.all_different_pruner.specs.Counters.{total, count_begun}
 use Rattle.all_different_pruner.proofs.Fixpoint.{stands_at}
 
@@ -51,10 +51,10 @@ stands_get k [] h = absurd (omega arith)
 stands_get zero (x ∷ xs) h = stands_at x xs
 stands_get (suc k) (x ∷ xs) h = let more = stands_get k xs (omega arith) in grind arith
 
-apart_cons : (a b : ℤ) (x : ℕ) (xs : List ℕ) (boxes : Boxes) → apart a b (box_of boxes x) ≡ true → AreApart a b xs boxes → AreApart a b (x ∷ xs) boxes
-apart_cons a b x xs boxes here rest zero d lt = here
-apart_cons a b x xs boxes here rest (suc j) d lt = rest j d (omega arith)
+outside_cons : (a b : ℤ) (x : ℕ) (xs : List ℕ) (boxes : Boxes) → is_outside a b (box_of boxes x) ≡ true → AreOutside a b xs boxes → AreOutside a b (x ∷ xs) boxes
+outside_cons a b x xs boxes here rest zero d lt = here
+outside_cons a b x xs boxes here rest (suc j) d lt = rest j d (omega arith)
 
-pub apart_step : (a b : ℤ) (xs : List ℕ) (boxes : Boxes) (k x : ℕ) → k < length xs → x ≡ get_or xs k 0 → apart a b (box_of boxes x) ≡ true → AreApart a b (drop (k + 1) xs) boxes → AreApart a b (drop k xs) boxes
-apart_step a b xs boxes k x h e here rest =
-    subst (λ (z : List ℕ). AreApart a b z boxes) (sym (left_at xs k x 0 h e)) (apart_cons a b x (drop (k + 1) xs) boxes here rest)
+pub outside_step : (a b : ℤ) (xs : List ℕ) (boxes : Boxes) (k x : ℕ) → k < length xs → x ≡ get_or xs k 0 → is_outside a b (box_of boxes x) ≡ true → AreOutside a b (drop (k + 1) xs) boxes → AreOutside a b (drop k xs) boxes
+outside_step a b xs boxes k x h e here rest =
+    subst (λ (z : List ℕ). AreOutside a b z boxes) (sym (left_at xs k x 0 h e)) (outside_cons a b x (drop (k + 1) xs) boxes here rest)

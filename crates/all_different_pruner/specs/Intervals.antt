@@ -1,6 +1,6 @@
--- Intervals in which places that differ stand close. What a reader believes after this file: where
--- no narrow box begins a crowded interval, and each full one keeps the other boxes out, the places
--- are at a fixpoint.
+-- Intervals in which variables that differ stand close. What a reader believes after this file:
+-- where no narrow box begins a crowded interval, and each full one keeps the other boxes out, the
+-- variables are at a fixpoint.
 use Rattle.std.specs.Prelude.{◌≡◌, ℕ, suc, ◌<◌, ◌≤◌, ◌≤ℤ◌, Bool, true, false, ◌||◌, List, [], ◌∷◌, ℤ, pos, ◌+ℤ◌, length, nat_lt}
 use Rattle.std.specs.List.{All}
 use Rattle.signed_clause.specs.Ranges.{Ranges}
@@ -13,19 +13,19 @@ use Rattle.all_different_pruner.specs.declared.interval.Finding.{Finding}
 use Rattle.all_different_pruner.specs.declared.interval.Finding.TheVariants.{Crowded, Full}
 
 -- the box lies within a..b or has no number of it
-abbrev pub apart : ℤ → ℤ → Ranges → Bool
-apart a b box = lies_in a b box || is_disjoint box ((a, b) ∷ [])
+abbrev pub is_outside : ℤ → ℤ → Ranges → Bool
+is_outside a b box = lies_in a b box || is_disjoint box ((a, b) ∷ [])
 
 -- each box does
-abbrev pub AreApart : ℤ → ℤ → List ℕ → Boxes → Type 0
-AreApart a b xs boxes = All (λ x. apart a b (box_of boxes x) ≡ true) xs
+abbrev pub AreOutside : ℤ → ℤ → List ℕ → Boxes → Type 0
+AreOutside a b xs boxes = All (λ x. is_outside a b (box_of boxes x) ≡ true) xs
 
 -- a..a + d isn't crowded, and keeps the other boxes out where it is full
 pub record IsFixpointAt (a : ℤ) (d : ℕ) (xs : List ℕ) (boxes : Boxes) : Type 0 where
   pub few : count_in a (a +ℤ pos d) xs boxes ≤ suc d
-  pub apart : count_in a (a +ℤ pos d) xs boxes ≡ suc d → AreApart a (a +ℤ pos d) xs boxes
+  pub outside : count_in a (a +ℤ pos d) xs boxes ≡ suc d → AreOutside a (a +ℤ pos d) xs boxes
 
--- that is so of all intervals from a on with at most as many numbers as there are places
+-- that is so of all intervals from a on with at most as many numbers as there are variables
 abbrev pub IsFixpointFrom : ℤ → List ℕ → Boxes → Type 0
 IsFixpointFrom a xs boxes = (d : ℕ) → d < length xs → IsFixpointAt a d xs boxes
 
@@ -52,7 +52,7 @@ pub record IsIntruder (a b : ℤ) (x : ℕ) (xs : List ℕ) (boxes : Boxes) : Ty
   pub order : a ≤ℤ b
   pub full : width a b ≤ count_in a b xs boxes
   pub there : has_number x xs ≡ true
-  pub reaches : apart a b (box_of boxes x) ≡ false
+  pub reaches : is_outside a b (box_of boxes x) ≡ false
 
 abbrev pub IsFinding : Finding → List ℕ → Boxes → Type 0
 IsFinding (Crowded a b) xs boxes = IsCrowd a.value b.value xs boxes

@@ -4,7 +4,7 @@ use Rattle.std.specs.List.{All}
 use Rattle.signed_clause.specs.Clauses.{Boxes, box_of}
 use Rattle.ground_form.specs.Bounds.{low_of}
 use Rattle.box_rules.specs.Refuted.{count_in}
-use Rattle.all_different_pruner.specs.Intervals.{apart, AreApart}
+use Rattle.all_different_pruner.specs.Intervals.{is_outside, AreOutside}
 use Rattle.all_different_pruner.specs.Counters.{reaches}
 
 -- m is n, or a + m is one past the greatest number of 64 bits
@@ -14,8 +14,8 @@ ReachesEnd a m n = (m ≡ n) ⊎ (a +ℤ pos m ≡ pos 9223372036854775808)
 -- a..a + d isn't crowded and, where it is full, keeps out the other boxes that begin at a or later
 pub record IsFixpointBehind (a : ℤ) (d : ℕ) (xs : List ℕ) (boxes : Boxes) : Type 0 where
   pub few : count_in a (a +ℤ pos d) xs boxes ≤ suc d
-  pub apart : count_in a (a +ℤ pos d) xs boxes ≡ suc d
-      → All (λ x. int_le a (low_of (box_of boxes x)) ≡ true → apart a (a +ℤ pos d) (box_of boxes x)
+  pub outside : count_in a (a +ℤ pos d) xs boxes ≡ suc d
+      → All (λ x. int_le a (low_of (box_of boxes x)) ≡ true → is_outside a (a +ℤ pos d) (box_of boxes x)
       ≡ true) xs
 
 -- that is so of the first d intervals from a on, and `full` is the greatest of them that is full
@@ -26,7 +26,7 @@ pub record ArePassed (a : ℤ) (d : ℕ) (full : Option ℕ) (xs : List ℕ) (bo
 
 -- the interval keeps all other boxes out, where there is one
 abbrev pub IsKept : ℤ → Option ℕ → List ℕ → Boxes → Type 0
-IsKept a full xs boxes = IfSome full (λ e. AreApart a (a +ℤ pos e) xs boxes)
+IsKept a full xs boxes = IfSome full (λ e. AreOutside a (a +ℤ pos e) xs boxes)
 
 -- the greatest interval so far, of d + 1 numbers, within which n boxes lie, where it is full
 abbrev pub newest : Option ℕ → ℕ → ℕ → Option ℕ

@@ -9,7 +9,7 @@ ghost use Rattle.signed_clause.specs.Ranges.{IsValid};
 ghost use Rattle.signed_clause.specs.Clauses.{box_of};
 ghost use Rattle.ground_form.specs.Bounds.{low_of};
 ghost use Rattle.box_rules.specs.Refuted.{count_in};
-ghost use Rattle.all_different_pruner.specs.Intervals.{AreApart, IsFinding, IsFixpointFrom, AreAtFixpoint, is_narrow};
+ghost use Rattle.all_different_pruner.specs.Intervals.{AreOutside, IsFinding, IsFixpointFrom, AreAtFixpoint, is_narrow};
 ghost use Rattle.all_different_pruner.specs.Counters.{total, count_begun, reaches};
 ghost use Rattle.all_different_pruner.specs.Sweeps.{ReachesEnd, IsFixpointBehind, newest, IsKept};
 
@@ -20,7 +20,7 @@ use ground_form::Number;
 use signed_clause::IntSet;
 use std::alloc::{AllocError, Global};
 
-/// How many intervals from `a` on are looked at: as many as there are places, and none past the
+/// How many intervals from `a` on are looked at: as many as there are variables, and none past the
 /// greatest number of 64 bits.
 fn lengths_from(a: Number, n: usize) -> usize
     ensures few { result ≤ n }
@@ -195,7 +195,7 @@ fn look(
     Ok(found)
 }
 
-/// The least value of the box of `x`, where the box is narrow for `n` places.
+/// The least value of the box of `x`, where the box is narrow for `n` variables.
 fn narrow_start(boxes: &[IntSet], x: u32, n: usize) -> Option<Number>
     requires { x < length boxes.now }
     ensures some { IfSome result (λ a. a.value ≡ low_of (box_of boxes.now x)) }
@@ -232,8 +232,8 @@ fn look_at(
     }
 }
 
-/// What is found of the places: nothing where they are at a fixpoint. It takes no memory where no
-/// box is narrow.
+/// What is found of the variables: nothing where they are at a fixpoint. It takes no memory where
+/// no box is narrow.
 pub fn find(
     alloc: Global,
     counters: &mut Counters,

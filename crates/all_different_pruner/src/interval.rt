@@ -1,11 +1,11 @@
-//! Boxes and intervals: how a box lies to an interval, and what is found of places that differ.
+//! Boxes and intervals: how a box lies to an interval, and what is found of variables that differ.
 ghost use Rattle.std.specs.Prelude.{◌≡◌, ◌<◌, ◌≤◌, ◌≤ℤ◌, ◌+ℤ◌, ℕ, [], ◌∷◌, false, pos, IfSome, IfNone, length};
 ghost use Rattle.std.specs.List.{All};
 ghost use Rattle.signed_clause.specs.Ranges.{IsValid};
 ghost use Rattle.signed_clause.specs.Clauses.{box_of};
 ghost use Rattle.ground_form.specs.Bounds.{low_of, high_of};
 ghost use Rattle.box_rules.specs.Refuted.{lies_in, width, count_in};
-ghost use Rattle.all_different_pruner.specs.Intervals.{is_narrow, apart, AreApart, IsIntruder};
+ghost use Rattle.all_different_pruner.specs.Intervals.{is_narrow, is_outside, AreOutside, IsIntruder};
 ghost use Rattle.all_different_pruner.specs.Counters.{is_upto, begins_in};
 
 use box_view::ends_in_order;
@@ -13,7 +13,7 @@ use ground_form::{Number, ends_of};
 use signed_clause::IntSet;
 use std::alloc::Global;
 
-/// What is found of places that differ.
+/// What is found of variables that differ.
 #[derive(Clone, Copy)]
 pub enum Finding {
     /// More boxes lie within the interval than it has numbers.
@@ -67,10 +67,10 @@ pub fn does_lie_in(set: &IntSet, a: Number, b: Number) -> bool
 }
 
 /// Whether the box of `x` lies within `a..b` or has no number of it.
-fn is_apart(boxes: &[IntSet], x: u32, a: Number, b: Number, span: &IntSet) -> bool
+fn is_outside(boxes: &[IntSet], x: u32, a: Number, b: Number, span: &IntSet) -> bool
     requires named { x < length boxes.now }
     requires span { span.now ≡ (a.value, b.value) ∷ [] }
-    ensures { result ≡ apart a.value b.value (box_of boxes.now x) }
+    ensures { result ≡ is_outside a.value b.value (box_of boxes.now x) }
 {
     does_lie_in(&boxes[x as usize], a, b) || boxes[x as usize].disjoint(span)
 }
@@ -90,11 +90,11 @@ pub fn intruder(alloc: Global, vars: &[u32], boxes: &[IntSet], a: Number, b: Num
     requires order { a.value ≤ℤ b.value }
     requires full { width a.value b.value ≤ count_in a.value b.value vars.now boxes.now }
     ensures some { IfSome result (λ x. IsIntruder a.value b.value x vars.now boxes.now) }
-    ensures none { IfNone result (AreApart a.value b.value vars.now boxes.now) }
+    ensures none { IfNone result (AreOutside a.value b.value vars.now boxes.now) }
 {
     let span = span_of(alloc, a, b);
     for x in vars {
-        if !is_apart(boxes, *x, a, b, &span) {
+        if !is_outside(boxes, *x, a, b, &span) {
             return Some(*x);
         }
     }

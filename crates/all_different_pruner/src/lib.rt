@@ -1,4 +1,4 @@
-//! The part of `pack_prop` for places that differ, by Hall intervals.
+//! The part of `pack_prop` for variables that differ, by Hall intervals.
 //!
 //! If more boxes lie within an interval than it has numbers, no values differ (it is crowded); if
 //! as many do, they use it up, and every other box loses it (it is full: Hall 1935). It is enough

@@ -1,9 +1,9 @@
-//! Places that differ.
+//! Variables that differ.
 //!
-//! Each interval holds at most as many places as it has numbers. Where fewer numbers than boxes
-//! within are found, the places are refuted; where as many are, the interval's numbers leave every
-//! other box. It is enough to look from where each narrow box begins, and one sweep shows all
-//! intervals from there: the cost is the number of narrow boxes times that of places.
+//! Each interval holds at most as many variables as it has numbers. Where fewer numbers than boxes
+//! within are found, the variables are refuted; where as many are, the interval's numbers leave
+//! every other box. It is enough to look from where each narrow box begins, and one sweep shows all
+//! intervals from there: the cost is the number of narrow boxes times that of variables.
 //!
 //! Cost: one walk where no box is narrow. Explained by the boxes within the interval.
 //!
@@ -56,7 +56,7 @@ fn prune_different(
     }
 }
 
-/// Prunes by places that differ.
+/// Prunes by variables that differ.
 pub struct AllDifferent {
     alloc: Global,
     /// Counters for a sweep.
@@ -102,8 +102,8 @@ impl AllDifferent {
         self.repeats.forget();
     }
 
-    /// A clause that places that differ justify and that takes something away; None where they are
-    /// quiet.
+    /// A clause that variables that differ justify and that takes something away; None where they
+    /// are quiet.
     ///
     /// # Errors
     /// Want of memory.

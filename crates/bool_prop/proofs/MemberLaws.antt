@@ -24,41 +24,41 @@ use Rattle.rule_law.proofs.FlagPlans.{are_good, is_flag, flag_other, two_fixed, 
 -- what a membership says of four tests: the flag can be 1, it can be 0, the box misses the set, it
 -- lies inside
 abbrev by_tests : Bool → Bool → Bool → Bool → Option Bool
-by_tests on off missed in_set = cond (on && (missed || (not off && not in_set))) (Some true) (cond (off && (in_set || (not on && not missed))) (Some false) None)
+by_tests on off disjoint in_set = cond (on && (disjoint || (not off && not in_set))) (Some true) (cond (off && (in_set || (not on && not disjoint))) (Some false) None)
 
-record IsCalm (on off missed in_set : Bool) : Type 0 where
-  not_missed : (on && missed) ≡ false
+record IsCalm (on off disjoint in_set : Bool) : Type 0 where
+  not_disjoint : (on && disjoint) ≡ false
   not_within : (off && in_set) ≡ false
   held : (not off && (on && not in_set)) ≡ false
-  denied : (not on && (off && not missed)) ≡ false
+  denied : (not on && (off && not disjoint)) ≡ false
 
-calm_from : (on off missed in_set : Bool) → by_tests on off missed in_set ≡ None → IsCalm on off missed in_set
+calm_from : (on off disjoint in_set : Bool) → by_tests on off disjoint in_set ≡ None → IsCalm on off disjoint in_set
 calm_from true z true i e = absurd cc
 calm_from true true false true e = absurd cc
-calm_from true true false false e = record { not_missed = refl; not_within = refl; held = refl; denied = refl }
-calm_from true false false true e = record { not_missed = refl; not_within = refl; held = refl; denied = refl }
+calm_from true true false false e = record { not_disjoint = refl; not_within = refl; held = refl; denied = refl }
+calm_from true false false true e = record { not_disjoint = refl; not_within = refl; held = refl; denied = refl }
 calm_from true false false false e = absurd cc
 calm_from false true m true e = absurd cc
-calm_from false true true false e = record { not_missed = refl; not_within = refl; held = refl; denied = refl }
+calm_from false true true false e = record { not_disjoint = refl; not_within = refl; held = refl; denied = refl }
 calm_from false true false false e = absurd cc
-calm_from false false m i e = record { not_missed = refl; not_within = refl; held = refl; denied = refl }
+calm_from false false m i e = record { not_disjoint = refl; not_within = refl; held = refl; denied = refl }
 
 -- the rule of a membership, of boxes
 abbrev Member : Ranges → Ranges → Ranges → Type 0
 Member set flags box = ((not (has flags (pos 1)) || is_disjoint box set) && (not (has flags (pos 0)) || is_within box set)) ≡ false
 
-calm_boxes : (on off missed in_set : Bool) → (on ≡ false → off ≡ true) → IsCalm on off missed in_set → ((not on || missed) && (not off || in_set)) ≡ false
-calm_boxes on off missed in_set o c = let a = c.not_missed in let b = c.not_within in grind arith
+calm_boxes : (on off disjoint in_set : Bool) → (on ≡ false → off ≡ true) → IsCalm on off disjoint in_set → ((not on || disjoint) && (not off || in_set)) ≡ false
+calm_boxes on off disjoint in_set o c = let a = c.not_disjoint in let b = c.not_within in grind arith
 
-calm_value : (on off missed in_set s : Bool) → (on ≡ false → off ≡ true) → IsCalm on off missed in_set → (missed ≡ true → s ≡ false) → (in_set ≡ true → s ≡ true) → ((not on || not s) && (not off || s)) ≡ false
-calm_value on off missed in_set s o c h k = let a = c.held in let b = c.denied in grind arith
+calm_value : (on off disjoint in_set s : Bool) → (on ≡ false → off ≡ true) → IsCalm on off disjoint in_set → (disjoint ≡ true → s ≡ false) → (in_set ≡ true → s ≡ true) → ((not on || not s) && (not off || s)) ≡ false
+calm_value on off disjoint in_set s o c h k = let a = c.held in let b = c.denied in grind arith
 
-calm_flag : (on off missed in_set : Bool) (v : ℤ) → IsCalm on off missed in_set → (v ≡ pos 0 → off ≡ true) → (v ≡ pos 1 → on ≡ true) → (v ≡ pos 0) ⊎ (v ≡ pos 1) →
-    ((not (has ((v, v) ∷ []) (pos 1)) || missed) && (not (has ((v, v) ∷ []) (pos 0)) || in_set)) ≡ false
-calm_flag on off missed in_set v c h k (inl e) =
-    subst (λ (w : ℤ). ((not (has ((w, w) ∷ []) (pos 1)) || missed) && (not (has ((w, w) ∷ []) (pos 0)) || in_set)) ≡ false) (sym e) (let z = h e in let a = c.not_within in grind arith)
-calm_flag on off missed in_set v c h k (inr e) =
-    subst (λ (w : ℤ). ((not (has ((w, w) ∷ []) (pos 1)) || missed) && (not (has ((w, w) ∷ []) (pos 0)) || in_set)) ≡ false) (sym e) (let o = k e in let a = c.not_missed in grind arith)
+calm_flag : (on off disjoint in_set : Bool) (v : ℤ) → IsCalm on off disjoint in_set → (v ≡ pos 0 → off ≡ true) → (v ≡ pos 1 → on ≡ true) → (v ≡ pos 0) ⊎ (v ≡ pos 1) →
+    ((not (has ((v, v) ∷ []) (pos 1)) || disjoint) && (not (has ((v, v) ∷ []) (pos 0)) || in_set)) ≡ false
+calm_flag on off disjoint in_set v c h k (inl e) =
+    subst (λ (w : ℤ). ((not (has ((w, w) ∷ []) (pos 1)) || disjoint) && (not (has ((w, w) ∷ []) (pos 0)) || in_set)) ≡ false) (sym e) (let z = h e in let a = c.not_within in grind arith)
+calm_flag on off disjoint in_set v c h k (inr e) =
+    subst (λ (w : ℤ). ((not (has ((w, w) ∷ []) (pos 1)) || disjoint) && (not (has ((w, w) ∷ []) (pos 0)) || in_set)) ≡ false) (sym e) (let o = k e in let a = c.not_disjoint in grind arith)
 
 calm_excluded : (set flags box : Ranges) → IsFlag flags → IsCalm (has flags (pos 1)) (has flags (pos 0)) (is_disjoint box set) (is_within box set) → Member set flags box
 calm_excluded set flags box f c = calm_boxes (has flags (pos 1)) (has flags (pos 0)) (is_disjoint box set) (is_within box set) (flag_other true flags f) c
@@ -66,10 +66,10 @@ calm_excluded set flags box f c = calm_boxes (has flags (pos 1)) (has flags (pos
 calm_fixed : (set flags box : Ranges) (v : ℤ) → IsValid set → IsValid box → IsFlag flags → IsCalm (has flags (pos 1)) (has flags (pos 0)) (is_disjoint box set) (is_within box set) → has box v ≡ true → Member set flags ((v, v) ∷ [])
 calm_fixed set flags box v s t f c h =
     let valid = value_valid box v t h in
-    let missed : is_disjoint box set ≡ true → has set v ≡ false = λ q. (disjoint_law box set t s).0 q v h in
+    let disjoint : is_disjoint box set ≡ true → has set v ≡ false = λ q. (disjoint_law box set t s).0 q v h in
     let within : is_within box set ≡ true → has set v ≡ true = λ q. (within_law box set t s).0 q v h in
     rw (is_disjoint-single v set valid s, is_within-single v set valid s)
-    (calm_value (has flags (pos 1)) (has flags (pos 0)) (is_disjoint box set) (is_within box set) (has set v) (flag_other true flags f) c missed within)
+    (calm_value (has flags (pos 1)) (has flags (pos 0)) (is_disjoint box set) (is_within box set) (has set v) (flag_other true flags f) c disjoint within)
 
 calm_flagged : (set flags box : Ranges) (v : ℤ) → IsFlag flags → IsCalm (has flags (pos 1)) (has flags (pos 0)) (is_disjoint box set) (is_within box set) → has flags v ≡ true → Member set ((v, v) ∷ []) box
 calm_flagged set flags box v f c h =
@@ -86,10 +86,10 @@ member_quiet domains boxes f x set p s n e =
     (two_fixed (Member set) boxes f x p.differ (calm_excluded set flags box p.bits c) (λ v h. calm_flagged set flags box v p.bits c h)
     (λ v h. calm_fixed set flags box v s (p.good.narrow x) p.bits c h))
 
-record IsAffirmed (on off missed in_set : Bool) : Type 0 where
-  cause : ((on ≡ true) × (missed ≡ true)) ⊎ ((off ≡ false) × (in_set ≡ false))
+record IsAffirmed (on off disjoint in_set : Bool) : Type 0 where
+  cause : ((on ≡ true) × (disjoint ≡ true)) ⊎ ((off ≡ false) × (in_set ≡ false))
 
-affirmed : (on off missed in_set : Bool) → by_tests on off missed in_set ≡ Some true → IsAffirmed on off missed in_set
+affirmed : (on off disjoint in_set : Bool) → by_tests on off disjoint in_set ≡ Some true → IsAffirmed on off disjoint in_set
 affirmed true z true i e = record { cause = inl (refl, refl) }
 affirmed true true false true e = absurd cc
 affirmed true true false false e = absurd cc
@@ -100,10 +100,10 @@ affirmed false true true false e = absurd cc
 affirmed false true false false e = absurd cc
 affirmed false false m i e = absurd cc
 
-record IsDenied (on off missed in_set : Bool) : Type 0 where
-  cause : ((off ≡ true) × (in_set ≡ true)) ⊎ ((on ≡ false) × (missed ≡ false))
+record IsDenied (on off disjoint in_set : Bool) : Type 0 where
+  cause : ((off ≡ true) × (in_set ≡ true)) ⊎ ((on ≡ false) × (disjoint ≡ false))
 
-denied_from : (on off missed in_set : Bool) → by_tests on off missed in_set ≡ Some false → IsDenied on off missed in_set
+denied_from : (on off disjoint in_set : Bool) → by_tests on off disjoint in_set ≡ Some false → IsDenied on off disjoint in_set
 denied_from true z true i e = absurd cc
 denied_from true true false true e = record { cause = inl (refl, refl) }
 denied_from true true false false e = absurd cc
@@ -131,13 +131,13 @@ member_affirmed domains boxes f x set p s e =
     pair_reason (MemberDef f x set) domains boxes f x true (less domain set) p (IsValid-less domain set fd s) (less_within domain set fd s) acts
     (λ rest h k.
     let off : has (box_of rest f) (pos 0) ≡ false = ap (λ (z : Ranges). has z (pos 0)) h in
-    let missed : is_disjoint (box_of rest x) set ≡ true = ap (λ (z : Ranges). is_disjoint z set) k ∙ less_disjoint domain set fd s in
-    rw (off, missed) (grind arith))
+    let disjoint : is_disjoint (box_of rest x) set ≡ true = ap (λ (z : Ranges). is_disjoint z set) k ∙ less_disjoint domain set fd s in
+    rw (off, disjoint) (grind arith))
 
 disjoint_outside : (d s : Ranges) → IsValid d → IsValid s → (b : Ranges) → IsValid b → is_disjoint b s ≡ false → is_within b (less d (less d (less d s))) ≡ false
 disjoint_outside d s f g b i h =
     false_from_ne_true (is_within b (less d (less d (less d s)))) (λ q.
-    let apart : is_disjoint b s ≡ true = (disjoint_law b s i g).1 (λ v m.
+    let disjoint : is_disjoint b s ≡ true = (disjoint_law b s i g).1 (λ v m.
     let two = IsValid-less d s f g in let three = IsValid-less d (less d s) f two in
     let last = (within_law b (less d (less d (less d s))) i (IsValid-less d (less d (less d s)) f three)).0 q v m in
     let a = has-less_valid d (less d (less d s)) f three v in let b2 = has-less_valid d (less d s) f two v in let c = has-less_valid d s f g v in

@@ -31,7 +31,7 @@ use std::alloc::{AllocError, Global};
 pub enum Finding {
     /// Nothing.
     Quiet,
-    /// The flag is 0, or the part at the place is as it wants.
+    /// The flag is 0, or the part at the index is as it wants.
     Part(usize),
     /// The flag is 1, or some part isn't as it wants.
     Whole,
@@ -72,7 +72,7 @@ fn is_fixed(boxes: &[IntSet], p: (u32, bool)) -> bool
     )
 }
 
-/// The place of the first part from `from` on that isn't fixed.
+/// The index of the first part from `from` on that isn't fixed.
 fn first_open(parts: &[(u32, bool)], from: usize, boxes: &[IntSet]) -> Option<usize>
     requires { All (λ p. p.0 < length boxes.now) parts.now }
     ensures within { IfSome result (λ i. i < length parts.now) }
@@ -108,7 +108,7 @@ fn find_held(flag: u32, parts: &[(u32, bool)], boxes: &[IntSet]) -> Finding
     }
 }
 
-/// What there is to say where the flag is 0, and the part at the place is the first that isn't
+/// What there is to say where the flag is 0, and the part at the index is the first that isn't
 /// fixed, and isn't barred.
 fn find_next(flag: u32, parts: &[(u32, bool)], i: usize, boxes: &[IntSet]) -> Finding
     requires scene { IsScene flag parts.now boxes.now }

@@ -34,7 +34,7 @@ use Rattle.bound_search.specs.Modes.{rank}
 use Rattle.bound_search.specs.Awaited.{Awaited, keeping, is_sure, ground_boxes}
 use Rattle.bound_search.specs.Boards.{IsBoard}
 use Rattle.bound_search.specs.Standing.{IsRun, HoldsIn, IsFixed, IsDecision, IsAt}
-use Rattle.bound_search.specs.Engines.{added_of, Shows, Reached, IsApplied, IsEngineWith, IsKeptBy, IsKept, MayTakeIn, IsTakenIn, IsFall}
+use Rattle.bound_search.specs.Engines.{added_of, Shows, Reached, IsApplied, IsEngineWith, IsKeptBy, IsKept, MayBackjump, IsBackjumped, IsFall}
 use Rattle.bound_search.proofs.BoardLaws.{lower_dropped}
 use Rattle.bound_search.proofs.Fewer.{decided_lower, below_same}
 use Rattle.bound_search.proofs.MoreLines.{run_of, boxes_at}
@@ -278,11 +278,11 @@ lesson_closes g old new d n chain c level s h w e =
     s.at h.explained (h.closes.0 e)).closed in
     subst (λ (ls : List Line). has_empty (made g ls).clauses ≡ true) (sym w.lines) closed
 
-pub may_take_in : (g : Ground) (ls : List Line) (d : Engine) (n : ℕ) (chain : chains.Chain)
+pub may_backjump : (g : Ground) (ls : List Line) (d : Engine) (n : ℕ) (chain : chains.Chain)
     (c : Literals) (level : ℕ) → Shows g ls d (Conflict n) →
     IsLesson d.clauses d.board.store n chain c level → 0 < level →
-    MayTakeIn g d.board.store c level
-may_take_in g ls d n chain c level s h lt =
+    MayBackjump g d.board.store c level
+may_backjump g ls d n chain c level s h lt =
     let levels = d.board.store in
     let added = (added_of d) in
     let size = (boxes_at g ls d.clauses levels added (Conflict n) s.at).size in
@@ -299,14 +299,14 @@ may_take_in g ls d n chain c level s h lt =
 pub lesson_reached : (g : Ground) (old new : Journal) (d e : Engine) (n : ℕ) (chain : chains.Chain)
     (c : Literals) (level : ℕ) (a : After) → Shows g old.lines d (Conflict n) →
     IsLesson d.clauses d.board.store n chain c level → IsWritten old new (Chain chain c) →
-    0 < level → IsTakenIn g d e c level a → Reached g new.lines e a
+    0 < level → IsBackjumped g d e c level a → Reached g new.lines e a
 lesson_reached g old new d e n chain c level a s h w lt t =
     let levels = d.board.store in
     let added = (added_of d) in
     let drop = h.drops lt in
     let exists = drop.exists in
     let below = dropped (level - 1) levels in
-    let was = (may_take_in g old.lines d n chain c level s h lt).vars in
+    let was = (may_backjump g old.lines d n chain c level s h lt).vars in
     let size = s.board.size in
     let now = t.applied.board.size in
     let vars : IsWithinBoxes c e.board.store.top.now = λ k l less.
@@ -332,7 +332,7 @@ lesson_reached g old new d e n chain c level a s h w lt t =
     }) at
 
 pub lesson_falls : (g : Ground) (d e : Engine) (c : Literals) (level : ℕ) (a : After) →
-    MayTakeIn g d.board.store c level → IsTakenIn g d e c level a → IsFall d e a
+    MayBackjump g d.board.store c level → IsBackjumped g d e c level a → IsFall d e a
 lesson_falls g d e c level a m t =
     let levels = d.board.store in
     let below = dropped (level - 1) levels in
@@ -349,15 +349,15 @@ lesson_falls g d e c level a m t =
 
 -- the clause is the same
 pub taken_same : (g : Ground) (d e : Engine) (b c : Literals) (level : ℕ) (a : After) → b ≡ c →
-    IsTakenIn g d e b level a → IsTakenIn g d e c level a
+    IsBackjumped g d e b level a → IsBackjumped g d e c level a
 taken_same g d e b c level a same t =
-    subst (λ (k : Literals). IsTakenIn g d e k level a) same t
+    subst (λ (k : Literals). IsBackjumped g d e k level a) same t
 
 -- the analysis before it changed no more than what the table holds
 pub taken_table : (g : Ground) (d f e : Engine) (c : Literals) (level : ℕ) (a : After) →
     f.board ≡ d.board → f.clauses ≡ d.clauses → added_of f ≡ added_of d →
     length f.running ≡ length d.running →
-    IsTakenIn g f e c level a → IsTakenIn g d e c level a
+    IsBackjumped g f e c level a → IsBackjumped g d e c level a
 taken_table g d f e c level a boards clauses added table t =
     let P : Board → List Literals → Type 0 = λ b cs.
     IsApplied g e (dropped (level - 1) b.store) (length cs) c a in

@@ -9,5 +9,5 @@ pub mod UseAxiom
 pub mod Learning
 pub mod Turning
 pub mod BoundLaws
-pub mod Finishing
+pub mod Recording
 pub mod Splits

@@ -61,14 +61,14 @@ pub record IsEngineWith (d e : Engine) (clauses : List Literals) (added : Awaite
   pub table : length e.running ≡ length d.running
 
 -- the level that a learnt clause drops stands, and in the boxes below it its variables have boxes
-pub record MayTakeIn (g : Ground) (levels : Stack) (c : Literals) (level : ℕ) : Type 0 where
+pub record MayBackjump (g : Ground) (levels : Stack) (c : Literals) (level : ℕ) : Type 0 where
   pub exists : level ≤ length levels.below
   pub some : 0 < level
   pub vars : IsWithinBoxes c levels.top.now
   pub form : IsClause c
 
--- the learnt clause was taken in at the level below
-pub record IsTakenIn (g : Ground) (d e : Engine) (c : Literals) (level : ℕ) (a : After) : Type 0
+-- the search has backjumped for the learnt clause to the level below
+pub record IsBackjumped (g : Ground) (d e : Engine) (c : Literals) (level : ℕ) (a : After) : Type 0
   where
     pub applied : IsApplied g e (dropped (level - 1) d.board.store) (length d.clauses) c a
     pub engine : IsEngineWith d e (d.clauses ++ c ∷ [])

@@ -168,7 +168,11 @@ fn take_all(e: &mut Engine, list: &[ClauseHandle]) -> Result<After, AllocError>
 }
 
 /// Writes the solution that the boxes are, and asks for a better one.
-pub fn finish(g: &Ground, e: &mut Engine, journal: &mut Journal) -> Result<After, AllocError>
+pub fn record_solution(
+    g: &Ground,
+    e: &mut Engine,
+    journal: &mut Journal,
+) -> Result<After, AllocError>
     requires at { Shows g.now journal.old.lines e.old Going }
     requires fixed { IsFixed g.now e.old.board.store.top.now (added_of e.old) }
     requires single { AreAllSingle e.old.board.store.top.now g.now.search }

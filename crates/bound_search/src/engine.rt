@@ -15,7 +15,7 @@ ghost use Rattle.bound_search.specs.Modes.{mode_of};
 ghost use Rattle.bound_search.specs.Awaited.{is_sure};
 ghost use Rattle.bound_search.specs.Boards.{IsBoard, AreLower};
 ghost use Rattle.bound_search.specs.Standing.{IsReason, IsFixed, IsDecision};
-ghost use Rattle.bound_search.specs.Engines.{added_of, Shows, Reached, IsKeptBy, IsKept, MayTakeIn, IsTurn, IsFall, DecideAlike};
+ghost use Rattle.bound_search.specs.Engines.{added_of, Shows, Reached, IsKeptBy, IsKept, MayBackjump, IsTurn, IsFall, DecideAlike};
 
 use crate::after::After;
 use crate::awaited::keep;
@@ -134,13 +134,13 @@ pub fn learn(g: &Ground, e: &mut Engine, journal: &mut Journal, n: u64) -> Resul
     if learnt.level == 0 {
         return Ok(After::Closed);
     }
-    let after = take_in(g, e, handle, learnt.level)?;
+    let after = backjump(g, e, handle, learnt.level)?;
     Ok(after)
 }
 
-/// Takes in a learnt clause: its level is dropped, it is applied in the boxes below, and it gets a
+/// Backjumps for a learnt clause: its level is dropped, it is applied in the boxes below, and it gets a
 /// number and is kept.
-fn take_in(
+fn backjump(
     g: &Ground,
     e: &mut Engine,
     handle: ClauseHandle,
@@ -149,7 +149,7 @@ fn take_in(
     requires well_made { IsWellMade g.now }
     requires board { IsBoard g.now e.old.board.store e.old.board.queue e.old.board.watches }
     requires lower { AreLower g.now e.old.board.store.top.now e.old.board.store.below }
-    requires level { MayTakeIn g.now e.old.board.store handle level }
+    requires level { MayBackjump g.now e.old.board.store handle level }
     ensures mode { IfOk result (λ a. mode_of a ≡ mode_by
         (dropped (level - 1) e.old.board.store).top.now (length e.old.clauses) handle) }
     ensures store { OnOk result (e.new.board.store ≡ reacted (length e.old.clauses) handle

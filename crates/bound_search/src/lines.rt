@@ -39,7 +39,7 @@ fn explain(
 }
 
 /// One line, where a constraint or a clause has something to say; else it is a fixpoint.
-pub fn turn(
+pub fn propagate_once(
     g: &Ground,
     kit: &mut Kit,
     e: &mut Engine,
@@ -87,7 +87,7 @@ pub fn propagate(
     ensures alike { OnOk result (DecideAlike journal.old.lines journal.new.lines) }
 {
     'lines: loop {
-        match turn(g, kit, e, journal)? {
+        match propagate_once(g, kit, e, journal)? {
             None => return Ok(After::Going),
             Some(After::Going) => {}
             Some(After::Conflict(n)) => return Ok(After::Conflict(n)),

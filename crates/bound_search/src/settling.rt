@@ -5,7 +5,7 @@ ghost use Rattle.bound_search.specs.Standing.{IsFixed};
 ghost use Rattle.bound_search.specs.Engines.{added_of, Shows, IsKept, DecideAlike, StepOf, SettledOf};
 
 use crate::after::After;
-use crate::bounding::finish;
+use crate::bounding::record_solution;
 use crate::engine::{Engine, learn};
 use crate::lines::propagate;
 use branch_choice::{Chooser, Split};
@@ -44,7 +44,7 @@ fn branch(
     match chooser.choose(e.board.store.boxes(), hints, g.search) {
         Some(split) => Ok(Step::Split(split)),
         None => {
-            let after = finish(g, e, journal)?;
+            let after = record_solution(g, e, journal)?;
             Ok(Step::Then(after))
         }
     }
@@ -79,7 +79,7 @@ fn advance(
 }
 
 /// On until a decision is due, which it answers, or the search is closed.
-pub fn settle(
+pub fn until_decision(
     g: &Ground,
     kit: &mut Kit,
     chooser: &Chooser,

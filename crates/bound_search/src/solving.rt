@@ -17,7 +17,7 @@ ghost use Rattle.bound_search.specs.Ends.{EndsOf};
 use crate::board::Board;
 use crate::engine::{Engine, decide};
 use crate::recent::Recent;
-use crate::settling::settle;
+use crate::settling::until_decision;
 use branch_choice::{Chooser, Split};
 use ground_form::Ground;
 use log_form::Line;
@@ -161,7 +161,7 @@ fn run(
     let mut e = start(limits.alloc, g)?;
     let mut left = limits.budget;
     'decisions: loop {
-        match settle(g, kit, chooser, hints, &mut e, journal)? {
+        match until_decision(g, kit, chooser, hints, &mut e, journal)? {
             None => return Ok(Ended::Closed),
             Some(split) => {
                 know_half(limits.alloc, split);

@@ -7,7 +7,7 @@ use Rattle.ground_form.specs.declared.con.Con.{Con}
 use Rattle.ground_form.specs.declared.con.Con.TheVariants.{LinLe, LinDef, ReifLe, AndDef, MemberDef, EqDef, ElementDef, CondDef, ClauseCon, AllDiff, Pack}
 use Rattle.ground_form.specs.Meaning.{vars_of, term_vars, part_vars, clause_vars, item_vars}
 use Rattle.ground_form.specs.Bounds.{low_of, high_of, least_term, greatest_term, least_sum, greatest_sum}
-use Rattle.box_rules.specs.Refuted.{some_empty, some_barred, all_fixed, none_picked, count_in, crowded, crowded_from, some_crowded, fixed_load, some_overfull, least_sizes, best_room, rooms_from, first_place, last_place, width, all_room, excluded, refuted}
+use Rattle.box_rules.specs.Refuted.{some_empty, some_barred, all_fixed, none_picked, count_in, crowded, crowded_from, some_crowded, fixed_load, some_overfull, least_sizes, best_room, rooms_from, first_bin, last_bin, width, all_room, excluded, refuted}
 use Rattle.box_rules.specs.Named.{Agree}
 
 agree_empty : (xs : List ℕ) (a b : Boxes) → Agree a b xs → some_empty xs a ≡ some_empty xs b
@@ -96,23 +96,23 @@ agree_rooms zero v is a b h = refl
 agree_rooms (suc n) v is a b h =
     let one = agree_best v is a b h in let more = agree_rooms n (v +ℤ pos 1) is a b h in rw (one, more) refl
 
-agree_first : (v : ℤ) (is : List (ℕ × ℕ × ℕ)) (a b : Boxes) → Agree a b (item_vars is) → first_place v is a ≡ first_place v is b
+agree_first : (v : ℤ) (is : List (ℕ × ℕ × ℕ)) (a b : Boxes) → Agree a b (item_vars is) → first_bin v is a ≡ first_bin v is b
 agree_first v [] a b h = refl
 agree_first v (i ∷ is) a b h = rw h.0 (agree_first (int_min v (low_of (box_of b i.0))) is a b h.1.1.1)
 
-agree_last : (v : ℤ) (is : List (ℕ × ℕ × ℕ)) (a b : Boxes) → Agree a b (item_vars is) → last_place v is a ≡ last_place v is b
+agree_last : (v : ℤ) (is : List (ℕ × ℕ × ℕ)) (a b : Boxes) → Agree a b (item_vars is) → last_bin v is a ≡ last_bin v is b
 agree_last v [] a b h = refl
 agree_last v (i ∷ is) a b h = rw h.0 (agree_last (int_max v (high_of (box_of b i.0))) is a b h.1.1.1)
 
 agree_room : (is : List (ℕ × ℕ × ℕ)) (a b : Boxes) → Agree a b (item_vars is) → all_room is a ≡ all_room is b
 agree_room [] a b h = refl
 agree_room (i ∷ is) a b h =
-    let fa = first_place (low_of (box_of a i.0)) is a in
-    let fb = first_place (low_of (box_of b i.0)) is b in
-    let la = last_place (high_of (box_of a i.0)) is a in
-    let lb = last_place (high_of (box_of b i.0)) is b in
-    let first : fa ≡ fb = ap (λ (s : Ranges). first_place (low_of s) is a) h.0 ∙ agree_first (low_of (box_of b i.0)) is a b h.1.1.1 in
-    let last : la ≡ lb = ap (λ (s : Ranges). last_place (high_of s) is a) h.0 ∙ agree_last (high_of (box_of b i.0)) is a b h.1.1.1 in
+    let fa = first_bin (low_of (box_of a i.0)) is a in
+    let fb = first_bin (low_of (box_of b i.0)) is b in
+    let la = last_bin (high_of (box_of a i.0)) is a in
+    let lb = last_bin (high_of (box_of b i.0)) is b in
+    let first : fa ≡ fb = ap (λ (s : Ranges). first_bin (low_of s) is a) h.0 ∙ agree_first (low_of (box_of b i.0)) is a b h.1.1.1 in
+    let last : la ≡ lb = ap (λ (s : Ranges). last_bin (high_of s) is a) h.0 ∙ agree_last (high_of (box_of b i.0)) is a b h.1.1.1 in
     ap (λ (v : ℤ). rooms_from (width v la) v (i ∷ is) a) first
     ∙ ap (λ (v : ℤ). rooms_from (width fb v) fb (i ∷ is) a) last
     ∙ agree_rooms (width fb lb) fb (i ∷ is) a b h

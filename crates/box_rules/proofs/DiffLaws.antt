@@ -1,4 +1,4 @@
--- The rule of values that differ is right: more places than values can't differ.
+-- The rule of values that differ is right: more variables than values can't differ.
 use Rattle.std.proofs.Common.{◌≡◌, ℕ, zero, suc, ◌+◌, ◌<◌, ◌≤◌, Bool, true, false, not, ◌&&◌, ◌||◌, cond, List, [], ◌∷◌, ℤ, pos, ◌+ℤ◌, ◌-ℤ◌, ◌≤ℤ◌, unsigned_abs, refl, arith, inl, inr, subst, ap, ◌∙◌, sym}
 use Rattle.std.specs.Prelude.{int_lt, int_le}
 use Rattle.std.specs.Ordering.{int_eq}
@@ -120,15 +120,15 @@ some_crowded-false (y ∷ ys) xs boxes a s h k =
 
 -- ---- single values
 
--- one place that has the value v
-one_place : (v : ℤ) (xs : List ℕ) (boxes : Boxes) (a : List ℤ) → AreSingle xs boxes a → lacks v xs a ≡ false → 1 ≤ count_in v v xs boxes
-one_place v [] boxes a h k = absurd cc
-one_place v (x ∷ xs) boxes a h k =
+-- one variable that has the value v
+one_var : (v : ℤ) (xs : List ℕ) (boxes : Boxes) (a : List ℤ) → AreSingle xs boxes a → lacks v xs a ≡ false → 1 ≤ count_in v v xs boxes
+one_var v [] boxes a h k = absurd cc
+one_var v (x ∷ xs) boxes a h k =
     let is = single_head x xs boxes a h in
     let w = value_of a x in
     let in_box : lies_in v v (box_of boxes x) ≡ (int_le v w && int_le w v) = ap (λ (s : Ranges). lies_in v v s) is in
     let at = Decides-int_eq w v in
-    let more = one_place v xs boxes a (single_tail x xs boxes a h) in
+    let more = one_var v xs boxes a (single_tail x xs boxes a h) in
     let P : Bool → Type 0 = λ b. int_eq w v ≡ b → 1 ≤ count_in v v (x ∷ xs) boxes in
     (elim (int_eq w v) as P [
       | true ↦ λ q. let e = at.0 q in let t : lies_in v v (box_of boxes x) ≡ true = grind (arith, ints) in rw t (omega arith)
@@ -138,8 +138,8 @@ one_place v (x ∷ xs) boxes a h k =
 pub int_eq-same : (v : ℤ) → int_eq v v ≡ true
 int_eq-same v = (Decides-int_eq v v).1 refl
 
--- values that don't differ: two places have one of them
-pub record TwoPlaces (xs : List ℕ) (boxes : Boxes) (a : List ℤ) : Type 0 where
+-- values that don't differ: two variables have one of them
+pub record TwoVars (xs : List ℕ) (boxes : Boxes) (a : List ℤ) : Type 0 where
   pub value : ℤ
   pub there : lacks value xs a ≡ false
   pub twice : 2 ≤ count_in value value xs boxes
@@ -149,19 +149,19 @@ lies_single x xs boxes a h =
     let v = value_of a x in
     ap (λ (s : Ranges). lies_in v v s) (single_head x xs boxes a h) ∙ grind (arith, ints)
 
-two_places : (xs : List ℕ) (boxes : Boxes) (a : List ℤ) → AreSingle xs boxes a → all_differ xs a ≡ false → TwoPlaces xs boxes a
-two_places [] boxes a h k = absurd cc
-two_places (x ∷ xs) boxes a h k =
+two_vars : (xs : List ℕ) (boxes : Boxes) (a : List ℤ) → AreSingle xs boxes a → all_differ xs a ≡ false → TwoVars xs boxes a
+two_vars [] boxes a h k = absurd cc
+two_vars (x ∷ xs) boxes a h k =
     let v = value_of a x in
     let rest = single_tail x xs boxes a h in
     let here = lies_single x xs boxes a h in
     elim (and_cases (lacks v xs a) (all_differ xs a) k) [
-      | inl e ↦ let one = one_place v xs boxes a rest e in record {
+      | inl e ↦ let one = one_var v xs boxes a rest e in record {
         value = v;
         there = let same = int_eq-same v in grind arith;
         twice = rw here (omega arith);
       }
-      | inr e ↦ let more = two_places xs boxes a rest e in record {
+      | inr e ↦ let more = two_vars xs boxes a rest e in record {
         value = more.value;
         there = let t = more.there in grind arith;
         twice = let t = more.twice in grind arith;
@@ -194,7 +194,7 @@ some_crowded-at v (y ∷ ys) xs boxes a h k c =
 
 pub crowded-single : (xs : List ℕ) (boxes : Boxes) (a : List ℤ) → AreSingle xs boxes a → all_differ xs a ≡ false → some_crowded xs xs boxes ≡ true
 crowded-single xs boxes a h k =
-    let two = two_places xs boxes a h k in
+    let two = two_vars xs boxes a h k in
     let v = two.value in
     let many = two.twice in
     let full : crowded v v xs boxes ≡ true = grind (arith, ints) in

@@ -78,8 +78,8 @@ fixed-single (p ∷ ps) boxes a h =
 
 -- ---- membership and equality
 
-pub missed-false : (box set : Ranges) (v : ℤ) → IsValid box → IsValid set → has box v ≡ true → is_disjoint box set ≡ true → has set v ≡ false
-missed-false box set v s t h k =
+pub disjoint-false : (box set : Ranges) (v : ℤ) → IsValid box → IsValid set → has box v ≡ true → is_disjoint box set ≡ true → has set v ≡ false
+disjoint-false box set v s t h k =
     false_from_ne_true (has set v) (λ q. let n = has_from_disjoint box set v s t k q in grind arith)
 
 pub within-true : (box set : Ranges) (v : ℤ) → IsValid box → IsValid set → has box v ≡ true → is_within box set ≡ true → has set v ≡ true

@@ -9,7 +9,7 @@ pub mod PackSteps
 pub mod NamedVars
 pub mod QuietLaws
 pub mod CrowdLaws
-pub mod FewPlaces
+pub mod FewVars
 pub mod Agreeing
 pub mod QuietFrom
 pub mod QuietAgree

@@ -12,7 +12,7 @@ use Rattle.box_rules.specs.Named.{AreItemsNamed, IsNamed}
 
 all_items : (is : List (ℕ × ℕ × ℕ)) (boxes : Boxes) → All (λ x. x < length boxes) (item_vars is) → AreItemsNamed is boxes
 all_items [] boxes h k d lt = absurd (omega arith)
-all_items (i ∷ is) boxes h zero d lt = record { place = h 0 0 (omega arith); size = h 1 0 (omega arith); room = h 2 0 (omega arith) }
+all_items (i ∷ is) boxes h zero d lt = record { bin = h 0 0 (omega arith); size = h 1 0 (omega arith); room = h 2 0 (omega arith) }
 all_items (i ∷ is) boxes h (suc k) d lt = all_items is boxes (λ j e less. h (suc (suc (suc j))) e (omega arith)) k d (omega arith)
 
 pub named : (con : Con) (boxes : Boxes) → All (λ x. x < length boxes) (vars_of con) → IsNamed con boxes
@@ -41,7 +41,7 @@ named_length (ElementDef out index items) a b e h = (omega arith, omega arith, �
 named_length (CondDef out flag item) a b e h = (omega arith, omega arith, omega arith)
 named_length (ClauseCon clause) a b e h = λ k d lt. let n = h k d lt in omega arith
 named_length (AllDiff vars) a b e h = λ k d lt. let n = h k d lt in omega arith
-named_length (Pack items) a b e h = λ k d lt. let n = h k d lt in record { place = let p = n.place in omega arith; size = let p = n.size in omega arith; room = let p = n.room in omega arith }
+named_length (Pack items) a b e h = λ k d lt. let n = h k d lt in record { bin = let p = n.bin in omega arith; size = let p = n.size in omega arith; room = let p = n.room in omega arith }
 
 pub cut_named : (con : Con) (ds : Boxes) (c : Literals) → All (λ x. x < length ds) (vars_of con) → IsNamed con (cut ds c)
 cut_named con ds c h = named_length con ds (cut ds c) (sym (cut_length ds c)) (named con ds h)

@@ -1,4 +1,4 @@
--- The rule of items to be packed is right: a place holds no more than its room, and all places
+-- The rule of items to be packed is right: a bin holds no more than its room, and all bins
 -- together no more than all room.
 use Rattle.std.proofs.Common.{◌≡◌, ℕ, zero, suc, Bool, true, false, not, ◌&&◌, ◌||◌, cond, List, [], ◌∷◌, ℤ, pos, ◌+ℤ◌, ◌-ℤ◌, ◌≤ℤ◌, unsigned_abs, refl, arith, All, inl, inr, subst, ap, ◌∙◌, sym}
 use Rattle.std.specs.Prelude.{int_lt, int_le}
@@ -11,13 +11,13 @@ use Rattle.signed_clause.specs.Ranges.{Ranges, has}
 use Rattle.signed_clause.specs.Clauses.{Boxes, box_of}
 use Rattle.ground_form.specs.Meaning.{value_of, load_at, rooms_hold, item_vars}
 use Rattle.ground_form.specs.Bounds.{low_of, high_of}
-use Rattle.box_rules.specs.Refuted.{fixed_at, fixed_load, overfull, some_overfull, least_sizes, best_room, rooms_from, first_place, last_place, width, all_room}
+use Rattle.box_rules.specs.Refuted.{fixed_at, fixed_load, overfull, some_overfull, least_sizes, best_room, rooms_from, first_bin, last_bin, width, all_room}
 use Rattle.box_rules.proofs.FixedLaws.{fixed_value, single_fixed}
 use Rattle.box_view.proofs.EndLaws.{AreSets, AreSingle, values_in, above_low, below_high, single_head, single_tail}
 
 -- what a point says of the first item
 pub record HeadValues (i : ℕ × ℕ × ℕ) (is : List (ℕ × ℕ × ℕ)) (boxes : Boxes) (a : List ℤ) : Type 0 where
-  pub place : has (box_of boxes i.0) (value_of a i.0) ≡ true
+  pub bin : has (box_of boxes i.0) (value_of a i.0) ≡ true
   pub size : has (box_of boxes i.1) (value_of a i.1) ≡ true
   pub room : has (box_of boxes i.2) (value_of a i.2) ≡ true
   pub rest : values_in (item_vars is) boxes a ≡ true
@@ -27,12 +27,12 @@ head_values i is boxes a h =
     let p = and_parts (has (box_of boxes i.0) (value_of a i.0)) (values_in (i.1 ∷ i.2 ∷ item_vars is) boxes a) h in
     let q = and_parts (has (box_of boxes i.1) (value_of a i.1)) (values_in (i.2 ∷ item_vars is) boxes a) p.1 in
     let r = and_parts (has (box_of boxes i.2) (value_of a i.2)) (values_in (item_vars is) boxes a) q.1 in
-    record { place = p.0; size = q.0; room = r.0; rest = r.1 }
+    record { bin = p.0; size = q.0; room = r.0; rest = r.1 }
 
 abbrev pub HaveSizes : List (ℕ × ℕ × ℕ) → Boxes → Type 0
 HaveSizes items boxes = All (λ i. pos 0 ≤ℤ low_of (box_of boxes i.1)) items
 
--- ---- one place
+-- ---- one bin
 
 no_less : (f p : Bool) (least size low load : ℤ) → (f ≡ true → p ≡ true) → least ≤ℤ size → pos 0 ≤ℤ least → low ≤ℤ load →
     cond f (least +ℤ low) low ≤ℤ cond p (size +ℤ load) load
@@ -49,7 +49,7 @@ fixed_load-le v (i ∷ is) boxes a s z h =
     let least = z 0 i (omega arith) in
     let low = above_low (box_of boxes i.1) (value_of a i.1) (s i.1) at.size in
     let decides = Decides-int_eq (value_of a i.0) v in
-    let fixed : fixed_at (box_of boxes i.0) v ≡ true → int_eq (value_of a i.0) v ≡ true = λ f. decides.1 (fixed_value (box_of boxes i.0) v (value_of a i.0) (s i.0) f at.place) in
+    let fixed : fixed_at (box_of boxes i.0) v ≡ true → int_eq (value_of a i.0) v ≡ true = λ f. decides.1 (fixed_value (box_of boxes i.0) v (value_of a i.0) (s i.0) f at.bin) in
     no_less (fixed_at (box_of boxes i.0) v) (int_eq (value_of a i.0) v) _ _ _ _ fixed low least more
 
 overfull-false : (i : ℕ × ℕ × ℕ) (is items : List (ℕ × ℕ × ℕ)) (boxes : Boxes) (a : List ℤ) → AreSets boxes → HaveSizes items boxes →
@@ -57,7 +57,7 @@ overfull-false : (i : ℕ × ℕ × ℕ) (is items : List (ℕ × ℕ × ℕ)) (
 overfull-false i is items boxes a s z h at o =
     let v = low_of (box_of boxes i.0) in
     let parts = and_parts (fixed_at (box_of boxes i.0) v) (int_lt (high_of (box_of boxes i.2)) (fixed_load v items boxes)) o in
-    let is_v = fixed_value (box_of boxes i.0) v (value_of a i.0) (s i.0) parts.0 at.place in
+    let is_v = fixed_value (box_of boxes i.0) v (value_of a i.0) (s i.0) parts.0 at.bin in
     let load = fixed_load-le v items boxes a s z h in
     let room = below_high (box_of boxes i.2) (value_of a i.2) (s i.2) at.room in
     let full : int_le (load_at v items a) (value_of a i.2) ≡ false = grind (arith, ints) in
@@ -75,7 +75,7 @@ some_overfull-false (i ∷ is) items boxes a s z h k o =
       | inr e ↦ let f = more e in grind arith
     ]
 
--- ---- all places
+-- ---- all bins
 
 -- the sizes, added up
 abbrev sizes_at : List (ℕ × ℕ × ℕ) → List ℤ → ℤ
@@ -94,7 +94,7 @@ pub best_room-ge : (v : ℤ) (is : List (ℕ × ℕ × ℕ)) (boxes : Boxes) →
 best_room-ge v [] boxes = omega (arith, ints)
 best_room-ge v (i ∷ is) boxes = let more = best_room-ge v is boxes in grind (arith, ints)
 
--- no item is at the place
+-- no item is at the bin
 abbrev none_at : ℤ → List (ℕ × ℕ × ℕ) → List ℤ → Bool
 none_at v [] a = true
 none_at v (i ∷ is) a = not (int_eq (value_of a i.0) v) && none_at v is a
@@ -103,7 +103,7 @@ none_at-load : (v : ℤ) (is : List (ℕ × ℕ × ℕ)) (a : List ℤ) → none
 none_at-load v [] a h = refl
 none_at-load v (i ∷ is) a h = let more = none_at-load v is a in grind arith
 
--- where an item is at the place, the load is at most the best room
+-- where an item is at the bin, the load is at most the best room
 some_at : (v : ℤ) (is items : List (ℕ × ℕ × ℕ)) (boxes : Boxes) (a : List ℤ) → AreSets boxes → values_in (item_vars is) boxes a ≡ true → rooms_hold items is a ≡ true →
     none_at v is a ≡ false → load_at v items a ≤ℤ best_room v is boxes
 some_at v [] items boxes a s h r n = absurd cc
@@ -115,7 +115,7 @@ some_at v (i ∷ is) items boxes a s h r n =
     let P : Bool → Type 0 = λ b. int_eq (value_of a i.0) v ≡ b → load_at v items a ≤ℤ best_room v (i ∷ is) boxes in
     (elim (int_eq (value_of a i.0) v) as P [
       | true ↦ λ q. let e = (Decides-int_eq (value_of a i.0) v).0 q in
-          let held : has (box_of boxes i.0) v ≡ true = subst (λ (w : ℤ). has (box_of boxes i.0) w ≡ true) e at.place in
+          let held : has (box_of boxes i.0) v ≡ true = subst (λ (w : ℤ). has (box_of boxes i.0) w ≡ true) e at.bin in
           let fits : int_le (load_at v items a) (value_of a i.2) ≡ true = subst (λ (w : ℤ). int_le (load_at w items a) (value_of a i.2) ≡ true) e parts.0 in
           rw held (grind (arith, ints))
       | false ↦ λ q. let left : none_at v is a ≡ false = grind arith in let m = more left in grind (arith, ints)
@@ -130,7 +130,7 @@ load-le v items boxes a s h r =
       | false ↦ λ q. some_at v items items boxes a s h r q
     ]) refl
 
--- the loads of n places from v on, added up
+-- the loads of n bins from v on, added up
 abbrev loads_from : ℕ → ℤ → List (ℕ × ℕ × ℕ) → List ℤ → ℤ
 loads_from zero v is a = pos 0
 loads_from (suc n) v is a = load_at v is a +ℤ loads_from n (v +ℤ pos 1) is a
@@ -145,7 +145,7 @@ no_loads : (n : ℕ) (v : ℤ) (a : List ℤ) → loads_from n v [] a ≡ pos 0
 no_loads zero v a = refl
 no_loads (suc n) v a = let more = no_loads n (v +ℤ pos 1) a in omega (arith, ints)
 
--- one more item is at one of the places, or at none
+-- one more item is at one of the bins, or at none
 one_load : (n : ℕ) (v : ℤ) (i : ℕ × ℕ × ℕ) (is : List (ℕ × ℕ × ℕ)) (a : List ℤ) →
     loads_from n v (i ∷ is) a ≡ cond (int_le v (value_of a i.0) && int_lt (value_of a i.0) (v +ℤ pos n)) (value_of a i.1) (pos 0) +ℤ loads_from n v is a
 one_load zero v i is a =
@@ -165,11 +165,11 @@ one_load (suc n) v i is a =
           rw q (let m = rw same at more in omega (arith, ints))
     ]) refl
 
--- the place lies among n from v on
-abbrev PlacesIn : ℤ → ℕ → List (ℕ × ℕ × ℕ) → List ℤ → Type 0
-PlacesIn v n is a = All (λ i. (int_le v (value_of a i.0) && int_lt (value_of a i.0) (v +ℤ pos n)) ≡ true) is
+-- the bin lies among n from v on
+abbrev BinsIn : ℤ → ℕ → List (ℕ × ℕ × ℕ) → List ℤ → Type 0
+BinsIn v n is a = All (λ i. (int_le v (value_of a i.0) && int_lt (value_of a i.0) (v +ℤ pos n)) ≡ true) is
 
-all_loads : (n : ℕ) (v : ℤ) (is : List (ℕ × ℕ × ℕ)) (a : List ℤ) → PlacesIn v n is a → loads_from n v is a ≡ sizes_at is a
+all_loads : (n : ℕ) (v : ℤ) (is : List (ℕ × ℕ × ℕ)) (a : List ℤ) → BinsIn v n is a → loads_from n v is a ≡ sizes_at is a
 all_loads n v [] a h = no_loads n v a
 all_loads n v (i ∷ is) a h =
     let here = h 0 i (omega arith) in
@@ -180,14 +180,14 @@ all_loads n v (i ∷ is) a h =
 chain_le : (x y z w : ℤ) → x ≤ℤ y → z ≡ y → z ≤ℤ w → x ≤ℤ w
 chain_le x y z w h e k = omega (arith, ints)
 
--- every place lies between the first and the last
-pub first_place-le : (v : ℤ) (is : List (ℕ × ℕ × ℕ)) (boxes : Boxes) → first_place v is boxes ≤ℤ v
-first_place-le v [] boxes = omega (arith, ints)
-first_place-le v (i ∷ is) boxes = let more = first_place-le (int_min v (low_of (box_of boxes i.0))) is boxes in grind (arith, ints)
+-- every bin lies between the first and the last
+pub first_bin-le : (v : ℤ) (is : List (ℕ × ℕ × ℕ)) (boxes : Boxes) → first_bin v is boxes ≤ℤ v
+first_bin-le v [] boxes = omega (arith, ints)
+first_bin-le v (i ∷ is) boxes = let more = first_bin-le (int_min v (low_of (box_of boxes i.0))) is boxes in grind (arith, ints)
 
-pub last_place-ge : (v : ℤ) (is : List (ℕ × ℕ × ℕ)) (boxes : Boxes) → v ≤ℤ last_place v is boxes
-last_place-ge v [] boxes = omega (arith, ints)
-last_place-ge v (i ∷ is) boxes = let more = last_place-ge (int_max v (high_of (box_of boxes i.0))) is boxes in grind (arith, ints)
+pub last_bin-ge : (v : ℤ) (is : List (ℕ × ℕ × ℕ)) (boxes : Boxes) → v ≤ℤ last_bin v is boxes
+last_bin-ge v [] boxes = omega (arith, ints)
+last_bin-ge v (i ∷ is) boxes = let more = last_bin-ge (int_max v (high_of (box_of boxes i.0))) is boxes in grind (arith, ints)
 
 -- the values lie in v..w
 abbrev LieIn : ℤ → ℤ → List (ℕ × ℕ × ℕ) → List ℤ → Type 0
@@ -196,21 +196,21 @@ LieIn v w is a = All (λ i. (int_le v (value_of a i.0) && int_le (value_of a i.0
 lie_in : (v w p : ℤ) → v ≤ℤ p → p ≤ℤ w → (int_le v p && int_le p w) ≡ true
 lie_in v w p h k = grind (arith, ints)
 
-places_in : (v w : ℤ) (is : List (ℕ × ℕ × ℕ)) (boxes : Boxes) (a : List ℤ) → AreSets boxes → values_in (item_vars is) boxes a ≡ true →
-    LieIn (first_place v is boxes) (last_place w is boxes) is a
-places_in v w [] boxes a s h k d lt = absurd (omega arith)
-places_in v w (i ∷ is) boxes a s h zero d lt =
+bins_in : (v w : ℤ) (is : List (ℕ × ℕ × ℕ)) (boxes : Boxes) (a : List ℤ) → AreSets boxes → values_in (item_vars is) boxes a ≡ true →
+    LieIn (first_bin v is boxes) (last_bin w is boxes) is a
+bins_in v w [] boxes a s h k d lt = absurd (omega arith)
+bins_in v w (i ∷ is) boxes a s h zero d lt =
     let at = head_values i is boxes a h in
-    let low = above_low (box_of boxes i.0) (value_of a i.0) (s i.0) at.place in
-    let high = below_high (box_of boxes i.0) (value_of a i.0) (s i.0) at.place in
-    let first = first_place-le (int_min v (low_of (box_of boxes i.0))) is boxes in
-    let last = last_place-ge (int_max w (high_of (box_of boxes i.0))) is boxes in
-    lie_in (first_place v (i ∷ is) boxes) (last_place w (i ∷ is) boxes) (value_of a i.0) (grind (arith, ints)) (grind (arith, ints))
-places_in v w (i ∷ is) boxes a s h (suc k) d lt =
+    let low = above_low (box_of boxes i.0) (value_of a i.0) (s i.0) at.bin in
+    let high = below_high (box_of boxes i.0) (value_of a i.0) (s i.0) at.bin in
+    let first = first_bin-le (int_min v (low_of (box_of boxes i.0))) is boxes in
+    let last = last_bin-ge (int_max w (high_of (box_of boxes i.0))) is boxes in
+    lie_in (first_bin v (i ∷ is) boxes) (last_bin w (i ∷ is) boxes) (value_of a i.0) (grind (arith, ints)) (grind (arith, ints))
+bins_in v w (i ∷ is) boxes a s h (suc k) d lt =
     let at = head_values i is boxes a h in
-    places_in (int_min v (low_of (box_of boxes i.0))) (int_max w (high_of (box_of boxes i.0))) is boxes a s at.rest k d (omega arith)
+    bins_in (int_min v (low_of (box_of boxes i.0))) (int_max w (high_of (box_of boxes i.0))) is boxes a s at.rest k d (omega arith)
 
--- the first place is no later than the last
+-- the first bin is no later than the last
 in_width : (v w p : ℤ) → (int_le v p && int_le p w) ≡ true → (int_le v p && int_lt p (v +ℤ pos (width v w))) ≡ true
 in_width v w p h =
     let parts = and_parts (int_le v p) (int_le p w) h in
@@ -218,34 +218,34 @@ in_width v w p h =
     let e : v +ℤ pos (suc (unsigned_abs (w -ℤ v))) ≡ w +ℤ pos 1 = omega (arith, ints) in
     rw e (grind (arith, ints))
 
-all_in_width : (v w : ℤ) (is : List (ℕ × ℕ × ℕ)) (a : List ℤ) → LieIn v w is a → PlacesIn v (width v w) is a
+all_in_width : (v w : ℤ) (is : List (ℕ × ℕ × ℕ)) (a : List ℤ) → LieIn v w is a → BinsIn v (width v w) is a
 all_in_width v w [] a h k d lt = absurd (omega arith)
 all_in_width v w (i ∷ is) a h zero d lt = in_width v w (value_of a i.0) (h 0 i (omega arith))
 all_in_width v w (i ∷ is) a h (suc k) d lt = all_in_width v w is a (λ j e less. h (suc j) e (omega arith)) k d (omega arith)
 
--- the first item is among those between the first and the last place
-places_whole : (i : ℕ × ℕ × ℕ) (is : List (ℕ × ℕ × ℕ)) (boxes : Boxes) (a : List ℤ) → AreSets boxes → values_in (item_vars (i ∷ is)) boxes a ≡ true →
-    LieIn (first_place (low_of (box_of boxes i.0)) is boxes) (last_place (high_of (box_of boxes i.0)) is boxes) (i ∷ is) a
-places_whole i is boxes a s h zero d lt =
+-- the first item is among those between the first and the last bin
+bins_whole : (i : ℕ × ℕ × ℕ) (is : List (ℕ × ℕ × ℕ)) (boxes : Boxes) (a : List ℤ) → AreSets boxes → values_in (item_vars (i ∷ is)) boxes a ≡ true →
+    LieIn (first_bin (low_of (box_of boxes i.0)) is boxes) (last_bin (high_of (box_of boxes i.0)) is boxes) (i ∷ is) a
+bins_whole i is boxes a s h zero d lt =
     let at = head_values i is boxes a h in
-    let low = above_low (box_of boxes i.0) (value_of a i.0) (s i.0) at.place in
-    let high = below_high (box_of boxes i.0) (value_of a i.0) (s i.0) at.place in
-    let first = first_place-le (low_of (box_of boxes i.0)) is boxes in
-    let last = last_place-ge (high_of (box_of boxes i.0)) is boxes in
+    let low = above_low (box_of boxes i.0) (value_of a i.0) (s i.0) at.bin in
+    let high = below_high (box_of boxes i.0) (value_of a i.0) (s i.0) at.bin in
+    let first = first_bin-le (low_of (box_of boxes i.0)) is boxes in
+    let last = last_bin-ge (high_of (box_of boxes i.0)) is boxes in
     lie_in _ _ (value_of a i.0) (omega (arith, ints)) (omega (arith, ints))
-places_whole i is boxes a s h (suc k) d lt =
+bins_whole i is boxes a s h (suc k) d lt =
     let at = head_values i is boxes a h in
-    places_in (low_of (box_of boxes i.0)) (high_of (box_of boxes i.0)) is boxes a s at.rest k d (omega arith)
+    bins_in (low_of (box_of boxes i.0)) (high_of (box_of boxes i.0)) is boxes a s at.rest k d (omega arith)
 
 pub all_room-ge : (items : List (ℕ × ℕ × ℕ)) (boxes : Boxes) (a : List ℤ) → AreSets boxes → values_in (item_vars items) boxes a ≡ true → rooms_hold items items a ≡ true →
     least_sizes items boxes ≤ℤ all_room items boxes
 all_room-ge [] boxes a s h r = omega (arith, ints)
 all_room-ge (i ∷ is) boxes a s h r =
-    let first = first_place (low_of (box_of boxes i.0)) is boxes in
-    let last = last_place (high_of (box_of boxes i.0)) is boxes in
+    let first = first_bin (low_of (box_of boxes i.0)) is boxes in
+    let last = last_bin (high_of (box_of boxes i.0)) is boxes in
     let n = width first last in
-    let places = all_in_width first last (i ∷ is) a (places_whole i is boxes a s h) in
-    let loads = all_loads n first (i ∷ is) a places in
+    let bins = all_in_width first last (i ∷ is) a (bins_whole i is boxes a s h) in
+    let loads = all_loads n first (i ∷ is) a bins in
     let least = least_sizes-le (i ∷ is) boxes a s h in
     let rooms = loads-le n first (i ∷ is) boxes a s h r in
     chain_le _ _ _ _ least loads rooms
@@ -262,7 +262,7 @@ pack-false items boxes a s z h e =
 
 -- the three boxes of the first item
 pub record HeadSingle (i : ℕ × ℕ × ℕ) (is : List (ℕ × ℕ × ℕ)) (boxes : Boxes) (a : List ℤ) : Type 0 where
-  pub place : box_of boxes i.0 ≡ (value_of a i.0, value_of a i.0) ∷ []
+  pub bin : box_of boxes i.0 ≡ (value_of a i.0, value_of a i.0) ∷ []
   pub size : box_of boxes i.1 ≡ (value_of a i.1, value_of a i.1) ∷ []
   pub room : box_of boxes i.2 ≡ (value_of a i.2, value_of a i.2) ∷ []
   pub rest : AreSingle (item_vars is) boxes a
@@ -272,7 +272,7 @@ head_single i is boxes a h =
     let one = single_tail i.0 (i.1 ∷ i.2 ∷ item_vars is) boxes a h in
     let two = single_tail i.1 (i.2 ∷ item_vars is) boxes a one in
     record {
-      place = single_head i.0 (i.1 ∷ i.2 ∷ item_vars is) boxes a h;
+      bin = single_head i.0 (i.1 ∷ i.2 ∷ item_vars is) boxes a h;
       size = single_head i.1 (i.2 ∷ item_vars is) boxes a one;
       room = single_head i.2 (item_vars is) boxes a two;
       rest = single_tail i.2 (item_vars is) boxes a two;
@@ -283,7 +283,7 @@ fixed_load-single v [] boxes a h = refl
 fixed_load-single v (i ∷ is) boxes a h =
     let at = head_single i is boxes a h in
     let more = fixed_load-single v is boxes a at.rest in
-    let fixed : fixed_at (box_of boxes i.0) v ≡ int_eq (value_of a i.0) v = ap (λ (s : Ranges). fixed_at s v) at.place ∙ single_fixed (value_of a i.0) v in
+    let fixed : fixed_at (box_of boxes i.0) v ≡ int_eq (value_of a i.0) v = ap (λ (s : Ranges). fixed_at s v) at.bin ∙ single_fixed (value_of a i.0) v in
     let size : low_of (box_of boxes i.1) ≡ value_of a i.1 = ap (λ (s : Ranges). low_of s) at.size in
     rw (fixed, size, more) refl
 
@@ -293,8 +293,8 @@ some_overfull-single [] items boxes a h k r = absurd cc
 some_overfull-single (i ∷ is) items boxes a h k r =
     let at = head_single i is boxes a k in
     let v = value_of a i.0 in
-    let low : low_of (box_of boxes i.0) ≡ v = ap (λ (s : Ranges). low_of s) at.place in
-    let fixed : fixed_at (box_of boxes i.0) v ≡ true = ap (λ (s : Ranges). fixed_at s v) at.place ∙ single_fixed v v ∙ (Decides-int_eq v v).1 refl in
+    let low : low_of (box_of boxes i.0) ≡ v = ap (λ (s : Ranges). low_of s) at.bin in
+    let fixed : fixed_at (box_of boxes i.0) v ≡ true = ap (λ (s : Ranges). fixed_at s v) at.bin ∙ single_fixed v v ∙ (Decides-int_eq v v).1 refl in
     let room : high_of (box_of boxes i.2) ≡ value_of a i.2 = ap (λ (s : Ranges). high_of s) at.room in
     let load = fixed_load-single v items boxes a h in
     let more = some_overfull-single is items boxes a h at.rest in

@@ -20,7 +20,7 @@ use Rattle.box_rules.proofs.FixedLaws.{some_empty-false}
 use Rattle.box_view.proofs.EndLaws.{AreSets, are_sets, AreSingle, values_in, above_low, below_high, point_values, single_head, single_tail, single_has}
 use Rattle.box_rules.proofs.SumLaws.{least_sum-le, greatest_sum-ge, least_sum-single, greatest_sum-single, at_most-false, sum-false, at_most-single, sum-single}
 use Rattle.box_view.proofs.SetLaws.{is_disjoint-single, is_within-single, bool_same}
-use Rattle.box_rules.proofs.FlagLaws.{flag-false, flag-single, barred-false, fixed-true, barred-single, fixed-single, missed-false, within-true, apart-false, same-true, same-single, picked-false, picked-single, conditional-false, conditional-single, not_both, int_eq-sym, clause-false, clause-single}
+use Rattle.box_rules.proofs.FlagLaws.{flag-false, flag-single, barred-false, fixed-true, barred-single, fixed-single, disjoint-false, within-true, apart-false, same-true, same-single, picked-false, picked-single, conditional-false, conditional-single, not_both, int_eq-sym, clause-false, clause-single}
 use Rattle.box_rules.proofs.DiffLaws.{int_eq-same, some_crowded-false, crowded-single}
 use Rattle.box_rules.proofs.PackLaws.{pack-false, pack-single}
 
@@ -49,7 +49,7 @@ excluded-false (MemberDef flag var set) boxes a s f b h k =
     let parts = and_parts (has (box_of boxes flag) (value_of a flag)) (values_in (var ∷ []) boxes a) h in
     let more = and_parts (has (box_of boxes var) (value_of a var)) true parts.1 in
     flag-false (box_of boxes flag) (value_of a flag) (has set (value_of a var)) (is_disjoint (box_of boxes var) set) (is_within (box_of boxes var) set) parts.0
-    (λ d. missed-false (box_of boxes var) set (value_of a var) (s var) f more.0 d) (λ d. within-true (box_of boxes var) set (value_of a var) (s var) f more.0 d) k
+    (λ d. disjoint-false (box_of boxes var) set (value_of a var) (s var) f more.0 d) (λ d. within-true (box_of boxes var) set (value_of a var) (s var) f more.0 d) k
 excluded-false (EqDef flag left right) boxes a s f b h k =
     let parts = and_parts (has (box_of boxes flag) (value_of a flag)) (values_in (left ∷ right ∷ []) boxes a) h in
     let more = and_parts (has (box_of boxes left) (value_of a left)) (values_in (right ∷ []) boxes a) parts.1 in

@@ -1,4 +1,4 @@
--- Walks over the variables of a constraint by their places.
+-- Walks over the variables of a constraint by their indexes.
 use Rattle.std.proofs.Common.{◌≡◌, ℕ, zero, suc, ◌+◌, ◌<◌, Bool, ◌&&◌, ◌||◌, Some, List, [], ◌∷◌, ℤ, All, drop, length, slice_get, add-one, arith, refl}
 use Rattle.std.specs.Prelude.{IfSome}
 use Rattle.signed_clause.specs.Ranges.{is_nil}
@@ -35,7 +35,7 @@ of_items : (is : List (ℕ × ℕ × ℕ)) (boxes : Boxes) → AreItemsNamed is 
 of_items [] boxes h = nobody (length boxes)
 of_items (i ∷ is) boxes h =
     let here = h 0 i (omega arith) in
-    behind i.0 (i.1 ∷ i.2 ∷ item_vars is) (length boxes) here.place
+    behind i.0 (i.1 ∷ i.2 ∷ item_vars is) (length boxes) here.bin
     (behind i.1 (i.2 ∷ item_vars is) (length boxes) here.size
     (behind i.2 (item_vars is) (length boxes) here.room (of_items is boxes (λ j e less. h (suc j) e (omega arith)))))
 
@@ -64,7 +64,7 @@ below_at [] n i x h e = absurd cc
 below_at (y ∷ xs) n zero x h e = let first = h 0 y (omega arith) in let same : y ≡ x = cc in omega (arith, first, same)
 below_at (y ∷ xs) n (suc i) x h e = below_at xs n i x (λ j d lt. h (suc j) d (omega arith)) e
 
--- said of the variable at a place
+-- said of the variable at an index
 pub variable_named : (con : Con) (boxes : Boxes) (i x : ℕ) → IsNamed con boxes → slice_get (vars_of con) i ≡ Some x → x < length boxes
 variable_named con boxes i x h e = below_at (vars_of con) (length boxes) i x (of_con con boxes h) e
 

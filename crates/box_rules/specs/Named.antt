@@ -6,9 +6,9 @@ use Rattle.signed_clause.specs.Clauses.{Boxes, box_of}
 use Rattle.ground_form.specs.declared.con.Con.{Con}
 use Rattle.ground_form.specs.declared.con.Con.TheVariants.{LinLe, LinDef, ReifLe, AndDef, MemberDef, EqDef, ElementDef, CondDef, ClauseCon, AllDiff, Pack}
 
--- the item's variables of place, size and room have boxes
+-- the item's variables of bin, size and room have boxes
 pub record IsItemNamed (i : ℕ × ℕ × ℕ) (boxes : Boxes) : Type 0 where
-  pub place : i.0 < length boxes
+  pub bin : i.0 < length boxes
   pub size : i.1 < length boxes
   pub room : i.2 < length boxes
 

@@ -7,7 +7,7 @@ use Rattle.ground_form.specs.Meaning.{con_true}
 use Rattle.ground_form.specs.Solutions.{IsPoint}
 use Rattle.box_rules.specs.Refuted.{crowded}
 
--- more places than some interval has numbers have a box within it
+-- more variables than some interval has numbers have a box within it
 abbrev pub IsCrowdedSomewhere : List ℕ → Boxes → Type 0
 IsCrowdedSomewhere xs boxes = (a : ℤ) × (b : ℤ) × (crowded a b xs boxes ≡ true)
 

@@ -55,13 +55,13 @@ none_picked out index (t ∷ ts) boxes =
 abbrev pub lies_in : ℤ → ℤ → Ranges → Bool
 lies_in a b s = int_le a (low_of s) && int_le (high_of s) b
 
--- how many places of the list have a box within a..b
+-- how many variables of the list have a box within a..b
 abbrev pub count_in : ℤ → ℤ → List ℕ → Boxes → ℕ
 count_in a b [] boxes = 0
 count_in a b (x ∷ xs) boxes =
     cond (lies_in a b (box_of boxes x)) (suc (count_in a b xs boxes)) (count_in a b xs boxes)
 
--- more places than a..b has numbers have a box within it
+-- more variables than a..b has numbers have a box within it
 abbrev pub crowded : ℤ → ℤ → List ℕ → Boxes → Bool
 crowded a b xs boxes = int_le a b && int_lt ((b -ℤ a) +ℤ pos 1) (pos (count_in a b xs boxes))
 
@@ -79,14 +79,14 @@ some_crowded (y ∷ ys) xs boxes =
 
 -- ---- items to be packed
 
--- the least sizes of the items whose place is fixed at v, added up
+-- the least sizes of the items whose bin is fixed at v, added up
 abbrev pub fixed_load : ℤ → List (ℕ × ℕ × ℕ) → Boxes → ℤ
 fixed_load v [] boxes = pos 0
 fixed_load v (i ∷ is) boxes =
     cond (fixed_at (box_of boxes i.0) v) (low_of (box_of boxes i.1) +ℤ fixed_load v is boxes)
     (fixed_load v is boxes)
 
--- the item's place is fixed, and the load there is more than its greatest room
+-- the item's bin is fixed, and the load there is more than its greatest room
 abbrev pub overfull : ℕ × ℕ × ℕ → List (ℕ × ℕ × ℕ) → Boxes → Bool
 overfull i items boxes =
     fixed_at (box_of boxes i.0) (low_of (box_of boxes i.0))
@@ -102,38 +102,38 @@ abbrev pub least_sizes : List (ℕ × ℕ × ℕ) → Boxes → ℤ
 least_sizes [] boxes = pos 0
 least_sizes (i ∷ is) boxes = low_of (box_of boxes i.1) +ℤ least_sizes is boxes
 
--- the greater of 0 and the greatest room among the items whose place's box holds v
+-- the greater of 0 and the greatest room among the items whose bin's box holds v
 abbrev pub best_room : ℤ → List (ℕ × ℕ × ℕ) → Boxes → ℤ
 best_room v [] boxes = pos 0
 best_room v (i ∷ is) boxes =
     cond (has (box_of boxes i.0) v) (int_max (high_of (box_of boxes i.2)) (best_room v is boxes))
     (best_room v is boxes)
 
--- that of n values from v on, added up; a value that no place's box holds adds nothing
+-- that of n values from v on, added up; a value that no bin's box holds adds nothing
 abbrev pub rooms_from : ℕ → ℤ → List (ℕ × ℕ × ℕ) → Boxes → ℤ
 rooms_from zero v items boxes = pos 0
 rooms_from (suc n) v items boxes = best_room v items boxes +ℤ rooms_from n (v +ℤ pos 1) items boxes
 
--- the least of v and what the places' boxes begin with, and the greatest of v and what they end
+-- the least of v and what the bins' boxes begin with, and the greatest of v and what they end
 -- with
-abbrev pub first_place : ℤ → List (ℕ × ℕ × ℕ) → Boxes → ℤ
-first_place v [] boxes = v
-first_place v (i ∷ is) boxes = first_place (int_min v (low_of (box_of boxes i.0))) is boxes
+abbrev pub first_bin : ℤ → List (ℕ × ℕ × ℕ) → Boxes → ℤ
+first_bin v [] boxes = v
+first_bin v (i ∷ is) boxes = first_bin (int_min v (low_of (box_of boxes i.0))) is boxes
 
-abbrev pub last_place : ℤ → List (ℕ × ℕ × ℕ) → Boxes → ℤ
-last_place v [] boxes = v
-last_place v (i ∷ is) boxes = last_place (int_max v (high_of (box_of boxes i.0))) is boxes
+abbrev pub last_bin : ℤ → List (ℕ × ℕ × ℕ) → Boxes → ℤ
+last_bin v [] boxes = v
+last_bin v (i ∷ is) boxes = last_bin (int_max v (high_of (box_of boxes i.0))) is boxes
 
 -- how many numbers a..b has, for a up to b
 abbrev pub width : ℤ → ℤ → ℕ
 width a b = suc (unsigned_abs (b -ℤ a))
 
--- that of all values that some place's box holds: they lie from the first place to the last
+-- that of all values that some bin's box holds: they lie from the first bin to the last
 abbrev pub all_room : List (ℕ × ℕ × ℕ) → Boxes → ℤ
 all_room [] boxes = pos 0
 all_room (i ∷ is) boxes =
-    let first = first_place (low_of (box_of boxes i.0)) is boxes in
-    let last = last_place (high_of (box_of boxes i.0)) is boxes in
+    let first = first_bin (low_of (box_of boxes i.0)) is boxes in
+    let last = last_bin (high_of (box_of boxes i.0)) is boxes in
     rooms_from (width first last) first (i ∷ is) boxes
 
 -- ---- the rule of each kind, for boxes of which none is empty
@@ -171,9 +171,9 @@ excluded (CondDef out flag item) boxes =
     && (barred boxes flag false || not (has (box_of boxes out) (pos 0)))
 -- every literal's set misses its box
 excluded (ClauseCon clause) boxes = false_in boxes clause
--- too many places have to share too few values
+-- too many variables have to share too few values
 excluded (AllDiff vars) boxes = some_crowded vars vars boxes
--- a place is overfull, or all sizes are more than all room
+-- a bin is overfull, or all sizes are more than all room
 excluded (Pack items) boxes =
     some_overfull items items boxes || int_lt (all_room items boxes) (least_sizes items boxes)
 

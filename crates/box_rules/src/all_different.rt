@@ -1,7 +1,8 @@
 //! Values that differ, over a view of boxes.
 //!
-//! Places that differ can't be crowded: no interval has fewer numbers than places whose boxes lie
-//! within it. It is enough to look at intervals from where some box begins to where some box ends.
+//! Variables that differ can't be crowded: no interval has fewer numbers than variables whose boxes
+//! lie within it. It is enough to look at intervals from where some box begins to where some box
+//! ends.
 //!
 //! Of at most 64 boxes that is counted by slots (`crowding`). Of more, each pair of ends is looked
 //! at by itself; an interval with as many numbers as there are variables can't be crowded and isn't
@@ -25,7 +26,7 @@ fn does_lie_in<V: View>(view: &V, x: u32, a: Number, b: Number) -> bool
     a.value <= ends.0 && ends.1 <= b.value
 }
 
-/// How many places have a box within `a..b`.
+/// How many variables have a box within `a..b`.
 fn count_in<V: View>(view: &V, vars: &[u32], a: Number, b: Number) -> usize
     requires { All (λ x. x < length (V.boxes view.now)) vars.now }
     ensures { result ≡ count_in a.value b.value vars.now (V.boxes view.now) }
@@ -47,9 +48,9 @@ fn is_more(count: usize, a: Number, b: Number) -> bool
     a.value <= b.value && 0 < count && b.value.abs_diff(a.value) < count as u64 - 1
 }
 
-/// Whether more places than `a..b` has numbers have a box within it. Only where there are more
-/// places than numbers are they counted.
-#[tactic(auto, using(crate::proofs::FewPlaces::no_more))]
+/// Whether more variables than `a..b` has numbers have a box within it. Only where there are more
+/// variables than numbers are they counted.
+#[tactic(auto, using(crate::proofs::FewVars::no_more))]
 fn is_crowded<V: View>(view: &V, vars: &[u32], a: Number, b: Number) -> bool
     requires { All (λ x. x < length (V.boxes view.now)) vars.now }
     ensures { result ≡ crowded a.value b.value vars.now (V.boxes view.now) }

@@ -23,7 +23,7 @@ pub fn has_empty<V: View>(con: &Con, view: &V) -> bool
     false
 }
 
-/// Whether the variable at the place has an empty box.
+/// Whether the variable at the index has an empty box.
 #[tactic(auto, using(crate::proofs::VarWalks::variable_named))]
 fn is_empty_at<V: View>(con: &Con, view: &V, i: usize) -> bool
     requires { IsNamed con.now (V.boxes view.now) }

@@ -10,7 +10,7 @@ ghost use Rattle.box_rules.specs.Named.{AreItemsNamed, IsItemNamed};
 ghost use Rattle.box_rules.specs.FixedItems.{read_of, is_put, fixed_of, load_of, some_over};
 
 use crate::flags::{greatest, is_fixed_at, least};
-use crate::total::Total;
+use crate::total::WideSum;
 use box_view::View;
 use ground_form::Number;
 
@@ -67,7 +67,7 @@ fn fixed_row<V: View>(view: &V, items: &[(u32, u32, u32)]) -> ([(i64, i64, i64);
 }
 
 /// The load with the size of one of the row, where it is at the bin.
-fn with_size(load: Total, p: (i64, i64, i64), bin: (i64, i64, i64)) -> Total
+fn with_size(load: WideSum, p: (i64, i64, i64), bin: (i64, i64, i64)) -> WideSum
     requires low { pos 0 ≤ℤ (load.value +ℤ pos (2 ^ 127 - 2 ^ 63)) }
     requires high { load.value ≤ℤ pos (2 ^ 127 - 2 ^ 63) }
     ensures load { result.value ≡ cond (int_eq p.0 bin.0) (load.value +ℤ p.1) load.value }
@@ -82,10 +82,10 @@ fn with_size(load: Total, p: (i64, i64, i64), bin: (i64, i64, i64)) -> Total
 }
 
 /// The sizes of those of the row that are at the bin of one of them, added up.
-fn load_at(row: &[(i64, i64, i64)], bin: (i64, i64, i64)) -> Total
+fn load_at(row: &[(i64, i64, i64)], bin: (i64, i64, i64)) -> WideSum
     ensures { result.value ≡ load_of bin.0 row.now }
 {
-    let mut load = Total { value: 0 };
+    let mut load = WideSum { value: 0 };
     for p in row {
         load = with_size(load, *p, bin);
     }

@@ -173,7 +173,7 @@ pub fn first_at(con: &Con, boxes: &[IntSet], x: u32) -> Option<Number>
     }
 }
 
-/// Whether no probed value of the box of the variable at the place refutes the constraint.
+/// Whether no probed value of the box of the variable at the index refutes the constraint.
 #[tactic(auto, using(crate::proofs::VarWalks::variable_named))]
 fn is_quiet_at(con: &Con, boxes: &[IntSet], i: usize) -> bool
     requires named { IsNamed con.now boxes.now }

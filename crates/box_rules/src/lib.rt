@@ -8,7 +8,7 @@
 //! - `emptiness`: whether a variable of a constraint has an empty box.
 //! - `flags`, `linear`, `all_different`, `packing`: the rule of each kind. `sums`: what the linear
 //!   ones add up. `crowding`: values that differ among at most 64 boxes, by counters.
-//!   `fixed_items`: loads of at most 64 items, by a row. `total`: sums of many numbers.
+//!   `fixed_items`: loads of at most 64 items, by a row. `total`: sums of many numbers (`WideSum`).
 //! - `exclude`: the rule of a constraint, whatever its kind.
 //! - `refute`: when boxes refute a constraint. `justify`: when it justifies a clause.
 //! - `fixpoint`: when it is quiet, and the values that are probed for that.

@@ -1,8 +1,8 @@
 //! Items to be packed, over a view of boxes.
 //!
-//! Two loads are compared with room: at a place where items are fixed, and over all places. Of at
-//! most 64 items the first is told by a row on the stack (`fixed_items`). The room of all places is
-//! added up from value to value, from where the first place's box begins to where the last one's
+//! Two loads are compared with room: at a bin where items are fixed, and over all bins. Of at
+//! most 64 items the first is told by a row on the stack (`fixed_items`). The room of all bins is
+//! added up from value to value, from where the first bin's box begins to where the last one's
 //! ends. Values that no bin may be are passed over: a walk over the items is made for each value
 //! that some bin may be, and two for each gap between such values.
 ghost use Rattle.std.specs.Prelude.{◌≡◌, ◌<◌, ◌≤◌, ◌≤ℤ◌, ◌<ℤ◌, ◌^◌, ◌-◌, ◌&&◌, ◌||◌, ◌+ℤ◌, ℤ, false, cond, pos, int_lt, length};
@@ -11,17 +11,17 @@ ghost use Rattle.std.specs.List.{All};
 ghost use Rattle.signed_clause.specs.Ranges.{has};
 ghost use Rattle.signed_clause.specs.Clauses.{box_of};
 ghost use Rattle.ground_form.specs.Bounds.{low_of, high_of};
-ghost use Rattle.box_rules.specs.Refuted.{fixed_at, fixed_load, overfull, some_overfull, least_sizes, best_room, rooms_from, first_place, last_place, width, all_room};
+ghost use Rattle.box_rules.specs.Refuted.{fixed_at, fixed_load, overfull, some_overfull, least_sizes, best_room, rooms_from, first_bin, last_bin, width, all_room};
 ghost use Rattle.box_rules.specs.Named.{AreItemsNamed, IsItemNamed};
 
 use crate::fixed_items::are_few_overfull;
 use crate::flags::{greatest, is_fixed_at, least};
-use crate::total::Total;
+use crate::total::WideSum;
 use box_view::{View, greater, is_below, next, smaller};
 use ground_form::Number;
 
-/// The load with the item's least size, where its place is fixed at the value.
-fn with_load<V: View>(load: Total, i: (u32, u32, u32), view: &V, at: Number) -> Total
+/// The load with the item's least size, where its bin is fixed at the value.
+fn with_load<V: View>(load: WideSum, i: (u32, u32, u32), view: &V, at: Number) -> WideSum
     requires item { IsItemNamed i (V.boxes view.now) }
     requires low { pos 0 ≤ℤ (load.value +ℤ pos (2 ^ 127 - 2 ^ 63)) }
     requires high { load.value ≤ℤ pos (2 ^ 127 - 2 ^ 63) }
@@ -37,19 +37,19 @@ fn with_load<V: View>(load: Total, i: (u32, u32, u32), view: &V, at: Number) -> 
     }
 }
 
-/// The least sizes of the items whose place is fixed at the value, added up.
-fn fixed_load<V: View>(view: &V, items: &[(u32, u32, u32)], at: Number) -> Total
+/// The least sizes of the items whose bin is fixed at the value, added up.
+fn fixed_load<V: View>(view: &V, items: &[(u32, u32, u32)], at: Number) -> WideSum
     requires { AreItemsNamed items.now (V.boxes view.now) }
     ensures { result.value ≡ fixed_load at.value items.now (V.boxes view.now) }
 {
-    let mut load = Total { value: 0 };
+    let mut load = WideSum { value: 0 };
     for i in items {
         load = with_load(load, *i, view, at);
     }
     load
 }
 
-/// Whether the item's place is fixed, and the load there is more than its greatest room.
+/// Whether the item's bin is fixed, and the load there is more than its greatest room.
 fn is_overfull<V: View>(view: &V, items: &[(u32, u32, u32)], i: (u32, u32, u32)) -> bool
     requires item { IsItemNamed i (V.boxes view.now) }
     requires items { AreItemsNamed items.now (V.boxes view.now) }
@@ -59,7 +59,7 @@ fn is_overfull<V: View>(view: &V, items: &[(u32, u32, u32)], i: (u32, u32, u32))
     is_fixed_at(view, i.0, at) && fixed_load(view, items, at).is_above(greatest(view, i.2))
 }
 
-/// Whether some item's place is so.
+/// Whether some item's bin is so.
 fn is_some_overfull<V: View>(view: &V, items: &[(u32, u32, u32)]) -> bool
     requires { AreItemsNamed items.now (V.boxes view.now) }
     ensures { result ≡ some_overfull items.now items.now (V.boxes view.now) }
@@ -86,26 +86,26 @@ fn has_overfull<V: View>(view: &V, items: &[(u32, u32, u32)]) -> bool
 }
 
 /// All least sizes, added up.
-fn least_sizes<V: View>(view: &V, items: &[(u32, u32, u32)]) -> Total
+fn least_sizes<V: View>(view: &V, items: &[(u32, u32, u32)]) -> WideSum
     requires { AreItemsNamed items.now (V.boxes view.now) }
     ensures { result.value ≡ least_sizes items.now (V.boxes view.now) }
 {
-    let mut sum = Total { value: 0 };
+    let mut sum = WideSum { value: 0 };
     for i in items {
         sum = sum.plus(least(view, i.1));
     }
     sum
 }
 
-/// Whether the place's box has the value.
-fn may_be_at<V: View>(view: &V, place: u32, at: Number) -> bool
-    requires { place < length (V.boxes view.now) }
-    ensures { result ≡ has (box_of (V.boxes view.now) place) at.value }
+/// Whether the bin's box has the value.
+fn may_be_at<V: View>(view: &V, bin: u32, at: Number) -> bool
+    requires { bin < length (V.boxes view.now) }
+    ensures { result ≡ has (box_of (V.boxes view.now) bin) at.value }
 {
-    view.has(place, at.value)
+    view.has(bin, at.value)
 }
 
-/// The greatest room so far, with the item's where its place's box has the value.
+/// The greatest room so far, with the item's where its bin's box has the value.
 fn with_room<V: View>(best: Number, i: (u32, u32, u32), view: &V, at: Number) -> Number
     requires item { IsItemNamed i (V.boxes view.now) }
     ensures { result.value ≡ cond (has (box_of (V.boxes view.now) i.0) at.value)
@@ -119,7 +119,7 @@ fn with_room<V: View>(best: Number, i: (u32, u32, u32), view: &V, at: Number) ->
     }
 }
 
-/// The greater of 0 and the greatest room among the items whose place's box has the value.
+/// The greater of 0 and the greatest room among the items whose bin's box has the value.
 fn best_room<V: View>(view: &V, items: &[(u32, u32, u32)], at: Number) -> Number
     requires { AreItemsNamed items.now (V.boxes view.now) }
     ensures { result.value ≡ best_room at.value items.now (V.boxes view.now) }
@@ -131,10 +131,10 @@ fn best_room<V: View>(view: &V, items: &[(u32, u32, u32)], at: Number) -> Number
     best
 }
 
-/// The least of the number and what the places' boxes begin with.
-fn first_place<V: View>(view: &V, items: &[(u32, u32, u32)], from: Number) -> Number
+/// The least of the number and what the bins' boxes begin with.
+fn first_bin<V: View>(view: &V, items: &[(u32, u32, u32)], from: Number) -> Number
     requires { AreItemsNamed items.now (V.boxes view.now) }
-    ensures value { result.value ≡ first_place from.value items.now (V.boxes view.now) }
+    ensures value { result.value ≡ first_bin from.value items.now (V.boxes view.now) }
     ensures order { result.value ≤ℤ from.value }
 {
     let mut first = from;
@@ -144,10 +144,10 @@ fn first_place<V: View>(view: &V, items: &[(u32, u32, u32)], from: Number) -> Nu
     first
 }
 
-/// The greatest of the number and what the places' boxes end with.
-fn last_place<V: View>(view: &V, items: &[(u32, u32, u32)], from: Number) -> Number
+/// The greatest of the number and what the bins' boxes end with.
+fn last_bin<V: View>(view: &V, items: &[(u32, u32, u32)], from: Number) -> Number
     requires { AreItemsNamed items.now (V.boxes view.now) }
-    ensures value { result.value ≡ last_place from.value items.now (V.boxes view.now) }
+    ensures value { result.value ≡ last_bin from.value items.now (V.boxes view.now) }
     ensures order { from.value ≤ℤ result.value }
 {
     let mut last = from;
@@ -214,7 +214,12 @@ fn bin_behind<V: View>(
 
 /// The best rooms of the values from `first` to `last`, added up. Values that no bin may be have no
 /// room, and one step passes over all of them up to the next that some bin may be.
-fn rooms_between<V: View>(view: &V, items: &[(u32, u32, u32)], first: Number, last: Number) -> Total
+fn rooms_between<V: View>(
+    view: &V,
+    items: &[(u32, u32, u32)],
+    first: Number,
+    last: Number,
+) -> WideSum
     requires items { AreItemsNamed items.now (V.boxes view.now) }
     requires order { first.value ≤ℤ last.value }
     ensures { result.value ≡ rooms_from (width first.value last.value) first.value items.now
@@ -222,7 +227,7 @@ fn rooms_between<V: View>(view: &V, items: &[(u32, u32, u32)], first: Number, la
 {
     let mut at = first;
     let mut room = best_room(view, items, at);
-    let mut sum = Total { value: 0 }.plus(room);
+    let mut sum = WideSum { value: 0 }.plus(room);
     while is_below(at, last) {
         at = bin_behind(view, items, at, room, last);
         room = best_room(view, items, at);
@@ -231,17 +236,17 @@ fn rooms_between<V: View>(view: &V, items: &[(u32, u32, u32)], first: Number, la
     sum
 }
 
-/// The room of all places.
-fn all_room<V: View>(view: &V, items: &[(u32, u32, u32)]) -> Total
+/// The room of all bins.
+fn all_room<V: View>(view: &V, items: &[(u32, u32, u32)]) -> WideSum
     requires { AreItemsNamed items.now (V.boxes view.now) }
     ensures { result.value ≡ all_room items.now (V.boxes view.now) }
 {
     match items {
-        [] => Total { value: 0 },
+        [] => WideSum { value: 0 },
         [head, rest @ ..] => {
             let ends = view.ends(head.0);
-            let first = first_place(view, rest, Number { value: ends.0 });
-            let last = last_place(view, rest, Number { value: ends.1 });
+            let first = first_bin(view, rest, Number { value: ends.0 });
+            let last = last_bin(view, rest, Number { value: ends.1 });
             rooms_between(view, items, first, last)
         }
     }

@@ -5,21 +5,21 @@ use ground_form::Number;
 
 /// A sum of many numbers.
 #[derive(Clone, Copy)]
-pub struct Total {
+pub struct WideSum {
     /// It.
     pub value: i128,
 }
 
-impl Total {
+impl WideSum {
     /// The sum with one more number.
-    pub fn plus(self, n: Number) -> Total
+    pub fn plus(self, n: Number) -> WideSum
         requires low { pos 0 ≤ℤ (self.value +ℤ pos (2 ^ 127 - 2 ^ 63)) }
         requires high { self.value ≤ℤ pos (2 ^ 127 - 2 ^ 63) }
         ensures sum { result.value ≡ self.value +ℤ n.value }
         ensures low { self.value ≤ℤ (result.value +ℤ pos (2 ^ 63)) }
         ensures high { result.value ≤ℤ (self.value +ℤ pos (2 ^ 63 - 1)) }
     {
-        Total {
+        WideSum {
             value: self.value + i128::from(n.value),
         }
     }
@@ -32,7 +32,7 @@ impl Total {
     }
 
     /// Whether the other sum is below this one.
-    pub fn is_more_than(self, o: Total) -> bool
+    pub fn is_more_than(self, o: WideSum) -> bool
         ensures { result ≡ int_lt o.value self.value }
     {
         o.value < self.value

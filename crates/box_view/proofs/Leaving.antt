@@ -71,8 +71,8 @@ less_disjoint d s f g =
     (disjoint_law (less d s) s (IsValid-less d s f g) g).1 (λ v h. false_from_ne_true (has s v) (λ q. let e = has-less_valid d s f g v in grind arith))
 
 -- the same the other way round
-pub missed_by_rest : (d s : Ranges) → IsValid d → IsValid s → is_disjoint s (less d s) ≡ true
-missed_by_rest d s f g =
+pub disjoint_rest : (d s : Ranges) → IsValid d → IsValid s → is_disjoint s (less d s) ≡ true
+disjoint_rest d s f g =
     (disjoint_law s (less d s) g (IsValid-less d s f g)).1 (λ v h. has-less_valid d s f g v ∙ gone (has d v) (has s v) h)
 
 pub twice_within : (d s : Ranges) → IsValid d → IsValid s → is_within (less d (less d s)) s ≡ true

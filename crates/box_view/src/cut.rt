@@ -132,8 +132,8 @@ fn has_as_many(set: &IntSet, other: &IntSet) -> bool {
 /// one walk tells, which a long set is spared leaps by.
 #[tactic(auto, using(crate::proofs::CutLaws::within_apart, crate::proofs::CutLaws::within_apart_turned))]
 fn rest_disjoint(domain: &IntSet, out: &IntSet, set: &IntSet) -> bool
-    ensures missed { result ≡ is_disjoint (less domain.now out.now) set.now }
-    ensures set_missed { result ≡ is_disjoint set.now (less domain.now out.now) }
+    ensures disjoint { result ≡ is_disjoint (less domain.now out.now) set.now }
+    ensures set_disjoint { result ≡ is_disjoint set.now (less domain.now out.now) }
 {
     domain.ranges();
     out.ranges();
@@ -146,8 +146,8 @@ fn rest_disjoint(domain: &IntSet, out: &IntSet, set: &IntSet) -> bool
 
 /// The same by leaps.
 fn is_rest_apart(domain: &IntSet, out: &IntSet, set: &IntSet) -> bool
-    ensures missed { result ≡ is_disjoint (less domain.now out.now) set.now }
-    ensures set_missed { result ≡ is_disjoint set.now (less domain.now out.now) }
+    ensures disjoint { result ≡ is_disjoint (less domain.now out.now) set.now }
+    ensures set_disjoint { result ≡ is_disjoint set.now (less domain.now out.now) }
 {
     domain.ranges();
     out.ranges();

@@ -55,8 +55,8 @@ pub trait View {
     /// Whether no value of the box of `x` is in the set.
     fn is_disjoint(&self, x: u32, set: &IntSet) -> bool
         requires { x < length (boxes self.now) }
-        ensures missed { result ≡ is_disjoint (box_of (boxes self.now) x) set.now }
-        ensures set_missed { result ≡ is_disjoint set.now (box_of (boxes self.now) x) };
+        ensures disjoint { result ≡ is_disjoint (box_of (boxes self.now) x) set.now }
+        ensures set_disjoint { result ≡ is_disjoint set.now (box_of (boxes self.now) x) };
 
     /// Whether every value of the box of `x` is in the set.
     fn is_within(&self, x: u32, set: &IntSet) -> bool

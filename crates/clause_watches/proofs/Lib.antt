@@ -4,7 +4,7 @@ pub mod RowLaws
 pub mod MaskLaws
 pub mod WalkLaws
 pub mod KnownLaws
-pub mod SettleLaws
+pub mod VisitLaws
 pub mod ActLaws
 pub mod LinkLaws
 pub mod HeldLaws

@@ -17,7 +17,7 @@ use Rattle.clause_watches.specs.Rows.{seen, freed}
 use Rattle.clause_watches.specs.Sound.{AreKnown, watching_of}
 use Rattle.clause_watches.specs.Looking.{AreKnownNow}
 use Rattle.clause_watches.proofs.ActLaws.{known_rests}
-use Rattle.clause_watches.proofs.SettleLaws.{clause_form}
+use Rattle.clause_watches.proofs.VisitLaws.{clause_form}
 
 pub rest_map : (f : Rest → Rest) (rests : List Rest) (i : ℕ) → f Listed ≡ Listed →
     rest_of (map f rests) i ≡ f (rest_of rests i)

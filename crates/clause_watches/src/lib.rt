@@ -11,7 +11,7 @@
 //!
 //! - `watches`: the clauses, and what callers do with them.
 //! - `table`: all that is kept of them; `build`: how it begins and grows.
-//! - `next`: the search for a clause, in two halves: `settle` walks the rows of changed variables,
+//! - `next`: the search for a clause, in two halves: `visiting` walks the rows of changed variables,
 //!   `search` opens listed clauses.
 //! - `look`, `link`, `held`: what is found in a clause, and what is written down then.
 //! - `packed`: the literals of each clause once more, as looks read them.
@@ -35,9 +35,9 @@ mod rest;
 mod rests;
 mod row;
 mod search;
-mod settle;
 mod steps;
 mod table;
+mod visiting;
 mod watch;
 mod watches;
 mod witness;

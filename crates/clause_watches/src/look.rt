@@ -10,9 +10,9 @@ ghost use Rattle.clause_watches.specs.Looking.{IsOut, IsShown, AreOutBetween, Is
 
 use crate::mask::box_bits;
 use crate::packed::{PackedLiteral, begin_of, least_of, packed_at};
-use crate::settle::box_at;
 use crate::steps::names;
 use crate::table::Table;
+use crate::visiting::box_at;
 use crate::watch::{Link, Watch, Witness};
 use crate::witness::witness_of;
 use signed_clause::{ClauseHandle, IntSet};

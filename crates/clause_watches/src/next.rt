@@ -4,8 +4,8 @@ ghost use Rattle.clause_watches.specs.Watching.{acts, clause_of, rest_of, is_lis
 ghost use Rattle.clause_watches.specs.Sound.{IsSound, watching_of};
 
 use crate::search::find_acting;
-use crate::settle::settle_all;
 use crate::table::Table;
+use crate::visiting::visit_rows;
 use signed_clause::{ClauseHandle, IntSet};
 use std::alloc::AllocError;
 
@@ -25,7 +25,7 @@ pub(crate) fn next_acting(table: &mut Table, boxes: &[IntSet]) -> Result<Option<
     ensures none_listed { IfOk result (λ o. IfNone o ((i : ℕ) → i < length table.new.added.items
         → is_listed (rest_of (watching_of table.new).rests i) ≡ false)) }
 {
-    settle_all(table, boxes);
+    visit_rows(table, boxes);
     match find_acting(table, boxes)? {
         Some(i) => Ok(Some(number_at(table.added.as_slice(), i))),
         None => Ok(None),

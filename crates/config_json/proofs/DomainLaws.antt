@@ -48,15 +48,15 @@ truth_within : (b : Bool) → (pos 0 ≤ℤ truth_number b) × (truth_number b �
 truth_within true = (omega (arith, ints), omega (arith, ints))
 truth_within false = (omega (arith, ints), omega (arith, ints))
 
-place_within : (k n : ℕ) → k < n → (pos 0 ≤ℤ pos k) × (pos k ≤ℤ (pos n -ℤ pos 1))
-place_within k n h = (omega (arith, ints, h), omega (arith, ints, h))
+index_within : (k n : ℕ) → k < n → (pos 0 ≤ℤ pos k) × (pos k ≤ℤ (pos n -ℤ pos 1))
+index_within k n h = (omega (arith, ints, h), omega (arith, ints, h))
 
 value_within : (o : Outline) (e : ℕ) (name : List ℕ) (v : ℤ) → value_number o e name ≡ Some v → (pos 0 ≤ℤ v) × (v ≤ℤ (pos (value_count o e) -ℤ pos 1))
 value_within o e name v g = by (slice_get o.enumerations e) refl g
   where
     found : (x : Enumeration) → (r : Option ℕ) → position (same_name name) x.values ≡ r → option_map pos r ≡ Some v → (pos 0 ≤ℤ v) × (v ≤ℤ (pos (length x.values) -ℤ pos 1))
     found x None is g = cc
-    found x (Some k) is g = subst (λ w. (pos 0 ≤ℤ w) × (w ≤ℤ (pos (length x.values) -ℤ pos 1))) (some_is g) (place_within k (length x.values) (found_within name x.values k is))
+    found x (Some k) is g = subst (λ w. (pos 0 ≤ℤ w) × (w ≤ℤ (pos (length x.values) -ℤ pos 1))) (some_is g) (index_within k (length x.values) (found_within name x.values k is))
 
     by : (x : Option Enumeration) → slice_get o.enumerations e ≡ x → option_and_then (λ (x : Enumeration). option_map pos (position (same_name name) x.values)) x ≡ Some v → (pos 0 ≤ℤ v) × (v ≤ℤ (pos (value_count o e) -ℤ pos 1))
     by None is g = cc

@@ -1,6 +1,6 @@
 pub mod ValuesRead
 pub mod Known
-pub mod PlaceLaws
+pub mod PositionLaws
 pub mod CountLaws
 pub mod DomainLaws
 pub mod PickLaws
@@ -13,7 +13,7 @@ pub mod FloatFree
 pub mod Texts
 pub mod OwnLeafValues
 pub mod OwnMembers
-pub mod OwnPlaces
+pub mod OwnPositions
 pub mod OwnText
 pub mod WordTexts
 pub mod NestLaws

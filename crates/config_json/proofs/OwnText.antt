@@ -28,7 +28,7 @@ use Rattle.config_json.proofs.Texts.{HasTexts}
 use Rattle.config_json.specs.Tree.{config_data, leaf_data, path_data, paths_data}
 use Rattle.config_json.proofs.OwnLeafValues.{choice_back, only_is, truth_is, whole_back}
 use Rattle.config_json.proofs.OwnMembers.{any_of, object_back, set_back}
-use Rattle.config_json.proofs.OwnPlaces.{leaf_stands}
+use Rattle.config_json.proofs.OwnPositions.{leaf_stands}
 
 module _ (o : Outline) (sound : IsSound o) (few : length (objects o) < 2 ^ 32) (texts : HasTexts o) (t : List ℤ) where
   shape_back : (l : Leaf) (s : Resolved) (own : List ℕ) (front : List ℤ) → AreValues o (shape_cells o l s) front → map (value_at t) own ≡ front → filter_map (member_at (cells o) t) own ≡ picks any_cell (shape_cells o l s) front → ((c n : ℕ) → s ≡ RefSet c n → length (filter_map (member_at (cells o) t) own) ≡ n) → ((c : ℕ) → s ≡ One c → ⊥) → ((c n : ℕ) → s ≡ Many c n → ⊥) → value_in o s (leaf_data o t own s) ≡ Some front

@@ -19,7 +19,7 @@ use Rattle.object_alloc.proofs.HintLaws.{sized_by, values_append}
 use Rattle.object_alloc.proofs.OwnWalk.{is_leaf_of}
 use Rattle.object_alloc.proofs.PickedMembers.{any_cell, only_leaf, picked_all, picks, picks_append, picks_ones, picks_same, shape_each}
 use Rattle.serde_json.specs.Data.{Data}
-use Rattle.config_json.specs.Former.{value_in, leaf_place, former, leaf_hints, hints, leaf_path, first_missing, missing}
+use Rattle.config_json.specs.Former.{value_in, leaf_position, former, leaf_hints, hints, leaf_path, first_missing, missing}
 use Rattle.config_json.specs.Whole.{IsWhole}
 use Rattle.config_json.proofs.DomainLaws.{values_within}
 use Rattle.config_json.proofs.PickLaws.{set_size}
@@ -31,8 +31,8 @@ module _ (o : Outline) (d : Data) where
 
   -- the leaf has a value
   pub record IsGiven (l : Leaf) : Type 0 where
-    pub place : Data
-    pub is : value_in o l.shape place ≡ Some (given l)
+    pub position : Data
+    pub is : value_in o l.shape position ≡ Some (given l)
     pub hints_are : leaf_hints o d l ≡ map Some (given l)
 
   abbrev pub AreGiven : List Leaf → Type 0
@@ -41,14 +41,14 @@ module _ (o : Outline) (d : Data) where
 
   is_given : (l : Leaf) (r : Option (List ℤ)) → former o d l ≡ r → is_some r ≡ true → IsGiven l
   is_given l None is e = cc
-  is_given l (Some vs) is e = by (leaf_place o d l) is
+  is_given l (Some vs) is e = by (leaf_position o d l) is
     where
       same : given l ≡ vs
       same = ap (λ r. option_map_or (λ vs. vs) r []) is
 
       by : (p : Option Data) → option_and_then (value_in o l.shape) p ≡ Some vs → IsGiven l
       by None g = cc
-      by (Some x) g = record { place = x; is = g ∙ ap Some (sym same); hints_are = ap (λ r. option_map_or (map Some) r (replicate (length (leaf_cells o l)) None)) is ∙ ap (map Some) (sym same) }
+      by (Some x) g = record { position = x; is = g ∙ ap Some (sym same); hints_are = ap (λ r. option_map_or (map Some) r (replicate (length (leaf_cells o l)) None)) is ∙ ap (map Some) (sym same) }
 
   all_given : (ls : List Leaf) → first_missing o d ls ≡ None → AreGiven ls
   all_given [] e = tt
@@ -66,7 +66,7 @@ module _ (o : Outline) (d : Data) where
 
   values_given : (ls : List Leaf) → AreGiven ls → AreValues o (flat_map (leaf_cells o) ls) (flat_map given ls)
   values_given [] h = tt
-  values_given (l ∷ ls) (h, hs) = values_append o (leaf_cells o l) (flat_map (leaf_cells o) ls) (given l) (flat_map given ls) (values_within o l l.shape h.place (given l) h.is) (values_given ls hs)
+  values_given (l ∷ ls) (h, hs) = values_append o (leaf_cells o l) (flat_map (leaf_cells o) ls) (given l) (flat_map given ls) (values_within o l l.shape h.position (given l) h.is) (values_given ls hs)
 
   given_at : (ls : List Leaf) (i : ℕ) (l : Leaf) → AreGiven ls → slice_get ls i ≡ Some l → IsGiven l
   given_at [] i l h e = cc
@@ -80,7 +80,7 @@ module _ (o : Outline) (d : Data) where
   picks_leaves : (owner : Option ℕ) (k : ℕ) (ls : List Leaf) → AreGiven ls → picks (is_cell_of owner k) (flat_map (leaf_cells o) ls) (flat_map given ls) ≡ flat_map (λ l. picks any_cell (leaf_cells o l) (given l)) (filter (is_leaf_of owner k) ls)
   picks_leaves owner k [] h = refl
   picks_leaves owner k (l ∷ ls) (h, hs) =
-      picks_append o (is_cell_of owner k) (leaf_cells o l) (flat_map (leaf_cells o) ls) (given l) (flat_map given ls) (values_within o l l.shape h.place (given l) h.is)
+      picks_append o (is_cell_of owner k) (leaf_cells o l) (flat_map (leaf_cells o) ls) (given l) (flat_map given ls) (values_within o l l.shape h.position (given l) h.is)
       ∙ by (is_leaf_of owner k l) (picks_same o (is_cell_of owner k) (is_leaf_of owner k l) (leaf_cells o l) (given l) (shape_each o owner k l l.shape)) (picks_leaves owner k ls hs)
     where
       by : (b : Bool) → picks (is_cell_of owner k) (leaf_cells o l) (given l) ≡ cond b (picks any_cell (leaf_cells o l) (given l)) [] → picks (is_cell_of owner k) (flat_map (leaf_cells o) ls) (flat_map given ls) ≡ flat_map (λ l. picks any_cell (leaf_cells o l) (given l)) (filter (is_leaf_of owner k) ls) → picks (is_cell_of owner k) (leaf_cells o l) (given l) ++ picks (is_cell_of owner k) (flat_map (leaf_cells o) ls) (flat_map given ls) ≡ flat_map (λ l. picks any_cell (leaf_cells o l) (given l)) (cond b (l ∷ filter (is_leaf_of owner k) ls) (filter (is_leaf_of owner k) ls))
@@ -91,14 +91,14 @@ module _ (o : Outline) (d : Data) where
   set_ones : (l : Leaf) → IsGiven l → (c n : ℕ) → l.shape ≡ RefSet c n → ones (given l) ≡ n
   set_ones l g c n is =
       let members : leaf_cells o l ≡ member_cells l (extent o c) = ap (shape_cells o l) is in
-      let within = subst (λ cs. AreValues o cs (given l)) members (values_within o l l.shape g.place (given l) g.is) in
-      sym (picks_ones o l (extent o c) (given l) within) ∙ ap (λ cs. length (picks any_cell cs (given l))) (sym members) ∙ set_size o l l.shape c n g.place (given l) is g.is
+      let within = subst (λ cs. AreValues o cs (given l)) members (values_within o l l.shape g.position (given l) g.is) in
+      sym (picks_ones o l (extent o c) (given l) within) ∙ ap (λ cs. length (picks any_cell cs (given l))) (sym members) ∙ set_size o l l.shape c n g.position (given l) is g.is
 
   leaf_form : (l : Leaf) (r : Option (List ℤ)) → former o d l ≡ r → IsLeafHinted o l (leaf_hints o d l)
   leaf_form l None is = inl (ap (λ r. option_map_or (map Some) r (replicate (length (leaf_cells o l)) None)) is)
   leaf_form l (Some vs) is =
       let g = is_given l (Some vs) is refl in
-      inr (record { values = given l; all = g.hints_are; within = values_within o l l.shape g.place (given l) g.is; size = sized_by l.shape (given l) (set_ones l g) })
+      inr (record { values = given l; all = g.hints_are; within = values_within o l l.shape g.position (given l) g.is; size = sized_by l.shape (given l) (set_ones l g) })
 
   leaves_form : (ls : List Leaf) → AreLeavesHinted o ls (flat_map (leaf_hints o d) ls)
   leaves_form [] = refl
@@ -117,7 +117,7 @@ module _ (o : Outline) (d : Data) where
       ∙ picks_leaves l.owner l.attribute (leaves_in (walk o)) h
       ∙ ap (flat_map (λ l. picks any_cell (leaf_cells o l) (given l))) (only_leaf o sound i l c n at is)
       ∙ append-nil (picks any_cell (leaf_cells o l) (given l)))
-      ∙ set_size o l l.shape c n given_l.place (given l) is given_l.is
+      ∙ set_size o l l.shape c n given_l.position (given l) is given_l.is
 
   pub whole : IsSound o → missing o d ≡ None → IsWhole o (hints o d)
   whole sound e =

@@ -116,8 +116,8 @@ named_at [] k v g = cc
 named_at (u ∷ us) zero v g = ap (λ (w : Variable). Some w.name) (some_is g)
 named_at (u ∷ us) (suc k) v g = named_at us k v g
 
-one_place : (vs : List Variable) (j k : ℕ) (v w : Variable) → all_differ (map variable_name vs) [] ≡ true → slice_get vs j ≡ Some v → slice_get vs k ≡ Some w → v.name ≡ w.name → j ≡ k
-one_place vs j k v w d g h e =
+one_index : (vs : List Variable) (j k : ℕ) (v w : Variable) → all_differ (map variable_name vs) [] ≡ true → slice_get vs j ≡ Some v → slice_get vs k ≡ Some w → v.name ≡ w.name → j ≡ k
+one_index vs j k v w d g h e =
     let names = map variable_name vs in
     some_is (sym (found_at names j v.name d (named_at vs j v g)) ∙ ap (λ n. position (same_name n) names) e ∙ found_at names k w.name d (named_at vs k w h))
 
@@ -192,7 +192,7 @@ module _ (o : Outline) (sound : IsSound o) (few : length (objects o) < 2 ^ 32) (
     where
       by : (x : Option Object) → slice_get (objects o) n ≡ x → option_map (λ (y : Object). y.class) x ≡ Some c → j ≡ k
       by None at is = cc
-      by (Some x) at is = one_place (attributes o.classes c) j k v w (sound.differ c (subst (λ d. d < length o.classes) (some_is is) (class_known o sound n x at))) g h e
+      by (Some x) at is = one_index (attributes o.classes c) j k v w (sound.differ c (subst (λ d. d < length o.classes) (some_is is) (class_known o sound n x at))) g h e
 
   variables_apart : (owner : Option ℕ) (j k : ℕ) (v w : Variable) → slice_get (variables_of o owner) j ≡ Some v → slice_get (variables_of o owner) k ≡ Some w → text_of v.name ≡ text_of w.name → j ≡ k
   variables_apart owner j k v w g h e =

@@ -1,4 +1,4 @@
--- The values that a former JSON value gives: of each leaf the value at the leaf's place, where it
+-- The values that a former JSON value gives: of each leaf the value at the leaf's position, where it
 -- is one of the leaf's.
 use Rattle.std.specs.Prelude.{ℕ, zero, suc, Bool, ◌&&◌, cond, List, [], ◌∷◌, ◌++◌, Option, None, Some, ℤ, pos, int_le, is_some, length, map, nat_eq, position, replicate, slice_get, option_map, option_and_then}
 use Rattle.std.specs.List.{flat_map, list_any}
@@ -21,7 +21,7 @@ use Rattle.serde_json.specs.Events.{items_len}
 use Rattle.serde_json.specs.Find.{get, at, as_bool, as_number, as_integer, as_str, as_array}
 use Rattle.config_json.specs.Keys.{text_of}
 
--- Places: keys for names, elements for indexes
+-- Positions: keys for names, elements for indexes
 
 -- the element of an array
 abbrev pub element_of : Resolved → ℕ → Data → Option Data
@@ -43,26 +43,26 @@ step_to vs x d =
     option_and_then (λ (v : Variable). option_and_then (element_of v.shape x.element)
     (get (text_of v.name) d)) (slice_get vs x.attribute)
 
-abbrev pub owner_place : (ℕ → Option Data) → Data → Option ℕ → Option Data
-owner_place place_of d None = Some d
-owner_place place_of d (Some n) = place_of n
+abbrev pub owner_position : (ℕ → Option Data) → Data → Option ℕ → Option Data
+owner_position position_of d None = Some d
+owner_position position_of d (Some n) = position_of n
 
--- the place of object n, where at most so many objects hold one another
-abbrev pub place_within : Outline → Data → ℕ → ℕ → Option Data
-place_within o d zero n = None
-place_within o d (suc steps) n =
+-- the position of object n, where at most so many objects hold one another
+abbrev pub position_within : Outline → Data → ℕ → ℕ → Option Data
+position_within o d zero n = None
+position_within o d (suc steps) n =
     option_and_then (λ (x : Object). option_and_then (step_to (variables_of o x.owner) x)
-    (owner_place (place_within o d steps) d x.owner)) (slice_get (objects o) n)
+    (owner_position (position_within o d steps) d x.owner)) (slice_get (objects o) n)
 
--- the place of object n: each object is held by one with a lesser number
-abbrev pub object_place : Outline → Data → ℕ → Option Data
-object_place o d n = place_within o d (suc n) n
+-- the position of object n: each object is held by one with a lesser number
+abbrev pub object_position : Outline → Data → ℕ → Option Data
+object_position o d n = position_within o d (suc n) n
 
--- the place of a leaf
-abbrev pub leaf_place : Outline → Data → Leaf → Option Data
-leaf_place o d l =
+-- the position of a leaf
+abbrev pub leaf_position : Outline → Data → Leaf → Option Data
+leaf_position o d l =
     option_and_then (under_name (variables_of o l.owner) l.attribute)
-    (owner_place (object_place o d) d l.owner)
+    (owner_position (object_position o d) d l.owner)
 
 -- Values, by the shape of the leaf: a number for each of its cells
 
@@ -119,7 +119,7 @@ value_in o (Many c count) d = None
 
 -- the former value of a leaf
 abbrev pub former : Outline → Data → Leaf → Option (List ℤ)
-former o d l = option_and_then (value_in o l.shape) (leaf_place o d l)
+former o d l = option_and_then (value_in o l.shape) (leaf_position o d l)
 
 -- Hints: the cells of a leaf have its former value, or none of them has one
 

@@ -2,7 +2,7 @@ pub mod Reading
 pub mod Keys
 pub mod Tree
 pub mod Former
-pub mod Places
+pub mod Positions
 pub mod Whole
 pub mod Marked
 pub mod Marking

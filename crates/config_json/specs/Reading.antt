@@ -5,7 +5,7 @@ use Rattle.serde_json.specs.Data.{Data}
 use Rattle.serde_json.specs.Find.{as_object}
 use Rattle.serde_json.specs.Read.{read}
 use Rattle.serde_json.specs.View.{view}
-use Rattle.config_json.specs.declared.former.Former.{Former}
+use Rattle.config_json.specs.declared.former.ConfigText.{ConfigText}
 use Rattle.config_json.specs.declared.former.FormerError.{FormerError}
 use Rattle.config_json.specs.declared.former.FormerError.TheVariants.{NotJson, NotObject, Memory}
 
@@ -14,7 +14,7 @@ abbrev pub value_read : List ℕ → Option Data
 value_read bytes = if is_utf8 bytes then read bytes else None
 
 -- the value that a former text was read as
-abbrev pub json_of : Former → Data
+abbrev pub json_of : ConfigText → Data
 json_of f = view f.value
 
 -- bytes that are read as something else than an object

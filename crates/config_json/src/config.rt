@@ -15,7 +15,7 @@ ghost use Rattle.object_alloc.specs.Members.{member_at, value_at};
 ghost use Rattle.config_json.specs.Tree.{all_data, attribute_data, first_data, class_member, config_bytes, config_data, leaf_data, object_data, only_value, path_data, paths_data, with_variables};
 
 use crate::leaves::element_at;
-use crate::places::variable_of;
+use crate::positions::variable_of;
 use crate::size::check_size;
 use class_table::{ClassTable, Resolved};
 use conf_syntax::Name;

@@ -7,13 +7,13 @@ use serde_json::Value;
 use std::alloc::Global;
 
 /// A JSON value that was read from a former text. Clauses see it as that value, by `json_of`.
-pub struct Former {
+pub struct ConfigText {
     pub(crate) value: Value,
 }
 
-impl Drop for Former {
+impl Drop for ConfigText {
     fn drop(self) {
-        let Former { value: _ } = self;
+        let ConfigText { value: _ } = self;
     }
 }
 
@@ -34,7 +34,7 @@ pub enum FormerError {
 ///
 /// `NotJson` where `serde_json` reads no value, as for bytes that aren't UTF-8; `NotObject` where
 /// the value is no object; `Memory` where there is none left.
-pub fn read_config(alloc: Global, bytes: &[u8]) -> Result<Former, FormerError>
+pub fn read_config(alloc: Global, bytes: &[u8]) -> Result<ConfigText, FormerError>
     ensures value { IfOk result (λ former. value_read bytes.now ≡ Some (json_of former)) }
     ensures object { IfOk result (λ former. IsSome (as_object (json_of former))) }
     ensures refused { IfErr result (IsRefused bytes.now) }
@@ -47,5 +47,5 @@ pub fn read_config(alloc: Global, bytes: &[u8]) -> Result<Former, FormerError>
     if !value.is_object() {
         return Err(FormerError::NotObject);
     }
-    Ok(Former { value })
+    Ok(ConfigText { value })
 }

@@ -8,14 +8,14 @@ ghost use Rattle.object_alloc.specs.Leaves.{IsHeldLeaf};
 ghost use Rattle.object_alloc.specs.Paths.{path, owner_path};
 ghost use Rattle.object_alloc.specs.Walk.{objects as all_objects};
 ghost use Rattle.serde_json.specs.View.{view};
-ghost use Rattle.config_json.specs.Former.{former, hints, leaf_path, leaf_place, missing, one, truth_number};
+ghost use Rattle.config_json.specs.Former.{former, hints, leaf_path, leaf_position, missing, one, truth_number};
 ghost use Rattle.config_json.specs.Marked.{element_at, marked, member_extent, numbers_of};
-ghost use Rattle.config_json.specs.Places.{seen, ArePlaces};
+ghost use Rattle.config_json.specs.Positions.{seen, ArePositions};
 ghost use Rattle.config_json.specs.Reading.{json_of};
 ghost use Rattle.config_json.specs.Whole.{IsWhole};
 
-use crate::former::Former;
-use crate::places::{named, owner_place, places_of, variable_of};
+use crate::former::ConfigText;
+use crate::positions::{named, owner_position, positions_of, variable_of};
 use crate::values::{FormerValue, value_in};
 use class_table::ClassTable;
 use conf_syntax::PathText;
@@ -23,21 +23,21 @@ use object_alloc::{Hints, Leaf, Objects};
 use serde_json::Value;
 use std::alloc::{AllocError, Global};
 
-/// The place of a leaf.
-fn leaf_place<'v>(
+/// The position of a leaf.
+fn leaf_position<'v>(
     alloc: Global,
     objects: &Objects<'_>,
     json: &'v Value,
-    places: &[Option<&'v Value>],
+    positions: &[Option<&'v Value>],
     leaf: Leaf,
 ) -> Result<Option<&'v Value>, AllocError>
     requires leaf { IsHeldLeaf objects.now leaf }
-    requires places { ArePlaces objects.now (view json.now) (length (all_objects objects.now))
-        places.now }
-    ensures place { IfOk result (λ found. seen found
-        ≡ leaf_place objects.now (view json.now) leaf) }
+    requires positions { ArePositions objects.now (view json.now) (length (all_objects objects.now))
+        positions.now }
+    ensures position { IfOk result (λ found. seen found
+        ≡ leaf_position objects.now (view json.now) leaf) }
 {
-    let Some(owner) = owner_place(json, places, leaf.owner) else {
+    let Some(owner) = owner_position(json, positions, leaf.owner) else {
         return Ok(None);
     };
     let variable = variable_of(objects, leaf.owner, leaf.attribute);
@@ -50,18 +50,18 @@ fn former_of(
     alloc: Global,
     objects: &Objects<'_>,
     json: &Value,
-    places: &[Option<&Value>],
+    positions: &[Option<&Value>],
     leaf: Leaf,
 ) -> Result<Option<FormerValue>, AllocError>
     requires sound { IsSound objects.now }
     requires leaf { IsHeldLeaf objects.now leaf }
-    requires places { ArePlaces objects.now (view json.now) (length (all_objects objects.now))
-        places.now }
+    requires positions { ArePositions objects.now (view json.now) (length (all_objects objects.now))
+        positions.now }
     ensures value { IfOk result (λ found. option_map
         (numbers_of (member_extent objects.now leaf.shape)) found
         ≡ former objects.now (view json.now) leaf) }
 {
-    match leaf_place(alloc, objects, json, places, leaf)? {
+    match leaf_position(alloc, objects, json, positions, leaf)? {
         Some(value) => {
             let found = value_in(alloc, objects, leaf.shape, value)?;
             Ok(found)
@@ -147,7 +147,7 @@ fn push_hints(
 /// value. Where no leaf lacks one they are a configuration.
 pub fn hints_of(
     alloc: Global,
-    former: &Former,
+    former: &ConfigText,
     table: &ClassTable,
     objects: &Objects<'_>,
 ) -> Result<Hints, AllocError>
@@ -159,10 +159,10 @@ pub fn hints_of(
 {
     let _count = objects.count();
     let json = &former.value;
-    let places = places_of(alloc, objects, json)?;
+    let positions = positions_of(alloc, objects, json)?;
     let mut hints = Vec::new(alloc);
     for leaf in objects.leaves() {
-        let found = former_of(alloc, objects, json, &places, *leaf)?;
+        let found = former_of(alloc, objects, json, &positions, *leaf)?;
         push_hints(&mut hints, objects, *leaf, found)?;
     }
     Ok(Hints::of(hints))
@@ -201,7 +201,7 @@ fn leaf_text(alloc: Global, objects: &Objects<'_>, leaf: Leaf) -> Result<PathTex
 /// leaf has one. A leaf that has no cell counts.
 pub fn missing(
     alloc: Global,
-    former: &Former,
+    former: &ConfigText,
     table: &ClassTable,
     objects: &Objects<'_>,
 ) -> Result<Option<PathText>, AllocError>
@@ -210,9 +210,9 @@ pub fn missing(
 {
     let _count = objects.count();
     let json = &former.value;
-    let places = places_of(alloc, objects, json)?;
+    let positions = positions_of(alloc, objects, json)?;
     for leaf in objects.leaves() {
-        let found = former_of(alloc, objects, json, &places, *leaf)?;
+        let found = former_of(alloc, objects, json, &positions, *leaf)?;
         if found.is_none() {
             let path = leaf_text(alloc, objects, *leaf)?;
             return Ok(Some(path));

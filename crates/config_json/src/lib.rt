@@ -8,11 +8,11 @@ mod config;
 mod former;
 mod law;
 mod leaves;
-mod places;
+mod positions;
 mod size;
 mod values;
 
 pub use config::{config_text, to_json};
-pub use former::{Former, FormerError, read_config};
+pub use former::{ConfigText, FormerError, read_config};
 pub use law::own_json_gives_values;
 pub use leaves::{hints_of, missing};

@@ -8,7 +8,7 @@ ghost use Rattle.object_alloc.specs.Laid.{variables_of};
 ghost use Rattle.object_alloc.specs.Walk.{objects as all_objects};
 
 use crate::config::{member_at, only_value};
-use crate::places::variable_of;
+use crate::positions::variable_of;
 use class_table::Resolved;
 use object_alloc::Objects;
 use std::alloc::{AllocError, Global};

@@ -20,20 +20,20 @@ use Rattle.run_promise.specs.Refusal.{IsReason, IsDeniedOf, IsTooLongText}
 use Rattle.model_reader.specs.ModelRefusal.{IsRefusedFor, IsTextRefused}
 use Rattle.run_status.specs.Stages.{Stage, Unasked, Unread, Refused, Answered, Unwritten, Lost, stage_of, Denied}
 use Rattle.round_commands.specs.Unreadable.{Unreadable}
-use Rattle.round_commands.specs.Told.{IsLogOf}
-use Rattle.confsolve_run.specs.Told.{stored, StoresSome, IsBroken}
+use Rattle.round_commands.specs.Told.{IsToldLog}
+use Rattle.confsolve_run.specs.Told.{stored, StoresSome, IsToldBroken}
 use Rattle.round_commands.proofs.Begun.{answer_begun}
 use Rattle.round_commands.proofs.Reading.{risen_earlier}
 use Rattle.round_commands.proofs.Asking.{asked_map, text_map, text_read}
 
 -- ---- the log
 
-pub logged_of : (name log : Option (List ℕ)) (journal : Journal) (before now : Option Files) → IsLogOf (is_some name) journal log → now ≡ stored name log before → IsLoggedIn name journal before now
+pub logged_of : (name log : Option (List ℕ)) (journal : Journal) (before now : Option Files) → IsToldLog (is_some name) journal log → now ≡ stored name log before → IsLoggedIn name journal before now
 logged_of None log journal before now h is = is
 logged_of (Some name) None journal before now h is = absurd h
 logged_of (Some name) (Some text) journal before now h is = (h.0, h.1, is ∙ ap (λ t. option_map (with_file name t) before) h.2)
 
-pub front_of : (name log : Option (List ℕ)) (journal : Journal) (before now : Option Files) → IsLogOf (is_some name) journal log → StoresSome name log before now → IsLogFrontIn name journal before now
+pub front_of : (name log : Option (List ℕ)) (journal : Journal) (before now : Option Files) → IsToldLog (is_some name) journal log → StoresSome name log before now → IsLogFrontIn name journal before now
 front_of None log journal before now h is = is
 front_of (Some name) None journal before now h is = absurd h
 front_of (Some name) (Some text) journal before now h is = inr (h.0, h.1, subst (λ t. StoresFront name t before now) h.2 is)
@@ -49,7 +49,7 @@ whole_front (Some name) journal before now h =
     let text = log_text h.0 journal in
     inr (h.0, h.1, inr (length text, omega arith, h.2 ∙ ap (λ t. option_map (with_file name t) before) (sym (take_all text))))
 
-pub cut_of : (r : Request) (journal : Journal) (name log : Option (List ℕ)) (text : List ℕ) (before now : Outside) → name ≡ log_file r → IsLogOf (is_some name) journal log → IsBroken name log text before now → IsCutOff r journal text before now
+pub cut_of : (r : Request) (journal : Journal) (name log : Option (List ℕ)) (text : List ℕ) (before now : Outside) → name ≡ log_file r → IsToldLog (is_some name) journal log → IsToldBroken name log text before now → IsCutOff r journal text before now
 cut_of r journal name log text before now is h (inl b) = inl (b.0, subst (λ n. IsLogFrontIn n journal before.files now.files) is (front_of name log journal before.files now.files h b.1))
 cut_of r journal name log text before now is h (inr b) = inr (subst (λ n. IsLoggedIn n journal before.files now.files) is (logged_of name log journal before.files now.files h b.0), b.1)
 
@@ -59,13 +59,13 @@ begun_of r journal text before now (inr c) = whole_front (log_file r) journal be
 
 -- ---- a model
 
-pub model_answered : (t : Trace) (p : Program) (s : Status) (name log : Option (List ℕ)) (text : List ℕ) → stage_of s ≡ Answered → IsRecorded t.orders t.request s t.journal → name ≡ log_file t.request → IsLogOf (is_some name) t.journal log → t.now.files ≡ stored name log t.before.files → IsWithin p → OfAsked t.before.files t.request (λ asked. IsAnswer t.orders t.journal asked p s text) → t.now.printed ≡ with_printed text t.before.printed → EndsModel t p s
+pub model_answered : (t : Trace) (p : Program) (s : Status) (name log : Option (List ℕ)) (text : List ℕ) → stage_of s ≡ Answered → IsRecorded t.orders t.request s t.journal → name ≡ log_file t.request → IsToldLog (is_some name) t.journal log → t.now.files ≡ stored name log t.before.files → IsWithin p → OfAsked t.before.files t.request (λ asked. IsAnswer t.orders t.journal asked p s text) → t.now.printed ≡ with_printed text t.before.printed → EndsModel t p s
 model_answered t p s name log text stage recorded is h files within answers printed =
     let logged = subst (λ n. IsLoggedIn n t.journal t.before.files t.now.files) is (logged_of name log t.journal t.before.files t.now.files h files) in
     subst (λ g. EndsModelAt g t p s) (sym stage)
     (record { recorded = recorded; logged = logged }, (within, asked_map t.before.files t.request _ _ (λ asked a. (text, a, printed)) answers))
 
-pub model_begun : (t : Trace) (p : Program) (s : Status) (name log : Option (List ℕ)) (text : List ℕ) → IsRecorded t.orders t.request s t.journal → name ≡ log_file t.request → IsLogOf (is_some name) t.journal log → IsBroken name log text t.before t.now → IsWithin p → OfAsked t.before.files t.request (λ asked. IsAnswer t.orders t.journal asked p s text) → IsBegun t p
+pub model_begun : (t : Trace) (p : Program) (s : Status) (name log : Option (List ℕ)) (text : List ℕ) → IsRecorded t.orders t.request s t.journal → name ≡ log_file t.request → IsToldLog (is_some name) t.journal log → IsToldBroken name log text t.before t.now → IsWithin p → OfAsked t.before.files t.request (λ asked. IsAnswer t.orders t.journal asked p s text) → IsBegun t p
 model_begun t p s name log text recorded is h broken within answers =
     let cut = cut_of t.request t.journal name log text t.before t.now is h broken in
     record {
@@ -75,15 +75,15 @@ model_begun t p s name log text recorded is h broken within answers =
     }
 
 -- the same, where the outside was as before when writing began
-pub begun_from : (t : Trace) (p : Program) (s : Status) (name log : Option (List ℕ)) (text : List ℕ) (files : Option Files) (printed : Option (List ℕ)) → files ≡ t.before.files → printed ≡ t.before.printed → IsRecorded t.orders t.request s t.journal → name ≡ log_file t.request → IsLogOf (is_some (log_file t.request)) t.journal log → IsBroken name log text (outside files printed) t.now → IsWithin p → OfAsked t.before.files t.request (λ asked. IsAnswer t.orders t.journal asked p s text) → IsBegun t p
+pub begun_from : (t : Trace) (p : Program) (s : Status) (name log : Option (List ℕ)) (text : List ℕ) (files : Option Files) (printed : Option (List ℕ)) → files ≡ t.before.files → printed ≡ t.before.printed → IsRecorded t.orders t.request s t.journal → name ≡ log_file t.request → IsToldLog (is_some (log_file t.request)) t.journal log → IsToldBroken name log text (outside files printed) t.now → IsWithin p → OfAsked t.before.files t.request (λ asked. IsAnswer t.orders t.journal asked p s text) → IsBegun t p
 begun_from t p s name log text files printed f q recorded is h broken within answers =
-    model_begun t p s name log text recorded is (subst (λ n. IsLogOf (is_some n) t.journal log) (sym is) h)
-    (subst (λ x. IsBroken name log text (outside t.before.files x) t.now) q (subst (λ x. IsBroken name log text (outside x printed) t.now) f broken)) within answers
+    model_begun t p s name log text recorded is (subst (λ n. IsToldLog (is_some n) t.journal log) (sym is) h)
+    (subst (λ x. IsToldBroken name log text (outside t.before.files x) t.now) q (subst (λ x. IsToldBroken name log text (outside x printed) t.now) f broken)) within answers
 
 -- the same of an answer that was printed
-pub answered_from : (t : Trace) (p : Program) (s : Status) (name log : Option (List ℕ)) (text : List ℕ) (files : Option Files) (printed : Option (List ℕ)) → files ≡ t.before.files → printed ≡ t.before.printed → stage_of s ≡ Answered → IsRecorded t.orders t.request s t.journal → name ≡ log_file t.request → IsLogOf (is_some (log_file t.request)) t.journal log → t.now.files ≡ stored name log files → IsWithin p → OfAsked t.before.files t.request (λ asked. IsAnswer t.orders t.journal asked p s text) → t.now.printed ≡ with_printed text printed → EndsModel t p s
+pub answered_from : (t : Trace) (p : Program) (s : Status) (name log : Option (List ℕ)) (text : List ℕ) (files : Option Files) (printed : Option (List ℕ)) → files ≡ t.before.files → printed ≡ t.before.printed → stage_of s ≡ Answered → IsRecorded t.orders t.request s t.journal → name ≡ log_file t.request → IsToldLog (is_some (log_file t.request)) t.journal log → t.now.files ≡ stored name log files → IsWithin p → OfAsked t.before.files t.request (λ asked. IsAnswer t.orders t.journal asked p s text) → t.now.printed ≡ with_printed text printed → EndsModel t p s
 answered_from t p s name log text files printed f q stage recorded is h stores within answers prints =
-    model_answered t p s name log text stage recorded is (subst (λ n. IsLogOf (is_some n) t.journal log) (sym is) h) (stores ∙ ap (λ x. stored name log x) f) within answers (prints ∙ ap (λ x. with_printed text x) q)
+    model_answered t p s name log text stage recorded is (subst (λ n. IsToldLog (is_some n) t.journal log) (sym is) h) (stores ∙ ap (λ x. stored name log x) f) within answers (prints ∙ ap (λ x. with_printed text x) q)
 
 -- ---- a text
 

@@ -18,7 +18,7 @@ StoresSome (Some name) None before now = now ≡ before
 StoresSome None log before now = now ≡ before
 
 -- writing broke off: within the log, or behind it, within the text
-abbrev pub IsBroken : Option (List ℕ) → Option (List ℕ) → List ℕ → Outside → Outside → Type 0
-IsBroken name log text before now =
+abbrev pub IsToldBroken : Option (List ℕ) → Option (List ℕ) → List ℕ → Outside → Outside → Type 0
+IsToldBroken name log text before now =
     ((now.printed ≡ before.printed) × StoresSome name log before.files now.files)
     ⊎ ((now.files ≡ stored name log before.files) × PrintsFront text before.printed now.printed)

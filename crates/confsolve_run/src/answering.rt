@@ -21,7 +21,7 @@ ghost use Rattle.run_promise.specs.Refusal.{IsDenied, IsDeniedOf};
 ghost use Rattle.model_reader.specs.ModelRefusal.{IsRefusedFor, IsTextRefused};
 ghost use Rattle.run_status.specs.Stages.{Answered, stage_of, IsUnless};
 ghost use Rattle.round_commands.specs.Unreadable.{Unreadable};
-ghost use Rattle.round_commands.specs.Told.{IsLogOf};
+ghost use Rattle.round_commands.specs.Told.{IsToldLog};
 
 use crate::checking::check;
 use crate::delivering::deliver;
@@ -32,7 +32,7 @@ use desk_io::{Desk, WriteError};
 use model_reader::{Built, objects_of, read_model, table_of, typed_model};
 use proof_log::Journal;
 use round_commands::{
-    Answer, Resources, Wanted, blame_model, generated, hold_model, repair_of, solve,
+    Answer, Resources, SearchWish, blame_model, generated, hold_model, repair_of, solve,
 };
 use rule_law::Kit;
 use run_status::Status;
@@ -56,12 +56,12 @@ fn is_session(request: &Request) -> bool
 }
 
 /// What is wanted of a search that a request asks for.
-fn wanted(budget: u32, order: u8, log: &Option<FileName>) -> Wanted
+fn wanted(budget: u32, order: u8, log: &Option<FileName>) -> SearchWish
     ensures budget { result.budget ≡ budget }
     ensures order { result.order ≡ order }
     ensures logged { result.logged ≡ is_some log.now }
 {
-    Wanted {
+    SearchWish {
         budget,
         order,
         logged: log.is_some(),
@@ -93,7 +93,7 @@ fn asked<D: Desk>(
     ensures recorded { IfOk result (λ a. IsRecorded (map (λ c. c.order) with.entry.choosers.now)
         request.now
         a.status journal.new) }
-    ensures log { IfOk result (λ a. IsLogOf (is_some (log_file request.now)) journal.new
+    ensures log { IfOk result (λ a. IsToldLog (is_some (log_file request.now)) journal.new
         (option_map (λ text. text.items) a.log)) }
     ensures refused { IfErr result (λ s. Unreadable (D.read_faults desk.old)
         (D.read_faults desk.new) s (IsDenied (D.files desk.old) request.now journal.new s
@@ -178,7 +178,7 @@ fn outcome<D: Desk>(
     ensures recorded { IfOk result (λ a. IsRecorded (map (λ c. c.order) with.entry.choosers.now)
         request.now
         a.status journal.new) }
-    ensures log { IfOk result (λ a. IsLogOf (is_some (log_file request.now)) journal.new
+    ensures log { IfOk result (λ a. IsToldLog (is_some (log_file request.now)) journal.new
         (option_map (λ text. text.items) a.log)) }
     ensures refused { IfErr result (λ s. Unreadable (D.read_faults desk.old)
         (D.read_faults desk.new) s (IsRefusedFor s program.now

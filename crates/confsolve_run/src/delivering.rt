@@ -4,7 +4,7 @@ ghost use Rattle.std.specs.Option.{option_map};
 ghost use Rattle.desk_io.specs.Desk.{with_printed};
 ghost use Rattle.desk_io.specs.Fault.{HasRisen};
 ghost use Rattle.run_promise.specs.Delivery.{outside};
-ghost use Rattle.confsolve_run.specs.Told.{stored, StoresSome, IsBroken};
+ghost use Rattle.confsolve_run.specs.Told.{stored, StoresSome, IsToldBroken};
 
 use conf_request::FileName;
 use desk_io::{Desk, WriteError, print_all, store_all};
@@ -46,7 +46,7 @@ pub(crate) fn deliver<D: Desk>(
         (option_map (λ text. text.items) answer.now.log) (D.files desk.old)) }
     ensures printed { OnOk result (D.printed desk.new
         ≡ with_printed answer.now.text.items (D.printed desk.old)) }
-    ensures broken { OnErr result (IsBroken (option_copied file.entry)
+    ensures broken { OnErr result (IsToldBroken (option_copied file.entry)
         (option_map (λ text. text.items) answer.now.log) answer.now.text.items
         (outside (D.files desk.old) (D.printed desk.old))
         (outside (D.files desk.new) (D.printed desk.new))) }

@@ -21,7 +21,7 @@ use conf_eval::{BrokenAt, satisfied};
 use conf_request::FileName;
 use conf_syntax::PathText;
 use conf_types::{Constraint, TypedModel};
-use config_json::{Former, hints_of, missing};
+use config_json::{ConfigText, hints_of, missing};
 use desk_io::Desk;
 use model_reader::Built;
 use object_alloc::{Config, Objects};
@@ -46,7 +46,7 @@ fn given_values(alloc: Global, hints: &[Option<i64>]) -> Result<Vec<i64>, AllocE
 /// The configuration of a former value in which each leaf has a value.
 fn whole_config(
     alloc: Global,
-    former: &Former,
+    former: &ConfigText,
     table: &ClassTable,
     objects: &Objects<'_>,
 ) -> Result<Config, AllocError>

@@ -55,7 +55,7 @@ equality con domains boxes f l r e w b s lf rf rl =
         second = named 2 0 (omega arith);
         first_differs = lf;
         second_differs = rf;
-        apart = rl;
+        different = rl;
         bits = is_flag domains boxes f g here (m.flags 0 0 (omega arith));
       };
       named = named;
@@ -109,7 +109,7 @@ conditional con domains boxes o f i e w b s off iff io =
         second = named 2 0 (omega arith);
         first_differs = off;
         second_differs = iff;
-        apart = io;
+        different = io;
         bits = is_flag domains boxes f g here (m.flags 0 0 (omega arith));
       };
       named = named;

@@ -15,7 +15,7 @@ use Rattle.rule_law.specs.Plans.{IsFlag, literals_of}
 use Rattle.box_view.proofs.SetLaws.{is_disjoint-single, single-is_disjoint}
 use Rattle.box_view.proofs.EndLaws.{has_low}
 use Rattle.box_rules.proofs.QuietFrom.{quiet_from}
-use Rattle.box_view.proofs.Leaving.{less_within, missing_within, less_disjoint, missed_by_rest, left_over, value_valid}
+use Rattle.box_view.proofs.Leaving.{less_within, missing_within, less_disjoint, disjoint_rest, left_over, value_valid}
 use Rattle.rule_law.proofs.PlanLaws.{ArePlanned, plan_reason, plan_acts_over}
 use Rattle.rule_law.proofs.FlagPlans.{flag_other, bit_valid, IsPair, PairActs, pair_reason}
 use Rattle.element_prop.specs.Within.{HasToLie, within_plan}
@@ -28,8 +28,8 @@ use Rattle.element_prop.proofs.Triples.{IsTriple, turned, three_fixed, within_re
 abbrev Chosen : Ranges → Ranges → Ranges → Type 0
 Chosen flags out item = ((not (has flags (pos 1)) || is_disjoint out item) && (not (has flags (pos 0)) || not (has out (pos 0)))) ≡ false
 
-rule_false : (on off missed none : Bool) → (on ≡ false → off ≡ true) → (on ≡ true → off ≡ true → none ≡ true → missed ≡ false) → (on ≡ true → off ≡ false → missed ≡ false) → (on ≡ false → none ≡ false) →
-    ((not on || missed) && (not off || none)) ≡ false
+rule_false : (on off disjoint none : Bool) → (on ≡ false → off ≡ true) → (on ≡ true → off ≡ true → none ≡ true → disjoint ≡ false) → (on ≡ true → off ≡ false → disjoint ≡ false) → (on ≡ false → none ≡ false) →
+    ((not on || disjoint) && (not off || none)) ≡ false
 rule_false true true true true h k l m = absurd (let e = k refl refl refl in grind arith)
 rule_false true true true false h k l m = refl
 rule_false true true false s h k l m = refl
@@ -39,12 +39,12 @@ rule_false false true x true h k l m = absurd (let e = m refl in grind arith)
 rule_false false true x false h k l m = refl
 rule_false false false x s h k l m = absurd (let e = h refl in grind arith)
 
-flag_rule : (v : ℤ) (missed none : Bool) → (v ≡ pos 0) ⊎ (v ≡ pos 1) → (v ≡ pos 1 → missed ≡ false) → (v ≡ pos 0 → none ≡ false) →
-    ((not (has ((v, v) ∷ []) (pos 1)) || missed) && (not (has ((v, v) ∷ []) (pos 0)) || none)) ≡ false
-flag_rule v missed none (inl e) h k =
-    subst (λ (w : ℤ). ((not (has ((w, w) ∷ []) (pos 1)) || missed) && (not (has ((w, w) ∷ []) (pos 0)) || none)) ≡ false) (sym e) (rw (k e) refl)
-flag_rule v missed none (inr e) h k =
-    subst (λ (w : ℤ). ((not (has ((w, w) ∷ []) (pos 1)) || missed) && (not (has ((w, w) ∷ []) (pos 0)) || none)) ≡ false) (sym e) (rw (h e) refl)
+flag_rule : (v : ℤ) (disjoint none : Bool) → (v ≡ pos 0) ⊎ (v ≡ pos 1) → (v ≡ pos 1 → disjoint ≡ false) → (v ≡ pos 0 → none ≡ false) →
+    ((not (has ((v, v) ∷ []) (pos 1)) || disjoint) && (not (has ((v, v) ∷ []) (pos 0)) || none)) ≡ false
+flag_rule v disjoint none (inl e) h k =
+    subst (λ (w : ℤ). ((not (has ((w, w) ∷ []) (pos 1)) || disjoint) && (not (has ((w, w) ∷ []) (pos 0)) || none)) ≡ false) (sym e) (rw (k e) refl)
+flag_rule v disjoint none (inr e) h k =
+    subst (λ (w : ℤ). ((not (has ((w, w) ∷ []) (pos 1)) || disjoint) && (not (has ((w, w) ∷ []) (pos 0)) || none)) ≡ false) (sym e) (rw (h e) refl)
 
 in_set : (a b : Ranges) (v : ℤ) → IsValid a → IsValid b → is_within a b ≡ true → has a v ≡ true → has b v ≡ true
 in_set a b v f g h k = (within_law a b f g).0 h v k
@@ -105,14 +105,14 @@ conditional_quiet domains boxes o f i t n c =
 
 -- ---- the clauses
 
-held_rule : (on off missed none : Bool) → off ≡ false → missed ≡ true → ((not on || missed) && (not off || none)) ≡ true
-held_rule on off missed none h k = rw (h, k) (grind arith)
+held_rule : (on off disjoint none : Bool) → off ≡ false → disjoint ≡ true → ((not on || disjoint) && (not off || none)) ≡ true
+held_rule on off disjoint none h k = rw (h, k) (grind arith)
 
-denied_rule : (on off missed none : Bool) → on ≡ false → none ≡ true → ((not on || missed) && (not off || none)) ≡ true
-denied_rule on off missed none h k = rw (h, k) (grind arith)
+denied_rule : (on off disjoint none : Bool) → on ≡ false → none ≡ true → ((not on || disjoint) && (not off || none)) ≡ true
+denied_rule on off disjoint none h k = rw (h, k) (grind arith)
 
-both_rule : (on off missed none : Bool) → missed ≡ true → none ≡ true → ((not on || missed) && (not off || none)) ≡ true
-both_rule on off missed none h k = rw (h, k) (grind arith)
+both_rule : (on off disjoint none : Bool) → disjoint ≡ true → none ≡ true → ((not on || disjoint) && (not off || none)) ≡ true
+both_rule on off disjoint none h k = rw (h, k) (grind arith)
 
 pub out_reason : (domains boxes : Boxes) (o f i : ℕ) → IsTriple domains boxes f o i → HasToLie (box_of boxes f) (box_of boxes o) (box_of boxes i) →
     IsReason (CondDef o f i) domains boxes (literals_of domains (within_plan domains boxes f o i))
@@ -128,7 +128,7 @@ item_reason domains boxes o f i t h =
     within_reason (CondDef o f i) domains boxes f i o (turned domains boxes f o i t) h (λ rest e g k.
     held_rule (has (box_of rest f) (pos 1)) (has (box_of rest f) (pos 0)) (is_disjoint (box_of rest o) (box_of rest i)) (not (has (box_of rest o) (pos 0)))
     (ap (λ (z : Ranges). has z (pos 0)) e)
-    (ap (λ (z : Ranges). is_disjoint z (box_of rest i)) k ∙ ap (λ (z : Ranges). is_disjoint (box_of boxes o) z) g ∙ missed_by_rest (box_of domains i) (box_of boxes o) (t.good.wide i) (t.good.narrow o)))
+    (ap (λ (z : Ranges). is_disjoint z (box_of rest i)) k ∙ ap (λ (z : Ranges). is_disjoint (box_of boxes o) z) g ∙ disjoint_rest (box_of domains i) (box_of boxes o) (t.good.wide i) (t.good.narrow o)))
 
 no_zero : (d : Ranges) → IsValid d → has (less d ((pos 0, pos 0) ∷ [])) (pos 0) ≡ false
 no_zero d f = has-less_valid d ((pos 0, pos 0) ∷ []) f (bit_valid false) (pos 0) ∙ last_false (has d (pos 0))
@@ -201,7 +201,7 @@ either_reason domains boxes o f i t h =
     let two = IsValid-less (less d ((pos 0, pos 0) ∷ [])) s one (g.narrow i) in
     let planned : ArePlanned domains (length boxes) (either_plan domains boxes o i) =
     (t.first, two, within_both d ((pos 0, pos 0) ∷ []) s (g.wide o) nought (g.narrow i), (t.second, g.narrow i, g.within i t.second, tt)) in
-    plan_reason (CondDef o f i) domains boxes (either_plan domains boxes o i) g.wide planned (two_differ o i t.apart)
+    plan_reason (CondDef o f i) domains boxes (either_plan domains boxes o i) g.wide planned (two_differ o i t.different)
     (λ rest k. both_rule (has (box_of rest f) (pos 1)) (has (box_of rest f) (pos 0)) (is_disjoint (box_of rest o) (box_of rest i)) (not (has (box_of rest o) (pos 0)))
     (ap (λ (z : Ranges). is_disjoint z (box_of rest i)) k.0 ∙ ap (λ (z : Ranges). is_disjoint (less (less d ((pos 0, pos 0) ∷ [])) s) z) k.1.0 ∙ less_disjoint (less d ((pos 0, pos 0) ∷ [])) s one (g.narrow i))
     (ap (λ (z : Ranges). not (has z (pos 0))) k.0 ∙ ap (λ (z : Bool). not z) (zero_gone d s (g.wide o) (g.narrow i))))

@@ -17,7 +17,7 @@ use Rattle.box_rules.specs.Refuted.{none_picked, excluded}
 use Rattle.rule_law.specs.Reasons.{Acts, IsReason}
 use Rattle.rule_law.specs.Plans.{literals_of}
 use Rattle.box_view.proofs.EndLaws.{single_has}
-use Rattle.box_view.proofs.Leaving.{less_within, missing_within, less_disjoint, missed_by_rest, has_one, one_within, left_over, value_valid}
+use Rattle.box_view.proofs.Leaving.{less_within, missing_within, less_disjoint, disjoint_rest, has_one, one_within, left_over, value_valid}
 use Rattle.rule_law.proofs.PlanLaws.{ArePlanned, plan_reason, plan_acts_head, plan_acts_tail, plan_acts_over}
 use Rattle.rule_law.proofs.FlagPlans.{AreGood, are_good, in_domain}
 use Rattle.element_prop.specs.Elements.{HasToPick, pick_plan}
@@ -62,8 +62,8 @@ only_here out (t ∷ ts) zero d boxes lt h m =
 only_here out (t ∷ ts) (suc i) d boxes lt h m =
     let parts = and_parts (lacks_value t.0 ts) (distinct_values ts) h in
     let v = (get_or ts i d).0 in
-    let apart = lacks_at t.0 ts i d (omega arith) parts.0 in
-    let other : has ((v, v) ∷ []) t.0 ≡ false = single_has v t.0 ∙ turned v t.0 apart in
+    let different = lacks_at t.0 ts i d (omega arith) parts.0 in
+    let other : has ((v, v) ∷ []) t.0 ≡ false = single_has v t.0 ∙ turned v t.0 different in
     rw other (only_here out ts i d boxes (omega arith) parts.1 m)
   where
     turned : (a b : ℤ) → int_eq b a ≡ false → int_eq a b ≡ false
@@ -78,7 +78,7 @@ pub record IsPick (domains boxes : Boxes) (x a b : ℕ) : Type 0 where
   pub second : b < length boxes
   pub first_differs : a ≡ x → ⊥
   pub second_differs : b ≡ x → ⊥
-  pub apart : b ≡ a → ⊥
+  pub different : b ≡ a → ⊥
 
 can_pick : (index box other : Ranges) (v : ℤ) → IsValid index → HasToPick index v box other → has index v ≡ true
 can_pick index box other v f (inl h) = h.0
@@ -119,7 +119,7 @@ pick_reason con domains boxes x a b v t h e =
     let can = can_pick (box_of boxes x) (box_of boxes a) o v (g.narrow x) h in
     let one = value_valid (box_of boxes x) v (g.narrow x) can in
     let planned = pick_planned domains boxes x a b ((v, v) ∷ []) t one (one_within (box_of domains x) v (g.wide x) one (in_domain domains boxes x v g t.index can)) in
-    plan_reason con domains boxes (pick_plan domains boxes x ((v, v) ∷ []) a b) g.wide planned (all_differ x a b t.first_differs t.second_differs t.apart) (λ rest l. e rest l.0 l.1.0 l.1.1.0) (pick_acts domains boxes x a b v t one planned h)
+    plan_reason con domains boxes (pick_plan domains boxes x ((v, v) ∷ []) a b) g.wide planned (all_differ x a b t.first_differs t.second_differs t.different) (λ rest l. e rest l.0 l.1.0 l.1.1.0) (pick_acts domains boxes x a b v t one planned h)
 
 -- of the whole box of the index
 pub lies_reason : (con : Con) (domains boxes : Boxes) (x a b : ℕ) → IsPick domains boxes x a b → is_within (box_of boxes a) (box_of boxes b) ≡ false →
@@ -128,7 +128,7 @@ pub lies_reason : (con : Con) (domains boxes : Boxes) (x a b : ℕ) → IsPick d
 lies_reason con domains boxes x a b t h e =
     let g = t.good in let index = box_of boxes x in
     let planned = pick_planned domains boxes x a b index t (g.narrow x) (g.within x t.index) in
-    plan_reason con domains boxes (pick_plan domains boxes x index a b) g.wide planned (all_differ x a b t.first_differs t.second_differs t.apart) (λ rest l. e rest l.0 l.1.0 l.1.1.0)
+    plan_reason con domains boxes (pick_plan domains boxes x index a b) g.wide planned (all_differ x a b t.first_differs t.second_differs t.different) (λ rest l. e rest l.0 l.1.0 l.1.1.0)
     (lies_acts domains boxes x a b index t planned (within_itself index (g.narrow x)) h)
 
 -- ---- the two clauses of an item
@@ -159,7 +159,7 @@ pub item_reason : (con : Con) (domains boxes : Boxes) (o x : ℕ) (items : List 
 item_reason con domains boxes o x items i d t lt named yx ox oy h =
     let v = (get_or items i d).0 in let y = (get_or items i d).1 in
     let g = t.good in let size = g.size in
-    let pick : IsPick domains boxes x y o = record { good = g; index = t.index; first = omega arith; second = t.out; first_differs = yx; second_differs = ox; apart = oy } in
+    let pick : IsPick domains boxes x y o = record { good = g; index = t.index; first = omega arith; second = t.out; first_differs = yx; second_differs = ox; different = oy } in
     subst (λ (k : Con). IsReason k domains boxes (literals_of domains (pick_plan domains boxes x ((v, v) ∷ []) y o))) (sym t.is)
     (pick_reason (ElementDef o x items) domains boxes x y o v pick h (λ rest e f k.
     pick_rule (box_of rest o) (box_of rest x) items i d rest lt t.distinct e
@@ -171,11 +171,11 @@ pub out_reason : (con : Con) (domains boxes : Boxes) (o x : ℕ) (items : List (
 out_reason con domains boxes o x items i d t lt named yx ox oy h =
     let v = (get_or items i d).0 in let y = (get_or items i d).1 in
     let g = t.good in let size = g.size in
-    let pick : IsPick domains boxes x o y = record { good = g; index = t.index; first = t.out; second = omega arith; first_differs = ox; second_differs = yx; apart = λ e. oy (sym e) } in
+    let pick : IsPick domains boxes x o y = record { good = g; index = t.index; first = t.out; second = omega arith; first_differs = ox; second_differs = yx; different = λ e. oy (sym e) } in
     subst (λ (k : Con). IsReason k domains boxes (literals_of domains (pick_plan domains boxes x ((v, v) ∷ []) o y))) (sym t.is)
     (pick_reason (ElementDef o x items) domains boxes x o y v pick h (λ rest e f k.
     pick_rule (box_of rest o) (box_of rest x) items i d rest lt t.distinct e
-    (ap (λ (z : Ranges). is_disjoint z (box_of rest o)) k ∙ ap (λ (z : Ranges). is_disjoint (box_of boxes y) z) f ∙ missed_by_rest (box_of domains o) (box_of boxes y) (g.wide o) (g.narrow y))))
+    (ap (λ (z : Ranges). is_disjoint z (box_of rest o)) k ∙ ap (λ (z : Ranges). is_disjoint (box_of boxes y) z) f ∙ disjoint_rest (box_of domains o) (box_of boxes y) (g.wide o) (g.narrow y))))
 
 pub element_named : (con : Con) (domains : Boxes) (o x : ℕ) (items list : List (ℤ × ℕ)) → con ≡ ElementDef o x items → IsWellMadeCon domains con → list ≡ items → (x < length domains) × All (λ t. t.1 < length domains) list
 element_named con domains o x items list e w i =

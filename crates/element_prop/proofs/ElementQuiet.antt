@@ -25,7 +25,7 @@ use Rattle.box_view.proofs.SetLaws.{fixing_same, fixing_other, single-is_disjoin
 use Rattle.box_rules.proofs.QuietFrom.{Each, each_probed}
 use Rattle.box_view.proofs.Leaving.{value_valid, has_one}
 use Rattle.element_prop.specs.declared.element.Further.TheVariants.{OutOfSet}
-use Rattle.element_prop.specs.Elements.{count_possible, all_meet, some_with, some_other, some_offers, all_offered, AreHeadsApart, IsIdle, IsFurther}
+use Rattle.element_prop.specs.Elements.{count_possible, all_meet, some_with, some_other, some_offers, all_offered, AreHeadsDifferent, IsIdle, IsFurther}
 use Rattle.element_prop.proofs.OfferLaws.{each_offered}
 use Rattle.element_prop.proofs.ItemCount.{each_value}
 use Rattle.box_rules.proofs.QuietFrom.{each_then, quiet_probed}
@@ -149,7 +149,7 @@ fixed_picked domains boxes con o x items t i y v n lt h =
     subst (λ (s : Ranges). none_picked s (box_of (fixing boxes y v) x) items (fixing boxes y v) ≡ false) (sym (fixing_other boxes y o v n)) (elim (cases_eq x y) [
       | inl e ↦ subst (λ (z : ℕ). z < length boxes → has (box_of boxes z) v ≡ true → none_picked out (box_of (fixing boxes z v) x) items (fixing boxes z v) ≡ false) e
           (λ l m. subst (λ (s : Ranges). none_picked out s items (fixing boxes x v) ≡ false) (sym (fixing_same boxes x v l))
-          (same_picked out ((v, v) ∷ []) x v items boxes i.apart.index_apart ∙ value_picked out index ((v, v) ∷ []) v items boxes m (has_one v) i.met (each_value items index v (valid x) t.distinct i.full m))) lt h
+          (same_picked out ((v, v) ∷ []) x v items boxes i.different.index_different ∙ value_picked out index ((v, v) ∷ []) v items boxes m (has_one v) i.met (each_value items index v (valid x) t.distinct i.full m))) lt h
       | inr e ↦ subst (λ (s : Ranges). none_picked out s items (fixing boxes y v) ≡ false) (sym (fixing_other boxes y x v e)) (elim (cases_eq i.var y) [
         | inr g ↦ other_picked out index y v items boxes (with_other out index i.var y items boxes g i.one)
         | inl g ↦ elim i.free [
@@ -161,12 +161,12 @@ fixed_picked domains boxes con o x items t i y v n lt h =
       ])
     ])
 
-out_picked : (domains boxes : Boxes) (con : Con) (o x : ℕ) (items : List (ℤ × ℕ)) → IsElement con domains boxes o x items → AreHeadsApart o x items → (v : ℤ) → some_offers items v (box_of boxes x) boxes ≡ true →
+out_picked : (domains boxes : Boxes) (con : Con) (o x : ℕ) (items : List (ℤ × ℕ)) → IsElement con domains boxes o x items → AreHeadsDifferent o x items → (v : ℤ) → some_offers items v (box_of boxes x) boxes ≡ true →
     none_picked (box_of (fixing boxes o v) o) (box_of (fixing boxes o v) x) items (fixing boxes o v) ≡ false
 out_picked domains boxes con o x items t a v h =
     subst (λ (s : Ranges). none_picked s (box_of (fixing boxes o v) x) items (fixing boxes o v) ≡ false) (sym (fixing_same boxes o v t.out))
     (subst (λ (s : Ranges). none_picked ((v, v) ∷ []) s items (fixing boxes o v) ≡ false) (sym (fixing_other boxes o x v (λ e. a.differ (sym e))))
-    (same_picked ((v, v) ∷ []) (box_of boxes x) o v items boxes a.out_apart ∙ offered_picked (box_of boxes x) v items boxes t.good.narrow h))
+    (same_picked ((v, v) ∷ []) (box_of boxes x) o v items boxes a.out_different ∙ offered_picked (box_of boxes x) v items boxes t.good.narrow h))
 
 pub idle_quiet : (con : Con) (domains boxes : Boxes) (o x : ℕ) (items : List (ℤ × ℕ)) → IsElement con domains boxes o x items → IsWellMadeCon domains con → IsIdle items o x boxes → quiet con boxes ≡ true
 idle_quiet con domains boxes o x items t w i =
@@ -178,7 +178,7 @@ idle_quiet con domains boxes o x items t w i =
     (with_picked (box_of boxes o) (box_of boxes x) i.var items boxes i.one)
     (λ y lt. elim (cases_eq o y) [
       | inl e ↦ subst (λ (z : ℕ). Each (λ v. P z v) (probed (box_of boxes z))) e
-          (each_then (λ v. some_offers items v (box_of boxes x) boxes ≡ true) (λ v. P o v) (probed (box_of boxes o)) (λ v h. out_picked domains boxes con o x items t i.apart v h)
+          (each_then (λ v. some_offers items v (box_of boxes x) boxes ≡ true) (λ v. P o v) (probed (box_of boxes o)) (λ v h. out_picked domains boxes con o x items t i.different v h)
           (each_offered (probed (box_of boxes o)) items (box_of boxes x) boxes i.offered))
       | inr e ↦ each_probed (λ v. P y v) (box_of boxes y) (t.good.narrow y) (t.good.some y lt) (λ v h. fixed_picked domains boxes con o x items t i y v e lt h)
     ]))
@@ -203,14 +203,14 @@ with_at (t ∷ ts) (suc i) d out index boxes lt h =
     either_way a b k = grind arith
 
 -- what the tests find, of the boxes that they looked at
-pub idle_at : (items : List (ℤ × ℕ)) (o x i : ℕ) (d : ℤ × ℕ) (boxes : Boxes) (out index : Ranges) → out ≡ box_of boxes o → index ≡ box_of boxes x → AreHeadsApart o x items →
+pub idle_at : (items : List (ℤ × ℕ)) (o x i : ℕ) (d : ℤ × ℕ) (boxes : Boxes) (out index : Ranges) → out ≡ box_of boxes o → index ≡ box_of boxes x → AreHeadsDifferent o x items →
     all_meet items (box_of boxes o) (box_of boxes x) boxes ≡ true → count_of (box_of boxes x) ≤ count_possible items (box_of boxes x) → all_offered (probed (box_of boxes o)) items (box_of boxes x) boxes ≡ true → i < length items →
     (has index (get_or items i d).0 && not (is_disjoint (box_of boxes (get_or items i d).1) out)) ≡ true →
     (some_other items (get_or items i d).1 out index boxes ≡ true) ⊎ (is_within (box_of boxes (get_or items i d).1) out ≡ true) → IsIdle items o x boxes
 idle_at items o x i d boxes out index eo ex s m f a lt h k =
     let y = (get_or items i d).1 in
     let F : Ranges → Ranges → Type 0 = λ p q. (has q (get_or items i d).0 && not (is_disjoint (box_of boxes y) p)) ≡ true → (some_other items y p q boxes ≡ true) ⊎ (is_within (box_of boxes y) p ≡ true) → IsIdle items o x boxes in
-    let here : F (box_of boxes o) (box_of boxes x) = λ h2 k2. record { apart = s; met = m; full = f; offered = a; var = y; one = with_at items i d (box_of boxes o) (box_of boxes x) boxes lt h2; free = k2 } in
+    let here : F (box_of boxes o) (box_of boxes x) = λ h2 k2. record { different = s; met = m; full = f; offered = a; var = y; one = with_at items i d (box_of boxes o) (box_of boxes x) boxes lt h2; free = k2 } in
     let there : F out index = subst (λ (q : Ranges). F out q) (sym ex) (subst (λ (p : Ranges). F p (box_of boxes x)) (sym eo) here) in there h k
 
 pub outside_at : (items : List (ℤ × ℕ)) (o x i : ℕ) (d : ℤ × ℕ) (boxes : Boxes) (out index : Ranges) → out ≡ box_of boxes o → index ≡ box_of boxes x → i < length items →
@@ -223,8 +223,8 @@ outside_at items o x i d boxes out index eo ex lt h k n =
     let there : F out index = subst (λ (q : Ranges). F out q) (sym ex) (subst (λ (p : Ranges). F p (box_of boxes x)) (sym eo) here) in there h k n
 
 -- what the test of the variables finds
-pub heads_apart : (con : Con) (o x : ℕ) (items : List (ℤ × ℕ)) → con ≡ ElementDef o x items → is_repeated o (vars_of con) ≡ false → is_repeated x (vars_of con) ≡ false → AreHeadsApart o x items
-heads_apart con o x items is first second =
+pub heads_different : (con : Con) (o x : ℕ) (items : List (ℤ × ℕ)) → con ≡ ElementDef o x items → is_repeated o (vars_of con) ≡ false → is_repeated x (vars_of con) ≡ false → AreHeadsDifferent o x items
+heads_different con o x items is first second =
     let one : is_repeated o (o ∷ x ∷ term_vars items) ≡ false = sym (ap (λ (k : Con). is_repeated o (vars_of k)) is) ∙ first in
     let two : is_repeated x (o ∷ x ∷ term_vars items) ≡ false = sym (ap (λ (k : Con). is_repeated x (vars_of k)) is) ∙ second in
     let self : (o == o) ≡ true = grind (arith, nat_tests) in
@@ -232,6 +232,6 @@ heads_apart con o x items is first second =
     let there : (x == o) ≡ false = grind arith in
     record {
       differ = λ e. let bad : (x == o) ≡ true = grind (arith, nat_tests) in cc;
-      out_apart = grind arith;
-      index_apart = grind arith;
+      out_different = grind arith;
+      index_different = grind arith;
     }

@@ -17,7 +17,7 @@ use Rattle.box_rules.proofs.FixedLaws.{fixed_value, single_fixed}
 use Rattle.box_view.proofs.SetLaws.{is_disjoint-single, single-is_disjoint}
 use Rattle.box_view.proofs.EndLaws.{has_low}
 use Rattle.box_rules.proofs.QuietFrom.{quiet_from}
-use Rattle.box_view.proofs.Leaving.{less_disjoint, missed_by_rest, has_one, one_within, value_valid}
+use Rattle.box_view.proofs.Leaving.{less_disjoint, disjoint_rest, has_one, one_within, value_valid}
 use Rattle.rule_law.proofs.PlanLaws.{ArePlanned, plan_reason, plan_acts_head, plan_acts_tail}
 use Rattle.rule_law.proofs.FlagPlans.{in_domain, flag_other, flag_only, bit_valid}
 use Rattle.element_prop.specs.Within.{HasToLie, within_plan}
@@ -62,8 +62,8 @@ abbrev Equal : Ranges → Ranges → Ranges → Type 0
 Equal flags left right = ((not (has flags (pos 1)) || is_disjoint left right) && (not (has flags (pos 0)) || same_single left right)) ≡ false
 
 -- where the flag can't be 1 it can be 0
-rule_false : (on off missed same : Bool) → (on ≡ false → off ≡ true) → (on ≡ true → off ≡ true → same ≡ true → missed ≡ false) → (on ≡ true → off ≡ false → missed ≡ false) → (on ≡ false → same ≡ false) →
-    ((not on || missed) && (not off || same)) ≡ false
+rule_false : (on off disjoint same : Bool) → (on ≡ false → off ≡ true) → (on ≡ true → off ≡ true → same ≡ true → disjoint ≡ false) → (on ≡ true → off ≡ false → disjoint ≡ false) → (on ≡ false → same ≡ false) →
+    ((not on || disjoint) && (not off || same)) ≡ false
 rule_false true true true true h k l m = absurd (let e = k refl refl refl in grind arith)
 rule_false true true true false h k l m = refl
 rule_false true true false s h k l m = refl
@@ -73,12 +73,12 @@ rule_false false true x true h k l m = absurd (let e = m refl in grind arith)
 rule_false false true x false h k l m = refl
 rule_false false false x s h k l m = absurd (let e = h refl in grind arith)
 
-flag_rule : (v : ℤ) (missed same : Bool) → (v ≡ pos 0) ⊎ (v ≡ pos 1) → (v ≡ pos 1 → missed ≡ false) → (v ≡ pos 0 → same ≡ false) →
-    ((not (has ((v, v) ∷ []) (pos 1)) || missed) && (not (has ((v, v) ∷ []) (pos 0)) || same)) ≡ false
-flag_rule v missed same (inl e) h k =
-    subst (λ (w : ℤ). ((not (has ((w, w) ∷ []) (pos 1)) || missed) && (not (has ((w, w) ∷ []) (pos 0)) || same)) ≡ false) (sym e) (rw (k e) refl)
-flag_rule v missed same (inr e) h k =
-    subst (λ (w : ℤ). ((not (has ((w, w) ∷ []) (pos 1)) || missed) && (not (has ((w, w) ∷ []) (pos 0)) || same)) ≡ false) (sym e) (rw (h e) refl)
+flag_rule : (v : ℤ) (disjoint same : Bool) → (v ≡ pos 0) ⊎ (v ≡ pos 1) → (v ≡ pos 1 → disjoint ≡ false) → (v ≡ pos 0 → same ≡ false) →
+    ((not (has ((v, v) ∷ []) (pos 1)) || disjoint) && (not (has ((v, v) ∷ []) (pos 0)) || same)) ≡ false
+flag_rule v disjoint same (inl e) h k =
+    subst (λ (w : ℤ). ((not (has ((w, w) ∷ []) (pos 1)) || disjoint) && (not (has ((w, w) ∷ []) (pos 0)) || same)) ≡ false) (sym e) (rw (k e) refl)
+flag_rule v disjoint same (inr e) h k =
+    subst (λ (w : ℤ). ((not (has ((w, w) ∷ []) (pos 1)) || disjoint) && (not (has ((w, w) ∷ []) (pos 0)) || same)) ≡ false) (sym e) (rw (h e) refl)
 
 in_set : (a b : Ranges) (v : ℤ) → IsValid a → IsValid b → is_within a b ≡ true → has a v ≡ true → has b v ≡ true
 in_set a b v f g h k = (within_law a b f g).0 h v k
@@ -122,11 +122,11 @@ equality_quiet domains boxes f l r t n c =
 
 -- ---- the clauses
 
-held_rule : (on off missed same : Bool) → off ≡ false → missed ≡ true → ((not on || missed) && (not off || same)) ≡ true
-held_rule on off missed same h k = rw (h, k) (grind arith)
+held_rule : (on off disjoint same : Bool) → off ≡ false → disjoint ≡ true → ((not on || disjoint) && (not off || same)) ≡ true
+held_rule on off disjoint same h k = rw (h, k) (grind arith)
 
-denied_rule : (on off missed same : Bool) → on ≡ false → same ≡ true → ((not on || missed) && (not off || same)) ≡ true
-denied_rule on off missed same h k = rw (h, k) (grind arith)
+denied_rule : (on off disjoint same : Bool) → on ≡ false → same ≡ true → ((not on || disjoint) && (not off || same)) ≡ true
+denied_rule on off disjoint same h k = rw (h, k) (grind arith)
 
 pub left_reason : (domains boxes : Boxes) (f l r : ℕ) → IsTriple domains boxes f l r → HasToLie (box_of boxes f) (box_of boxes l) (box_of boxes r) →
     IsReason (EqDef f l r) domains boxes (literals_of domains (within_plan domains boxes f l r))
@@ -142,7 +142,7 @@ right_reason domains boxes f l r t h =
     within_reason (EqDef f l r) domains boxes f r l (turned domains boxes f l r t) h (λ rest e g i.
     held_rule (has (box_of rest f) (pos 1)) (has (box_of rest f) (pos 0)) (is_disjoint (box_of rest l) (box_of rest r)) (same_single (box_of rest l) (box_of rest r))
     (ap (λ (z : Ranges). has z (pos 0)) e)
-    (ap (λ (z : Ranges). is_disjoint z (box_of rest r)) i ∙ ap (λ (z : Ranges). is_disjoint (box_of boxes l) z) g ∙ missed_by_rest (box_of domains r) (box_of boxes l) (t.good.wide r) (t.good.narrow l)))
+    (ap (λ (z : Ranges). is_disjoint z (box_of rest r)) i ∙ ap (λ (z : Ranges). is_disjoint (box_of boxes l) z) g ∙ disjoint_rest (box_of domains r) (box_of boxes l) (t.good.wide r) (t.good.narrow l)))
 
 record CanBe (flags left right : Ranges) (v : ℤ) : Type 0 where
   flag : has flags (pos 0) ≡ true
@@ -191,7 +191,7 @@ same_reason domains boxes f l r v t h =
         (t.second, one, one_within (box_of domains r) v (g.wide r) one (in_domain domains boxes r v g t.second can.right_has), tt),
       ),
     ) in
-    plan_reason (EqDef f l r) domains boxes (same_plan f l r v) g.wide planned (all_differ f l r t.first_differs t.second_differs t.apart)
+    plan_reason (EqDef f l r) domains boxes (same_plan f l r v) g.wide planned (all_differ f l r t.first_differs t.second_differs t.different)
     (λ rest k. denied_rule (has (box_of rest f) (pos 1)) (has (box_of rest f) (pos 0)) (is_disjoint (box_of rest l) (box_of rest r)) (same_single (box_of rest l) (box_of rest r))
     (ap (λ (z : Ranges). has z (pos 1)) k.0)
     (ap (λ (z : Ranges). same_single z (box_of rest r)) k.1.0 ∙ ap (λ (z : Ranges). same_single ((v, v) ∷ []) z) k.1.1.0 ∙ same_here v))

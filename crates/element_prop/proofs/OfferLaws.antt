@@ -26,7 +26,7 @@ reaches set i r at end v lt e h f low high =
     between : (a b at v : ℤ) → in_range (a, b) at ≡ true → at ≤ℤ v → v ≤ℤ b → in_range (a, b) v ≡ true
     between a b at v h low high = grind (arith, ints)
 
--- the numbers of the range at the place are told of
+-- the numbers of the range at the index are told of
 pub range_told : (set : Ranges) (i : ℕ) (r : ℤ × ℤ) (v : ℤ) (told : Bool) → i < length set → r ≡ get_or set i (pos 0, pos 0) → (has (drop i set) v || told) ≡ true → (in_range r v ≡ true → told ≡ true) →
     (has (drop (i + 1) set) v || told) ≡ true
 range_told set i r v told lt e h k =

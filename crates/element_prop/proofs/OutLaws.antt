@@ -161,15 +161,15 @@ out_reason con domains boxes o x items v t named differ member none =
     let one = and_parts (not (has_number o (x ∷ term_vars items))) (no_repeat (x ∷ term_vars items)) all in
     let two = and_parts (not (has_number x (term_vars items))) (no_repeat (term_vars items)) one.1 in
     let first : has_number o (x ∷ term_vars items) ≡ false = turned_false (has_number o (x ∷ term_vars items)) one.0 in
-    let apart : (x == o) ≡ false = grind arith in
-    let out_apart = not_planned o items index domains s (grind arith) in
-    let index_apart = not_planned x items index domains s (turned_false (has_number x (term_vars items)) two.0) in
+    let different : (x == o) ≡ false = grind arith in
+    let out_different = not_planned o items index domains s (grind arith) in
+    let index_different = not_planned x items index domains s (turned_false (has_number x (term_vars items)) two.0) in
     let others = items_differ items index domains s two.1 in
     let size = g.size in
     record {
       named = λ k e lt. let n = plan_named domains (length boxes) (out_plan items domains boxes o x s) planned k e lt in omega arith;
       reason = subst (λ (k : Con). IsReason k domains boxes (literals_of domains (out_plan items domains boxes o x s))) (sym t.is)
-          (plan_reason (ElementDef o x items) domains boxes (out_plan items domains boxes o x s) g.wide planned (rw (apart, out_apart, index_apart, others) refl)
+          (plan_reason (ElementDef o x items) domains boxes (out_plan items domains boxes o x s) g.wide planned (rw (different, out_different, index_different, others) refl)
           (λ left l. subst (λ (z : Ranges). none_picked z (box_of left x) items left ≡ true) (sym l.0)
           (subst (λ (z : Ranges). none_picked s z items left ≡ true) (sym l.1.0) (none_left items index domains left s g.wide valid l.1.1)))
           (plan_acts_head domains boxes (length boxes) (o, s) ((x, index) ∷ rest) v g.wide g.narrow planned member (boxes_kept items index boxes d v g.narrow (g.wide o) (in_domain domains boxes o v g t.out member) none)

@@ -14,7 +14,7 @@ use Rattle.rule_law.specs.Reasons.{has_number, IsReason}
 use Rattle.rule_law.specs.Plans.{literals_of}
 use Rattle.box_view.proofs.Leaving.{less_disjoint}
 use Rattle.element_prop.specs.declared.element.Further.TheVariants.{OutOfSet}
-use Rattle.element_prop.specs.Elements.{pick_plan, all_meet, some_with, some_other, AreHeadsApart, IsFurther}
+use Rattle.element_prop.specs.Elements.{pick_plan, all_meet, some_with, some_other, AreHeadsDifferent, IsFurther}
 use Rattle.element_prop.proofs.ElementLaws.{IsElement, IsPick, lies_reason}
 
 -- a variable of which an item can be picked is an item's
@@ -39,21 +39,21 @@ with_in (t ∷ ts) y out index boxes w =
       | inr e ↦ let more = with_in ts y out index boxes e in grind arith
     ]
 
-apart_from : (items : List (ℤ × ℕ)) (y z : ℕ) → has_number y (term_vars items) ≡ true → has_number z (term_vars items) ≡ false → z ≡ y → ⊥
-apart_from items y z h k e = let no : has_number y (term_vars items) ≡ false = subst (λ (n : ℕ). has_number n (term_vars items) ≡ false) e k in cc
+different_from : (items : List (ℤ × ℕ)) (y z : ℕ) → has_number y (term_vars items) ≡ true → has_number z (term_vars items) ≡ false → z ≡ y → ⊥
+different_from items y z h k e = let no : has_number y (term_vars items) ≡ false = subst (λ (n : ℕ). has_number n (term_vars items) ≡ false) e k in cc
 
 -- where its box meets out's in no value, no item can be picked
 none_else : (out index : Ranges) (y : ℕ) (items : List (ℤ × ℕ)) (boxes rest : Boxes) → is_disjoint (box_of rest y) out ≡ true → all_meet items out index boxes ≡ true → some_other items y out index boxes ≡ false → none_picked out index items rest ≡ true
 none_else out index y [] boxes rest h m n = refl
 none_else out index y (t ∷ ts) boxes rest h m n =
-    let can = has index t.0 in let missed = is_disjoint (box_of boxes t.1) out in
-    let parts = and_parts (not can || not missed) (all_meet ts out index boxes) m in
-    let here : (not (t.1 == y) && (can && not missed)) ≡ false = grind arith in
+    let can = has index t.0 in let disjoint = is_disjoint (box_of boxes t.1) out in
+    let parts = and_parts (not can || not disjoint) (all_meet ts out index boxes) m in
+    let here : (not (t.1 == y) && (can && not disjoint)) ≡ false = grind arith in
     let more : some_other ts y out index boxes ≡ false = grind arith in
-    let P : Bool → Type 0 = λ b. (t.1 == y) ≡ b → (not b && (can && not missed)) ≡ false → (not can || is_disjoint (box_of rest t.1) out) ≡ true in
+    let P : Bool → Type 0 = λ b. (t.1 == y) ≡ b → (not b && (can && not disjoint)) ≡ false → (not can || is_disjoint (box_of rest t.1) out) ≡ true in
     and_from (not can || is_disjoint (box_of rest t.1) out) (none_picked out index ts rest) ((elim (t.1 == y) as P [
       | true ↦ λ e k. either_true (not can) (is_disjoint (box_of rest t.1) out) (ap (λ (z : ℕ). is_disjoint (box_of rest z) out) (by_test t.1 y e) ∙ h)
-      | false ↦ λ e k. unpicked can missed (is_disjoint (box_of rest t.1) out) k parts.0
+      | false ↦ λ e k. unpicked can disjoint (is_disjoint (box_of rest t.1) out) k parts.0
     ]) refl here) (none_else out index y ts boxes rest h parts.1 more)
   where
     by_test : (p q : ℕ) → (p == q) ≡ true → p ≡ q
@@ -65,7 +65,7 @@ none_else out index y (t ∷ ts) boxes rest h m n =
     unpicked : (a b c : Bool) → (a && not b) ≡ false → (not a || not b) ≡ true → (not a || c) ≡ true
     unpicked a b c h k = grind arith
 
-pub outside_reason : (con : Con) (domains boxes : Boxes) (o x : ℕ) (items : List (ℤ × ℕ)) (y : ℕ) → IsElement con domains boxes o x items → AreHeadsApart o x items → All (λ t. t.1 < length boxes) items →
+pub outside_reason : (con : Con) (domains boxes : Boxes) (o x : ℕ) (items : List (ℤ × ℕ)) (y : ℕ) → IsElement con domains boxes o x items → AreHeadsDifferent o x items → All (λ t. t.1 < length boxes) items →
     all_meet items (box_of boxes o) (box_of boxes x) boxes ≡ true → IsFurther items o x boxes (OutOfSet y) → IsReason con domains boxes (literals_of domains (pick_plan domains boxes x (box_of boxes x) y o))
 outside_reason con domains boxes o x items y t a named m f =
     let g = t.good in let out = box_of boxes o in let index = box_of boxes x in
@@ -75,9 +75,9 @@ outside_reason con domains boxes o x items y t a named m f =
       index = t.index;
       first = with_named items y (length boxes) out index boxes named f.0;
       second = t.out;
-      first_differs = λ e. apart_from items y x member a.index_apart (sym e);
+      first_differs = λ e. different_from items y x member a.index_different (sym e);
       second_differs = a.differ;
-      apart = apart_from items y o member a.out_apart;
+      different = different_from items y o member a.out_different;
     } in
     subst (λ (k : Con). IsReason k domains boxes (literals_of domains (pick_plan domains boxes x index y o))) (sym t.is)
     (lies_reason (ElementDef o x items) domains boxes x y o pick f.2 (λ rest e k l.

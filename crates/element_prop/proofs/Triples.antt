@@ -29,7 +29,7 @@ pub record IsTriple (domains boxes : Boxes) (f x y : ℕ) : Type 0 where
   pub second : y < length boxes
   pub first_differs : x ≡ f → ⊥
   pub second_differs : y ≡ f → ⊥
-  pub apart : y ≡ x → ⊥
+  pub different : y ≡ x → ⊥
   pub bits : IsFlag (box_of boxes f)
 
 pub turned : (domains boxes : Boxes) (f x y : ℕ) → IsTriple domains boxes f x y → IsTriple domains boxes f y x
@@ -40,7 +40,7 @@ turned domains boxes f x y t = record {
   second = t.first;
   first_differs = t.second_differs;
   second_differs = t.first_differs;
-  apart = λ e. t.apart (sym e);
+  different = λ e. t.different (sym e);
   bits = t.bits;
 }
 
@@ -60,7 +60,7 @@ three_fixed P domains boxes f x y t h one two three z v lt k =
       | inr e ↦ subst (λ (s : Ranges). P s (box_of (fixing boxes z v) x) (box_of (fixing boxes z v) y)) (sym (fixing_other boxes z f v e)) (elim (cases_eq x z) [
         | inl i ↦ subst (λ (w : ℕ). w < length boxes → has (box_of boxes w) v ≡ true → P (box_of boxes f) (box_of (fixing boxes w v) x) (box_of (fixing boxes w v) y)) i
             (λ l m. subst (λ (s : Ranges). P (box_of boxes f) s (box_of (fixing boxes x v) y)) (sym (fixing_same boxes x v l))
-            (subst (λ (s : Ranges). P (box_of boxes f) ((v, v) ∷ []) s) (sym (fixing_other boxes x y v t.apart)) (two v m))) lt k
+            (subst (λ (s : Ranges). P (box_of boxes f) ((v, v) ∷ []) s) (sym (fixing_other boxes x y v t.different)) (two v m))) lt k
         | inr i ↦ subst (λ (s : Ranges). P (box_of boxes f) s (box_of (fixing boxes z v) y)) (sym (fixing_other boxes z x v i)) (elim (cases_eq y z) [
           | inl j ↦ subst (λ (w : ℕ). w < length boxes → has (box_of boxes w) v ≡ true → P (box_of boxes f) (box_of boxes x) (box_of (fixing boxes w v) y)) j
               (λ l m. subst (λ (s : Ranges). P (box_of boxes f) (box_of boxes x) s) (sym (fixing_same boxes y v l)) (three v m)) lt k
@@ -117,4 +117,4 @@ within_reason con domains boxes f x y t h e =
       one_within (box_of domains f) (pos 1) (g.wide f) (bit_valid true) (in_domain domains boxes f (pos 1) g t.flag can),
       (t.first, IsValid-less d o (g.wide x) (g.narrow y), less_within d o (g.wide x) (g.narrow y), (t.second, g.narrow y, g.within y t.second, tt)),
     ) in
-    plan_reason con domains boxes (within_plan domains boxes f x y) g.wide planned (all_differ f x y t.first_differs t.second_differs t.apart) (λ rest l. e rest l.0 l.1.0 l.1.1.0) (within_acts domains boxes f x y t planned h)
+    plan_reason con domains boxes (within_plan domains boxes f x y) g.wide planned (all_differ f x y t.first_differs t.second_differs t.different) (λ rest l. e rest l.0 l.1.0 l.1.1.0) (within_acts domains boxes f x y t planned h)

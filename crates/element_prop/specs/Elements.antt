@@ -110,16 +110,16 @@ some_other (t ∷ ts) x out index boxes =
     || some_other ts x out index boxes
 
 -- out, the index and the items' variables are different, these last not from each other
-pub record AreHeadsApart (o x : ℕ) (items : List (ℤ × ℕ)) : Type 0 where
+pub record AreHeadsDifferent (o x : ℕ) (items : List (ℤ × ℕ)) : Type 0 where
   pub differ : o ≡ x → ⊥
-  pub out_apart : has_number o (term_vars items) ≡ false
-  pub index_apart : has_number x (term_vars items) ≡ false
+  pub out_different : has_number o (term_vars items) ≡ false
+  pub index_different : has_number x (term_vars items) ≡ false
 
 -- the variables are different, each value of the index is an item's and that item can be out, each
 -- value of out that is probed is offered, and two items of different variables can be picked, or of
 -- the variable of one that can be picked no value is outside out's box
 pub record IsIdle (items : List (ℤ × ℕ)) (o x : ℕ) (boxes : Boxes) : Type 0 where
-  pub apart : AreHeadsApart o x items
+  pub different : AreHeadsDifferent o x items
   pub met : all_meet items (box_of boxes o) (box_of boxes x) boxes ≡ true
   pub full : count_of (box_of boxes x) ≤ count_possible items (box_of boxes x)
   pub offered : all_offered (probed (box_of boxes o)) items (box_of boxes x) boxes ≡ true

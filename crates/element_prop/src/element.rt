@@ -25,7 +25,7 @@ ghost use Rattle.rule_law.specs.Reasons.{IsReason, no_repeat};
 ghost use Rattle.box_rules.specs.Refuted.{none_picked};
 ghost use Rattle.box_rules.specs.Quiet.{probed};
 ghost use Rattle.rule_law.specs.Plans.{literals_of};
-ghost use Rattle.element_prop.specs.Elements.{HasToPick, pick_plan, Says, all_meet, count_possible, some_other, without_one, without_items, without_boxes, out_plan, some_offers, all_offered, AreHeadsApart, IsFurther};
+ghost use Rattle.element_prop.specs.Elements.{HasToPick, pick_plan, Says, all_meet, count_possible, some_other, without_one, without_items, without_boxes, out_plan, some_offers, all_offered, AreHeadsDifferent, IsFurther};
 
 use crate::equality::{alone, is_value};
 use crate::offers::unoffered;
@@ -39,7 +39,7 @@ use std::alloc::{AllocError, Global};
 pub enum Finding {
     /// No single item tells anything.
     Open,
-    /// The index isn't the value of the item at the place, or the item has a value that out's box
+    /// The index isn't the value of the item at the index, or the item has a value that out's box
     /// has.
     Item(usize),
     /// The same, with out and the item exchanged.
@@ -126,7 +126,7 @@ fn possible_items(items: &[(i64, u32)], index: &IntSet) -> usize
     count
 }
 
-/// The place of the first item that can be picked.
+/// The index of the first item that can be picked.
 fn first_pick(items: &[(i64, u32)], out: &IntSet, index: &IntSet, boxes: &[IntSet]) -> Option<usize>
     requires { All (λ t. t.1 < length boxes.now) items.now }
     ensures within { IfSome result (λ i. i < length items.now) }
@@ -163,7 +163,7 @@ fn find_outside(items: &[(i64, u32)], vars: (u32, u32), boxes: &[IntSet]) -> Fur
     requires out { vars.0 < length boxes.now }
     requires index { vars.1 < length boxes.now }
     requires items { All (λ t. t.1 < length boxes.now) items.now }
-    requires apart { AreHeadsApart vars.0 vars.1 items.now }
+    requires different { AreHeadsDifferent vars.0 vars.1 items.now }
     requires met { all_meet items.now (box_of boxes.now vars.0) (box_of boxes.now vars.1) boxes.now
         ≡ true }
     requires full { count_of (box_of boxes.now vars.1) ≤ count_possible items.now
@@ -199,7 +199,7 @@ fn find_further(items: &[(i64, u32)], vars: (u32, u32), boxes: &[IntSet]) -> Fur
     requires items { All (λ t. t.1 < length boxes.now) items.now }
     requires some { is_nil (box_of boxes.now vars.0) ≡ false }
     requires sets { All (λ s. IsValid s) boxes.now }
-    requires apart { AreHeadsApart vars.0 vars.1 items.now }
+    requires different { AreHeadsDifferent vars.0 vars.1 items.now }
     requires met { all_meet items.now (box_of boxes.now vars.0) (box_of boxes.now vars.1) boxes.now
         ≡ true }
     requires full { count_of (box_of boxes.now vars.1) ≤ count_possible items.now

@@ -1,4 +1,4 @@
--- Places of which flags tell.
+-- Bins of which flags tell.
 use Rattle.std.proofs.Common.{◌≡◌, ℕ, ◌+◌, ◌<◌, ◌*◌, Bool, true, false, not, ◌&&◌, ◌||◌, cond, List, [], ◌∷◌, ◌++◌, take, get_or, length, ℤ, pos, ◌+ℤ◌, ◌-ℤ◌, ◌*ℤ◌, ◌≤ℤ◌, refl, sym, ap, ◌∙◌, subst, arith}
 use Rattle.std.specs.Prelude.{Contains}
 use Rattle.std.specs.Ordering.{int_eq}
@@ -24,7 +24,7 @@ use Rattle.goal_rows.specs.Packings.{IsPacking}
 use Rattle.goal_rows.specs.Rows.{Follows}
 use Rattle.goal_rows.specs.Hosts.{NoneAt, IsPartAway, ArePartsAway, StaysAt, StayAt, IsHost, IsTaken}
 use Rattle.goal_rows.proofs.LoadLaws.{split, all_there, set_room}
-use Rattle.goal_rows.proofs.PackingLaws.{places_used}
+use Rattle.goal_rows.proofs.PackingLaws.{bins_used}
 
 -- a constraint that stands in the problem
 stands : (g : Ground) (c : Con) (a : List ℤ) → Contains g.cons c → AllHold g a → con_true c a ≡ true
@@ -47,20 +47,20 @@ the_last (q ∷ ps) p a e =
     let parts = and_parts (int_eq (value_of a q.0) (bit q.1)) (parts_true (ps ++ p ∷ []) a) e in
     the_last ps p a parts.1
 
-pub parts_step : (g : Ground) (place k : ℕ) (ps : List (ℕ × Bool)) (xs more : List ℕ) (p d : ℕ × Bool) (x : ℕ) → k < length ps → p ≡ get_or ps k d → more ≡ xs ++ x ∷ [] → IsPartAway g p place x → ArePartsAway g (take k ps) place xs → ArePartsAway g (take (k + 1) ps) place more
-parts_step g place k ps xs more p d x lt at made one h a all e =
+pub parts_step : (g : Ground) (bin k : ℕ) (ps : List (ℕ × Bool)) (xs more : List ℕ) (p d : ℕ × Bool) (x : ℕ) → k < length ps → p ≡ get_or ps k d → more ≡ xs ++ x ∷ [] → IsPartAway g p bin x → ArePartsAway g (take k ps) bin xs → ArePartsAway g (take (k + 1) ps) bin more
+parts_step g bin k ps xs more p d x lt at made one h a all e =
     let next : take (k + 1) ps ≡ take k ps ++ p ∷ [] = take_more ps k d lt ∙ ap (λ (q : ℕ × Bool). take k ps ++ q ∷ []) (sym at) in
     let whole = ap (λ (z : List (ℕ × Bool)). parts_true z a) (sym next) ∙ e in
-    subst (λ (z : List ℕ). NoneAt place z a) (sym made)
-    (All-push (λ y. int_eq (value_of a y) (pos place) ≡ false) xs x (h a all (all_but_last (take k ps) p a whole)) (one a all (the_last (take k ps) p a whole)))
+    subst (λ (z : List ℕ). NoneAt bin z a) (sym made)
+    (All-push (λ y. int_eq (value_of a y) (pos bin) ≡ false) xs x (h a all (all_but_last (take k ps) p a whole)) (one a all (the_last (take k ps) p a whole)))
 
 -- where the flag isn't 0, all parts have the truths that they want
 flag_true : (b : Bool) (v : ℤ) → v ≡ bit b → has ((pos 0, pos 0) ∷ []) v ≡ false → b ≡ true
 flag_true true v e h = refl
 flag_true false v e h = absurd (grind (arith, ints, e, h))
 
-pub flag_away : (g : Ground) (flag : ℕ) (parts : List (ℕ × Bool)) (place : ℕ) (xs : List ℕ) → Contains g.cons (con.AndDef flag parts) → ArePartsAway g parts place xs → (a : List ℤ) → AllHold g a → has ((pos 0, pos 0) ∷ []) (value_of a flag) ≡ false → NoneAt place xs a
-flag_away g flag parts place xs there h a all e =
+pub flag_away : (g : Ground) (flag : ℕ) (parts : List (ℕ × Bool)) (bin : ℕ) (xs : List ℕ) → Contains g.cons (con.AndDef flag parts) → ArePartsAway g parts bin xs → (a : List ℤ) → AllHold g a → has ((pos 0, pos 0) ∷ []) (value_of a flag) ≡ false → NoneAt bin xs a
+flag_away g flag parts bin xs there h a all e =
     h a all (flag_true (parts_true parts a) (value_of a flag) (same_value (value_of a flag) (bit (parts_true parts a)) (stands g (con.AndDef flag parts) a there all)) e)
 
 -- ---- what stays
@@ -69,11 +69,11 @@ sizes_push : (p : ℤ → Bool) (ss : List (ℕ × ℕ)) (s : ℕ × ℕ) (a : L
 sizes_push p [] s a = omega arith
 sizes_push p (t ∷ ss) s a = let rest = sizes_push p ss s a in omega (arith, rest)
 
-pub stay_step : (boxes : Boxes) (xs : List ℕ) (place k : ℕ) (ss : List (ℕ × ℕ)) (s d : ℕ × ℕ) (m n sum : ℕ) → k < length ss → s ≡ get_or ss k d → sum ≡ m + n → StaysAt boxes xs place s n → StayAt boxes xs place (take k ss) m → StayAt boxes xs place (take (k + 1) ss) sum
-stay_step boxes xs place k ss s d m n sum lt at made one h a within none =
+pub stay_step : (boxes : Boxes) (xs : List ℕ) (bin k : ℕ) (ss : List (ℕ × ℕ)) (s d : ℕ × ℕ) (m n sum : ℕ) → k < length ss → s ≡ get_or ss k d → sum ≡ m + n → StaysAt boxes xs bin s n → StayAt boxes xs bin (take k ss) m → StayAt boxes xs bin (take (k + 1) ss) sum
+stay_step boxes xs bin k ss s d m n sum lt at made one h a within none =
     let next : take (k + 1) ss ≡ take k ss ++ s ∷ [] = take_more ss k d lt ∙ ap (λ (t : ℕ × ℕ). take k ss ++ t ∷ []) (sym at) in
-    let same = ap (λ (z : List (ℕ × ℕ)). sizes_where (λ w. int_eq w (pos place)) z a) next in
-    let more = sizes_push (λ w. int_eq w (pos place)) (take k ss) s a in
+    let same = ap (λ (z : List (ℕ × ℕ)). sizes_where (λ w. int_eq w (pos bin)) z a) next in
+    let more = sizes_push (λ w. int_eq w (pos bin)) (take k ss) s a in
     let front = h a within none in
     let last = one a within none in
     omega (arith, same, more, front, last, made)
@@ -96,23 +96,23 @@ times_one n v e = ap (λ (z : ℤ). pos n *ℤ z) e ∙ *ℤ_comm (pos n) (pos 1
 times_none : (n : ℕ) (v : ℤ) → v ≡ pos 0 → (pos n *ℤ v) ≡ pos 0
 times_none n v e = ap (λ (z : ℤ). pos n *ℤ z) e ∙ *ℤ_comm (pos n) (pos 0) ∙ zero-*ℤ (pos n)
 
--- what is at the place, by the flag
-pub host_fits : (g : Ground) (p : Packing) (flag none place stays more : ℕ) (xs : List ℕ) → IsPacking g p → Contains g.cons (con.MemberDef flag none ((pos 0, pos 0) ∷ [])) →
-    ((a : List ℤ) → AllHold g a → has ((pos 0, pos 0) ∷ []) (value_of a none) ≡ false → NoneAt place xs a) → StayAt g.domains xs place p.items.items stays → p.room ≡ more + stays →
-    (a : List ℤ) → IsWorld g a → AllHold g a → pos (sizes_where (λ w. int_eq w (pos place)) p.items.items a) ≤ℤ (pos stays +ℤ (pos more *ℤ value_of a flag))
-host_fits g p flag none place stays more xs h there away stay room a w all =
+-- what is at the bin, by the flag
+pub host_fits : (g : Ground) (p : Packing) (flag none bin stays more : ℕ) (xs : List ℕ) → IsPacking g p → Contains g.cons (con.MemberDef flag none ((pos 0, pos 0) ∷ [])) →
+    ((a : List ℤ) → AllHold g a → has ((pos 0, pos 0) ∷ []) (value_of a none) ≡ false → NoneAt bin xs a) → StayAt g.domains xs bin p.items.items stays → p.room ≡ more + stays →
+    (a : List ℤ) → IsWorld g a → AllHold g a → pos (sizes_where (λ w. int_eq w (pos bin)) p.items.items a) ≤ℤ (pos stays +ℤ (pos more *ℤ value_of a flag))
+host_fits g p flag none bin stays more xs h there away stay room a w all =
     let value = same_value (value_of a flag) (bit (has ((pos 0, pos 0) ∷ []) (value_of a none))) (stands g (con.MemberDef flag none ((pos 0, pos 0) ∷ [])) a there all) in
-    flag_case (has ((pos 0, pos 0) ∷ []) (value_of a none)) (pos (sizes_where (λ v. int_eq v (pos place)) p.items.items a) ≤ℤ (pos stays +ℤ (pos more *ℤ value_of a flag)))
+    flag_case (has ((pos 0, pos 0) ∷ []) (value_of a none)) (pos (sizes_where (λ v. int_eq v (pos bin)) p.items.items a) ≤ℤ (pos stays +ℤ (pos more *ℤ value_of a flag)))
     (λ in_use.
     let one = times_one more (value_of a flag) (value ∙ ap bit in_use) in
-    let fits = h.fits a w all (pos place) in
+    let fits = h.fits a w all (pos bin) in
     omega (arith, ints, one, fits, room))
     (λ unused.
     let nil = times_none more (value_of a flag) (value ∙ ap bit unused) in
     let fits = stay a w.within (away a all unused) in
     omega (arith, ints, nil, fits))
 
--- ---- taken places
+-- ---- taken bins
 
 one_less : (rest left : Bool) (v : ℤ) (n : ℕ) → left ≡ (rest && not (in_range (pos n, pos n) v)) → rest ≡ true → (int_eq v (pos n) || left) ≡ true
 one_less rest left v n e h = grind (arith, ints)
@@ -121,11 +121,11 @@ pub taken_more : (g : Ground) (p : Packing) (h : Host) (sum share r : Linear) (r
     ((a : List ℤ) → IsWorld g a → AllHold g a → pos (size_of p.items.items) ≤ℤ (linear_at sum a +ℤ pos (sizes_where (has rest) p.items.items a))) →
     ((a : List ℤ) → IsWorld g a → linear_at share a ≡ (pos h.stays +ℤ (pos h.more *ℤ value_of a h.flag))) →
     ((a : List ℤ) → linear_at r a ≡ (linear_at sum a +ℤ linear_at share a)) →
-    ((v : ℤ) → has left v ≡ (has rest v && not (in_range (pos h.place, pos h.place) v))) →
+    ((v : ℤ) → has left v ≡ (has rest v && not (in_range (pos h.bin, pos h.bin) v))) →
     (a : List ℤ) → IsWorld g a → AllHold g a → pos (size_of p.items.items) ≤ℤ (linear_at r a +ℤ pos (sizes_where (has left) p.items.items a))
 taken_more g p h sum share r rest left packing host bound value plus less a w all =
-    let at = places_used g p.used p.items.items a packing.exist packing.used w in
-    let parts = split p.used (has rest) (λ v. int_eq v (pos h.place)) (has left) p.items.items a (λ v u e. one_less (has rest v) (has left v) v h.place (less v) e) at in
+    let at = bins_used g p.used p.items.items a packing.exist packing.used w in
+    let parts = split p.used (has rest) (λ v. int_eq v (pos h.bin)) (has left) p.items.items a (λ v u e. one_less (has rest v) (has left v) v h.bin (less v) e) at in
     let before = bound a w all in
     let fits = host.fits a w all in
     let one = value a w in
@@ -134,7 +134,7 @@ taken_more g p h sum share r rest left packing host bound value plus less a w al
 
 pub none_taken_bound : (g : Ground) (p : Packing) (sum : Linear) (rest : Ranges) → IsPacking g p → ((a : List ℤ) → linear_at sum a ≡ pos 0) → rest ≡ p.used → (a : List ℤ) → IsWorld g a → AllHold g a → pos (size_of p.items.items) ≤ℤ (linear_at sum a +ℤ pos (sizes_where (has rest) p.items.items a))
 none_taken_bound g p sum rest h none same a w all =
-    let at = places_used g p.used p.items.items a h.exist h.used w in
+    let at = bins_used g p.used p.items.items a h.exist h.used w in
     let whole = all_there (has p.used) p.items.items a at in
     let there = ap (λ (s : Ranges). sizes_where (has s) p.items.items a) same in
     let nil = none a in
@@ -142,7 +142,7 @@ none_taken_bound g p sum rest h none same a w all =
 
 pub used_follows : (g : Ground) (p : Packing) (t : Taken) (outside row : Linear) (most : ℕ) → IsPacking g p → IsTaken g p t → most ≡ p.room * count_of t.rest → ((a : List ℤ) → linear_at outside a ≡ (pos p.whole -ℤ linear_at t.sum a)) → ((a : List ℤ) → linear_at row a ≡ (linear_at outside a -ℤ pos most)) → Follows g row
 used_follows g p t outside row most h taken room turned less a w all =
-    let at = places_used g p.used p.items.items a h.exist h.used w in
+    let at = bins_used g p.used p.items.items a h.exist h.used w in
     let fits = set_room p.used t.rest p.room p.items.items a at (h.fits a w all) in
     let bound = taken.bound a w all in
     let total = h.whole in

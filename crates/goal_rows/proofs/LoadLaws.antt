@@ -1,4 +1,4 @@
--- Sizes at places, and how much they come to at most.
+-- Sizes at bins, and how much they come to at most.
 use Rattle.std.proofs.Common.{◌≡◌, ℕ, zero, suc, ◌+◌, ◌*◌, ◌≤◌, Bool, true, false, ◌||◌, cond, List, [], ◌∷◌, ℤ, pos, ◌+ℤ◌, ◌-ℤ◌, unsigned_abs, All, refl, ap, arith}
 use Rattle.std.specs.Ordering.{int_eq}
 use Rattle.std.proofs.lemmas.Int.{ints}
@@ -16,11 +16,11 @@ share_split true true r k h = omega arith
 share_split true false true k h = omega arith
 share_split true false false k h = let e = h refl in absurd (grind (arith, e))
 
--- the place of each item has one of these values
+-- the bin of each item has one of these values
 abbrev pub AreAt : Ranges → List (ℕ × ℕ) → List ℤ → Type 0
 AreAt used ss a = All (λ s. has used (value_of a s.0) ≡ true) ss
 
--- where each place that passes one test passes one of two others, the sizes of the one are at most
+-- where each bin that passes one test passes one of two others, the sizes of the one are at most
 -- those of the two
 pub split : (used : Ranges) (p q r : ℤ → Bool) (ss : List (ℕ × ℕ)) (a : List ℤ) → ((w : ℤ) → has used w ≡ true → p w ≡ true → (q w || r w) ≡ true) → AreAt used ss a → sizes_where p ss a ≤ sizes_where q ss a + sizes_where r ss a
 split used p q r [] a h all = omega arith
@@ -30,7 +30,7 @@ split used p q r (s ∷ ss) a h all =
     let rest = split used p q r ss a h (All-tail (λ t. has used (value_of a t.0) ≡ true) s ss all) in
     omega (arith, here, rest)
 
--- what no place passes has no size
+-- what no bin passes has no size
 pub none_there : (p : ℤ → Bool) (ss : List (ℕ × ℕ)) (a : List ℤ) → ((w : ℤ) → p w ≡ false) → sizes_where p ss a ≡ 0
 none_there p [] a h = refl
 none_there p (s ∷ ss) a h =
@@ -38,7 +38,7 @@ none_there p (s ∷ ss) a h =
     let rest = none_there p ss a h in
     omega (arith, here, rest)
 
--- and what each place passes has all sizes
+-- and what each bin passes has all sizes
 pub all_there : (p : ℤ → Bool) (ss : List (ℕ × ℕ)) (a : List ℤ) → All (λ s. p (value_of a s.0) ≡ true) ss → sizes_where p ss a ≡ size_of ss
 all_there p [] a h = refl
 all_there p (s ∷ ss) a h =
@@ -46,29 +46,29 @@ all_there p (s ∷ ss) a h =
     let rest = all_there p ss a (All-tail (λ t. p (value_of a t.0) ≡ true) s ss h) in
     omega (arith, here, rest)
 
--- ---- how much a set of places has room for
+-- ---- how much a set of bins has room for
 
-first_place : (lo w : ℤ) → in_range (lo, lo +ℤ pos 0) w ≡ true → (int_eq w lo || false) ≡ true
-first_place lo w e = grind (arith, ints)
+first_bin : (lo w : ℤ) → in_range (lo, lo +ℤ pos 0) w ≡ true → (int_eq w lo || false) ≡ true
+first_bin lo w e = grind (arith, ints)
 
-next_place : (lo w : ℤ) (n : ℕ) → in_range (lo, lo +ℤ pos (suc n)) w ≡ true → (in_range (lo, lo +ℤ pos n) w || int_eq w (lo +ℤ pos (suc n))) ≡ true
-next_place lo w n e = grind (arith, ints)
+next_bin : (lo w : ℤ) (n : ℕ) → in_range (lo, lo +ℤ pos (suc n)) w ≡ true → (in_range (lo, lo +ℤ pos n) w || int_eq w (lo +ℤ pos (suc n))) ≡ true
+next_bin lo w n e = grind (arith, ints)
 
 wider : (lo hi w : ℤ) → in_range (lo, hi) w ≡ true → (in_range (lo, lo +ℤ pos (unsigned_abs (hi -ℤ lo))) w || false) ≡ true
 wider lo hi w e = grind (arith, ints)
 
--- no place has more than the room
+-- no bin has more than the room
 abbrev pub AreWithin : ℕ → List (ℕ × ℕ) → List ℤ → Type 0
 AreWithin room ss a = (v : ℤ) → sizes_where (λ w. int_eq w v) ss a ≤ room
 
 span_room : (used : Ranges) (lo : ℤ) (n room : ℕ) (ss : List (ℕ × ℕ)) (a : List ℤ) → AreAt used ss a → AreWithin room ss a → sizes_where (in_range (lo, lo +ℤ pos n)) ss a ≤ room * suc n
 span_room used lo zero room ss a all h =
-    let parts = split used (in_range (lo, lo +ℤ pos 0)) (λ w. int_eq w lo) (λ w. false) ss a (λ w u e. first_place lo w e) all in
+    let parts = split used (in_range (lo, lo +ℤ pos 0)) (λ w. int_eq w lo) (λ w. false) ss a (λ w u e. first_bin lo w e) all in
     let none = none_there (λ w. false) ss a (λ w. refl) in
     let there = h lo in
     omega (arith, parts, none, there)
 span_room used lo (suc n) room ss a all h =
-    let parts = split used (in_range (lo, lo +ℤ pos (suc n))) (in_range (lo, lo +ℤ pos n)) (λ w. int_eq w (lo +ℤ pos (suc n))) ss a (λ w u e. next_place lo w n e) all in
+    let parts = split used (in_range (lo, lo +ℤ pos (suc n))) (in_range (lo, lo +ℤ pos n)) (λ w. int_eq w (lo +ℤ pos (suc n))) ss a (λ w u e. next_bin lo w n e) all in
     let rest = span_room used lo n room ss a all h in
     let there = h (lo +ℤ pos (suc n)) in
     let product = mul-suc room (suc n) in
@@ -82,7 +82,7 @@ range_room used r room ss a all h =
     let span = span_room used r.0 n room ss a all h in
     omega (arith, parts, none, span)
 
--- the places of a set have room for as many rooms as it has values
+-- the bins of a set have room for as many rooms as it has values
 pub set_room : (used : Ranges) (rs : Ranges) (room : ℕ) (ss : List (ℕ × ℕ)) (a : List ℤ) → AreAt used ss a → AreWithin room ss a → sizes_where (has rs) ss a ≤ room * count_of rs
 set_room used [] room ss a all h = let none = none_there (has []) ss a (λ w. refl) in omega (arith, none)
 set_room used (r ∷ rs) room ss a all h =

@@ -45,7 +45,7 @@ pub items_exist : (boxes : Boxes) (room : ℕ) (is : List (ℕ × ℕ × ℕ)) (
 items_exist boxes room [] [] h k d lt = absurd (omega (arith, lt))
 items_exist boxes room [] (t ∷ ss) h k d lt = absurd h
 items_exist boxes room (i ∷ is) [] h k d lt = absurd h
-items_exist boxes room (i ∷ is) (s ∷ ss) h zero d lt = let e = h.0.place in let there = h.0.exists in omega (arith, e, there)
+items_exist boxes room (i ∷ is) (s ∷ ss) h zero d lt = let e = h.0.bin in let there = h.0.exists in omega (arith, e, there)
 items_exist boxes room (i ∷ is) (s ∷ ss) h (suc k) d lt = items_exist boxes room is ss h.1 k d (omega (arith, lt))
 
 -- ---- loads
@@ -56,28 +56,28 @@ load_step true false n r k s e f g = absurd (grind (arith, e))
 load_step false true n r k s e f g = absurd (grind (arith, e))
 load_step false false n r k s e f g = omega (arith, ints, g)
 
--- the load of a place is the sizes of the items there
+-- the load of a bin is the sizes of the items there
 pub load_is : (boxes : Boxes) (room : ℕ) (is : List (ℕ × ℕ × ℕ)) (ss : List (ℕ × ℕ)) (a : List ℤ) (v : ℤ) → AreItemsOf boxes room is ss → IsInBoxes boxes a → load_at v is a ≡ pos (sizes_where (λ w. int_eq w v) ss a)
 load_is boxes room [] [] a v h within = refl
 load_is boxes room [] (t ∷ ss) a v h within = absurd h
 load_is boxes room (i ∷ is) [] a v h within = absurd h
 load_is boxes room (i ∷ is) (s ∷ ss) a v h within =
     load_step (int_eq (value_of a i.0) v) (int_eq (value_of a s.0) v) (value_of a i.1) (load_at v is a) s.1 (sizes_where (λ w. int_eq w v) ss a)
-    (ap (λ (x : ℕ). int_eq (value_of a x) v) (sym h.0.place))
+    (ap (λ (x : ℕ). int_eq (value_of a x) v) (sym h.0.bin))
     (constant_is boxes i.1 s.1 a h.0.size within)
     (load_is boxes room is ss a v h.1 within)
 
 first_fits : (r load : ℤ) (n room : ℕ) → int_le load r ≡ true → load ≡ pos n → r ≡ pos room → n ≤ room
 first_fits r load n room h e f = grind (arith, ints)
 
-same_place : (u v : ℤ) → int_eq u v ≡ true → u ≡ v
-same_place u v h = grind (arith, ints)
+same_bin : (u v : ℤ) → int_eq u v ≡ true → u ≡ v
+same_bin u v h = grind (arith, ints)
 
 at_or_away : (b : Bool) (P : Type 0) → (b ≡ true → P) → (b ≡ false → P) → P
 at_or_away true P here there = here refl
 at_or_away false P here there = there refl
 
--- where some item is at the place, its room holds the load
+-- where some item is at the bin, its room holds the load
 held : (boxes : Boxes) (room load : ℕ) (all is : List (ℕ × ℕ × ℕ)) (ss : List (ℕ × ℕ)) (a : List ℤ) (v : ℤ) → AreItemsOf boxes room is ss → IsInBoxes boxes a → rooms_hold all is a ≡ true → load_at v all a ≡ pos load → (sizes_where (λ w. int_eq w v) ss a ≡ 0 → load ≡ 0) → load ≤ room
 held boxes room load all [] [] a v h within fit e none = let nil = none refl in omega (arith, nil)
 held boxes room load all [] (t ∷ ss) a v h within fit e none = absurd h
@@ -86,14 +86,14 @@ held boxes room load all (i ∷ is) (s ∷ ss) a v h within fit e none =
     let parts = and_parts (int_le (load_at (value_of a i.0) all a) (value_of a i.2)) (rooms_hold all is a) fit in
     at_or_away (int_eq (value_of a s.0) v) (load ≤ room)
     (λ there.
-    let at : value_of a i.0 ≡ v = ap (value_of a) (sym h.0.place) ∙ same_place (value_of a s.0) v there in
+    let at : value_of a i.0 ≡ v = ap (value_of a) (sym h.0.bin) ∙ same_bin (value_of a s.0) v there in
     first_fits (value_of a i.2) (load_at (value_of a i.0) all a) load room parts.0
     (ap (λ (u : ℤ). load_at u all a) at ∙ e) (constant_is boxes i.2 room a h.0.fits within))
     (λ away.
     held boxes room load all is ss a v h.1 within parts.1 e
     (λ rest. none (let none_here = ap (λ (b : Bool). cond b s.1 0) away in omega (arith, none_here, rest))))
 
--- no place has more than the room
+-- no bin has more than the room
 pub all_within : (boxes : Boxes) (room : ℕ) (is : List (ℕ × ℕ × ℕ)) (ss : List (ℕ × ℕ)) (a : List ℤ) → AreItemsOf boxes room is ss → IsInBoxes boxes a → rooms_hold is is a ≡ true → AreWithin room ss a
 all_within boxes room is ss a h within fit v =
     held boxes room (sizes_where (λ w. int_eq w v) ss a) is is ss a v h within fit (load_is boxes room is ss a v h within) (λ e. e)
@@ -104,9 +104,9 @@ pub items_fit : (g : Ground) (room : ℕ) (is : List (ℕ × ℕ × ℕ)) (ss : 
 items_fit g room is ss there items a w all v =
     all_within g.domains room is ss a items w.within (All-contains (λ c. con_true c a ≡ true) g.cons (con.Pack is) all there) v
 
--- each item is at one of the places
-pub places_used : (g : Ground) (used : Ranges) (ss : List (ℕ × ℕ)) (a : List ℤ) → All (λ s. s.0 < length g.domains) ss → All (IsUsed g.domains used) ss → IsWorld g a → AreAt used ss a
-places_used g used ss a exist h w k d lt =
+-- each item is at one of the bins
+pub bins_used : (g : Ground) (used : Ranges) (ss : List (ℕ × ℕ)) (a : List ℤ) → All (λ s. s.0 < length g.domains) ss → All (IsUsed g.domains used) ss → IsWorld g a → AreAt used ss a
+bins_used g used ss a exist h w k d lt =
     h k d lt (value_of a (slice_index_or ss k d).0) (w.within (slice_index_or ss k d).0 (exist k d lt))
 
 used_kept : (b c : Boxes) (used : Ranges) (ss : List (ℕ × ℕ)) → ((x : ℕ) → x < length b → box_of c x ≡ box_of b x) → All (λ s. s.0 < length b) ss → All (IsUsed b used) ss → All (IsUsed c used) ss

@@ -18,7 +18,7 @@ use Rattle.goal_rows.specs.Loads.{sizes_where}
 use Rattle.goal_rows.specs.Packings.{IsPacking}
 use Rattle.goal_rows.specs.Rows.{Follows, IsNought}
 use Rattle.goal_rows.proofs.LoadLaws.{split, none_there, all_there, set_room}
-use Rattle.goal_rows.proofs.PackingLaws.{places_used}
+use Rattle.goal_rows.proofs.PackingLaws.{bins_used}
 
 -- what is stated and follows from what stood says nothing more
 pub implied : (old new : Ground) (says : List ℤ → Bool) → ((a : List ℤ) → IsWorld old a → AllHold old a → says a ≡ true) → Adds [] old new says → Defines old new
@@ -96,7 +96,7 @@ either p q e = grind arith
 
 pub inside_follows : (g : Ground) (p : Packing) (set there : Ranges) (f row : Linear) (most : ℕ) → IsPacking g p → ((v : ℤ) → has there v ≡ (has p.used v && has set v)) → most ≡ p.room * count_of there → ((a : List ℤ) → IsWorld g a → linear_at f a ≡ pos (sizes_where (has set) p.items.items a)) → ((a : List ℤ) → linear_at row a ≡ (linear_at f a -ℤ pos most)) → Follows g row
 inside_follows g p set there f row most h meets room inside less a w all =
-    let at = places_used g p.used p.items.items a h.exist h.used w in
+    let at = bins_used g p.used p.items.items a h.exist h.used w in
     let parts = split p.used (has set) (has there) (λ v. false) p.items.items a (λ v u e. ap (λ (b : Bool). b || false) (meets v) ∙ both (has p.used v) (has set v) u e) at in
     let none = none_there (λ v. false) p.items.items a (λ v. refl) in
     let fits = set_room p.used there p.room p.items.items a at (h.fits a w all) in
@@ -106,7 +106,7 @@ inside_follows g p set there f row most h meets room inside less a w all =
 
 pub outside_follows : (g : Ground) (p : Packing) (set rest : Ranges) (f outside row : Linear) (most : ℕ) → IsPacking g p → ((v : ℤ) → has rest v ≡ (has p.used v && not (has set v))) → most ≡ p.room * count_of rest → ((a : List ℤ) → IsWorld g a → linear_at f a ≡ pos (sizes_where (has set) p.items.items a)) → ((a : List ℤ) → linear_at outside a ≡ (pos p.whole -ℤ linear_at f a)) → ((a : List ℤ) → linear_at row a ≡ (linear_at outside a -ℤ pos most)) → Follows g row
 outside_follows g p set rest f outside row most h others room inside turned less a w all =
-    let at = places_used g p.used p.items.items a h.exist h.used w in
+    let at = bins_used g p.used p.items.items a h.exist h.used w in
     let parts = split p.used (has p.used) (has set) (has rest) p.items.items a (λ v u e. ap (λ (b : Bool). has set v || b) (others v) ∙ either (has p.used v) (has set v) u) at in
     let whole = all_there (has p.used) p.items.items a at in
     let total = h.whole in

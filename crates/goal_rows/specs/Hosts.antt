@@ -1,4 +1,4 @@
--- Places that are in use or not. What a reader believes after this file: how much is at a place at
+-- Bins that are in use or not. What a reader believes after this file: how much is at a bin at
 -- most, by a flag that tells whether some item is there that may be elsewhere.
 use Rattle.std.specs.Prelude.{◌≡◌, ℕ, ◌^◌, ◌<◌, ◌≤◌, Bool, true, false, cond, List, [], ◌∷◌, ℤ, pos, ◌+ℤ◌, ◌*ℤ◌, ◌≤ℤ◌, length}
 use Rattle.std.specs.List.{All}
@@ -17,52 +17,52 @@ use Rattle.goal_rows.specs.declared.packing.Packing.{Packing}
 use Rattle.goal_rows.specs.declared.used.Taken.{Taken}
 use Rattle.goal_rows.specs.Loads.{sizes_where, size_of}
 
--- none of the variables has the place as value
+-- none of the variables has the bin as value
 abbrev pub NoneAt : ℕ → List ℕ → List ℤ → Type 0
-NoneAt place xs a = All (λ x. int_eq (value_of a x) (pos place) ≡ false) xs
+NoneAt bin xs a = All (λ x. int_eq (value_of a x) (pos bin) ≡ false) xs
 
--- where the part has the truth that it wants, the variable isn't at the place
+-- where the part has the truth that it wants, the variable isn't at the bin
 abbrev pub IsPartAway : Ground → ℕ × Bool → ℕ → ℕ → Type 0
-IsPartAway g part place x =
-    (a : List ℤ) → AllHold g a → parts_true (part ∷ []) a ≡ true → int_eq (value_of a x) (pos place)
+IsPartAway g part bin x =
+    (a : List ℤ) → AllHold g a → parts_true (part ∷ []) a ≡ true → int_eq (value_of a x) (pos bin)
     ≡ false
 
--- where all parts have the truths that they want, none of the variables is at the place
+-- where all parts have the truths that they want, none of the variables is at the bin
 abbrev pub ArePartsAway : Ground → List (ℕ × Bool) → ℕ → List ℕ → Type 0
-ArePartsAway g parts place xs =
-    (a : List ℤ) → AllHold g a → parts_true parts a ≡ true → NoneAt place xs a
+ArePartsAway g parts bin xs =
+    (a : List ℤ) → AllHold g a → parts_true parts a ≡ true → NoneAt bin xs a
 
--- where the flag isn't 0, none of the variables is at the place
+-- where the flag isn't 0, none of the variables is at the bin
 pub record AreAway (g : Ground) (flag : ℕ) (w : Away) : Type 0 where
-  pub small : w.place ≤ 2 ^ 38
+  pub small : w.bin ≤ 2 ^ 38
   pub none : (a : List ℤ) → AllHold g a → has ((pos 0, pos 0) ∷ []) (value_of a flag) ≡ false →
-      NoneAt w.place w.vars.items a
+      NoneAt w.bin w.vars.items a
 
--- where none of the variables is at the place, the item adds at most so much there
+-- where none of the variables is at the bin, the item adds at most so much there
 abbrev pub StaysAt : Boxes → List ℕ → ℕ → ℕ × ℕ → ℕ → Type 0
-StaysAt boxes xs place s n =
-    (a : List ℤ) → IsInBoxes boxes a → NoneAt place xs a →
-    cond (int_eq (value_of a s.0) (pos place)) s.1 0 ≤ n
+StaysAt boxes xs bin s n =
+    (a : List ℤ) → IsInBoxes boxes a → NoneAt bin xs a →
+    cond (int_eq (value_of a s.0) (pos bin)) s.1 0 ≤ n
 
--- where none of the variables is at the place, the items add at most so much there
+-- where none of the variables is at the bin, the items add at most so much there
 abbrev pub StayAt : Boxes → List ℕ → ℕ → List (ℕ × ℕ) → ℕ → Type 0
-StayAt boxes xs place ss n =
-    (a : List ℤ) → IsInBoxes boxes a → NoneAt place xs a →
-    sizes_where (λ w. int_eq w (pos place)) ss a ≤ n
+StayAt boxes xs bin ss n =
+    (a : List ℤ) → IsInBoxes boxes a → NoneAt bin xs a →
+    sizes_where (λ w. int_eq w (pos bin)) ss a ≤ n
 
--- at a place of the packing stands at most what stays there, and more where the flag is 1, up to
+-- at a bin of the packing stands at most what stays there, and more where the flag is 1, up to
 -- the room
 pub record IsHost (g : Ground) (p : Packing) (h : Host) : Type 0 where
   pub exists : h.flag < length g.domains
   pub near : reach_of (box_of g.domains h.flag) ≤ 1
-  pub place : h.place ≤ 2 ^ 38
+  pub bin : h.bin ≤ 2 ^ 38
   pub stays : h.stays ≤ 2 ^ 38
   pub more : h.more ≤ 2 ^ 38
   pub fits : (a : List ℤ) → IsWorld g a → AllHold g a →
-      pos (sizes_where (λ w. int_eq w (pos h.place)) p.items.items a)
+      pos (sizes_where (λ w. int_eq w (pos h.bin)) p.items.items a)
       ≤ℤ (pos h.stays +ℤ (pos h.more *ℤ value_of a h.flag))
 
--- all sizes are at most the sum and what is at the places that are left
+-- all sizes are at most the sum and what is at the bins that are left
 pub record IsTaken (g : Ground) (p : Packing) (t : Taken) : Type 0 where
   pub linear : IsLinear (2 ^ 39) g.domains t.sum
   pub bound : (a : List ℤ) → IsWorld g a → AllHold g a → pos (size_of p.items.items)

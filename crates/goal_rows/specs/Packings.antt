@@ -1,5 +1,5 @@
 -- Packings with constant sizes and one room. What a reader believes after this file: where a
--- packing holds, no place has more than the room.
+-- packing holds, no bin has more than the room.
 use Rattle.std.specs.Prelude.{◌≡◌, ℕ, ◌^◌, ◌<◌, ◌≤◌, true, List, [], ◌∷◌, ℤ, pos, length}
 use Rattle.std.specs.List.{All}
 use Rattle.std.specs.Ordering.{int_eq}
@@ -15,30 +15,30 @@ pub record IsConstant (boxes : Boxes) (x k : ℕ) : Type 0 where
   pub exists : x < length boxes
   pub box : box_of boxes x ≡ (pos k, pos k) ∷ []
 
--- the item has this place, this constant size and this constant room
+-- the item has this bin, this constant size and this constant room
 pub record IsItemOf (boxes : Boxes) (room : ℕ) (i : ℕ × ℕ × ℕ) (s : ℕ × ℕ) : Type 0 where
-  pub place : s.0 ≡ i.0
+  pub bin : s.0 ≡ i.0
   pub exists : i.0 < length boxes
   pub size : IsConstant boxes i.1 s.1
   pub fits : IsConstant boxes i.2 room
 
--- the items have these places and sizes, in order, and all have this room
+-- the items have these bins and sizes, in order, and all have this room
 abbrev pub AreItemsOf : Boxes → ℕ → List (ℕ × ℕ × ℕ) → List (ℕ × ℕ) → Type 0
 AreItemsOf boxes room [] [] = Unit {0}
 AreItemsOf boxes room [] (s ∷ ss) = ⊥
 AreItemsOf boxes room (i ∷ is) [] = ⊥
 AreItemsOf boxes room (i ∷ is) (s ∷ ss) = IsItemOf boxes room i s × AreItemsOf boxes room is ss
 
--- the values that the item's place may have are among these
+-- the values that the item's bin may have are among these
 abbrev pub IsUsed : Boxes → Ranges → ℕ × ℕ → Type 0
 IsUsed boxes used s = (v : ℤ) → has (box_of boxes s.0) v ≡ true → has used v ≡ true
 
--- where all constraints hold no place has more than the room
+-- where all constraints hold no bin has more than the room
 abbrev pub AreFitting : Ground → ℕ → List (ℕ × ℕ) → Type 0
 AreFitting g room ss =
     (a : List ℤ) → IsWorld g a → AllHold g a → (v : ℤ) → sizes_where (λ w. int_eq w v) ss a ≤ room
 
--- the packing's places exist, its sizes are small, and where all constraints hold no place has more
+-- the packing's bins exist, its sizes are small, and where all constraints hold no bin has more
 -- than its room
 pub record IsPacking (g : Ground) (p : Packing) : Type 0 where
   pub exist : All (λ s. s.0 < length g.domains) p.items.items

@@ -10,7 +10,7 @@ ghost use Rattle.goal_rows.specs.Packings.{IsPacking};
 ghost use Rattle.goal_rows.specs.Rows.{IsNought};
 
 use crate::choice::{factors_of, sets_asked};
-use crate::definitions::definition_places;
+use crate::definitions::definition_indexes;
 use crate::packing::{Packing, packing_at};
 use crate::shares::add_for_set;
 use crate::used::add_used;
@@ -52,7 +52,7 @@ struct Aim {
     /// The coefficient of each variable.
     factors: Vec<i64>,
     /// Where each flag's definition may stand.
-    places: Vec<usize>,
+    indexes: Vec<usize>,
 }
 
 /// Adds the rows of a packing for the sets that the goal's flags ask about.
@@ -82,8 +82,8 @@ fn add_for_packing(
     requires packing { IsPacking maker.old p.now }
     ensures { OnOk result (Defines maker.old maker.new) }
 {
-    add_used(maker, zero, p, aim.places.as_slice(), number, true)?;
-    add_used(maker, zero, p, aim.places.as_slice(), number, false)?;
+    add_used(maker, zero, p, aim.indexes.as_slice(), number, true)?;
+    add_used(maker, zero, p, aim.indexes.as_slice(), number, false)?;
     add_for_sets(maker, zero, p, aim)?;
     Ok(())
 }
@@ -152,7 +152,7 @@ pub fn add_goal_sums(maker: &mut Maker, number: &Linear, goal: u32) -> Result<()
     let zero = difference(maker, number, goal)?;
     let aim = Aim {
         factors: factors_of(maker, number)?,
-        places: definition_places(maker)?,
+        indexes: definition_indexes(maker)?,
     };
     add_for_all(maker, &zero, &aim, number)?;
     Ok(())

@@ -52,7 +52,7 @@ fn factor_at(factors: &[i64], x: u32) -> i64 {
     if x < factors.len() { factors[x] } else { 0 }
 }
 
-/// For each variable whether it is the place of an item.
+/// For each variable whether it is the bin of an item.
 fn marks_of(maker: &Maker, p: &Packing) -> Result<Vec<bool>, AllocError> {
     let mut marks = Vec::new(maker.alloc());
     marks.resize(maker.domains().len(), false)?;
@@ -86,7 +86,7 @@ fn is_asked(asked: &[Asked], set: &IntSet) -> bool {
     false
 }
 
-/// Adds the set that the constraint asks about of a place, where it defines a flag of the sum.
+/// Adds the set that the constraint asks about of a bin, where it defines a flag of the sum.
 fn note(
     asked: &mut Vec<Asked>,
     factors: &[i64],
@@ -104,7 +104,7 @@ fn note(
     Ok(())
 }
 
-/// The sets that flags of the sum ask about of the packing's places, none where they are too many.
+/// The sets that flags of the sum ask about of the packing's bins, none where they are too many.
 pub(crate) fn sets_asked(
     maker: &Maker,
     factors: &[i64],

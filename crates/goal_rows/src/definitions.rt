@@ -18,35 +18,35 @@ fn variable_defined(con: &Con) -> Option<u32> {
 }
 
 /// Notes that constraint k defines a variable.
-fn note_place(places: &mut [usize], con: &Con, k: usize) {
+fn note_index(indexes: &mut [usize], con: &Con, k: usize) {
     if let Some(found) = variable_defined(con) {
         let x = found as usize;
-        if x < places.len() {
-            places[x] = k;
+        if x < indexes.len() {
+            indexes[x] = k;
         }
     }
 }
 
 /// For each variable the number of a constraint: of one that is defined by a question, by parts or
 /// by a flag that of its definition. Who reads it looks whether it is.
-pub fn definition_places(maker: &Maker) -> Result<Vec<usize>, AllocError> {
-    let mut places = Vec::new(maker.alloc());
-    places.resize(maker.domains().len(), 0)?;
+pub fn definition_indexes(maker: &Maker) -> Result<Vec<usize>, AllocError> {
+    let mut indexes = Vec::new(maker.alloc());
+    indexes.resize(maker.domains().len(), 0)?;
     for (k, con) in maker.cons().iter().enumerate() {
-        note_place(&mut places, con, k);
+        note_index(&mut indexes, con, k);
     }
-    Ok(places)
+    Ok(indexes)
 }
 
 /// The constraint that is noted for a variable.
-pub fn definition<'a>(maker: &'a Maker, places: &[usize], x: u32) -> Option<&'a Con>
+pub fn definition<'a>(maker: &'a Maker, indexes: &[usize], x: u32) -> Option<&'a Con>
     ensures { IfSome result (λ c. Contains maker.now.cons c.now) }
 {
     let x = x as usize;
-    if x >= places.len() {
+    if x >= indexes.len() {
         return None;
     }
-    let k = places[x];
+    let k = indexes[x];
     let cons = maker.cons();
     if k < cons.len() { Some(&cons[k]) } else { None }
 }
@@ -74,11 +74,11 @@ fn asked_by(c: &Con, flag: u32) -> Option<(u32, u64)>
 }
 
 /// The variable and the value, where the flag tells whether the variable has that value.
-pub fn question(maker: &Maker, places: &[usize], flag: u32) -> Option<(u32, u64)>
+pub fn question(maker: &Maker, indexes: &[usize], flag: u32) -> Option<(u32, u64)>
     ensures { IfSome result (λ q. Contains maker.now.cons
         (con.MemberDef flag q.0 ((pos q.1, pos q.1) ∷ []))) }
 {
-    let c = definition(maker, places, flag)?;
+    let c = definition(maker, indexes, flag)?;
     asked_by(c, flag)
 }
 
@@ -102,11 +102,11 @@ fn parts_in(c: &Con, flag: u32) -> Option<&[(u32, bool)]>
 /// The parts of which the flag tells whether all have the truths that they want.
 pub(crate) fn parts_of<'a>(
     maker: &'a Maker,
-    places: &[usize],
+    indexes: &[usize],
     flag: u32,
 ) -> Option<&'a [(u32, bool)]>
     ensures { IfSome result (λ ps. Contains maker.now.cons (con.AndDef flag ps.now)) }
 {
-    let c = definition(maker, places, flag)?;
+    let c = definition(maker, indexes, flag)?;
     parts_in(c, flag)
 }

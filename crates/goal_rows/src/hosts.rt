@@ -1,4 +1,4 @@
-//! Places of which a flag tells whether some item is there that may be elsewhere.
+//! Bins of which a flag tells whether some item is there that may be elsewhere.
 ghost use Rattle.std.specs.Prelude.{◌≡◌, ◌<◌, ◌≤◌, ◌+◌, ◌^◌, [], ◌∷◌, pos, true, length, Contains, IfOk, IfSome};
 ghost use Rattle.std.specs.List.{All};
 ghost use Rattle.signed_clause.specs.Clauses.{box_of};
@@ -16,13 +16,13 @@ use form_build::Maker;
 use signed_clause::IntSet;
 use std::alloc::AllocError;
 
-/// A place, and the flag that tells whether some item is there that may be elsewhere.
+/// A bin, and the flag that tells whether some item is there that may be elsewhere.
 #[derive(Clone, Copy)]
 pub(crate) struct Host {
     /// The flag.
     pub flag: u32,
-    /// The place.
-    pub place: u64,
+    /// The bin.
+    pub bin: u64,
     /// The sizes that are there in any case.
     pub stays: u64,
     /// How much there is room for besides.
@@ -39,14 +39,14 @@ fn is_among(vars: &[u32], x: u32) -> bool
     }
 }
 
-/// What an item adds at a place where none of the variables is there: nothing where it is one of
+/// What an item adds at a bin where none of the variables is there: nothing where it is one of
 /// them, or can't be there.
-fn stays_at(boxes: &[IntSet], vars: &[u32], place: u64, s: (u32, u64)) -> u64
+fn stays_at(boxes: &[IntSet], vars: &[u32], bin: u64, s: (u32, u64)) -> u64
     requires exists { s.0 < length boxes.now }
-    requires place { place ≤ 2 ^ 38 }
-    ensures { StaysAt boxes.now vars.now place s result }
+    requires bin { bin ≤ 2 ^ 38 }
+    ensures { StaysAt boxes.now vars.now bin s result }
 {
-    if is_among(vars, s.0) || !boxes[s.0 as usize].contains(signed(place)) {
+    if is_among(vars, s.0) || !boxes[s.0 as usize].contains(signed(bin)) {
         0
     } else {
         s.1
@@ -60,30 +60,30 @@ fn added(m: u64, n: u64) -> Option<u64>
     m.checked_add(n)
 }
 
-/// What the items add at a place where none of the variables is there.
-fn stay_at(boxes: &[IntSet], vars: &[u32], place: u64, items: &[(u32, u64)]) -> Option<u64>
+/// What the items add at a bin where none of the variables is there.
+fn stay_at(boxes: &[IntSet], vars: &[u32], bin: u64, items: &[(u32, u64)]) -> Option<u64>
     requires exist { All (λ s. s.0 < length boxes.now) items.now }
-    requires place { place ≤ 2 ^ 38 }
-    ensures { IfSome result (λ n. StayAt boxes.now vars.now place items.now n) }
+    requires bin { bin ≤ 2 ^ 38 }
+    ensures { IfSome result (λ n. StayAt boxes.now vars.now bin items.now n) }
 {
     let mut sum = 0u64;
     for s in items {
-        sum = added(sum, stays_at(boxes, vars, place, *s))?;
+        sum = added(sum, stays_at(boxes, vars, bin, *s))?;
     }
     Some(sum)
 }
 
-/// What the items of a packing add at the place from which these variables are away.
+/// What the items of a packing add at the bin from which these variables are away.
 fn stays_in(maker: &Maker, p: &Packing, w: &Away) -> Option<u64>
     requires exist { All (λ s. s.0 < length maker.now.domains) p.now.items.items }
-    requires place { w.now.place ≤ 2 ^ 38 }
-    ensures { IfSome result (λ n. StayAt maker.now.domains w.now.vars.items w.now.place
+    requires bin { w.now.bin ≤ 2 ^ 38 }
+    ensures { IfSome result (λ n. StayAt maker.now.domains w.now.vars.items w.now.bin
         p.now.items.items n) }
 {
     stay_at(
         maker.domains(),
         w.vars.as_slice(),
-        w.place,
+        w.bin,
         p.items.as_slice(),
     )
 }
@@ -111,15 +111,15 @@ fn room_besides(room: u64, stays: u64) -> Option<u64>
 }
 
 /// The flag that is 0 exactly where this one is 1.
-fn opposite(maker: &Maker, places: &[usize], flag: u32) -> Option<u32>
+fn opposite(maker: &Maker, indexes: &[usize], flag: u32) -> Option<u32>
     ensures { IfSome result (λ x. Contains maker.now.cons
         (con.MemberDef flag x ((pos 0, pos 0) ∷ []))) }
 {
-    let q = question(maker, places, flag)?;
+    let q = question(maker, indexes, flag)?;
     if q.1 == 0 { Some(q.0) } else { None }
 }
 
-/// The place of a packing from which these variables are away, where the opposite flag isn't 0.
+/// The bin of a packing from which these variables are away, where the opposite flag isn't 0.
 fn host_from(maker: &Maker, p: &Packing, flag: u32, none: u32, w: &Away) -> Option<Host>
     requires packing { IsPacking maker.now p.now }
     requires flag { Contains maker.now.cons (con.MemberDef flag none ((pos 0, pos 0) ∷ [])) }
@@ -133,26 +133,26 @@ fn host_from(maker: &Maker, p: &Packing, flag: u32, none: u32, w: &Away) -> Opti
     let more = room_besides(p.room, stays)?;
     Some(Host {
         flag,
-        place: w.place,
+        bin: w.bin,
         stays,
         more,
     })
 }
 
-/// The place of a packing of which the flag tells whether some item is there.
+/// The bin of a packing of which the flag tells whether some item is there.
 pub(crate) fn host_of(
     maker: &Maker,
-    places: &[usize],
+    indexes: &[usize],
     p: &Packing,
     flag: u32,
 ) -> Result<Option<Host>, AllocError>
     requires packing { IsPacking maker.now p.now }
     ensures { IfOk result (λ o. IfSome o (λ h. IsHost maker.now p.now h)) }
 {
-    let Some(none) = opposite(maker, places, flag) else {
+    let Some(none) = opposite(maker, indexes, flag) else {
         return Ok(None);
     };
-    match away_from(maker, places, none)? {
+    match away_from(maker, indexes, none)? {
         Some(w) => Ok(host_from(maker, p, flag, none, &w)),
         None => Ok(None),
     }

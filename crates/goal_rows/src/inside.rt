@@ -36,7 +36,7 @@ fn size_where(maker: &mut Maker, size: u64, t: &Truth) -> Result<Linear, AllocEr
     }
 }
 
-/// The size of an item where its place is in the set, and 0 where it isn't.
+/// The size of an item where its bin is in the set, and 0 where it isn't.
 fn size_inside(maker: &mut Maker, s: (u32, u64), set: &IntSet) -> Result<Linear, AllocError>
     requires exists { s.0 < length maker.old.domains }
     requires small { s.1 ≤ 2 ^ 38 }
@@ -50,7 +50,7 @@ fn size_inside(maker: &mut Maker, s: (u32, u64), set: &IntSet) -> Result<Linear,
     Ok(r)
 }
 
-/// The sizes of the items whose places are in the set, added up by halves.
+/// The sizes of the items whose bins are in the set, added up by halves.
 pub(crate) fn sizes_inside(
     maker: &mut Maker,
     items: &[(u32, u64)],

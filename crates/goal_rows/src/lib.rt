@@ -15,12 +15,12 @@
 //! - `choice`: the sets that a goal's flags ask about, and which multiples are added.
 //! - `constants`: variables that have one value.
 //! - `definitions`: what flags are, by the constraints that define them.
-//! - `hosts`: places of which a flag tells whether some item is there that may be elsewhere.
+//! - `hosts`: bins of which a flag tells whether some item is there that may be elsewhere.
 //! - `inside`: the sizes of the items in a set, as a sum.
-//! - `packing`: packings whose sizes and rooms are constants, as lists of places and sizes.
+//! - `packing`: packings whose sizes and rooms are constants, as lists of bins and sizes.
 //! - `rows`: rows that follow, with multiples of what is 0.
 //! - `shares`: what the items in a set, and those outside it, have room for.
-//! - `used`: rows of a packing for a goal that counts places in use.
+//! - `used`: rows of a packing for a goal that counts bins in use.
 //! - `weights`: whether a sum's numbers are small.
 #![tactic(auto)]
 
@@ -39,4 +39,4 @@ mod used;
 mod weights;
 
 pub use adding::add_goal_sums;
-pub use definitions::{definition, definition_places, question};
+pub use definitions::{definition, definition_indexes, question};

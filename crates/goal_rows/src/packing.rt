@@ -1,4 +1,4 @@
-//! Packings whose sizes and rooms are constants, as lists of places and sizes.
+//! Packings whose sizes and rooms are constants, as lists of bins and sizes.
 ghost use Rattle.std.specs.Prelude.{◌≡◌, ◌<◌, ◌≤◌, ◌+◌, ◌^◌, ℕ, ℤ, List, true, length, Contains, IfOk, IfSome};
 ghost use Rattle.std.specs.List.{All};
 ghost use Rattle.signed_clause.specs.Ranges.{has};
@@ -16,20 +16,20 @@ use std::alloc::{AllocError, Global};
 /// The greatest sum of sizes that is looked at.
 pub(crate) const HEAVIEST: u64 = 1 << 38;
 
-/// A packing whose places all have one room.
+/// A packing whose bins all have one room.
 #[derive(Drop)]
 pub(crate) struct Packing {
-    /// The items: the variable of the place, and the size.
+    /// The items: the variable of the bin, and the size.
     pub items: Vec<(u32, u64)>,
     /// All sizes together.
     pub whole: u64,
-    /// How much a place has room for.
+    /// How much a bin has room for.
     pub room: u64,
-    /// The places at which an item may be.
+    /// The bins at which an item may be.
     pub used: IntSet,
 }
 
-/// The place and the size of an item, where its size is a constant, and its room is this constant.
+/// The bin and the size of an item, where its size is a constant, and its room is this constant.
 fn item_of(boxes: &[IntSet], i: (u32, u32, u32), room: u64) -> Option<(u32, u64)>
     ensures { IfSome result (λ s. IsItemOf boxes.now room i s) }
 {
@@ -42,7 +42,7 @@ fn item_of(boxes: &[IntSet], i: (u32, u32, u32), room: u64) -> Option<(u32, u64)
     }
 }
 
-/// The places and sizes of the items, where all sizes are constants, and all rooms are this
+/// The bins and sizes of the items, where all sizes are constants, and all rooms are this
 /// constant.
 fn items_of(
     alloc: Global,
@@ -89,7 +89,7 @@ fn with_box(used: IntSet, boxes: &[IntSet], x: u32) -> Result<IntSet, AllocError
     }
 }
 
-/// The places at which an item may be.
+/// The bins at which an item may be.
 fn used_by(alloc: Global, boxes: &[IntSet], items: &[(u32, u64)]) -> Result<IntSet, AllocError>
     requires { All (λ s. s.0 < length boxes.now) items.now }
     ensures { IfOk result (λ u. All (IsUsed boxes.now u) items.now) }
@@ -101,7 +101,7 @@ fn used_by(alloc: Global, boxes: &[IntSet], items: &[(u32, u64)]) -> Result<IntS
     Ok(used)
 }
 
-/// A packing by its places and sizes.
+/// A packing by its bins and sizes.
 fn with_items(
     maker: &Maker,
     items: Vec<(u32, u64)>,

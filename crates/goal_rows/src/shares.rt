@@ -18,7 +18,7 @@ use form_build::{Linear, Maker};
 use signed_clause::IntSet;
 use std::alloc::AllocError;
 
-/// How much the places in a set have room for. None where all items fit there, so that nothing
+/// How much the bins in a set have room for. None where all items fit there, so that nothing
 /// follows, or where that is too much.
 pub(crate) fn room_in(p: &Packing, set: &IntSet) -> Option<u64>
     ensures room { IfSome result (λ n. n ≡ p.now.room * count_of set.now) }

@@ -1,4 +1,4 @@
-//! Rows of a packing for a goal that counts places in use.
+//! Rows of a packing for a goal that counts bins in use.
 ghost use Rattle.std.specs.Prelude.{◌≡◌, ◌<◌, ◌≤◌, ◌^◌, ◌+ℤ◌, ◌*ℤ◌, ℤ, pos, not, ◌&&◌, List, length, IfOk, IfSome, OnOk};
 ghost use Rattle.std.specs.List.{All};
 ghost use Rattle.signed_clause.specs.Ranges.{has, in_range};
@@ -23,16 +23,16 @@ use form_build::{Linear, Maker, variable};
 use signed_clause::IntSet;
 use std::alloc::AllocError;
 
-/// What places have room for, and the places that are left.
+/// What bins have room for, and the bins that are left.
 #[derive(Drop)]
 pub(crate) struct Taken {
     /// What those that were taken have room for, as a sum of their flags.
     pub sum: Linear,
-    /// The places that are left.
+    /// The bins that are left.
     pub rest: IntSet,
 }
 
-/// What a place has room for, by its flag.
+/// What a bin has room for, by its flag.
 fn share_of(maker: &Maker, h: &Host) -> Result<Linear, AllocError>
     requires exists { h.now.flag < length maker.now.domains }
     requires near { reach_of (box_of maker.now.domains h.now.flag) ≤ 1 }
@@ -49,19 +49,19 @@ fn share_of(maker: &Maker, h: &Host) -> Result<Linear, AllocError>
     Ok(r)
 }
 
-/// The places without one.
-fn without(maker: &Maker, rest: &IntSet, place: u64) -> Result<IntSet, AllocError>
-    requires { place ≤ 2 ^ 38 }
+/// The bins without one.
+fn without(maker: &Maker, rest: &IntSet, bin: u64) -> Result<IntSet, AllocError>
+    requires { bin ≤ 2 ^ 38 }
     ensures { IfOk result (λ s. (v : ℤ) → has s v
-        ≡ (has rest.now v && not (in_range (pos place, pos place) v))) }
+        ≡ (has rest.now v && not (in_range (pos bin, pos bin) v))) }
 {
-    let v = signed(place);
+    let v = signed(bin);
     let one = IntSet::range(maker.alloc(), v, v);
     let left = rest.less(&one)?;
     Ok(left)
 }
 
-/// One place more is taken, where the numbers stay small.
+/// One bin more is taken, where the numbers stay small.
 fn take_host(maker: &Maker, p: &Packing, t: Taken, h: &Host) -> Result<Option<Taken>, AllocError>
     requires packing { IsPacking maker.now p.now }
     requires taken { IsTaken maker.now p.now t }
@@ -70,7 +70,7 @@ fn take_host(maker: &Maker, p: &Packing, t: Taken, h: &Host) -> Result<Option<Ta
 {
     let share = share_of(maker, h)?;
     let sum = t.sum.plus(maker.alloc(), &share)?;
-    let rest = without(maker, &t.rest, h.place)?;
+    let rest = without(maker, &t.rest, h.bin)?;
     if is_light(maker, &sum) {
         Ok(Some(Taken { sum, rest }))
     } else {
@@ -78,7 +78,7 @@ fn take_host(maker: &Maker, p: &Packing, t: Taken, h: &Host) -> Result<Option<Ta
     }
 }
 
-/// No place is taken.
+/// No bin is taken.
 fn none_taken(maker: &Maker, p: &Packing) -> Result<Taken, AllocError>
     requires { IsPacking maker.now p.now }
     ensures { IfOk result (λ t. IsTaken maker.now p.now t) }
@@ -88,7 +88,7 @@ fn none_taken(maker: &Maker, p: &Packing) -> Result<Taken, AllocError>
     Ok(Taken { sum, rest })
 }
 
-/// All of these places are taken, where the numbers stay small.
+/// All of these bins are taken, where the numbers stay small.
 fn take_all(maker: &Maker, p: &Packing, hosts: &[Host]) -> Result<Option<Taken>, AllocError>
     requires packing { IsPacking maker.now p.now }
     requires hosts { All (IsHost maker.now p.now) hosts.now }
@@ -104,10 +104,10 @@ fn take_all(maker: &Maker, p: &Packing, hosts: &[Host]) -> Result<Option<Taken>,
     Ok(Some(t))
 }
 
-/// The places of which flags tell that are terms of the sum, with this coefficient.
+/// The bins of which flags tell that are terms of the sum, with this coefficient.
 fn hosts_of(
     maker: &Maker,
-    places: &[usize],
+    indexes: &[usize],
     p: &Packing,
     number: &Linear,
     rises: bool,
@@ -118,16 +118,16 @@ fn hosts_of(
     let mut hosts = Vec::new(maker.alloc());
     for t in number.terms.items() {
         if t.0 == factor(rises) {
-            push_host(maker, places, p, &mut hosts, t.1)?;
+            push_host(maker, indexes, p, &mut hosts, t.1)?;
         }
     }
     Ok(hosts)
 }
 
-/// Adds the place of which the flag tells, where it is one.
+/// Adds the bin of which the flag tells, where it is one.
 fn push_host(
     maker: &Maker,
-    places: &[usize],
+    indexes: &[usize],
     p: &Packing,
     hosts: &mut Vec<Host>,
     flag: u32,
@@ -136,13 +136,13 @@ fn push_host(
     requires hosts { All (IsHost maker.now p.now) hosts.old.items }
     ensures { OnOk result (All (IsHost maker.now p.now) hosts.new.items) }
 {
-    if let Some(h) = host_of(maker, places, p, flag)? {
+    if let Some(h) = host_of(maker, indexes, p, flag)? {
         hosts.push(h)?;
     }
     Ok(())
 }
 
-/// The multiples that are added for places: the distinct numbers of what they have room for
+/// The multiples that are added for bins: the distinct numbers of what they have room for
 /// besides.
 fn multiples(maker: &Maker, hosts: &[Host]) -> Result<Vec<u64>, AllocError> {
     let mut numbers = Vec::new(maker.alloc());
@@ -154,7 +154,7 @@ fn multiples(maker: &Maker, hosts: &[Host]) -> Result<Vec<u64>, AllocError> {
     Ok(out)
 }
 
-/// States that all items fit into the places, with multiples of what is 0.
+/// States that all items fit into the bins, with multiples of what is 0.
 fn state_used(
     maker: &mut Maker,
     zero: &Linear,
@@ -178,12 +178,12 @@ fn state_used(
     Ok(())
 }
 
-/// Adds the rows of a packing for the places of which flags tell that are terms of the goal's sum.
+/// Adds the rows of a packing for the bins of which flags tell that are terms of the goal's sum.
 pub(crate) fn add_used(
     maker: &mut Maker,
     zero: &Linear,
     p: &Packing,
-    places: &[usize],
+    indexes: &[usize],
     number: &Linear,
     rises: bool,
 ) -> Result<(), AllocError>
@@ -192,7 +192,7 @@ pub(crate) fn add_used(
     requires packing { IsPacking maker.old p.now }
     ensures { OnOk result (Defines maker.old maker.new) }
 {
-    let hosts = hosts_of(maker, places, p, number, rises)?;
+    let hosts = hosts_of(maker, indexes, p, number, rises)?;
     if hosts.is_empty() {
         return Ok(());
     }

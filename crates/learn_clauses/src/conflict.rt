@@ -97,7 +97,7 @@ fn walk_back(
     while left > 0 {
         left -= 1;
         let entry = &trail[left];
-        if turn(running, entry, clauses, steps)? {
+        if resolve_entry(running, entry, clauses, steps)? {
             return Ok(entry.level);
         }
     }
@@ -105,7 +105,7 @@ fn walk_back(
 }
 
 /// What an entry does to the walk: whether it ends there, and else the clause before the entry.
-fn turn(
+fn resolve_entry(
     running: &mut RunningClause,
     entry: &Moved,
     clauses: &Clauses,

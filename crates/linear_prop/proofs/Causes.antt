@@ -26,10 +26,10 @@ all_spreads_fit (t ∷ ts) boxes =
 pub spread_fits : (ts : List (ℤ × ℕ)) (boxes : Boxes) (x : ℤ) → weight_of ts boxes ≤ 2 ^ 61 → x ≡ greatest_spread ts boxes → unsigned_abs x ≤ 2 ^ 62
 spread_fits ts boxes x w e = let f = all_spreads_fit ts boxes in rw e (omega arith)
 
-rise_first : (ts : List (ℤ × ℕ)) (boxes : Boxes) (place : ℕ) (to : ℤ) → place < length ts → rise ts boxes place to 0 ≡ ((term_at ts place).0 *ℤ to) -ℤ least_term (term_at ts place) boxes
-rise_first ts boxes place to h =
-    let f : nat_le 0 place ≡ true = grind (arith, nat_tests) in
-    let g : nat_lt place (length ts) ≡ true = grind (arith, nat_tests) in rw (f, g) refl
+rise_first : (ts : List (ℤ × ℕ)) (boxes : Boxes) (index : ℕ) (to : ℤ) → index < length ts → rise ts boxes index to 0 ≡ ((term_at ts index).0 *ℤ to) -ℤ least_term (term_at ts index) boxes
+rise_first ts boxes index to h =
+    let f : nat_le 0 index ≡ true = grind (arith, nat_tests) in
+    let g : nat_lt index (length ts) ≡ true = grind (arith, nat_tests) in rw (f, g) refl
 
 -- the numbers of a cause
 record AreNumbers (t : ℤ × ℕ) (boxes : Boxes) (bound least to : ℤ) (slack : ℕ) : Type 0 where
@@ -57,11 +57,11 @@ between t boxes at to f above low high up down =
     (λ n. let d = down n in let b = below_high_end t.0 (low_of s) (high_of s) to o n least in record { low = omega (arith, ints); high = omega (arith, ints) })
     (λ n. let u = up n in let a = above_low_end t.0 (low_of s) (high_of s) to o n least in record { low = omega (arith, ints); high = omega (arith, ints) })
 
-pub pruned_cause : (ts : List (ℤ × ℕ)) (boxes : Boxes) (bound least spread : ℤ) (place : ℕ) (t : ℤ × ℕ) (c at to : ℤ) (b : Ranges) (full slack : ℕ) →
-    place < length ts → t ≡ term_at ts place → c ≡ t.0 → b ≡ box_of boxes t.1 → IsValid b → spread_of (term_at ts place) boxes ≡ spread → least ≡ least_sum ts boxes → least ≤ℤ bound →
+pub pruned_cause : (ts : List (ℤ × ℕ)) (boxes : Boxes) (bound least spread : ℤ) (index : ℕ) (t : ℤ × ℕ) (c at to : ℤ) (b : Ranges) (full slack : ℕ) →
+    index < length ts → t ≡ term_at ts index → c ≡ t.0 → b ≡ box_of boxes t.1 → IsValid b → spread_of (term_at ts index) boxes ≡ spread → least ≡ least_sum ts boxes → least ≤ℤ bound →
     pos full ≡ ((least +ℤ spread) -ℤ bound) -ℤ pos 1 → c *ℤ at ≡ greatest_at c b → low_of b ≤ℤ at → at ≤ℤ high_of b →
-    c *ℤ to ≡ ((c *ℤ at) -ℤ pos full) +ℤ pos slack → slack ≤ full → (pos 0 ≤ℤ c → to ≤ℤ at) → (c <ℤ pos 0 → at ≤ℤ to) → IsCause ts boxes bound place to slack
-pruned_cause ts boxes bound least spread place t c at to b full slack h e f g valid s m w p q low high paid l up down =
+    c *ℤ to ≡ ((c *ℤ at) -ℤ pos full) +ℤ pos slack → slack ≤ full → (pos 0 ≤ℤ c → to ≤ℤ at) → (c <ℤ pos 0 → at ≤ℤ to) → IsCause ts boxes bound index to slack
+pruned_cause ts boxes bound least spread index t c at to b full slack h e f g valid s m w p q low high paid l up down =
     let from_is : c *ℤ at ≡ greatest_term t boxes = q ∙ ap (λ (z : ℤ). greatest_at z b) f ∙ ap (λ (r : Ranges). greatest_at t.0 r) g ∙ greatest_is t boxes in
     let of_t : spread_of t boxes ≡ spread = ap (λ (u : ℤ × ℕ). spread_of u boxes) e ∙ s in
     let paid_t : t.0 *ℤ to ≡ ((c *ℤ at) -ℤ pos full) +ℤ pos slack = ap (λ (z : ℤ). z *ℤ to) (sym f) ∙ paid in
@@ -69,7 +69,7 @@ pruned_cause ts boxes bound least spread place t c at to b full slack h e f g va
     let span = between t boxes at to (subst IsValid g valid) n.above (subst (λ (r : Ranges). low_of r ≤ℤ at) g low) (subst (λ (r : Ranges). at ≤ℤ high_of r) g high)
     (λ k. up (subst (λ (z : ℤ). pos 0 ≤ℤ z) (sym f) k)) (λ k. down (subst (λ (z : ℤ). z <ℤ pos 0) (sym f) k)) in
     let lows = ap (λ (r : Ranges). low_of r) g in let highs = ap (λ (r : Ranges). high_of r) g in
-    let first = rise_first ts boxes place to h in
+    let first = rise_first ts boxes index to h in
     let n' = subst (λ (u : ℤ × ℕ). AreNumbers u boxes bound least to slack) e n in
     let span' = subst (λ (u : ℤ × ℕ). IsBetween u boxes to) e span in
     record {
@@ -81,18 +81,18 @@ pruned_cause ts boxes bound least spread place t c at to b full slack h e f g va
     }
 
 -- how far the term falls from its greatest to its least
-pub spread_is : (ts : List (ℤ × ℕ)) (boxes : Boxes) (place : ℕ) (t : ℤ × ℕ) (c at end spread : ℤ) (b : Ranges) → t ≡ term_at ts place → c ≡ t.0 → b ≡ box_of boxes t.1 →
-    spread_of (term_at ts place) boxes ≡ spread → c *ℤ at ≡ greatest_at c b → c *ℤ end ≡ least_at c b → (c *ℤ at) -ℤ (c *ℤ end) ≡ spread
-spread_is ts boxes place t c at end spread b e f g s p q =
+pub spread_is : (ts : List (ℤ × ℕ)) (boxes : Boxes) (index : ℕ) (t : ℤ × ℕ) (c at end spread : ℤ) (b : Ranges) → t ≡ term_at ts index → c ≡ t.0 → b ≡ box_of boxes t.1 →
+    spread_of (term_at ts index) boxes ≡ spread → c *ℤ at ≡ greatest_at c b → c *ℤ end ≡ least_at c b → (c *ℤ at) -ℤ (c *ℤ end) ≡ spread
+spread_is ts boxes index t c at end spread b e f g s p q =
     let of_t : spread_of t boxes ≡ spread = ap (λ (u : ℤ × ℕ). spread_of u boxes) e ∙ s in
     let high : greatest_at c b ≡ greatest_term t boxes = ap (λ (z : ℤ). greatest_at z b) f ∙ ap (λ (r : Ranges). greatest_at t.0 r) g ∙ greatest_is t boxes in
     let low : least_at c b ≡ least_term t boxes = ap (λ (z : ℤ). least_at z b) f ∙ ap (λ (r : Ranges). least_at t.0 r) g ∙ least_is t boxes in
     let is : spread ≡ greatest_term t boxes -ℤ least_term t boxes = sym of_t in
     omega (arith, ints)
 
-pub factor_some : (ts : List (ℤ × ℕ)) (boxes : Boxes) (place : ℕ) (t : ℤ × ℕ) (c at spread : ℤ) (b : Ranges) → t ≡ term_at ts place → c ≡ t.0 → b ≡ box_of boxes t.1 →
-    spread_of (term_at ts place) boxes ≡ spread → pos 0 <ℤ spread → c *ℤ at ≡ greatest_at c b → 0 < unsigned_abs c
-factor_some ts boxes place t c at spread b e f g s p q =
+pub factor_some : (ts : List (ℤ × ℕ)) (boxes : Boxes) (index : ℕ) (t : ℤ × ℕ) (c at spread : ℤ) (b : Ranges) → t ≡ term_at ts index → c ≡ t.0 → b ≡ box_of boxes t.1 →
+    spread_of (term_at ts index) boxes ≡ spread → pos 0 <ℤ spread → c *ℤ at ≡ greatest_at c b → 0 < unsigned_abs c
+factor_some ts boxes index t c at spread b e f g s p q =
     let of_t : spread_of t boxes ≡ spread = ap (λ (u : ℤ × ℕ). spread_of u boxes) e ∙ s in
     let high : greatest_at c b ≡ greatest_term t boxes = ap (λ (z : ℤ). greatest_at z b) f ∙ ap (λ (r : Ranges). greatest_at t.0 r) g ∙ greatest_is t boxes in
     let low : least_at c b ≡ least_term t boxes = ap (λ (z : ℤ). least_at z b) f ∙ ap (λ (r : Ranges). least_at t.0 r) g ∙ least_is t boxes in

@@ -39,9 +39,9 @@ use Rattle.std.proofs.Math.Nat.{mul-le-mul_left}
 
 -- ---- where a walk begins and ends
 
-pub begun : (ts : List (ℤ × ℕ)) (domains boxes : Boxes) (bound : ℤ) (place : ℕ) (to : ℤ) (slack : ℕ) (out : Literals) → IsCause ts boxes bound place to slack → out ≡ [] → IsSoFar ts domains boxes bound place to 0 out slack
-begun ts domains boxes bound place to slack out cause e =
-    subst (λ (o : Literals). IsSoFar ts domains boxes bound place to 0 o slack) (sym e) (record {
+pub begun : (ts : List (ℤ × ℕ)) (domains boxes : Boxes) (bound : ℤ) (index : ℕ) (to : ℤ) (slack : ℕ) (out : Literals) → IsCause ts boxes bound index to slack → out ≡ [] → IsSoFar ts domains boxes bound index to 0 out slack
+begun ts domains boxes bound index to slack out cause e =
+    subst (λ (o : Literals). IsSoFar ts domains boxes bound index to 0 o slack) (sym e) (record {
       literals = record { named = λ k d lt. absurd (omega arith); differ = refl; some = λ k d lt. absurd (omega arith); sets = λ k d lt. absurd (omega arith) };
       fresh = λ k d lt. refl;
       acts = refl;
@@ -50,17 +50,17 @@ begun ts domains boxes bound place to slack out cause e =
       owed = let o = cause.owed in omega (arith, ints);
     })
 
-rise_end : (ts : List (ℤ × ℕ)) (boxes : Boxes) (place : ℕ) (to : ℤ) → rise ts boxes place to (length ts) ≡ pos 0
-rise_end ts boxes place to =
-    let e : (nat_le (length ts) place && nat_lt place (length ts)) ≡ false = grind (arith, nat_tests) in
-    ap (λ b. cond b (((term_at ts place).0 *ℤ to) -ℤ least_term (term_at ts place) boxes) (pos 0)) e
+rise_end : (ts : List (ℤ × ℕ)) (boxes : Boxes) (index : ℕ) (to : ℤ) → rise ts boxes index to (length ts) ≡ pos 0
+rise_end ts boxes index to =
+    let e : (nat_le (length ts) index && nat_lt index (length ts)) ≡ false = grind (arith, nat_tests) in
+    ap (λ b. cond b (((term_at ts index).0 *ℤ to) -ℤ least_term (term_at ts index) boxes) (pos 0)) e
 
-pub ended : (ts : List (ℤ × ℕ)) (domains boxes : Boxes) (bound : ℤ) (place : ℕ) (to : ℤ) (slack : ℕ) (out : Literals) → IsSoFar ts domains boxes bound place to (length ts) out slack → bound <ℤ least_sum ts (cut domains out)
-ended ts domains boxes bound place to slack out so =
+pub ended : (ts : List (ℤ × ℕ)) (domains boxes : Boxes) (bound : ℤ) (index : ℕ) (to : ℤ) (slack : ℕ) (out : Literals) → IsSoFar ts domains boxes bound index to (length ts) out slack → bound <ℤ least_sum ts (cut domains out)
+ended ts domains boxes bound index to slack out so =
     let o = so.owed in
     let all = ap (λ (xs : List (ℤ × ℕ)). least_sum xs (cut domains out)) (take_all (length ts) ts (omega arith)) in
     let none = ap (λ (xs : List (ℤ × ℕ)). least_sum xs boxes) (drop_all (length ts) ts (omega arith)) in
-    let rise = rise_end ts boxes place to in omega (arith, ints)
+    let rise = rise_end ts boxes index to in omega (arith, ints)
 
 -- ---- what follows
 
@@ -131,14 +131,14 @@ follows_zero x ts bound turned_bound domains out e h n =
 
 -- ---- reasons
 
-pub row_reason : (con : Con) (ts : List (ℤ × ℕ)) (domains boxes : Boxes) (bound : ℤ) (place : ℕ) (to : ℤ) (slack : ℕ) (out : Literals) → IsSoFar ts domains boxes bound place to (length ts) out slack →
+pub row_reason : (con : Con) (ts : List (ℤ × ℕ)) (domains boxes : Boxes) (bound : ℤ) (index : ℕ) (to : ℤ) (slack : ℕ) (out : Literals) → IsSoFar ts domains boxes bound index to (length ts) out slack →
     ((o : Literals) → All (λ l. IsValid l.1) o → bound <ℤ least_sum ts (cut domains o) → justified con domains o ≡ true) → IsReason con domains boxes out
-row_reason con ts domains boxes bound place to slack out so follows = record {
+row_reason con ts domains boxes bound index to slack out so follows = record {
   named = so.literals.named;
   differ = so.literals.differ;
   some = so.literals.some;
   sets = so.literals.sets;
-  follows = follows out so.literals.sets (ended ts domains boxes bound place to slack out so);
+  follows = follows out so.literals.sets (ended ts domains boxes bound index to slack out so);
   acts = so.acts;
 }
 
@@ -154,21 +154,21 @@ alone_has v = grind (arith, ints)
 alone_disjoint : (v : ℤ) (box : Ranges) → IsValid ((v, v) ∷ []) → IsValid box → has box v ≡ false → is_disjoint ((v, v) ∷ []) box ≡ true
 alone_disjoint v box f g h = (disjoint_law ((v, v) ∷ []) box f g).1 (λ u m. ap (λ (z : ℤ). has box z) (alone_is u v m) ∙ h)
 
-flag_acts : (ts : List (ℤ × ℕ)) (domains boxes : Boxes) (bound : ℤ) (place : ℕ) (to : ℤ) (slack x : ℕ) (v : ℤ) (out : Literals) → IsSoFar ts domains boxes bound place to (length ts) out slack →
-    IsValid ((v, v) ∷ []) → IsValid (box_of boxes x) → IsOpposed boxes x v place ts → Acts boxes (out ++ (x, (v, v) ∷ []) ∷ [])
-flag_acts ts domains boxes bound place to slack x v out so f g (inl h) = acts_push boxes out (x, (v, v) ∷ []) so.acts (alone_disjoint v (box_of boxes x) f g h)
-flag_acts ts domains boxes bound place to slack x v out so f g (inr h) = acts_one boxes out (x, (v, v) ∷ []) [] (so.missed (let e = h.0 in omega arith)) refl h.1
+flag_acts : (ts : List (ℤ × ℕ)) (domains boxes : Boxes) (bound : ℤ) (index : ℕ) (to : ℤ) (slack x : ℕ) (v : ℤ) (out : Literals) → IsSoFar ts domains boxes bound index to (length ts) out slack →
+    IsValid ((v, v) ∷ []) → IsValid (box_of boxes x) → IsOpposed boxes x v index ts → Acts boxes (out ++ (x, (v, v) ∷ []) ∷ [])
+flag_acts ts domains boxes bound index to slack x v out so f g (inl h) = acts_push boxes out (x, (v, v) ∷ []) so.acts (alone_disjoint v (box_of boxes x) f g h)
+flag_acts ts domains boxes bound index to slack x v out so f g (inr h) = acts_one boxes out (x, (v, v) ∷ []) [] (so.missed (let e = h.0 in omega arith)) refl h.1
 
 and_not : (a b : Bool) → b ≡ true → (a && not b) ≡ false
 and_not true b h = ap not h
 and_not false b h = refl
 
 -- the flag's literal behind those of the row
-pub flag_reason : (con : Con) (ts : List (ℤ × ℕ)) (domains boxes : Boxes) (bound : ℤ) (place : ℕ) (to : ℤ) (slack x : ℕ) (v : ℤ) (out : Literals) (held : Bool) →
-    IsSoFar ts domains boxes bound place to (length ts) out slack → held ≡ has (box_of domains x) v → x < length boxes → has_number x (term_vars ts) ≡ false →
-    IsValid (box_of domains x) → IsValid (box_of boxes x) → IsOpposed boxes x v place ts →
+pub flag_reason : (con : Con) (ts : List (ℤ × ℕ)) (domains boxes : Boxes) (bound : ℤ) (index : ℕ) (to : ℤ) (slack x : ℕ) (v : ℤ) (out : Literals) (held : Bool) →
+    IsSoFar ts domains boxes bound index to (length ts) out slack → held ≡ has (box_of domains x) v → x < length boxes → has_number x (term_vars ts) ≡ false →
+    IsValid (box_of domains x) → IsValid (box_of boxes x) → IsOpposed boxes x v index ts →
     ((o : Literals) → bound <ℤ least_sum ts (cut domains o) → has (box_of (cut domains o) x) v ≡ false → justified con domains o ≡ true) → IsReason con domains boxes (with_flag out x v held)
-flag_reason con ts domains boxes bound place to slack x v out true so e h n f g opposed follows =
+flag_reason con ts domains boxes bound index to slack x v out true so e h n f g opposed follows =
     let alone = alone_valid (box_of domains x) v f (sym e) in
     let fresh = so.only x n in
     let ls = literals_push boxes out (x, (v, v) ∷ []) so.literals fresh h refl alone in
@@ -176,23 +176,23 @@ flag_reason con ts domains boxes bound place to slack x v out true so e h n f g 
     let gone : has (box_of (cut domains (out ++ (x, (v, v) ∷ []) ∷ [])) x) v ≡ false =
     ap (λ (s : Ranges). has s v) box ∙ has-less_valid (box_of domains x) ((v, v) ∷ []) f alone v ∙ and_not (has (box_of domains x) v) (has ((v, v) ∷ []) v) (alone_has v) in
     let sum = sum_push ts domains out (x, (v, v) ∷ []) n in
-    let end = ended ts domains boxes bound place to slack out so in
+    let end = ended ts domains boxes bound index to slack out so in
     record {
       named = ls.named;
       differ = ls.differ;
       some = ls.some;
       sets = ls.sets;
       follows = follows (out ++ (x, (v, v) ∷ []) ∷ []) (subst (λ (z : ℤ). bound <ℤ z) (sym sum) end) gone;
-      acts = flag_acts ts domains boxes bound place to slack x v out so alone g opposed;
+      acts = flag_acts ts domains boxes bound index to slack x v out so alone g opposed;
     }
-flag_reason con ts domains boxes bound place to slack x v out false so e h n f g opposed follows =
+flag_reason con ts domains boxes bound index to slack x v out false so e h n f g opposed follows =
     let box = cut_fresh domains out x f (so.only x n) in
     record {
       named = so.literals.named;
       differ = so.literals.differ;
       some = so.literals.some;
       sets = so.literals.sets;
-      follows = follows out (ended ts domains boxes bound place to slack out so) (ap (λ (s : Ranges). has s v) box ∙ sym e);
+      follows = follows out (ended ts domains boxes bound index to slack out so) (ap (λ (s : Ranges). has s v) box ∙ sym e);
       acts = so.acts;
     }
 
@@ -329,15 +329,15 @@ fits_one x ts bound domains boxes m d b =
 pub fits_zero : (x : ℕ) (ts : List (ℤ × ℕ)) (bound : ℤ) (domains boxes : Boxes) → IsWellMadeCon domains (ReifLe x ts bound) → All (λ d. IsValid d) domains → AreBoxesWithin domains boxes → weight_of (negated ts) boxes ≤ 2 ^ 61
 fits_zero x ts bound domains boxes m d b = let l = fits_one x ts bound domains boxes m d b in let same = turned_weight ts boxes in omega arith
 
-pub flag_apart : (x : ℕ) (ts : List (ℤ × ℕ)) → no_repeat (x ∷ term_vars ts) ≡ true → has_number x (term_vars ts) ≡ false
-flag_apart x ts n = (tail_repeat x (term_vars ts) n).0
+pub flag_different : (x : ℕ) (ts : List (ℤ × ℕ)) → no_repeat (x ∷ term_vars ts) ≡ true → has_number x (term_vars ts) ≡ false
+flag_different x ts n = (tail_repeat x (term_vars ts) n).0
 
-pub flag_apart_turned : (x : ℕ) (ts : List (ℤ × ℕ)) → no_repeat (x ∷ term_vars ts) ≡ true → has_number x (term_vars (negated ts)) ≡ false
-flag_apart_turned x ts n = ap (has_number x) (vars_turned ts) ∙ flag_apart x ts n
+pub flag_different_turned : (x : ℕ) (ts : List (ℤ × ℕ)) → no_repeat (x ∷ term_vars ts) ≡ true → has_number x (term_vars (negated ts)) ≡ false
+flag_different_turned x ts n = ap (has_number x) (vars_turned ts) ∙ flag_different x ts n
 
-pub flag_done : (con : Con) (ts : List (ℤ × ℕ)) (domains boxes : Boxes) (bound : ℤ) (place : ℕ) (to : ℤ) (slack x : ℕ) (v : ℤ) (out after : Literals) (d : Ranges) → IsRowOver ts domains boxes →
-    IsSoFar ts domains boxes bound place to (length ts) out slack → d ≡ box_of domains x → after ≡ with_flag out x v (has d v) → x < length boxes → has_number x (term_vars ts) ≡ false →
-    IsOpposed boxes x v place ts → ((o : Literals) → bound <ℤ least_sum ts (cut domains o) → has (box_of (cut domains o) x) v ≡ false → justified con domains o ≡ true) → IsReason con domains boxes after
-flag_done con ts domains boxes bound place to slack x v out after d over so e a h n opposed follows =
+pub flag_done : (con : Con) (ts : List (ℤ × ℕ)) (domains boxes : Boxes) (bound : ℤ) (index : ℕ) (to : ℤ) (slack x : ℕ) (v : ℤ) (out after : Literals) (d : Ranges) → IsRowOver ts domains boxes →
+    IsSoFar ts domains boxes bound index to (length ts) out slack → d ≡ box_of domains x → after ≡ with_flag out x v (has d v) → x < length boxes → has_number x (term_vars ts) ≡ false →
+    IsOpposed boxes x v index ts → ((o : Literals) → bound <ℤ least_sum ts (cut domains o) → has (box_of (cut domains o) x) v ≡ false → justified con domains o ≡ true) → IsReason con domains boxes after
+flag_done con ts domains boxes bound index to slack x v out after d over so e a h n opposed follows =
     subst (λ (o : Literals). IsReason con domains boxes o) (sym a)
-    (flag_reason con ts domains boxes bound place to slack x v out (has d v) so (ap (λ (s : Ranges). has s v) e) h n (are_sets domains over.domains_valid x) (are_sets boxes over.boxes_within.sets x) opposed follows)
+    (flag_reason con ts domains boxes bound index to slack x v out (has d v) so (ap (λ (s : Ranges). has s v) e) h n (are_sets domains over.domains_valid x) (are_sets boxes over.boxes_within.sets x) opposed follows)

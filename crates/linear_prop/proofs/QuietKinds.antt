@@ -23,7 +23,7 @@ use Rattle.rule_law.proofs.ProbeLaws.{boxes_vars}
 use Rattle.linear_prop.specs.Rows.{negated}
 use Rattle.linear_prop.specs.Explaining.{IsTight}
 use Rattle.linear_prop.proofs.Quieting.{AreSome, quiet_law, none_empty, fixing_some, fixing_order, sum_other, tight_set, sum_turned, vars_turned, least_below}
-use Rattle.linear_prop.proofs.KindLaws.{least_turned_one, least_one, flag_apart, flag_apart_turned, tail_repeat}
+use Rattle.linear_prop.proofs.KindLaws.{least_turned_one, least_one, flag_different, flag_different_turned, tail_repeat}
 
 all_number : (n x : ℕ) (xs : List ℕ) → All (λ y. y < n) xs → has_number x xs ≡ true → x < n
 all_number n x [] h k = absurd (grind arith)
@@ -203,7 +203,7 @@ quiet_one x ts bound domains boxes m d b n lacks tight =
     let sets = are_sets boxes b.sets in
     quiet_flag x ts bound domains boxes m d b (record {
       now = reif_one x ts bound boxes one tight.least;
-      set_one = λ k. flag_is_one x ts bound boxes h (flag_apart x ts n) tight.least;
+      set_one = λ k. flag_is_one x ts bound boxes h (flag_different x ts n) tight.least;
       set_zero = λ k. absurd (grind arith);
       other = λ y v e g k. reif_one x ts bound (fixing boxes y v) (kept_flag boxes x y v (pos 1) true e one) (tight_set ts boxes bound y v tight (tail_repeat x (term_vars ts) n).1 g sets k);
     })
@@ -215,12 +215,12 @@ quiet_zero x ts bound turned_bound domains boxes m d b n e lacks tight =
     let h = flag_named x ts bound domains boxes m b in
     let zero_in = (other_value x ts bound domains boxes m d b h).1 lacks in
     let sets = are_sets boxes b.sets in
-    let apart = ap no_repeat (vars_turned ts) ∙ (tail_repeat x (term_vars ts) n).1 in
+    let different = ap no_repeat (vars_turned ts) ∙ (tail_repeat x (term_vars ts) n).1 in
     quiet_flag x ts bound domains boxes m d b (record {
       now = reif_zero x ts bound turned_bound boxes e zero_in tight.least;
       set_one = λ k. absurd (grind arith);
-      set_zero = λ k. flag_is_zero x ts bound turned_bound boxes e h (flag_apart_turned x ts n) tight.least;
-      other = λ y v f g k. reif_zero x ts bound turned_bound (fixing boxes y v) e (kept_flag boxes x y v (pos 0) true f zero_in) (tight_set (negated ts) boxes turned_bound y v tight apart g sets k);
+      set_zero = λ k. flag_is_zero x ts bound turned_bound boxes e h (flag_different_turned x ts n) tight.least;
+      other = λ y v f g k. reif_zero x ts bound turned_bound (fixing boxes y v) e (kept_flag boxes x y v (pos 0) true f zero_in) (tight_set (negated ts) boxes turned_bound y v tight different g sets k);
     })
 
 -- the flag is open, and neither row is refuted
@@ -230,8 +230,8 @@ quiet_open x ts bound turned_bound domains boxes m d b n e zero_in one l k =
     let h = flag_named x ts bound domains boxes m b in
     quiet_flag x ts bound domains boxes m d b (record {
       now = reif_both x ts bound boxes one zero_in;
-      set_one = λ q. flag_is_one x ts bound boxes h (flag_apart x ts n) l;
-      set_zero = λ q. flag_is_zero x ts bound turned_bound boxes e h (flag_apart_turned x ts n) k;
+      set_one = λ q. flag_is_one x ts bound boxes h (flag_different x ts n) l;
+      set_zero = λ q. flag_is_zero x ts bound turned_bound boxes e h (flag_different_turned x ts n) k;
       other = λ y v f g q. reif_both x ts bound (fixing boxes y v) (kept_flag boxes x y v (pos 1) true f one) (kept_flag boxes x y v (pos 0) true f zero_in);
     })
 

@@ -11,10 +11,10 @@ turned_length : (b : Bool) (ts : List (ℤ × ℕ)) → length (all_turned b ts)
 turned_length true ts = negated_length ts
 turned_length false ts = refl
 
-same_place : (ts : List (ℤ × ℕ)) (i : ℕ) (d e : ℤ × ℕ) → i < length ts → get_or ts i d ≡ get_or ts i e
-same_place [] i d e h = absurd (omega arith)
-same_place (t ∷ ts) zero d e h = refl
-same_place (t ∷ ts) (suc i) d e h = same_place ts i d e (omega arith)
+same_index : (ts : List (ℤ × ℕ)) (i : ℕ) (d e : ℤ × ℕ) → i < length ts → get_or ts i d ≡ get_or ts i e
+same_index [] i d e h = absurd (omega arith)
+same_index (t ∷ ts) zero d e h = refl
+same_index (t ∷ ts) (suc i) d e h = same_index ts i d e (omega arith)
 
 negated_at : (ts : List (ℤ × ℕ)) (i : ℕ) (d e : ℤ × ℕ) → i < length ts → turned true (get_or ts i d) ≡ get_or (negated ts) i e
 negated_at [] i d e h = absurd (omega arith)
@@ -23,7 +23,7 @@ negated_at (t ∷ ts) (suc i) d e h = negated_at ts i d e (omega arith)
 
 turned_at : (b : Bool) (ts : List (ℤ × ℕ)) (i : ℕ) (d e : ℤ × ℕ) → i < length ts → turned b (get_or ts i d) ≡ get_or (all_turned b ts) i e
 turned_at true ts i d e h = negated_at ts i d e h
-turned_at false ts i d e h = same_place ts i d e h
+turned_at false ts i d e h = same_index ts i d e h
 
 behind_none : (h : Option (ℤ × ℕ)) (ts : List (ℤ × ℕ)) → h ≡ None → behind h ts ≡ ts
 behind_none h ts e = rw e refl

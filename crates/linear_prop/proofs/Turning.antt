@@ -127,21 +127,21 @@ literals_push boxes out l a n x s v = record {
 
 -- ---- what is owed
 
-rise_other : (ts : List (ℤ × ℕ)) (boxes : Boxes) (place : ℕ) (to : ℤ) (i : ℕ) → (i ≡ place → ⊥) → rise ts boxes place to (i + 1) ≡ rise ts boxes place to i
-rise_other ts boxes place to i n =
-    let e : nat_le (i + 1) place ≡ nat_le i place = grind (arith, nat_tests) in
-    ap (λ b. cond (b && nat_lt place (length ts)) (((term_at ts place).0 *ℤ to) -ℤ least_term (term_at ts place) boxes) (pos 0)) e
+rise_other : (ts : List (ℤ × ℕ)) (boxes : Boxes) (index : ℕ) (to : ℤ) (i : ℕ) → (i ≡ index → ⊥) → rise ts boxes index to (i + 1) ≡ rise ts boxes index to i
+rise_other ts boxes index to i n =
+    let e : nat_le (i + 1) index ≡ nat_le i index = grind (arith, nat_tests) in
+    ap (λ b. cond (b && nat_lt index (length ts)) (((term_at ts index).0 *ℤ to) -ℤ least_term (term_at ts index) boxes) (pos 0)) e
 
-rise_after : (ts : List (ℤ × ℕ)) (boxes : Boxes) (place : ℕ) (to : ℤ) (i : ℕ) → i ≡ place → rise ts boxes place to (i + 1) ≡ pos 0
-rise_after ts boxes place to i e =
-    let f : nat_le (i + 1) place ≡ false = grind (arith, nat_tests) in
-    ap (λ b. cond (b && nat_lt place (length ts)) (((term_at ts place).0 *ℤ to) -ℤ least_term (term_at ts place) boxes) (pos 0)) f
+rise_after : (ts : List (ℤ × ℕ)) (boxes : Boxes) (index : ℕ) (to : ℤ) (i : ℕ) → i ≡ index → rise ts boxes index to (i + 1) ≡ pos 0
+rise_after ts boxes index to i e =
+    let f : nat_le (i + 1) index ≡ false = grind (arith, nat_tests) in
+    ap (λ b. cond (b && nat_lt index (length ts)) (((term_at ts index).0 *ℤ to) -ℤ least_term (term_at ts index) boxes) (pos 0)) f
 
-rise_here : (ts : List (ℤ × ℕ)) (boxes : Boxes) (place : ℕ) (to : ℤ) (i : ℕ) (t : ℤ × ℕ) → i ≡ place → i < length ts → t ≡ term_at ts i → rise ts boxes place to i ≡ (t.0 *ℤ to) -ℤ least_term t boxes
-rise_here ts boxes place to i t e h k =
-    let f : nat_le i place ≡ true = grind (arith, nat_tests) in
-    let g : nat_lt place (length ts) ≡ true = grind (arith, nat_tests) in
-    let same : term_at ts place ≡ t = ap (λ (j : ℕ). term_at ts j) (sym e) ∙ sym k in
+rise_here : (ts : List (ℤ × ℕ)) (boxes : Boxes) (index : ℕ) (to : ℤ) (i : ℕ) (t : ℤ × ℕ) → i ≡ index → i < length ts → t ≡ term_at ts i → rise ts boxes index to i ≡ (t.0 *ℤ to) -ℤ least_term t boxes
+rise_here ts boxes index to i t e h k =
+    let f : nat_le i index ≡ true = grind (arith, nat_tests) in
+    let g : nat_lt index (length ts) ≡ true = grind (arith, nat_tests) in
+    let same : term_at ts index ≡ t = ap (λ (j : ℕ). term_at ts j) (sym e) ∙ sym k in
     rw (f, g, same) refl
 
 owed_more : (base slack left S S' f rest r r' low floor sum : ℤ) → (base +ℤ slack) ≤ℤ (S +ℤ (sum +ℤ r)) → sum ≡ low +ℤ rest → low +ℤ r ≡ f +ℤ r' → floor ≤ℤ S' → floor ≡ (f -ℤ slack) +ℤ left →
@@ -151,24 +151,24 @@ owed_more base slack left S S' f rest r r' low floor sum h a b c d = omega (arit
 -- ---- a turn
 
 -- the equations of numbers that a turn rests on: the term stands at `from`, and falls to the floor
-record IsStep (ts : List (ℤ × ℕ)) (boxes : Boxes) (place : ℕ) (to : ℤ) (i : ℕ) (t : ℤ × ℕ) (from floor : ℤ) (slack left : ℕ) : Type 0 where
-  rises : least_term t boxes +ℤ rise ts boxes place to i ≡ from +ℤ rise ts boxes place to (i + 1)
+record IsStep (ts : List (ℤ × ℕ)) (boxes : Boxes) (index : ℕ) (to : ℤ) (i : ℕ) (t : ℤ × ℕ) (from floor : ℤ) (slack left : ℕ) : Type 0 where
+  rises : least_term t boxes +ℤ rise ts boxes index to i ≡ from +ℤ rise ts boxes index to (i + 1)
   falls : floor ≡ (from -ℤ pos slack) +ℤ pos left
 
-owed_after : (ts : List (ℤ × ℕ)) (domains boxes : Boxes) (bound : ℤ) (place : ℕ) (to : ℤ) (i : ℕ) (out after : Literals) (slack left : ℕ) (t : ℤ × ℕ) (from floor : ℤ) →
-    IsTurn ts domains boxes i t → IsStep ts boxes place to i t from floor slack left → IsSoFar ts domains boxes bound place to i out slack →
+owed_after : (ts : List (ℤ × ℕ)) (domains boxes : Boxes) (bound : ℤ) (index : ℕ) (to : ℤ) (i : ℕ) (out after : Literals) (slack left : ℕ) (t : ℤ × ℕ) (from floor : ℤ) →
+    IsTurn ts domains boxes i t → IsStep ts boxes index to i t from floor slack left → IsSoFar ts domains boxes bound index to i out slack →
     least_sum (take i ts) (cut domains after) ≡ least_sum (take i ts) (cut domains out) → floor ≤ℤ least_term t (cut domains after) →
-    ((bound +ℤ pos 1) +ℤ pos left) ≤ℤ (least_sum (take (i + 1) ts) (cut domains after) +ℤ (least_sum (drop (i + 1) ts) boxes +ℤ rise ts boxes place to (i + 1)))
-owed_after ts domains boxes bound place to i out after slack left t from floor turn step so same high =
+    ((bound +ℤ pos 1) +ℤ pos left) ≤ℤ (least_sum (take (i + 1) ts) (cut domains after) +ℤ (least_sum (drop (i + 1) ts) boxes +ℤ rise ts boxes index to (i + 1)))
+owed_after ts domains boxes bound index to i out after slack left t from floor turn step so same high =
     let h = owed_more (bound +ℤ pos 1) (pos slack) (pos left) (least_sum (take i ts) (cut domains out)) (least_term t (cut domains after)) from (least_sum (drop (i + 1) ts) boxes)
-    (rise ts boxes place to i) (rise ts boxes place to (i + 1)) (least_term t boxes) floor (least_sum (drop i ts) boxes) so.owed (sum_left ts i t boxes turn.here turn.term) step.rises high step.falls in
+    (rise ts boxes index to i) (rise ts boxes index to (i + 1)) (least_term t boxes) floor (least_sum (drop i ts) boxes) so.owed (sum_left ts i t boxes turn.here turn.term) step.rises high step.falls in
     rw (sum_more ts i t (cut domains after) turn.here turn.term, same) h
 
 -- no literal
-turn_none : (ts : List (ℤ × ℕ)) (domains boxes : Boxes) (bound : ℤ) (place : ℕ) (to : ℤ) (i : ℕ) (out : Literals) (slack left : ℕ) (t : ℤ × ℕ) (from floor : ℤ) →
-    IsTurn ts domains boxes i t → IsStep ts boxes place to i t from floor slack left → IsSoFar ts domains boxes bound place to i out slack →
-    floor ≤ℤ least_at t.0 (box_of domains t.1) → IsSoFar ts domains boxes bound place to (i + 1) out left
-turn_none ts domains boxes bound place to i out slack left t from floor turn step so high =
+turn_none : (ts : List (ℤ × ℕ)) (domains boxes : Boxes) (bound : ℤ) (index : ℕ) (to : ℤ) (i : ℕ) (out : Literals) (slack left : ℕ) (t : ℤ × ℕ) (from floor : ℤ) →
+    IsTurn ts domains boxes i t → IsStep ts boxes index to i t from floor slack left → IsSoFar ts domains boxes bound index to i out slack →
+    floor ≤ℤ least_at t.0 (box_of domains t.1) → IsSoFar ts domains boxes bound index to (i + 1) out left
+turn_none ts domains boxes bound index to i out slack left t from floor turn step so high =
     let fresh = fresh_here ts i t out turn.here turn.term so.fresh in
     let box : box_of (cut domains out) t.1 ≡ box_of domains t.1 = cut_fresh domains out t.1 turn.domain fresh.0 in
     let is : least_at t.0 (box_of domains t.1) ≡ least_term t (cut domains out) = ap (λ (s : Ranges). least_at t.0 s) (sym box) ∙ least_is t (cut domains out) in
@@ -178,16 +178,16 @@ turn_none ts domains boxes bound place to i out slack left t from floor turn ste
       acts = so.acts;
       missed = λ h. so.missed (omega arith);
       only = so.only;
-      owed = owed_after ts domains boxes bound place to i out out slack left t from floor turn step so refl (subst (λ (z : ℤ). floor ≤ℤ z) is high);
+      owed = owed_after ts domains boxes bound index to i out out slack left t from floor turn step so refl (subst (λ (z : ℤ). floor ≤ℤ z) is high);
     }
 
 -- a literal, with which the clause still acts
-turn_some : (ts : List (ℤ × ℕ)) (domains boxes : Boxes) (bound : ℤ) (place : ℕ) (to : ℤ) (i : ℕ) (out : Literals) (slack left : ℕ) (t : ℤ × ℕ) (from floor v : ℤ) (set : Ranges) →
-    IsTurn ts domains boxes i t → IsStep ts boxes place to i t from floor slack left → IsSoFar ts domains boxes bound place to i out slack →
+turn_some : (ts : List (ℤ × ℕ)) (domains boxes : Boxes) (bound : ℤ) (index : ℕ) (to : ℤ) (i : ℕ) (out : Literals) (slack left : ℕ) (t : ℤ × ℕ) (from floor v : ℤ) (set : Ranges) →
+    IsTurn ts domains boxes i t → IsStep ts boxes index to i t from floor slack left → IsSoFar ts domains boxes bound index to i out slack →
     IsBelow t.0 floor (box_of domains t.1) set → has (box_of boxes t.1) v ≡ true → floor ≤ℤ (t.0 *ℤ v) →
-    Acts boxes (out ++ (t.1, set) ∷ []) → (i + 1 ≤ place → false_in boxes (out ++ (t.1, set) ∷ []) ≡ true) →
-    IsSoFar ts domains boxes bound place to (i + 1) (out ++ (t.1, set) ∷ []) left
-turn_some ts domains boxes bound place to i out slack left t from floor v set turn step so below at high acts missed =
+    Acts boxes (out ++ (t.1, set) ∷ []) → (i + 1 ≤ index → false_in boxes (out ++ (t.1, set) ∷ []) ≡ true) →
+    IsSoFar ts domains boxes bound index to (i + 1) (out ++ (t.1, set) ∷ []) left
+turn_some ts domains boxes bound index to i out slack left t from floor v set turn step so below at high acts missed =
     let fresh = fresh_here ts i t out turn.here turn.term so.fresh in
     let split = split_vars ts i t turn.differ turn.here turn.term in
     let member = (within_law (box_of boxes t.1) (box_of domains t.1) turn.box turn.domain).0 turn.within v at in
@@ -205,46 +205,46 @@ turn_some ts domains boxes bound place to i out slack left t from floor v set tu
           let no = var_other x ts i (pos 0, 0) h turn.here in
           let one = so.only x h in
           ap (has_number x) (vars_push out (t.1, set)) ∙ number_append x (clause_vars out) (t.1 ∷ []) ∙ rw (one, e, no) refl;
-      owed = owed_after ts domains boxes bound place to i out (out ++ (t.1, set) ∷ []) slack left t from floor turn step so
+      owed = owed_after ts domains boxes bound index to i out (out ++ (t.1, set) ∷ []) slack left t from floor turn step so
           (sum_push (take i ts) domains out (t.1, set) split.0) (subst (λ (z : ℤ). floor ≤ℤ z) is enough);
     }
 
 -- elsewhere the term falls from its least, and its literal misses the box
-pub turn_elsewhere : (ts : List (ℤ × ℕ)) (domains boxes : Boxes) (bound : ℤ) (place : ℕ) (to : ℤ) (i : ℕ) (out : Literals) (slack left : ℕ) (t : ℤ × ℕ) (from : ℤ) (literal : Option Ranges) →
-    IsTurn ts domains boxes i t → IsSoFar ts domains boxes bound place to i out slack → (i ≡ place → ⊥) → from ≡ least_at t.0 (box_of boxes t.1) →
-    IsFall t.0 from slack (box_of domains t.1) literal left → IsSoFar ts domains boxes bound place to (i + 1) (with_literal out t.1 literal) left
-turn_elsewhere ts domains boxes bound place to i out slack left t from None turn so n e fall =
-    let rise = rise_other ts boxes place to i n in let is = e ∙ least_is t boxes in
-    turn_none ts domains boxes bound place to i out slack left t from ((from -ℤ pos slack) +ℤ pos left) turn
+pub turn_elsewhere : (ts : List (ℤ × ℕ)) (domains boxes : Boxes) (bound : ℤ) (index : ℕ) (to : ℤ) (i : ℕ) (out : Literals) (slack left : ℕ) (t : ℤ × ℕ) (from : ℤ) (literal : Option Ranges) →
+    IsTurn ts domains boxes i t → IsSoFar ts domains boxes bound index to i out slack → (i ≡ index → ⊥) → from ≡ least_at t.0 (box_of boxes t.1) →
+    IsFall t.0 from slack (box_of domains t.1) literal left → IsSoFar ts domains boxes bound index to (i + 1) (with_literal out t.1 literal) left
+turn_elsewhere ts domains boxes bound index to i out slack left t from None turn so n e fall =
+    let rise = rise_other ts boxes index to i n in let is = e ∙ least_is t boxes in
+    turn_none ts domains boxes bound index to i out slack left t from ((from -ℤ pos slack) +ℤ pos left) turn
     (record { rises = omega (arith, ints); falls = refl }) so fall.1
-turn_elsewhere ts domains boxes bound place to i out slack left t from (Some set) turn so n e fall =
-    let rise = rise_other ts boxes place to i n in let is = e ∙ least_is t boxes in
+turn_elsewhere ts domains boxes bound index to i out slack left t from (Some set) turn so n e fall =
+    let rise = rise_other ts boxes index to i n in let is = e ∙ least_is t boxes in
     let l = fall.0 in
     let floor = (from -ℤ pos slack) +ℤ pos left in
     let high : floor ≤ℤ least_at t.0 (box_of boxes t.1) = omega (arith, ints) in
     let low = has_low (box_of boxes t.1) turn.box turn.some in
     let at = above_least t.0 (low_of (box_of boxes t.1)) (box_of boxes t.1) turn.box low in
     let is_disjoint_from_box = literal_disjoint t.0 floor (box_of domains t.1) set (box_of boxes t.1) turn.box fall.1 high in
-    turn_some ts domains boxes bound place to i out slack left t from floor (low_of (box_of boxes t.1)) set turn
+    turn_some ts domains boxes bound index to i out slack left t from floor (low_of (box_of boxes t.1)) set turn
     (record { rises = omega (arith, ints); falls = refl }) so fall.1 low (omega (arith, ints))
     (acts_push boxes out (t.1, set) so.acts is_disjoint_from_box) (λ h. false_push boxes out (t.1, set) (so.missed (omega arith)) is_disjoint_from_box)
 
--- at the place it falls no further, and its literal takes something away
-pub turn_at_place : (ts : List (ℤ × ℕ)) (domains boxes : Boxes) (bound : ℤ) (place : ℕ) (to : ℤ) (i : ℕ) (out : Literals) (slack left : ℕ) (t : ℤ × ℕ) (literal : Option Ranges) →
-    IsTurn ts domains boxes i t → IsSoFar ts domains boxes bound place to i out slack → i ≡ place → (t.0 *ℤ to) ≤ℤ greatest_term t boxes →
-    IsFall t.0 (t.0 *ℤ to) 0 (box_of domains t.1) literal left → IsSoFar ts domains boxes bound place to (i + 1) (with_literal out t.1 literal) slack
-turn_at_place ts domains boxes bound place to i out slack left t None turn so e below fall =
-    let here = rise_here ts boxes place to i t e turn.here turn.term in let after = rise_after ts boxes place to i e in let l = fall.0 in let f = fall.1 in
-    turn_none ts domains boxes bound place to i out slack slack t (t.0 *ℤ to) (t.0 *ℤ to) turn
+-- at the index it falls no further, and its literal takes something away
+pub turn_at_index : (ts : List (ℤ × ℕ)) (domains boxes : Boxes) (bound : ℤ) (index : ℕ) (to : ℤ) (i : ℕ) (out : Literals) (slack left : ℕ) (t : ℤ × ℕ) (literal : Option Ranges) →
+    IsTurn ts domains boxes i t → IsSoFar ts domains boxes bound index to i out slack → i ≡ index → (t.0 *ℤ to) ≤ℤ greatest_term t boxes →
+    IsFall t.0 (t.0 *ℤ to) 0 (box_of domains t.1) literal left → IsSoFar ts domains boxes bound index to (i + 1) (with_literal out t.1 literal) slack
+turn_at_index ts domains boxes bound index to i out slack left t None turn so e below fall =
+    let here = rise_here ts boxes index to i t e turn.here turn.term in let after = rise_after ts boxes index to i e in let l = fall.0 in let f = fall.1 in
+    turn_none ts domains boxes bound index to i out slack slack t (t.0 *ℤ to) (t.0 *ℤ to) turn
     (record { rises = omega (arith, ints); falls = omega (arith, ints) }) so (omega (arith, ints))
-turn_at_place ts domains boxes bound place to i out slack left t (Some set) turn so e below fall =
-    let here = rise_here ts boxes place to i t e turn.here turn.term in let after = rise_after ts boxes place to i e in let l = fall.0 in
+turn_at_index ts domains boxes bound index to i out slack left t (Some set) turn so e below fall =
+    let here = rise_here ts boxes index to i t e turn.here turn.term in let after = rise_after ts boxes index to i e in let l = fall.0 in
     let floor_is : ((t.0 *ℤ to) -ℤ pos 0) +ℤ pos left ≡ t.0 *ℤ to = omega (arith, ints) in
     let b = subst (λ (z : ℤ). IsBelow t.0 z (box_of domains t.1) set) floor_is fall.1 in
     let one = greatest_one t.0 (box_of boxes t.1) (t.0 *ℤ to) turn.box turn.some (subst (λ (z : ℤ). (t.0 *ℤ to) ≤ℤ z) (sym (greatest_is t boxes)) below) in
     let takes = literal_takes t.0 (t.0 *ℤ to) one.0 (box_of domains t.1) set (box_of boxes t.1) turn.box b one.1 one.2 in
     let lt = turn.here in
-    turn_some ts domains boxes bound place to i out slack slack t (t.0 *ℤ to) (t.0 *ℤ to) one.0 set turn
+    turn_some ts domains boxes bound index to i out slack slack t (t.0 *ℤ to) (t.0 *ℤ to) one.0 set turn
     (record { rises = omega (arith, ints); falls = omega (arith, ints) }) so b one.1 one.2
     (acts_one boxes out (t.1, set) [] (so.missed (omega arith)) refl takes) (λ h. absurd (omega arith))
 
@@ -279,38 +279,38 @@ at_most ts domains boxes i t d b at turn e f h =
 pub factor_fits : (t : ℤ × ℕ) (c : ℤ) (boxes : Boxes) (d : Ranges) → c ≡ t.0 → d ≡ box_of boxes t.1 → unsigned_abs t.0 * span_of (box_of boxes t.1) < 2 ^ 64 → unsigned_abs c * span_of d < 2 ^ 64
 factor_fits t c boxes d e f h = rw (e, f) h
 
-pub turn_elsewhere_done : (ts : List (ℤ × ℕ)) (domains boxes : Boxes) (bound : ℤ) (place : ℕ) (to : ℤ) (i : ℕ) (out after : Literals) (slack left : ℕ) (t : ℤ × ℕ) (c from : ℤ) (d b : Ranges) (literal : Option Ranges) →
-    IsTurn ts domains boxes i t → IsSoFar ts domains boxes bound place to i out slack → (i ≡ place → ⊥) → c ≡ t.0 → d ≡ box_of domains t.1 → b ≡ box_of boxes t.1 → from ≡ least_at c b →
-    IsFall c from slack d literal left → after ≡ with_literal out t.1 literal → IsSoFar ts domains boxes bound place to (i + 1) after left
-turn_elsewhere_done ts domains boxes bound place to i out after slack left t c from d b literal turn so n e g h f fall a =
-    subst (λ (o : Literals). IsSoFar ts domains boxes bound place to (i + 1) o left) (sym a)
-    (turn_elsewhere ts domains boxes bound place to i out slack left t from literal turn so n
+pub turn_elsewhere_done : (ts : List (ℤ × ℕ)) (domains boxes : Boxes) (bound : ℤ) (index : ℕ) (to : ℤ) (i : ℕ) (out after : Literals) (slack left : ℕ) (t : ℤ × ℕ) (c from : ℤ) (d b : Ranges) (literal : Option Ranges) →
+    IsTurn ts domains boxes i t → IsSoFar ts domains boxes bound index to i out slack → (i ≡ index → ⊥) → c ≡ t.0 → d ≡ box_of domains t.1 → b ≡ box_of boxes t.1 → from ≡ least_at c b →
+    IsFall c from slack d literal left → after ≡ with_literal out t.1 literal → IsSoFar ts domains boxes bound index to (i + 1) after left
+turn_elsewhere_done ts domains boxes bound index to i out after slack left t c from d b literal turn so n e g h f fall a =
+    subst (λ (o : Literals). IsSoFar ts domains boxes bound index to (i + 1) o left) (sym a)
+    (turn_elsewhere ts domains boxes bound index to i out slack left t from literal turn so n
     (subst (λ (z : ℤ). from ≡ least_at z (box_of boxes t.1)) e (subst (λ (s : Ranges). from ≡ least_at c s) h f))
     (subst (λ (z : ℤ). IsFall z from slack (box_of domains t.1) literal left) e (subst (λ (s : Ranges). IsFall c from slack s literal left) g fall)))
 
-pub turn_at_place_done : (ts : List (ℤ × ℕ)) (domains boxes : Boxes) (bound : ℤ) (place : ℕ) (to : ℤ) (i : ℕ) (out after : Literals) (slack left most : ℕ) (t : ℤ × ℕ) (c : ℤ) (d : Ranges) (literal : Option Ranges) →
-    IsTurn ts domains boxes i t → IsCause ts boxes bound place to most → IsSoFar ts domains boxes bound place to i out slack → i ≡ place → c ≡ t.0 → d ≡ box_of domains t.1 →
-    IsFall c (c *ℤ to) 0 d literal left → after ≡ with_literal out t.1 literal → IsSoFar ts domains boxes bound place to (i + 1) after slack
-turn_at_place_done ts domains boxes bound place to i out after slack left most t c d literal turn cause so p e g fall a =
+pub turn_at_index_done : (ts : List (ℤ × ℕ)) (domains boxes : Boxes) (bound : ℤ) (index : ℕ) (to : ℤ) (i : ℕ) (out after : Literals) (slack left most : ℕ) (t : ℤ × ℕ) (c : ℤ) (d : Ranges) (literal : Option Ranges) →
+    IsTurn ts domains boxes i t → IsCause ts boxes bound index to most → IsSoFar ts domains boxes bound index to i out slack → i ≡ index → c ≡ t.0 → d ≡ box_of domains t.1 →
+    IsFall c (c *ℤ to) 0 d literal left → after ≡ with_literal out t.1 literal → IsSoFar ts domains boxes bound index to (i + 1) after slack
+turn_at_index_done ts domains boxes bound index to i out after slack left most t c d literal turn cause so p e g fall a =
     let here = turn.here in
-    let same : term_at ts place ≡ t = ap (λ (j : ℕ). term_at ts j) (sym p) ∙ sym turn.term in
+    let same : term_at ts index ≡ t = ap (λ (j : ℕ). term_at ts j) (sym p) ∙ sym turn.term in
     let below = subst (λ (u : ℤ × ℕ). (u.0 *ℤ to) ≤ℤ greatest_term u boxes) same (cause.below (omega arith)) in
-    subst (λ (o : Literals). IsSoFar ts domains boxes bound place to (i + 1) o slack) (sym a)
-    (turn_at_place ts domains boxes bound place to i out slack left t literal turn so p below
+    subst (λ (o : Literals). IsSoFar ts domains boxes bound index to (i + 1) o slack) (sym a)
+    (turn_at_index ts domains boxes bound index to i out slack left t literal turn so p below
     (subst (λ (z : ℤ). IsFall z (z *ℤ to) 0 (box_of domains t.1) literal left) e (subst (λ (s : Ranges). IsFall c (c *ℤ to) 0 s literal left) g fall)))
 
-pub place_low : (ts : List (ℤ × ℕ)) (domains boxes : Boxes) (bound : ℤ) (place : ℕ) (to : ℤ) (i most : ℕ) (t : ℤ × ℕ) (d : Ranges) → IsTurn ts domains boxes i t → IsCause ts boxes bound place to most → i ≡ place →
+pub index_low : (ts : List (ℤ × ℕ)) (domains boxes : Boxes) (bound : ℤ) (index : ℕ) (to : ℤ) (i most : ℕ) (t : ℤ × ℕ) (d : Ranges) → IsTurn ts domains boxes i t → IsCause ts boxes bound index to most → i ≡ index →
     d ≡ box_of domains t.1 → low_of d ≤ℤ to
-place_low ts domains boxes bound place to i most t d turn cause p e =
+index_low ts domains boxes bound index to i most t d turn cause p e =
     let here = turn.here in
-    let same : term_at ts place ≡ t = ap (λ (j : ℕ). term_at ts j) (sym p) ∙ sym turn.term in
+    let same : term_at ts index ≡ t = ap (λ (j : ℕ). term_at ts j) (sym p) ∙ sym turn.term in
     let low = subst (λ (u : ℤ × ℕ). low_of (box_of boxes u.1) ≤ℤ to) same (cause.low (omega arith)) in
     at_least ts domains boxes i t d (box_of boxes t.1) to turn e refl low
 
-pub place_high : (ts : List (ℤ × ℕ)) (domains boxes : Boxes) (bound : ℤ) (place : ℕ) (to : ℤ) (i most : ℕ) (t : ℤ × ℕ) (d : Ranges) → IsTurn ts domains boxes i t → IsCause ts boxes bound place to most → i ≡ place →
+pub index_high : (ts : List (ℤ × ℕ)) (domains boxes : Boxes) (bound : ℤ) (index : ℕ) (to : ℤ) (i most : ℕ) (t : ℤ × ℕ) (d : Ranges) → IsTurn ts domains boxes i t → IsCause ts boxes bound index to most → i ≡ index →
     d ≡ box_of domains t.1 → to ≤ℤ high_of d
-place_high ts domains boxes bound place to i most t d turn cause p e =
+index_high ts domains boxes bound index to i most t d turn cause p e =
     let here = turn.here in
-    let same : term_at ts place ≡ t = ap (λ (j : ℕ). term_at ts j) (sym p) ∙ sym turn.term in
+    let same : term_at ts index ≡ t = ap (λ (j : ℕ). term_at ts j) (sym p) ∙ sym turn.term in
     let high = subst (λ (u : ℤ × ℕ). to ≤ℤ high_of (box_of boxes u.1)) same (cause.high (omega arith)) in
     at_most ts domains boxes i t d (box_of boxes t.1) to turn e refl high

@@ -62,12 +62,12 @@ spread_step ts boxes i t before x after whole h e l a w =
 pub some_step : (before x after : ℤ) → after ≡ int_max before x → pos 0 ≤ℤ before → pos 0 ≤ℤ after
 some_step before x after e h = omega (arith, ints, clamps)
 
-place_at : (b : Bool) (before x after : ℤ) (i p q : ℕ) → int_lt before x ≡ b → after ≡ int_max before x → q ≡ cond b i p → (pos 0 <ℤ before → p < i) → pos 0 <ℤ after → q < i + 1
-place_at true before x after i p q t a e h k = omega arith
-place_at false before x after i p q t a e h k = let l : pos 0 <ℤ before = grind (arith, ints) in let m = h l in omega arith
+index_at : (b : Bool) (before x after : ℤ) (i p q : ℕ) → int_lt before x ≡ b → after ≡ int_max before x → q ≡ cond b i p → (pos 0 <ℤ before → p < i) → pos 0 <ℤ after → q < i + 1
+index_at true before x after i p q t a e h k = omega arith
+index_at false before x after i p q t a e h k = let l : pos 0 <ℤ before = grind (arith, ints) in let m = h l in omega arith
 
-pub place_step : (before x after : ℤ) (i p q : ℕ) → after ≡ int_max before x → q ≡ cond (int_lt before x) i p → (pos 0 <ℤ before → p < i) → pos 0 <ℤ after → q < i + 1
-place_step before x after i p q a e h k = place_at (int_lt before x) before x after i p q refl a e h k
+pub index_step : (before x after : ℤ) (i p q : ℕ) → after ≡ int_max before x → q ≡ cond (int_lt before x) i p → (pos 0 <ℤ before → p < i) → pos 0 <ℤ after → q < i + 1
+index_step before x after i p q a e h k = index_at (int_lt before x) before x after i p q refl a e h k
 
 widest_at : (b : Bool) (f : ℕ → ℤ) (before x after : ℤ) (i p q : ℕ) → int_lt before x ≡ b → f i ≡ x → after ≡ int_max before x → q ≡ cond b i p → (pos 0 <ℤ before → f p ≡ before) → pos 0 <ℤ after → f q ≡ after
 widest_at true f before x after i p q t s a e h k = let same : x ≡ after = grind (arith, ints) in ap f e ∙ s ∙ same

@@ -15,32 +15,32 @@ use Rattle.rule_law.specs.Answers.{AreBoxesWithin}
 use Rattle.linear_prop.specs.Rows.{greatest_spread}
 use Rattle.rule_law.specs.Reasons.{has_number, no_repeat, Acts}
 
--- the term at the place
+-- the term at the index
 abbrev pub term_at : List (ℤ × ℕ) → ℕ → ℤ × ℕ
-term_at ts place = slice_index_or ts place (pos 0, 0)
+term_at ts index = slice_index_or ts index (pos 0, 0)
 
--- how far the term at the place, where there is one from i on, rises above its least when its
+-- how far the term at the index, where there is one from i on, rises above its least when its
 -- variable is `to`
 abbrev pub rise : List (ℤ × ℕ) → Boxes → ℕ → ℤ → ℕ → ℤ
-rise ts boxes place to i =
-    cond (nat_le i place && nat_lt place (length ts)) (((term_at ts place).0 *ℤ to) -ℤ least_term
-    (term_at ts place) boxes) (pos 0)
+rise ts boxes index to i =
+    cond (nat_le i index && nat_lt index (length ts)) (((term_at ts index).0 *ℤ to) -ℤ least_term
+    (term_at ts index) boxes) (pos 0)
 
 -- how far the values of a set lie apart
 abbrev pub span_of : Ranges → ℕ
 span_of s = unsigned_abs (high_of s -ℤ low_of s)
 
 -- why a row has something to say: its sum is above the bound by more than the slack, and where
--- there is a term at the place, its variable is `to` there, at which it isn't the least that it is
+-- there is a term at the index, its variable is `to` there, at which it isn't the least that it is
 -- in its box, and no more than the greatest
-pub record IsCause (ts : List (ℤ × ℕ)) (boxes : Boxes) (bound : ℤ) (place : ℕ) (to : ℤ) (slack : ℕ) : Type 0 where
-  pub owed : ((bound +ℤ pos 1) +ℤ pos slack) ≤ℤ (least_sum ts boxes +ℤ rise ts boxes place to 0)
-  pub above : place < length ts → least_term (term_at ts place) boxes
-      <ℤ ((term_at ts place).0 *ℤ to)
-  pub below : place < length ts → ((term_at ts place).0 *ℤ to) ≤ℤ greatest_term (term_at ts place)
+pub record IsCause (ts : List (ℤ × ℕ)) (boxes : Boxes) (bound : ℤ) (index : ℕ) (to : ℤ) (slack : ℕ) : Type 0 where
+  pub owed : ((bound +ℤ pos 1) +ℤ pos slack) ≤ℤ (least_sum ts boxes +ℤ rise ts boxes index to 0)
+  pub above : index < length ts → least_term (term_at ts index) boxes
+      <ℤ ((term_at ts index).0 *ℤ to)
+  pub below : index < length ts → ((term_at ts index).0 *ℤ to) ≤ℤ greatest_term (term_at ts index)
       boxes
-  pub low : place < length ts → low_of (box_of boxes (term_at ts place).1) ≤ℤ to
-  pub high : place < length ts → to ≤ℤ high_of (box_of boxes (term_at ts place).1)
+  pub low : index < length ts → low_of (box_of boxes (term_at ts index).1) ≤ℤ to
+  pub high : index < length ts → to ≤ℤ high_of (box_of boxes (term_at ts index).1)
 
 -- the literals are of different variables, have boxes, and their sets are sets and not empty
 pub record AreLiterals (boxes : Boxes) (out : Literals) : Type 0 where
@@ -50,14 +50,14 @@ pub record AreLiterals (boxes : Boxes) (out : Literals) : Type 0 where
   pub sets : All (λ l. IsValid l.1) out
 
 -- the walk has come to term i
-pub record IsSoFar (ts : List (ℤ × ℕ)) (domains boxes : Boxes) (bound : ℤ) (place : ℕ) (to : ℤ) (i : ℕ) (out : Literals) (slack : ℕ) : Type 0 where
+pub record IsSoFar (ts : List (ℤ × ℕ)) (domains boxes : Boxes) (bound : ℤ) (index : ℕ) (to : ℤ) (i : ℕ) (out : Literals) (slack : ℕ) : Type 0 where
   pub literals : AreLiterals boxes out
   pub fresh : All (λ t. has_number t.1 (clause_vars out) ≡ false) (drop i ts)
   pub acts : Acts boxes out
-  pub missed : i ≤ place → false_in boxes out ≡ true
+  pub missed : i ≤ index → false_in boxes out ≡ true
   pub only : (x : ℕ) → has_number x (term_vars ts) ≡ false → has_number x (clause_vars out) ≡ false
   pub owed : ((bound +ℤ pos 1) +ℤ pos slack) ≤ℤ (least_sum (take i ts) (cut domains out)
-      +ℤ (least_sum (drop i ts) boxes +ℤ rise ts boxes place to i))
+      +ℤ (least_sum (drop i ts) boxes +ℤ rise ts boxes index to i))
 
 -- what a turn at term i stands on: no variable has two terms, and the term's variable has a box
 -- that isn't empty, within its domain

@@ -11,6 +11,6 @@ with_flag out x v false = out
 
 -- the flag's box lacks the value; or no term is pruned, and the flag's box has another value too
 abbrev pub IsOpposed : Boxes → ℕ → ℤ → ℕ → List (ℤ × ℕ) → Type 0
-IsOpposed boxes x v place ts =
+IsOpposed boxes x v index ts =
     (has (box_of boxes x) v ≡ false)
-    ⊎ ((place ≡ length ts) × (is_within (box_of boxes x) ((v, v) ∷ []) ≡ false))
+    ⊎ ((index ≡ length ts) × (is_within (box_of boxes x) ((v, v) ∷ []) ≡ false))

@@ -16,22 +16,22 @@ ghost use Rattle.linear_prop.specs.Explaining.{term_at, IsCause, IsTight, IsRowO
 
 use crate::explain::{Cause, set_at};
 use crate::fall::{back_off, highest, lowest};
-use crate::number::Number;
+use crate::number::WideNumber;
 use crate::row::{Row, factor_of};
 use crate::survey::{Survey, walk};
 use signed_clause::IntSet;
 
 /// The cause of a row whose least sum is above its bound.
-fn refuted(row: &Row, boxes: &[IntSet], least: Number) -> Cause
+fn refuted(row: &Row, boxes: &[IntSet], least: WideNumber) -> Cause
     requires least { least.value ≡ least_sum (terms_of row.now) boxes.now }
     requires above { row.now.bound.value <ℤ least.value }
-    ensures cause { IsCause (terms_of row.now) boxes.now row.now.bound.value result.place
+    ensures cause { IsCause (terms_of row.now) boxes.now row.now.bound.value result.index
         result.to.value result.slack }
-    ensures place { result.place ≡ length (terms_of row.now) }
+    ensures index { result.index ≡ length (terms_of row.now) }
 {
     Cause {
-        place: row.len(),
-        to: Number::of(0),
+        index: row.len(),
+        to: WideNumber::of(0),
         slack: least.above(row.bound) - 1,
     }
 }
@@ -44,14 +44,14 @@ fn pruned(row: &Row, boxes: &[IntSet], domains: &[IntSet], found: Survey) -> Cau
     requires least { found.least.value ≡ least_sum (terms_of row.now) boxes.now }
     requires within { found.least.value ≤ℤ row.now.bound.value }
     requires above { row.now.bound.value <ℤ (found.least.value +ℤ found.spread.value) }
-    requires place { found.place < length (terms_of row.now) }
-    requires spread { spread_of (term_at (terms_of row.now) found.place) boxes.now
+    requires index { found.index < length (terms_of row.now) }
+    requires spread { spread_of (term_at (terms_of row.now) found.index) boxes.now
         ≡ found.spread.value }
     requires spread_fits { unsigned_abs found.spread.value ≤ 2 ^ 62 }
-    ensures { IsCause (terms_of row.now) boxes.now row.now.bound.value result.place result.to.value
+    ensures { IsCause (terms_of row.now) boxes.now row.now.bound.value result.index result.to.value
         result.slack }
 {
-    let t = row.term(found.place);
+    let t = row.term(found.index);
     let c = factor_of(t);
     let of_term = set_at(boxes, t.1);
     of_term.ranges();
@@ -60,7 +60,7 @@ fn pruned(row: &Row, boxes: &[IntSet], domains: &[IntSet], found: Survey) -> Cau
     let full = found.least.plus(found.spread).above(row.bound) - 1;
     let (to, slack) = back_off(c, at, end, full);
     Cause {
-        place: found.place,
+        index: found.index,
         to,
         slack,
     }
@@ -72,7 +72,7 @@ pub fn cause_of(row: &Row, domains: &[IntSet], boxes: &[IntSet]) -> Option<Cause
     requires fits { weight_of (terms_of row.now) boxes.now ≤ 2 ^ 61 }
     ensures none { IfNone result (IsTight (terms_of row.now) boxes.now row.now.bound.value) }
     ensures some { IfSome result (λ cause. IsCause (terms_of row.now) boxes.now row.now.bound.value
-        cause.place cause.to.value cause.slack) }
+        cause.index cause.to.value cause.slack) }
 {
     let found = walk(row, boxes);
     if row.bound.is_below(found.least) {
@@ -91,8 +91,8 @@ pub fn refuted_cause(row: &Row, domains: &[IntSet], boxes: &[IntSet]) -> Option<
     requires fits { weight_of (terms_of row.now) boxes.now ≤ 2 ^ 61 }
     ensures none { IfNone result (least_sum (terms_of row.now) boxes.now ≤ℤ row.now.bound.value) }
     ensures some { IfSome result (λ cause. IsCause (terms_of row.now) boxes.now row.now.bound.value
-        cause.place cause.to.value cause.slack) }
-    ensures place { IfSome result (λ cause. cause.place ≡ length (terms_of row.now)) }
+        cause.index cause.to.value cause.slack) }
+    ensures index { IfSome result (λ cause. cause.index ≡ length (terms_of row.now)) }
 {
     let found = walk(row, boxes);
     if row.bound.is_below(found.least) {

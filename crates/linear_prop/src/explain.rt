@@ -14,7 +14,7 @@ ghost use Rattle.linear_prop.specs.Turns.{with_literal};
 ghost use Rattle.linear_prop.specs.Explaining.{span_of, IsCause, IsSoFar, IsTurn, IsRowOver};
 
 use crate::fall::{Fall, fall_of, lowest};
-use crate::number::Number;
+use crate::number::WideNumber;
 use crate::row::{Row, factor_of};
 use signed_clause::IntSet;
 use std::alloc::{AllocError, Global};
@@ -22,10 +22,10 @@ use std::alloc::{AllocError, Global};
 /// Why a row has something to say.
 #[derive(Clone, Copy)]
 pub struct Cause {
-    /// The place of the term whose variable is pruned; the row's length where the row is refuted.
-    pub place: usize,
+    /// The index of the term whose variable is pruned; the row's length where the row is refuted.
+    pub index: usize,
     /// The first value of that variable that is taken away.
-    pub to: Number,
+    pub to: WideNumber,
     /// By how much more the sum is above the bound than it has to be.
     pub slack: u64,
 }
@@ -57,7 +57,7 @@ fn put(out: &mut Vec<(u32, IntSet)>, x: u32, literal: Option<IntSet>) -> Result<
     Ok(())
 }
 
-/// The turn at a term that isn't the one at the place: it may fall from the least that it is in its
+/// The turn at a term that isn't the one at the index: it may fall from the least that it is in its
 /// box.
 fn turn_elsewhere(
     alloc: Global,
@@ -72,10 +72,10 @@ fn turn_elsewhere(
     requires fits { unsigned_abs t.0 * span_of (box_of scene.domains.now t.1) < 2 ^ 64 }
     requires small { unsigned_abs t.0 ≤ 2 ^ 63 }
     requires so_far { IsSoFar (terms_of scene.row.now) scene.domains.now scene.boxes.now
-        scene.row.now.bound.value scene.cause.place scene.cause.to.value i out.old.items slack }
-    requires other { i ≢ scene.cause.place }
+        scene.row.now.bound.value scene.cause.index scene.cause.to.value i out.old.items slack }
+    requires other { i ≢ scene.cause.index }
     ensures { IfOk result (λ left. IsSoFar (terms_of scene.entry.row.now) scene.entry.domains.now
-        scene.entry.boxes.now scene.entry.row.now.bound.value scene.entry.cause.place
+        scene.entry.boxes.now scene.entry.row.now.bound.value scene.entry.cause.index
         scene.entry.cause.to.value (i + 1) out.new.items left) }
 {
     let c = factor_of(t);
@@ -87,9 +87,9 @@ fn turn_elsewhere(
     Ok(left)
 }
 
-/// The turn at the term at the place: it falls no further than to where its variable is the first
+/// The turn at the term at the index: it falls no further than to where its variable is the first
 /// value that is taken away.
-fn turn_at_place(
+fn turn_at_index(
     alloc: Global,
     scene: Scene<'_>,
     i: usize,
@@ -102,12 +102,12 @@ fn turn_at_place(
     requires fits { unsigned_abs t.0 * span_of (box_of scene.domains.now t.1) < 2 ^ 64 }
     requires small { unsigned_abs t.0 ≤ 2 ^ 63 }
     requires cause { IsCause (terms_of scene.row.now) scene.boxes.now scene.row.now.bound.value
-        scene.cause.place scene.cause.to.value scene.cause.slack }
+        scene.cause.index scene.cause.to.value scene.cause.slack }
     requires so_far { IsSoFar (terms_of scene.row.now) scene.domains.now scene.boxes.now
-        scene.row.now.bound.value scene.cause.place scene.cause.to.value i out.old.items slack }
-    requires place { i ≡ scene.cause.place }
+        scene.row.now.bound.value scene.cause.index scene.cause.to.value i out.old.items slack }
+    requires index { i ≡ scene.cause.index }
     ensures { IfOk result (λ left. IsSoFar (terms_of scene.entry.row.now) scene.entry.domains.now
-        scene.entry.boxes.now scene.entry.row.now.bound.value scene.entry.cause.place
+        scene.entry.boxes.now scene.entry.row.now.bound.value scene.entry.cause.index
         scene.entry.cause.to.value (i + 1) out.new.items left) }
 {
     let c = factor_of(t);
@@ -131,15 +131,15 @@ fn turn(
     requires fits { unsigned_abs t.0 * span_of (box_of scene.domains.now t.1) < 2 ^ 64 }
     requires small { unsigned_abs t.0 ≤ 2 ^ 63 }
     requires cause { IsCause (terms_of scene.row.now) scene.boxes.now scene.row.now.bound.value
-        scene.cause.place scene.cause.to.value scene.cause.slack }
+        scene.cause.index scene.cause.to.value scene.cause.slack }
     requires so_far { IsSoFar (terms_of scene.row.now) scene.domains.now scene.boxes.now
-        scene.row.now.bound.value scene.cause.place scene.cause.to.value i out.old.items slack }
+        scene.row.now.bound.value scene.cause.index scene.cause.to.value i out.old.items slack }
     ensures { IfOk result (λ left. IsSoFar (terms_of scene.entry.row.now) scene.entry.domains.now
-        scene.entry.boxes.now scene.entry.row.now.bound.value scene.entry.cause.place
+        scene.entry.boxes.now scene.entry.row.now.bound.value scene.entry.cause.index
         scene.entry.cause.to.value (i + 1) out.new.items left) }
 {
-    if i == scene.cause.place {
-        let left = turn_at_place(alloc, scene, i, t, slack, out)?;
+    if i == scene.cause.index {
+        let left = turn_at_index(alloc, scene, i, t, slack, out)?;
         Ok(left)
     } else {
         let left = turn_elsewhere(alloc, scene, i, t, slack, out)?;
@@ -157,12 +157,12 @@ pub fn explain(
     out: &mut Vec<(u32, IntSet)>,
 ) -> Result<u64, AllocError>
     requires over { IsRowOver (terms_of row.now) domains.now boxes.now }
-    requires cause { IsCause (terms_of row.now) boxes.now row.now.bound.value cause.place
+    requires cause { IsCause (terms_of row.now) boxes.now row.now.bound.value cause.index
         cause.to.value cause.slack }
     requires so_far { IsSoFar (terms_of row.now) domains.now boxes.now row.now.bound.value
-        cause.place cause.to.value 0 out.old.items cause.slack }
+        cause.index cause.to.value 0 out.old.items cause.slack }
     ensures { IfOk result (λ left. IsSoFar (terms_of row.now) domains.now boxes.now
-        row.now.bound.value cause.place cause.to.value (length (terms_of row.now)) out.new.items
+        row.now.bound.value cause.index cause.to.value (length (terms_of row.now)) out.new.items
         left) }
 {
     let scene = Scene {

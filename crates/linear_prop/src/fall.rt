@@ -9,7 +9,7 @@ ghost use Rattle.ground_form.specs.Bounds.{low_of, high_of, reach_of};
 ghost use Rattle.linear_prop.specs.Explaining.{span_of};
 ghost use Rattle.linear_prop.specs.Falls.{least_at, greatest_at, IsBelow, IsFall};
 
-use crate::number::{Factor, Number};
+use crate::number::{Factor, WideNumber};
 use ground_form::ends_of;
 use signed_clause::IntSet;
 use std::alloc::{AllocError, Global};
@@ -25,7 +25,7 @@ pub struct Fall {
 
 /// The value of a set at which the term is least.
 #[tactic(auto, using(crate::proofs::Products::least_end, crate::proofs::Products::least_end_negative))]
-pub fn lowest(c: Factor, set: &IntSet) -> Number
+pub fn lowest(c: Factor, set: &IntSet) -> WideNumber
     requires order { low_of set.now ≤ℤ high_of set.now }
     ensures value { c.value *ℤ result.value ≡ least_at c.value set.now }
     ensures up { pos 0 ≤ℤ c.value → result.value ≡ low_of set.now }
@@ -35,15 +35,15 @@ pub fn lowest(c: Factor, set: &IntSet) -> Number
 {
     let ends = ends_of(set);
     if c.value < 0 {
-        Number::of(ends.1)
+        WideNumber::of(ends.1)
     } else {
-        Number::of(ends.0)
+        WideNumber::of(ends.0)
     }
 }
 
 /// The value of a set at which the term is greatest.
 #[tactic(auto, using(crate::proofs::Products::greatest_end, crate::proofs::Products::greatest_end_negative))]
-pub fn highest(c: Factor, set: &IntSet) -> Number
+pub fn highest(c: Factor, set: &IntSet) -> WideNumber
     requires order { low_of set.now ≤ℤ high_of set.now }
     ensures value { c.value *ℤ result.value ≡ greatest_at c.value set.now }
     ensures low { low_of set.now ≤ℤ result.value }
@@ -51,16 +51,16 @@ pub fn highest(c: Factor, set: &IntSet) -> Number
 {
     let ends = ends_of(set);
     if c.value < 0 {
-        Number::of(ends.0)
+        WideNumber::of(ends.0)
     } else {
-        Number::of(ends.1)
+        WideNumber::of(ends.1)
     }
 }
 
 /// The value that lies so many steps from `at`, in the direction in which the term falls, and not
 /// beyond `end`.
 #[tactic(auto, using(crate::proofs::Products::falls_down, crate::proofs::Products::falls_up))]
-fn step_back(c: Factor, at: Number, end: Number, steps: u64) -> Number
+fn step_back(c: Factor, at: WideNumber, end: WideNumber, steps: u64) -> WideNumber
     requires above { pos 0 ≤ℤ c.value → end.value ≤ℤ at.value }
     requires below { c.value <ℤ pos 0 → at.value ≤ℤ end.value }
     requires steps { steps ≤ unsigned_abs (at.value -ℤ end.value) }
@@ -78,7 +78,7 @@ fn step_back(c: Factor, at: Number, end: Number, steps: u64) -> Number
 
 /// How far the variable may go from `at`, in the direction in which the term falls, where the term
 /// may fall by the slack, with which it doesn't reach `end`; and the slack that is left.
-pub fn back_off(c: Factor, at: Number, end: Number, slack: u64) -> (Number, u64)
+pub fn back_off(c: Factor, at: WideNumber, end: WideNumber, slack: u64) -> (WideNumber, u64)
     requires factor { 0 < unsigned_abs c.value }
     requires small { unsigned_abs c.value ≤ 2 ^ 63 }
     requires above { pos 0 ≤ℤ c.value → end.value ≤ℤ at.value }
@@ -95,7 +95,7 @@ pub fn back_off(c: Factor, at: Number, end: Number, slack: u64) -> (Number, u64)
 }
 
 /// The values from `low` to `high`.
-fn from_to(alloc: Global, low: Number, high: Number) -> IntSet
+fn from_to(alloc: Global, low: WideNumber, high: WideNumber) -> IntSet
     requires { low.value ≤ℤ high.value }
     ensures values { (v : ℤ) → has result v ≡ in_range (low.value, high.value) v }
     ensures valid { IsValid result }
@@ -104,25 +104,25 @@ fn from_to(alloc: Global, low: Number, high: Number) -> IntSet
 }
 
 /// The least value of the set, 0 of the empty one.
-pub fn low_end(set: &IntSet) -> Number
+pub fn low_end(set: &IntSet) -> WideNumber
     ensures value { result.value ≡ low_of set.now }
     ensures from { negsuc 9223372036854775807 ≤ℤ result.value }
     ensures upto { result.value ≤ℤ pos 9223372036854775807 }
 {
-    Number::of(ends_of(set).0)
+    WideNumber::of(ends_of(set).0)
 }
 
 /// The greatest value of the set, 0 of the empty one.
-pub fn high_end(set: &IntSet) -> Number
+pub fn high_end(set: &IntSet) -> WideNumber
     ensures value { result.value ≡ high_of set.now }
     ensures from { negsuc 9223372036854775807 ≤ℤ result.value }
     ensures upto { result.value ≤ℤ pos 9223372036854775807 }
 {
-    Number::of(ends_of(set).1)
+    WideNumber::of(ends_of(set).1)
 }
 
 /// The values of the set below `to`, which is above its least.
-fn values_below(alloc: Global, set: &IntSet, to: Number) -> Result<IntSet, AllocError>
+fn values_below(alloc: Global, set: &IntSet, to: WideNumber) -> Result<IntSet, AllocError>
     requires low { low_of set.now <ℤ to.value }
     requires high { to.value ≤ℤ high_of set.now }
     ensures values { IfOk result (λ s. (v : ℤ) → has s v ≡ (has set.now v && int_lt v to.value)) }
@@ -137,7 +137,7 @@ fn values_below(alloc: Global, set: &IntSet, to: Number) -> Result<IntSet, Alloc
 }
 
 /// The values of the set above `to`, which is below its greatest.
-fn values_above(alloc: Global, set: &IntSet, to: Number) -> Result<IntSet, AllocError>
+fn values_above(alloc: Global, set: &IntSet, to: WideNumber) -> Result<IntSet, AllocError>
     requires low { low_of set.now ≤ℤ to.value }
     requires high { to.value <ℤ high_of set.now }
     ensures values { IfOk result (λ s. (v : ℤ) → has s v ≡ (has set.now v && int_lt to.value v)) }
@@ -152,7 +152,12 @@ fn values_above(alloc: Global, set: &IntSet, to: Number) -> Result<IntSet, Alloc
 }
 
 /// The values of the set at which the term is less than where its variable is `to`.
-fn values_under(alloc: Global, c: Factor, set: &IntSet, to: Number) -> Result<IntSet, AllocError>
+fn values_under(
+    alloc: Global,
+    c: Factor,
+    set: &IntSet,
+    to: WideNumber,
+) -> Result<IntSet, AllocError>
     requires some { is_nil set.now ≡ false }
     requires least { least_at c.value set.now <ℤ (c.value *ℤ to.value) }
     requires up { pos 0 ≤ℤ c.value → to.value ≤ℤ high_of set.now }
@@ -174,7 +179,7 @@ fn values_under(alloc: Global, c: Factor, set: &IntSet, to: Number) -> Result<In
 pub fn fall_of(
     alloc: Global,
     c: Factor,
-    at: Number,
+    at: WideNumber,
     slack: u64,
     domain: &IntSet,
 ) -> Result<Fall, AllocError>

@@ -18,7 +18,7 @@ ghost use Rattle.linear_prop.specs.Explaining.{IsCause};
 
 use crate::explain::{Cause, set_at};
 use crate::fall::{high_end, low_end};
-use crate::number::Number;
+use crate::number::WideNumber;
 use crate::row::Row;
 use crate::row_clauses::clause_of;
 use ground_form::MOST_SUM;
@@ -40,19 +40,19 @@ fn high_cause(out: u32, boxes: &[IntSet]) -> Cause
     requires var { out < length boxes.now }
     requires order { low_of (box_of boxes.now out) ≤ℤ high_of (box_of boxes.now out) }
     requires far { pos most_sum <ℤ high_of (box_of boxes.now out) }
-    ensures { IsCause ((pos 1, out) ∷ []) boxes.now (pos most_sum) result.place result.to.value
+    ensures { IsCause ((pos 1, out) ∷ []) boxes.now (pos most_sum) result.index result.to.value
         result.slack }
 {
     if low_end(set_at(boxes, out)).value > MOST_SUM {
         Cause {
-            place: 1,
-            to: Number::of(0),
+            index: 1,
+            to: WideNumber::of(0),
             slack: 0,
         }
     } else {
         Cause {
-            place: 0,
-            to: Number::of(1152921504606846977),
+            index: 0,
+            to: WideNumber::of(1152921504606846977),
             slack: 0,
         }
     }
@@ -63,19 +63,19 @@ fn low_cause(out: u32, boxes: &[IntSet]) -> Cause
     requires var { out < length boxes.now }
     requires order { low_of (box_of boxes.now out) ≤ℤ high_of (box_of boxes.now out) }
     requires far { low_of (box_of boxes.now out) <ℤ negsuc 1152921504606846975 }
-    ensures { IsCause ((negsuc 0, out) ∷ []) boxes.now (pos most_sum) result.place result.to.value
+    ensures { IsCause ((negsuc 0, out) ∷ []) boxes.now (pos most_sum) result.index result.to.value
         result.slack }
 {
     if high_end(set_at(boxes, out)).value < -MOST_SUM {
         Cause {
-            place: 1,
-            to: Number::of(0),
+            index: 1,
+            to: WideNumber::of(0),
             slack: 0,
         }
     } else {
         Cause {
-            place: 0,
-            to: Number::of(-1152921504606846977),
+            index: 0,
+            to: WideNumber::of(-1152921504606846977),
             slack: 0,
         }
     }
@@ -101,7 +101,7 @@ fn above_clause(
         head: Some((1, out)),
         terms: &[],
         turned: false,
-        bound: Number::of(MOST_SUM),
+        bound: WideNumber::of(MOST_SUM),
     };
     let cause = high_cause(out, subject.boxes);
     let clause = clause_of(alloc, subject, &row, cause)?;
@@ -128,7 +128,7 @@ fn below_clause(
         head: Some((-1, out)),
         terms: &[],
         turned: false,
-        bound: Number::of(MOST_SUM),
+        bound: WideNumber::of(MOST_SUM),
     };
     let cause = low_cause(out, subject.boxes);
     let clause = clause_of(alloc, subject, &row, cause)?;

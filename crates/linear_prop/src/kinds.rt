@@ -19,7 +19,7 @@ ghost use Rattle.linear_prop.specs.RowAnswers.{IsRowAnswer, IsSumAnswer};
 
 use crate::explain::set_at;
 use crate::far::{far_clause, is_near};
-use crate::number::Number;
+use crate::number::WideNumber;
 use crate::row::Row;
 use crate::row_clauses::{fixed_answer, open_answer, row_answer};
 use ground_form::Con;
@@ -46,25 +46,25 @@ fn at_most_answer(
         head: None,
         terms,
         turned: false,
-        bound: Number::of(bound),
+        bound: WideNumber::of(bound),
     };
     let answer = row_answer(alloc, subject, &row)?;
     Ok(answer)
 }
 
 /// The bound of the row 'the sum less the variable'.
-fn less_offset(offset: i64) -> Number
+fn less_offset(offset: i64) -> WideNumber
     requires { unsigned_abs offset ≤ most_sum }
     ensures { result.value ≡ pos 0 -ℤ offset }
 {
-    Number { value: 0 - offset }
+    WideNumber { value: 0 - offset }
 }
 
 /// The bound of a row with turned signs that says that the sum is above the bound.
-fn turned_bound(bound: i64) -> Number
+fn turned_bound(bound: i64) -> WideNumber
     ensures { result.value ≡ negsuc 0 -ℤ bound }
 {
-    Number { value: -1 - bound }
+    WideNumber { value: -1 - bound }
 }
 
 /// The answer of the row 'the sum less the variable'.
@@ -116,7 +116,7 @@ fn down_answer(
         head: Some((1, out)),
         terms,
         turned: true,
-        bound: Number::of(offset),
+        bound: WideNumber::of(offset),
     };
     let answer = row_answer(alloc, subject, &row)?;
     Ok(answer)
@@ -197,9 +197,9 @@ fn one_answer(
         head: None,
         terms,
         turned: false,
-        bound: Number::of(bound),
+        bound: WideNumber::of(bound),
     };
-    let answer = fixed_answer(alloc, subject, &row, flag, Number { value: 0 })?;
+    let answer = fixed_answer(alloc, subject, &row, flag, WideNumber { value: 0 })?;
     Ok(answer)
 }
 
@@ -226,7 +226,7 @@ fn zero_answer(
         turned: true,
         bound: turned_bound(bound),
     };
-    let answer = fixed_answer(alloc, subject, &row, flag, Number { value: 1 })?;
+    let answer = fixed_answer(alloc, subject, &row, flag, WideNumber { value: 1 })?;
     Ok(answer)
 }
 
@@ -251,9 +251,9 @@ fn open_one_answer(
         head: None,
         terms,
         turned: false,
-        bound: Number::of(bound),
+        bound: WideNumber::of(bound),
     };
-    let answer = open_answer(alloc, subject, &row, flag, Number { value: 0 })?;
+    let answer = open_answer(alloc, subject, &row, flag, WideNumber { value: 0 })?;
     Ok(answer)
 }
 
@@ -280,7 +280,7 @@ fn open_zero_answer(
         turned: true,
         bound: turned_bound(bound),
     };
-    let answer = open_answer(alloc, subject, &row, flag, Number { value: 1 })?;
+    let answer = open_answer(alloc, subject, &row, flag, WideNumber { value: 1 })?;
     Ok(answer)
 }
 

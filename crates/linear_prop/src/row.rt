@@ -5,7 +5,7 @@
 ghost use Rattle.std.specs.Prelude.{◌≡◌, ◌<◌, ◌≤◌, ◌^◌, pos, length, slice_index_or, unsigned_abs};
 ghost use Rattle.linear_prop.specs.Rows.{turned, terms_of};
 
-use crate::number::{Factor, Number};
+use crate::number::{Factor, WideNumber};
 
 /// The sum of terms is at most a bound.
 #[derive(Clone, Copy)]
@@ -17,7 +17,7 @@ pub struct Row<'a> {
     /// Whether the signs of the other terms are turned.
     pub turned: bool,
     /// The bound.
-    pub bound: Number,
+    pub bound: WideNumber,
 }
 
 /// The term, or it with its sign turned.
@@ -32,7 +32,7 @@ fn turn(is_turned: bool, t: (i64, u32)) -> (i128, u32)
     }
 }
 
-/// The term of the list at the place.
+/// The term of the list at the index.
 fn listed(terms: &[(i64, u32)], i: usize) -> (i64, u32)
     requires { i < length terms.now }
     ensures { result ≡ slice_index_or terms.now i (pos 0, 0) }
@@ -51,7 +51,7 @@ impl<'a> Row<'a> {
         }
     }
 
-    /// The term at the place.
+    /// The term at the index.
     pub fn term(&self, i: usize) -> (i128, u32)
         requires { i < length (terms_of self.now) }
         ensures term { (d : _) → result ≡ slice_index_or (terms_of self.now) i d }

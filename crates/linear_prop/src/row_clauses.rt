@@ -17,7 +17,7 @@ ghost use Rattle.linear_prop.specs.RowAnswers.{IsRowAnswer, IsSumAnswer};
 
 use crate::cause::{cause_of, refuted_cause};
 use crate::explain::{Cause, explain, set_at};
-use crate::number::Number;
+use crate::number::WideNumber;
 use crate::row::Row;
 use rule_law::{Subject, pruning};
 use signed_clause::{Clause, IntSet};
@@ -31,7 +31,7 @@ pub fn clause_of(
     cause: Cause,
 ) -> Result<Clause, AllocError>
     requires over { IsRowOver (terms_of row.now) subject.domains.now subject.boxes.now }
-    requires cause { IsCause (terms_of row.now) subject.boxes.now row.now.bound.value cause.place
+    requires cause { IsCause (terms_of row.now) subject.boxes.now row.now.bound.value cause.index
         cause.to.value cause.slack }
     requires follows { (out : Literals) → All (λ l. IsValid l.1) out
         → row.now.bound.value <ℤ least_sum (terms_of row.now) (cut subject.domains.now out)
@@ -71,7 +71,7 @@ fn put_flag(
     alloc: Global,
     out: &mut Vec<(u32, IntSet)>,
     flag: u32,
-    v: Number,
+    v: WideNumber,
     domain: &IntSet,
 ) -> Result<(), AllocError>
     ensures { OnOk result (out.new.items ≡ with_flag out.old.items flag v.value
@@ -90,14 +90,14 @@ fn flag_clause(
     row: &Row,
     cause: Cause,
     flag: u32,
-    v: Number,
+    v: WideNumber,
 ) -> Result<Clause, AllocError>
     requires over { IsRowOver (terms_of row.now) subject.domains.now subject.boxes.now }
-    requires cause { IsCause (terms_of row.now) subject.boxes.now row.now.bound.value cause.place
+    requires cause { IsCause (terms_of row.now) subject.boxes.now row.now.bound.value cause.index
         cause.to.value cause.slack }
     requires flag { flag < length subject.boxes.now }
-    requires apart { has_number flag (term_vars (terms_of row.now)) ≡ false }
-    requires opposed { IsOpposed subject.boxes.now flag v.value cause.place (terms_of row.now) }
+    requires different { has_number flag (term_vars (terms_of row.now)) ≡ false }
+    requires opposed { IsOpposed subject.boxes.now flag v.value cause.index (terms_of row.now) }
     requires follows { (out : Literals) → row.now.bound.value <ℤ least_sum (terms_of row.now)
         (cut subject.domains.now out)
         → has (box_of (cut subject.domains.now out) flag) v.value ≡ false
@@ -117,12 +117,12 @@ pub fn fixed_answer(
     subject: Subject<'_>,
     row: &Row,
     flag: u32,
-    v: Number,
+    v: WideNumber,
 ) -> Result<Option<Clause>, AllocError>
     requires over { IsRowOver (terms_of row.now) subject.domains.now subject.boxes.now }
     requires fits { weight_of (terms_of row.now) subject.boxes.now ≤ 2 ^ 61 }
     requires flag { flag < length subject.boxes.now }
-    requires apart { has_number flag (term_vars (terms_of row.now)) ≡ false }
+    requires different { has_number flag (term_vars (terms_of row.now)) ≡ false }
     requires fixed { has (box_of subject.boxes.now flag) v.value ≡ false }
     requires follows { (out : Literals) → row.now.bound.value <ℤ least_sum (terms_of row.now)
         (cut subject.domains.now out)
@@ -147,12 +147,12 @@ pub fn open_answer(
     subject: Subject<'_>,
     row: &Row,
     flag: u32,
-    v: Number,
+    v: WideNumber,
 ) -> Result<Option<Clause>, AllocError>
     requires over { IsRowOver (terms_of row.now) subject.domains.now subject.boxes.now }
     requires fits { weight_of (terms_of row.now) subject.boxes.now ≤ 2 ^ 61 }
     requires flag { flag < length subject.boxes.now }
-    requires apart { has_number flag (term_vars (terms_of row.now)) ≡ false }
+    requires different { has_number flag (term_vars (terms_of row.now)) ≡ false }
     requires open { is_within (box_of subject.boxes.now flag) ((v.value, v.value) ∷ []) ≡ false }
     requires follows { (out : Literals) → row.now.bound.value <ℤ least_sum (terms_of row.now)
         (cut subject.domains.now out)

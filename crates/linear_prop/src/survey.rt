@@ -8,7 +8,7 @@ ghost use Rattle.linear_prop.specs.Rows.{terms_of, spread_of, greatest_spread};
 ghost use Rattle.linear_prop.specs.Surveys.{IsWidest};
 ghost use Rattle.linear_prop.specs.Falls.{least_at, greatest_at};
 
-use crate::number::{Factor, Number};
+use crate::number::{Factor, WideNumber};
 use crate::row::{Row, factor_of};
 use ground_form::ends_of;
 use signed_clause::IntSet;
@@ -17,29 +17,29 @@ use signed_clause::IntSet;
 #[derive(Clone, Copy)]
 pub struct Survey {
     /// The least sum.
-    pub least: Number,
+    pub least: WideNumber,
     /// How far the term that can rise the most rises above its least, 0 where none rises.
-    pub spread: Number,
-    /// Its place, where some term rises.
-    pub place: usize,
+    pub spread: WideNumber,
+    /// Its index, where some term rises.
+    pub index: usize,
 }
 
 /// The products of a coefficient with the ends of a set: the smaller and the greater.
 #[tactic(auto, using(crate::proofs::Spreads::end_fits))]
-pub fn products(c: Factor, set: &IntSet) -> (Number, Number)
+pub fn products(c: Factor, set: &IntSet) -> (WideNumber, WideNumber)
     requires { unsigned_abs c.value * reach_of set.now ≤ 2 ^ 61 }
     ensures least { result.0.value ≡ least_at c.value set.now }
     ensures greatest { result.1.value ≡ greatest_at c.value set.now }
 {
     let ends = ends_of(set);
-    let first = c.times(Number::of(ends.0));
-    let last = c.times(Number::of(ends.1));
+    let first = c.times(WideNumber::of(ends.0));
+    let last = c.times(WideNumber::of(ends.1));
     (first.smaller(last), first.greater(last))
 }
 
 /// The least and the greatest that a term is.
 #[tactic(auto, using(crate::proofs::Spreads::least_is, crate::proofs::Spreads::greatest_is, crate::proofs::Spreads::weight_is))]
-pub fn term_ends(t: (i128, u32), boxes: &[IntSet]) -> (Number, Number)
+pub fn term_ends(t: (i128, u32), boxes: &[IntSet]) -> (WideNumber, WideNumber)
     requires var { t.1 < length boxes.now }
     requires fits { term_weight t boxes.now ≤ 2 ^ 61 }
     ensures least { result.0.value ≡ least_term t boxes.now }
@@ -49,16 +49,16 @@ pub fn term_ends(t: (i128, u32), boxes: &[IntSet]) -> (Number, Number)
 }
 
 impl Survey {
-    /// What is found with one term more, which stands at the place `i`.
-    fn with(self, i: usize, ends: (Number, Number)) -> Survey
+    /// What is found with one term more, which stands at the index `i`.
+    fn with(self, i: usize, ends: (WideNumber, WideNumber)) -> Survey
         requires fits { unsigned_abs self.least.value ≤ 2 ^ 61 }
         requires low { unsigned_abs ends.0.value ≤ 2 ^ 61 }
         requires high { unsigned_abs ends.1.value ≤ 2 ^ 61 }
         ensures least { result.least.value ≡ self.least.value +ℤ ends.0.value }
         ensures spread { result.spread.value ≡ int_max self.spread.value
             (ends.1.value -ℤ ends.0.value) }
-        ensures place { result.place ≡ cond
-            (int_lt self.spread.value (ends.1.value -ℤ ends.0.value)) i self.place }
+        ensures index { result.index ≡ cond
+            (int_lt self.spread.value (ends.1.value -ℤ ends.0.value)) i self.index }
     {
         let least = self.least.plus(ends.0);
         let spread = ends.1.minus(ends.0);
@@ -66,13 +66,13 @@ impl Survey {
             Survey {
                 least,
                 spread,
-                place: i,
+                index: i,
             }
         } else {
             Survey {
                 least,
                 spread: self.spread,
-                place: self.place,
+                index: self.index,
             }
         }
     }
@@ -85,12 +85,12 @@ pub fn walk(row: &Row, boxes: &[IntSet]) -> Survey
     ensures least { result.least.value ≡ least_sum (terms_of row.now) boxes.now }
     ensures fits { unsigned_abs result.least.value ≤ 2 ^ 61 }
     ensures spread { result.spread.value ≡ greatest_spread (terms_of row.now) boxes.now }
-    ensures place { IsWidest (terms_of row.now) boxes.now result.place result.spread.value }
+    ensures index { IsWidest (terms_of row.now) boxes.now result.index result.spread.value }
 {
     let mut found = Survey {
-        least: Number::of(0),
-        spread: Number::of(0),
-        place: 0,
+        least: WideNumber::of(0),
+        spread: WideNumber::of(0),
+        index: 0,
     };
     for i in 0..row.len() {
         found = found.with(i, term_ends(row.term(i), boxes));

@@ -1,6 +1,6 @@
 -- What is asked of a model's configurations. What a reader believes after this file: which are
 -- wanted, and than which none is better. Of a repair these are the ones that satisfy the model and
--- refer to nothing that failed or is in what did; the best change the fewest former values, and
+-- name nothing that failed or is in what did; the best change the fewest former values, and
 -- have the best objectives among those that change as few.
 use Rattle.std.specs.Prelude.{◌≡◌, Bool, true, false, cond, List, ℤ, Option, None, Some, nat_eq, nat_lt}
 use Rattle.class_table.specs.Outline.{Outline}
@@ -18,7 +18,7 @@ pub record IsUnderstood (o : Outline) (r : Repair) : Type 0 where
   pub former : AreHints o r.former
   pub failed : unknown_word o r.failed.items ≡ None
 
--- it satisfies the model, and where there is a repair it refers to nothing that failed
+-- it satisfies the model, and where there is a repair it names nothing that failed
 abbrev pub IsWanted : Outline → List ResolvedConstraint → Option Repair → List ℤ → Type 0
 IsWanted o ks None t = Satisfies o ks t
 IsWanted o ks (Some r) t =

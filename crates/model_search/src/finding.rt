@@ -13,7 +13,7 @@ use object_alloc::Config;
 use std::alloc::{AllocError, Global};
 
 /// What is known of a model's configurations. One is wanted that satisfies the model, and of a
-/// repair refers to nothing that failed.
+/// repair names nothing that failed.
 #[derive(Drop)]
 pub enum Finding {
     /// This one is wanted, and no wanted one is better.

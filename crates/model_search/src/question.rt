@@ -4,7 +4,7 @@ use object_alloc::Objects;
 use reconfigure::Repair;
 
 /// A model, with its objects, and where one is wanted a repair of it: without one the best of the
-/// configurations that satisfy it is asked for, with one the best that refers to nothing failed and
+/// configurations that satisfy it is asked for, with one the best that names nothing failed and
 /// changes the fewest former values.
 #[derive(Clone, Copy)]
 pub struct Question<'a> {

@@ -4,7 +4,7 @@ pub mod TotalRoom
 pub mod PackLoads
 pub mod PackTotal
 pub mod PackWalks
-pub mod SurveySpots
+pub mod BinsCounted
 pub mod SurveyCounts
 pub mod SurveyFits
 pub mod SurveyWalk

@@ -64,7 +64,7 @@ best_more w (j ∷ front) i back boxes =
     elim (has (box_of boxes j.0) w) as (λ t. cond t (int_max (high_of (box_of boxes j.2)) (best_room w (front ++ back) boxes)) (best_room w (front ++ back) boxes)
     ≤ℤ cond t (int_max (high_of (box_of boxes j.2)) (best_room w (front ++ i ∷ back) boxes)) (best_room w (front ++ i ∷ back) boxes)) [ true ↦ grind (arith, ints) | false ↦ more ]
 
--- the second room stays where the item may be narrowed in its place or room
+-- the second room stays where the item may be narrowed in its bin or room
 seconds_stay : (front : List (ℕ × ℕ × ℕ)) (i : ℕ × ℕ × ℕ) (back : List (ℕ × ℕ × ℕ)) (boxes : Boxes) (x : ℕ) (v : ℤ) → HasSlack front i back boxes x v → (is_one (box_of boxes i.0) && is_one (box_of boxes i.2)) ≡ false → (w : ℤ) →
     (two_rooms w (front ++ i ∷ back) boxes).1 ≤ℤ best_room w (front ++ i ∷ back) (fixing boxes x v)
 seconds_stay front i back boxes x v r f w =

@@ -11,10 +11,10 @@ use Rattle.signed_clause.specs.Clauses.{Boxes, box_of}
 use Rattle.signed_clause.proofs.RangeSteps.{left_at}
 use Rattle.ground_form.specs.Bounds.{low_of, high_of}
 use Rattle.ground_form.specs.Meaning.{item_vars}
-use Rattle.box_rules.specs.Refuted.{fixed_at, fixed_load, first_place, last_place}
+use Rattle.box_rules.specs.Refuted.{fixed_at, fixed_load, first_bin, last_bin}
 use Rattle.box_view.proofs.EndLaws.{AreSets, are_sets, above_low, below_high}
 use Rattle.box_view.proofs.EndLaws.{has_low}
-use Rattle.box_rules.proofs.PackLaws.{first_place-le, last_place-ge}
+use Rattle.box_rules.proofs.PackLaws.{first_bin-le, last_bin-ge}
 use Rattle.pack_fit.specs.Packing.{AllFit, tight_room, fits, all_fit, two_rooms, seconds_from, growth}
 
 pub tight_upto : (v : ℤ) (is : List (ℕ × ℕ × ℕ)) (boxes : Boxes) → tight_room v is boxes ≤ℤ pos 9223372036854775807
@@ -75,18 +75,18 @@ out_fits v load tight i boxes s n o =
     let there = fixed_has (box_of boxes i.0) v (s i.0) q in absurd cc) in
     rw (not_fixed, out) refl
 
-pub fit_outside : (v : ℤ) (a b : ℤ) (is items : List (ℕ × ℕ × ℕ)) (boxes : Boxes) → AreSets boxes → All (λ x. is_nil (box_of boxes x) ≡ false) (item_vars is) → (v <ℤ first_place a is boxes ⊎ last_place b is boxes <ℤ v) → all_fit v is items boxes ≡ true
+pub fit_outside : (v : ℤ) (a b : ℤ) (is items : List (ℕ × ℕ × ℕ)) (boxes : Boxes) → AreSets boxes → All (λ x. is_nil (box_of boxes x) ≡ false) (item_vars is) → (v <ℤ first_bin a is boxes ⊎ last_bin b is boxes <ℤ v) → all_fit v is items boxes ≡ true
 fit_outside v a b [] items boxes s n o = refl
 fit_outside v a b (i ∷ is) items boxes s n o =
-    let first = first_place-le (int_min a (low_of (box_of boxes i.0))) is boxes in
-    let last = last_place-ge (int_max b (high_of (box_of boxes i.0))) is boxes in
+    let first = first_bin-le (int_min a (low_of (box_of boxes i.0))) is boxes in
+    let last = last_bin-ge (int_max b (high_of (box_of boxes i.0))) is boxes in
     let here = out_fits v (fixed_load v items boxes) (tight_room v items boxes) i boxes s (n 0 0 (omega arith))
     (elim o [ inl l ↦ inl (grind (arith, ints)) | inr m ↦ inr (grind (arith, ints)) ]) in
     let more = fit_outside v (int_min a (low_of (box_of boxes i.0))) (int_max b (high_of (box_of boxes i.0))) is items boxes s (λ k d lt. n (suc (suc (suc k))) d (omega arith)) o in
     and_from _ _ here more
 
 pub fit_everywhere : (head : ℕ × ℕ × ℕ) (items : List (ℕ × ℕ × ℕ)) (boxes : Boxes) (first last : ℤ) → All (λ s. IsValid s) boxes → All (λ x. is_nil (box_of boxes x) ≡ false) (item_vars items) →
-    first ≡ first_place (low_of (box_of boxes head.0)) items boxes → last ≡ last_place (high_of (box_of boxes head.0)) items boxes → ((v : ℤ) → first ≤ℤ v → v ≤ℤ last → all_fit v items items boxes ≡ true) → AllFit items boxes
+    first ≡ first_bin (low_of (box_of boxes head.0)) items boxes → last ≡ last_bin (high_of (box_of boxes head.0)) items boxes → ((v : ℤ) → first ≤ℤ v → v ≤ℤ last → all_fit v items items boxes ≡ true) → AllFit items boxes
 fit_everywhere head items boxes first last s n e f h v =
     let a = low_of (box_of boxes head.0) in let b = high_of (box_of boxes head.0) in let sets = are_sets boxes s in
     (elim (int_lt v first) as (λ t. int_lt v first ≡ t → all_fit v items items boxes ≡ true) [

@@ -11,8 +11,8 @@ use Rattle.signed_clause.proofs.RangeLaws.{has-below}
 use Rattle.signed_clause.proofs.RangeSteps.{Ascends-drop}
 use Rattle.std.specs.Int.{int_min}
 use Rattle.ground_form.specs.Bounds.{low_of}
-use Rattle.box_rules.specs.Refuted.{first_place}
-use Rattle.box_rules.proofs.PackLaws.{first_place-le}
+use Rattle.box_rules.specs.Refuted.{first_bin}
+use Rattle.box_rules.proofs.PackLaws.{first_bin-le}
 use Rattle.box_view.proofs.EndLaws.{AreSets, are_sets}
 use Rattle.pack_fit.specs.Survey.{begun_at, ended_at, gone_on, all_begun, all_ended, all_gone_on, hits}
 
@@ -169,9 +169,9 @@ gone_first v [] s h = refl
 gone_first v (r ∷ rs) s h = gone_below r.0 _ v (r ∷ rs) (omega (arith, ints), s.1, s.2) h
 
 -- none may be before the first bin
-pub none_before : (v a : ℤ) (is : List (ℕ × ℕ × ℕ)) (boxes : Boxes) → AreSets boxes → v ≤ℤ first_place a is boxes → all_gone_on v is boxes ≡ 0
+pub none_before : (v a : ℤ) (is : List (ℕ × ℕ × ℕ)) (boxes : Boxes) → AreSets boxes → v ≤ℤ first_bin a is boxes → all_gone_on v is boxes ≡ 0
 none_before v a [] boxes s h = refl
 none_before v a (i ∷ is) boxes s h =
-    let first = first_place-le (int_min a (low_of (box_of boxes i.0))) is boxes in
+    let first = first_bin-le (int_min a (low_of (box_of boxes i.0))) is boxes in
     let here = gone_first v (box_of boxes i.0) (s i.0) (grind (arith, ints)) in
     let more = none_before v (int_min a (low_of (box_of boxes i.0))) is boxes s h in omega arith

@@ -1,4 +1,4 @@
--- What the numbers of a spot tell: that all items fit there, and what its second greatest room is
+-- What the numbers of a bin tell: that all items fit there, and what its second greatest room is
 -- at least.
 use Rattle.std.proofs.Common.{◌≡◌, ℕ, suc, ◌<◌, ◌≤◌, Bool, true, false, not, ◌&&◌, ◌||◌, cond, List, [], ◌∷◌, ℤ, pos, ◌+ℤ◌, ◌≤ℤ◌, ◌+◌, ◌-◌, refl, arith, inl, inr, subst, sym, ◌∙◌, All}
 use Rattle.std.specs.Prelude.{nat_lt, nat_le, int_le}
@@ -14,9 +14,9 @@ use Rattle.box_rules.specs.Refuted.{fixed_at, fixed_load}
 use Rattle.rule_law.specs.Repeats.{is_one}
 use Rattle.box_rules.proofs.FixedLaws.{fixed_value}
 use Rattle.box_view.proofs.EndLaws.{AreSets, are_sets}
-use Rattle.pack_fit.specs.declared.survey.Spot.{Spot}
+use Rattle.pack_fit.specs.declared.survey.BinCounts.{BinCounts}
 use Rattle.pack_fit.specs.Packing.{tight_room, fits, all_fit, two_rooms}
-use Rattle.pack_fit.specs.Survey.{IsSpot, IsSettled, least_room, growth_at, fixed_count, some_frozen, hits, open_size, open_floor, room_where, least_second}
+use Rattle.pack_fit.specs.Survey.{IsCounted, IsSettled, least_room, growth_at, fixed_count, some_frozen, hits, open_size, open_floor, room_where, least_second}
 use Rattle.pack_fit.proofs.PackWalks.{fixed_has}
 
 -- ---- items that are fixed may be there
@@ -102,12 +102,12 @@ all_settled v (i ∷ is) items boxes s h =
     let load = fixed_load v items boxes in let tight = tight_room v items boxes in
     and_from _ _ (one_fits v load tight i is boxes s h) (all_settled v is items boxes s (settled_tail v load tight i is boxes s h))
 
-pub settled_fit : (spot : Spot) (v : ℤ) (items : List (ℕ × ℕ × ℕ)) (boxes : Boxes) (count : ℕ) (size floor : ℤ) → All (λ s. IsValid s) boxes → IsSpot spot v items boxes → count ≡ hits v items boxes →
-    size ≡ open_size items boxes → floor ≡ open_floor items boxes → IsSettled spot (nat_lt spot.count count) size floor → all_fit v items items boxes ≡ true
-settled_fit spot v items boxes count size floor sets is c z f h =
+pub settled_fit : (bin : BinCounts) (v : ℤ) (items : List (ℕ × ℕ × ℕ)) (boxes : Boxes) (count : ℕ) (size floor : ℤ) → All (λ s. IsValid s) boxes → IsCounted bin v items boxes → count ≡ hits v items boxes →
+    size ≡ open_size items boxes → floor ≡ open_floor items boxes → IsSettled bin (nat_lt bin.count count) size floor → all_fit v items items boxes ≡ true
+settled_fit bin v items boxes count size floor sets is c z f h =
     let load = is.load in let tight = is.tight in let room = is.room in let growth = is.growth in let n = is.count in
     let grown = h.grown in let least = h.least in
-    let some : fixed_count v items boxes < hits v items boxes → nat_lt spot.count count ≡ true = λ lt. grind (arith, nat_tests) in
+    let some : fixed_count v items boxes < hits v items boxes → nat_lt bin.count count ≡ true = λ lt. grind (arith, nat_tests) in
     all_settled v items items boxes (are_sets boxes sets) (record {
       grown = omega (arith, ints);
       least = omega (arith, ints);
@@ -284,30 +284,30 @@ max_upto a b c most h k l = grind (arith, ints)
 max_least : (a b : ℤ) → pos 0 ≤ℤ a → pos 0 ≤ℤ int_max a b
 max_least a b h = grind (arith, ints)
 
-pub second_most : (spot : Spot) (others : ℕ) (floor most : ℤ) → pos 0 ≤ℤ most → floor ≤ℤ most → spot.tight.value ≤ℤ most → least_second spot others floor ≤ℤ most
-second_most spot others floor most low f t =
-    max_upto _ _ _ most (where_upto (nat_le 2 others) floor most low (λ q. f)) (where_upto (spot.frozen || nat_le 2 spot.count) spot.tight.value most low (λ q. t))
-    (where_upto (nat_le 1 others && nat_le 1 spot.count) (int_min floor spot.tight.value) most low (λ q. grind (arith, ints)))
+pub second_most : (bin : BinCounts) (others : ℕ) (floor most : ℤ) → pos 0 ≤ℤ most → floor ≤ℤ most → bin.tight.value ≤ℤ most → least_second bin others floor ≤ℤ most
+second_most bin others floor most low f t =
+    max_upto _ _ _ most (where_upto (nat_le 2 others) floor most low (λ q. f)) (where_upto (bin.frozen || nat_le 2 bin.count) bin.tight.value most low (λ q. t))
+    (where_upto (nat_le 1 others && nat_le 1 bin.count) (int_min floor bin.tight.value) most low (λ q. grind (arith, ints)))
 
-pub second_least : (spot : Spot) (others : ℕ) (floor : ℤ) → pos 0 ≤ℤ least_second spot others floor
-second_least spot others floor =
+pub second_least : (bin : BinCounts) (others : ℕ) (floor : ℤ) → pos 0 ≤ℤ least_second bin others floor
+second_least bin others floor =
     max_least (room_where (nat_le 2 others) floor) _ (where_low (nat_le 2 others) floor)
 
-pub second_upto : (spot : Spot) (v : ℤ) (items : List (ℕ × ℕ × ℕ)) (boxes : Boxes) (count : ℕ) (floor : ℤ) → All (λ s. IsValid s) boxes → IsSpot spot v items boxes → count ≡ hits v items boxes → floor ≡ open_floor items boxes →
-    least_second spot (count - spot.count) floor ≤ℤ (two_rooms v items boxes).1
-second_upto spot v items boxes count floor sets is c f =
+pub second_upto : (bin : BinCounts) (v : ℤ) (items : List (ℕ × ℕ × ℕ)) (boxes : Boxes) (count : ℕ) (floor : ℤ) → All (λ s. IsValid s) boxes → IsCounted bin v items boxes → count ≡ hits v items boxes → floor ≡ open_floor items boxes →
+    least_second bin (count - bin.count) floor ≤ℤ (two_rooms v items boxes).1
+second_upto bin v items boxes count floor sets is c f =
     let low = second_low v items boxes in let s = are_sets boxes sets in let n = is.count in let t = is.tight in
-    let tight : spot.tight.value ≤ℤ tight_room v items boxes = omega (arith, ints) in
+    let tight : bin.tight.value ≤ℤ tight_room v items boxes = omega (arith, ints) in
     let open_room : floor ≤ℤ open_floor items boxes = omega (arith, ints) in
     let most = (two_rooms v items boxes).1 in
     max_upto _ _ _ most
-    (where_upto (nat_le 2 (count - spot.count)) floor most low (λ q.
+    (where_upto (nat_le 2 (count - bin.count)) floor most low (λ q.
     let all = open_wide floor v items boxes s open_room in second_wide floor v items boxes (grind (arith, nat_tests))))
-    (where_upto (spot.frozen || nat_le 2 spot.count) spot.tight.value most low (λ q. elim (or_cases spot.frozen (nat_le 2 spot.count) q) [
-      | inl p ↦ second_frozen spot.tight.value v items boxes s tight (sym is.frozen ∙ p)
-      | inr p ↦ let all = fixed_wide spot.tight.value v items boxes s tight in second_wide spot.tight.value v items boxes (grind (arith, nat_tests))
+    (where_upto (bin.frozen || nat_le 2 bin.count) bin.tight.value most low (λ q. elim (or_cases bin.frozen (nat_le 2 bin.count) q) [
+      | inl p ↦ second_frozen bin.tight.value v items boxes s tight (sym is.frozen ∙ p)
+      | inr p ↦ let all = fixed_wide bin.tight.value v items boxes s tight in second_wide bin.tight.value v items boxes (grind (arith, nat_tests))
     ]))
-    (where_upto (nat_le 1 (count - spot.count) && nat_le 1 spot.count) (int_min floor spot.tight.value) most low (λ q.
-    let b = int_min floor spot.tight.value in let p = and_parts (nat_le 1 (count - spot.count)) (nat_le 1 spot.count) q in let others = p.0 in let fixed = p.1 in
+    (where_upto (nat_le 1 (count - bin.count) && nat_le 1 bin.count) (int_min floor bin.tight.value) most low (λ q.
+    let b = int_min floor bin.tight.value in let p = and_parts (nat_le 1 (count - bin.count)) (nat_le 1 bin.count) q in let others = p.0 in let fixed = p.1 in
     let to_tight : b ≤ℤ tight_room v items boxes = grind (arith, ints) in let to_floor : b ≤ℤ open_floor items boxes = grind (arith, ints) in
     let all = both_wide b v items boxes s to_tight to_floor in second_wide b v items boxes (grind (arith, nat_tests))))

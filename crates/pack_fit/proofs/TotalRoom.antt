@@ -7,9 +7,9 @@ use Rattle.std.proofs.lemmas.Bool.{false_from_ne_true}
 use Rattle.signed_clause.specs.Ranges.{has}
 use Rattle.signed_clause.specs.Clauses.{Boxes, box_of}
 use Rattle.ground_form.specs.Bounds.{low_of, high_of}
-use Rattle.box_rules.specs.Refuted.{best_room, rooms_from, first_place, last_place, width, all_room}
+use Rattle.box_rules.specs.Refuted.{best_room, rooms_from, first_bin, last_bin, width, all_room}
 use Rattle.box_view.proofs.EndLaws.{AreSets, ends_in_order, above_low, below_high}
-use Rattle.box_rules.proofs.PackLaws.{best_room-ge, first_place-le, last_place-ge}
+use Rattle.box_rules.proofs.PackLaws.{best_room-ge, first_bin-le, last_bin-ge}
 use Rattle.rule_law.specs.Repeats.{is_one}
 use Rattle.pack_fit.specs.Packing.{put, two_rooms, seconds_from}
 
@@ -127,17 +127,17 @@ rooms_any n m v u is boxes b h =
 
 -- ---- bins before the first and behind the last hold nothing
 
-none_below : (w v : ℤ) (is : List (ℕ × ℕ × ℕ)) (boxes : Boxes) → AreSets boxes → w <ℤ first_place v is boxes → best_room w is boxes ≡ pos 0
+none_below : (w v : ℤ) (is : List (ℕ × ℕ × ℕ)) (boxes : Boxes) → AreSets boxes → w <ℤ first_bin v is boxes → best_room w is boxes ≡ pos 0
 none_below w v [] boxes s h = refl
 none_below w v (i ∷ is) boxes s h =
-    let first = first_place-le (int_min v (low_of (box_of boxes i.0))) is boxes in
+    let first = first_bin-le (int_min v (low_of (box_of boxes i.0))) is boxes in
     let out : has (box_of boxes i.0) w ≡ false = false_from_ne_true (has (box_of boxes i.0) w) (λ q. let low = above_low (box_of boxes i.0) w (s i.0) q in grind (arith, ints)) in
     let more = none_below w (int_min v (low_of (box_of boxes i.0))) is boxes s h in rw out more
 
-none_above : (w v : ℤ) (is : List (ℕ × ℕ × ℕ)) (boxes : Boxes) → AreSets boxes → last_place v is boxes <ℤ w → best_room w is boxes ≡ pos 0
+none_above : (w v : ℤ) (is : List (ℕ × ℕ × ℕ)) (boxes : Boxes) → AreSets boxes → last_bin v is boxes <ℤ w → best_room w is boxes ≡ pos 0
 none_above w v [] boxes s h = refl
 none_above w v (i ∷ is) boxes s h =
-    let last = last_place-ge (int_max v (high_of (box_of boxes i.0))) is boxes in
+    let last = last_bin-ge (int_max v (high_of (box_of boxes i.0))) is boxes in
     let out : has (box_of boxes i.0) w ≡ false = false_from_ne_true (has (box_of boxes i.0) w) (λ q. let high = below_high (box_of boxes i.0) w (s i.0) q in grind (arith, ints)) in
     let more = none_above w (int_max v (high_of (box_of boxes i.0))) is boxes s h in rw out more
 
@@ -148,8 +148,8 @@ pub in_all : (n : ℕ) (v : ℤ) (items : List (ℕ × ℕ × ℕ)) (boxes : Box
 in_all n v [] boxes s = let none = rooms_none n v v [] boxes (omega (arith, ints)) (λ w l. refl) in omega (arith, ints)
 in_all n v (i ∷ is) boxes s =
     let box = box_of boxes i.0 in
-    let u = first_place (low_of box) is boxes in let t = last_place (high_of box) is boxes in
-    let first = first_place-le (low_of box) is boxes in let last = last_place-ge (high_of box) is boxes in
+    let u = first_bin (low_of box) is boxes in let t = last_bin (high_of box) is boxes in
+    let first = first_bin-le (low_of box) is boxes in let last = last_bin-ge (high_of box) is boxes in
     let order = ends_in_order box (s i.0) in
     let end = width_end u t (omega (arith, ints)) in
     rooms_any n (width u t) v u (i ∷ is) boxes

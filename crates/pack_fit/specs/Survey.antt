@@ -9,7 +9,7 @@ use Rattle.signed_clause.specs.Clauses.{Boxes, box_of}
 use Rattle.ground_form.specs.Bounds.{low_of, high_of}
 use Rattle.box_rules.specs.Refuted.{fixed_at, fixed_load}
 use Rattle.rule_law.specs.Repeats.{is_one}
-use Rattle.pack_fit.specs.declared.survey.Spot.{Spot}
+use Rattle.pack_fit.specs.declared.survey.BinCounts.{BinCounts}
 use Rattle.pack_fit.specs.Packing.{tight_room}
 
 -- ---- the items whose bin is fixed at v
@@ -43,7 +43,7 @@ some_frozen v (i ∷ is) boxes =
     (some_frozen v is boxes)
 
 -- all that is counted of them
-pub record IsSpot (s : Spot) (v : ℤ) (items : List (ℕ × ℕ × ℕ)) (boxes : Boxes) : Type 0 where
+pub record IsCounted (s : BinCounts) (v : ℤ) (items : List (ℕ × ℕ × ℕ)) (boxes : Boxes) : Type 0 where
   pub load : s.load.value ≡ fixed_load v items boxes
   pub tight : s.tight.value ≡ tight_room v items boxes
   pub room : s.room.value ≡ least_room v items boxes
@@ -86,9 +86,9 @@ all_gone_on v (i ∷ is) boxes = gone_on v (box_of boxes i.0) + all_gone_on v is
 
 -- ---- n bins from v on
 
-abbrev pub AreSpots : List Spot → ℤ → List (ℕ × ℕ × ℕ) → Boxes → Type 0
-AreSpots spots v items boxes =
-    (d : Spot) (e : ℕ) → e < length spots → IsSpot (slice_index_or spots e d) (v +ℤ pos e) items
+abbrev pub AreCounted : List BinCounts → ℤ → List (ℕ × ℕ × ℕ) → Boxes → Type 0
+AreCounted bins v items boxes =
+    (d : BinCounts) (e : ℕ) → e < length bins → IsCounted (slice_index_or bins e d) (v +ℤ pos e) items
     boxes
 
 abbrev pub AreBegun : List ℕ → ℤ → List (ℕ × ℕ × ℕ) → Boxes → Type 0
@@ -124,7 +124,7 @@ open_floor (i ∷ is) boxes =
 
 -- the load leaves room for whatever the items that are fixed at the bin grow by, and, where others
 -- may be there, for the greatest size that one of them has at least
-pub record IsSettled (s : Spot) (is_open : Bool) (size floor : ℤ) : Type 0 where
+pub record IsSettled (s : BinCounts) (is_open : Bool) (size floor : ℤ) : Type 0 where
   pub grown : (s.load.value +ℤ s.growth.value) ≤ℤ s.tight.value
   pub least : s.load.value ≤ℤ s.room.value
   pub tight : is_open ≡ true → (s.load.value +ℤ size) ≤ℤ s.tight.value
@@ -137,7 +137,7 @@ room_where counts room = cond counts (int_max (pos 0) room) (pos 0)
 -- what the second greatest room is at least, where so many others may be there beside the items
 -- that are fixed, each with a room of floor at least: two others may be there; two are fixed, or
 -- one that counts twice; one may be there beside one that is fixed
-abbrev pub least_second : Spot → ℕ → ℤ → ℤ
+abbrev pub least_second : BinCounts → ℕ → ℤ → ℤ
 least_second s others floor =
     int_max (room_where (nat_le 2 others) floor)
     (int_max (room_where (s.frozen || nat_le 2 s.count) s.tight.value)

@@ -21,7 +21,7 @@ mod room;
 mod survey;
 
 pub use loads::{
-    Total, greater, greatest, is_fixed, is_single, least, load_at, may_be, ranges_at, sizes_of,
+    Load, greater, greatest, is_fixed, is_single, least, load_at, may_be, ranges_at, sizes_of,
     smaller, tight_at,
 };
 pub use room::{Look, bins_of, ends_at, first_bin, last_bin, look_at_items};

@@ -14,21 +14,21 @@ use signed_clause::IntSet;
 
 /// A sum of many numbers.
 #[derive(Clone, Copy)]
-pub struct Total {
+pub struct Load {
     /// It.
     pub value: i128,
 }
 
-impl Total {
+impl Load {
     /// The sum with one more number.
-    pub fn plus(self, n: Number) -> Total
+    pub fn plus(self, n: Number) -> Load
         requires low { pos 0 ≤ℤ (self.value +ℤ pos (2 ^ 127 - 2 ^ 63)) }
         requires high { self.value ≤ℤ pos (2 ^ 127 - 2 ^ 63) }
         ensures sum { result.value ≡ self.value +ℤ n.value }
         ensures low { self.value ≤ℤ (result.value +ℤ pos (2 ^ 63)) }
         ensures high { result.value ≤ℤ (self.value +ℤ pos (2 ^ 63 - 1)) }
     {
-        Total {
+        Load {
             value: self.value + i128::from(n.value),
         }
     }
@@ -41,44 +41,44 @@ impl Total {
     }
 
     /// The number as a sum.
-    pub fn of(n: Number) -> Total
+    pub fn of(n: Number) -> Load
         ensures { result.value ≡ n.value }
     {
-        Total {
+        Load {
             value: i128::from(n.value),
         }
     }
 
     /// The sum without the number.
-    pub fn less(self, n: Number) -> Total
+    pub fn less(self, n: Number) -> Load
         requires low { pos 0 ≤ℤ (self.value +ℤ pos (2 ^ 66)) }
         requires high { self.value ≤ℤ pos (2 ^ 66) }
         ensures { result.value ≡ self.value -ℤ n.value }
     {
-        Total {
+        Load {
             value: self.value - i128::from(n.value),
         }
     }
 
     /// Both sums, where that is a number of 128 bits.
-    pub fn with(self, o: Total) -> Option<Total>
+    pub fn with(self, o: Load) -> Option<Load>
         ensures { IfSome result (λ t. t.value ≡ self.value +ℤ o.value) }
     {
         match self.value.checked_add(o.value) {
-            Some(value) => Some(Total { value }),
+            Some(value) => Some(Load { value }),
             None => None,
         }
     }
 
     /// Whether it is at most the other.
-    pub fn is_at_most(self, o: Total) -> bool
+    pub fn is_at_most(self, o: Load) -> bool
         ensures { result ≡ int_le self.value o.value }
     {
         self.value <= o.value
     }
 
     /// Whether both sums together are at most the number, where they are a number of 128 bits.
-    pub fn are_upto(self, o: Total, n: Number) -> bool
+    pub fn are_upto(self, o: Load, n: Number) -> bool
         ensures { result ≡ true → (self.value +ℤ o.value) ≤ℤ n.value }
     {
         match self.with(o) {
@@ -91,14 +91,14 @@ impl Total {
     pub fn is_upto_less(self, n: Number, less: Number) -> bool
         ensures { result ≡ int_le self.value (n.value -ℤ less.value) }
     {
-        self.is_at_most(Total::of(n).less(less))
+        self.is_at_most(Load::of(n).less(less))
     }
 
     /// Whether it is at most what the first number has above the second, and the third.
     pub fn is_upto_between(self, n: Number, less: Number, more: Number) -> bool
         ensures { result ≡ int_le self.value ((n.value -ℤ less.value) +ℤ more.value) }
     {
-        self.is_at_most(Total::of(n).less(less).plus(more))
+        self.is_at_most(Load::of(n).less(less).plus(more))
     }
 }
 
@@ -172,7 +172,7 @@ pub fn smaller(a: Number, b: Number) -> Number
 }
 
 /// The load with the item's least size, where its bin is fixed at the value.
-fn with_load(load: Total, i: (u32, u32, u32), boxes: &[IntSet], at: Number) -> Total
+fn with_load(load: Load, i: (u32, u32, u32), boxes: &[IntSet], at: Number) -> Load
     requires item { IsItemNamed i boxes.now }
     requires low { pos 0 ≤ℤ (load.value +ℤ pos (2 ^ 127 - 2 ^ 63)) }
     requires high { load.value ≤ℤ pos (2 ^ 127 - 2 ^ 63) }
@@ -189,11 +189,11 @@ fn with_load(load: Total, i: (u32, u32, u32), boxes: &[IntSet], at: Number) -> T
 }
 
 /// The least sizes of the items whose bin is fixed at the value, added up.
-pub fn load_at(items: &[(u32, u32, u32)], boxes: &[IntSet], at: Number) -> Total
+pub fn load_at(items: &[(u32, u32, u32)], boxes: &[IntSet], at: Number) -> Load
     requires { AreItemsNamed items.now boxes.now }
     ensures { result.value ≡ fixed_load at.value items.now boxes.now }
 {
-    let mut load = Total { value: 0 };
+    let mut load = Load { value: 0 };
     for i in items {
         load = with_load(load, *i, boxes, at);
     }
@@ -226,11 +226,11 @@ pub fn tight_at(items: &[(u32, u32, u32)], boxes: &[IntSet], at: Number) -> Numb
 }
 
 /// All least sizes, added up.
-pub fn sizes_of(items: &[(u32, u32, u32)], boxes: &[IntSet]) -> Total
+pub fn sizes_of(items: &[(u32, u32, u32)], boxes: &[IntSet]) -> Load
     requires { AreItemsNamed items.now boxes.now }
     ensures { result.value ≡ least_sizes items.now boxes.now }
 {
-    let mut sum = Total { value: 0 };
+    let mut sum = Load { value: 0 };
     for i in items {
         sum = sum.plus(least(boxes, i.1));
     }

@@ -19,24 +19,24 @@ ghost use Rattle.signed_clause.specs.Ranges.{is_nil, IsValid};
 ghost use Rattle.signed_clause.specs.Clauses.{box_of};
 ghost use Rattle.ground_form.specs.Meaning.{item_vars};
 ghost use Rattle.ground_form.specs.Bounds.{low_of, high_of};
-ghost use Rattle.box_rules.specs.Refuted.{fixed_load, first_place, last_place, least_sizes};
+ghost use Rattle.box_rules.specs.Refuted.{fixed_load, first_bin, last_bin, least_sizes};
 ghost use Rattle.box_rules.specs.Named.{AreItemsNamed, IsItemNamed};
 ghost use Rattle.rule_law.specs.Repeats.{is_one};
 ghost use Rattle.pack_fit.specs.Packing.{tight_room, fits, all_fit, growth};
-ghost use Rattle.pack_fit.specs.Survey.{IsSpot, IsSettled, AreSpots, AreBegun, AreEnded, all_gone_on, hits, open_size, open_floor, room_where, least_second};
+ghost use Rattle.pack_fit.specs.Survey.{IsCounted, IsSettled, AreCounted, AreBegun, AreEnded, all_gone_on, hits, open_size, open_floor, room_where, least_second};
 ghost use Rattle.pack_fit.specs.Looks.{IsUnplaceable, IsSeen, IsWalked};
 
 use crate::loads::{
-    Total, greater, greatest, is_fixed, is_single, least, may_be, sizes_of, smaller,
+    Load, greater, greatest, is_fixed, is_single, least, may_be, sizes_of, smaller,
 };
-use crate::survey::{Spot, Survey, with_growth};
+use crate::survey::{BinCounts, Survey, with_growth};
 use box_view::ends_in_order;
 use ground_form::Number;
 use signed_clause::IntSet;
 use std::alloc::AllocError;
 
 /// Whether the item fits at the value, of which the load and the tightest room are given.
-fn does_fit(boxes: &[IntSet], i: (u32, u32, u32), at: Number, load: Total, tight: Number) -> bool
+fn does_fit(boxes: &[IntSet], i: (u32, u32, u32), at: Number, load: Load, tight: Number) -> bool
     requires { IsItemNamed i boxes.now }
     ensures { result ≡ fits at.value load.value tight.value i boxes.now }
 {
@@ -55,7 +55,7 @@ fn unplaceable_at(
     items: &[(u32, u32, u32)],
     boxes: &[IntSet],
     at: Number,
-    load: Total,
+    load: Load,
     tight: Number,
 ) -> Option<(u32, u32, u32)>
     requires named { AreItemsNamed items.now boxes.now }
@@ -116,16 +116,16 @@ fn limits_of(items: &[(u32, u32, u32)], boxes: &[IntSet]) -> Limits
     limits
 }
 
-/// Whether the spot's numbers show that all items fit there, those that are fixed and, where
+/// Whether the bin's numbers show that all items fit there, those that are fixed and, where
 /// `is_open`, others that may be there.
-fn is_settled(spot: Spot, is_open: bool, limits: Limits) -> bool
-    ensures { result ≡ true → IsSettled spot is_open limits.size.value limits.floor.value }
+fn is_settled(bin: BinCounts, is_open: bool, limits: Limits) -> bool
+    ensures { result ≡ true → IsSettled bin is_open limits.size.value limits.floor.value }
 {
-    let size = Total::of(limits.size);
-    spot.load.are_upto(spot.growth, spot.tight)
-        && spot.load.is_upto(spot.room)
+    let size = Load::of(limits.size);
+    bin.load.are_upto(bin.growth, bin.tight)
+        && bin.load.is_upto(bin.room)
         && (!is_open
-            || (spot.load.are_upto(size, spot.tight) && spot.load.are_upto(size, limits.floor)))
+            || (bin.load.are_upto(size, bin.tight) && bin.load.are_upto(size, limits.floor)))
 }
 
 /// The first item that doesn't fit at the value, where `count` items may be, and where there is
@@ -135,23 +135,23 @@ fn unplaceable_here(
     items: &[(u32, u32, u32)],
     boxes: &[IntSet],
     at: Number,
-    spot: Spot,
+    bin: BinCounts,
     count: usize,
     limits: Limits,
 ) -> Option<(u32, u32, u32)>
     requires named { AreItemsNamed items.now boxes.now }
     requires sets { All (λ s. IsValid s) boxes.now }
-    requires spot { IsSpot spot at.value items.now boxes.now }
+    requires bin { IsCounted bin at.value items.now boxes.now }
     requires count { count ≡ hits at.value items.now boxes.now }
     requires size { limits.size.value ≡ open_size items.now boxes.now }
     requires floor { limits.floor.value ≡ open_floor items.now boxes.now }
     ensures some { IfSome result (λ i. IsUnplaceable at.value i items.now boxes.now) }
     ensures none { IfNone result (all_fit at.value items.now items.now boxes.now ≡ true) }
 {
-    if is_settled(spot, spot.count < count, limits) {
+    if is_settled(bin, bin.count < count, limits) {
         return None;
     }
-    unplaceable_at(items, boxes, at, spot.load, spot.tight)
+    unplaceable_at(items, boxes, at, bin.load, bin.tight)
 }
 
 /// The room, at least 0, where it counts, and 0 where it doesn't.
@@ -164,14 +164,14 @@ fn room_where(counts: bool, room: Number) -> Number
 
 /// What the second greatest room of the bin is at least, where `count` items may be, those that are
 /// fixed among them, and each of the others has a room of `floor` at least.
-fn least_second(spot: Spot, count: usize, floor: Number) -> Number
-    requires { spot.count ≤ count }
-    ensures { result.value ≡ least_second spot (count - spot.count) floor.value }
+fn least_second(bin: BinCounts, count: usize, floor: Number) -> Number
+    requires { bin.count ≤ count }
+    ensures { result.value ≡ least_second bin (count - bin.count) floor.value }
 {
-    let others = count - spot.count;
+    let others = count - bin.count;
     let of_others = room_where(2 <= others, floor);
-    let of_fixed = room_where(spot.frozen || 2 <= spot.count, spot.tight);
-    let of_both = room_where(1 <= others && 1 <= spot.count, smaller(floor, spot.tight));
+    let of_fixed = room_where(bin.frozen || 2 <= bin.count, bin.tight);
+    let of_both = room_where(1 <= others && 1 <= bin.count, smaller(floor, bin.tight));
     greater(of_others, greater(of_fixed, of_both))
 }
 
@@ -191,7 +191,7 @@ enum Walk {
     /// The item doesn't fit at the value.
     Unplaceable(Number, (u32, u32, u32)),
     /// All fit, and the rooms that stay whichever box is narrowed add up to this at least.
-    Room(Total),
+    Room(Load),
 }
 
 /// Walks from bin to bin, of which the survey tells what is there.
@@ -205,28 +205,28 @@ fn look_over(
     requires named { AreItemsNamed items.now boxes.now }
     requires sets { All (λ s. IsValid s) boxes.now }
     requires few { length items.now < 18446744073709551616 }
-    requires begun_size { length survey.now.begun.items ≡ length survey.now.spots.items }
-    requires ended_size { length survey.now.ended.items ≡ length survey.now.spots.items }
-    requires within { (first.value +ℤ pos (length survey.now.spots.items)) ≤ℤ pos
+    requires begun_size { length survey.now.begun.items ≡ length survey.now.bins.items }
+    requires ended_size { length survey.now.ended.items ≡ length survey.now.bins.items }
+    requires within { (first.value +ℤ pos (length survey.now.bins.items)) ≤ℤ pos
         9223372036854775808 }
-    requires spots { AreSpots survey.now.spots.items first.value items.now boxes.now }
+    requires bins { AreCounted survey.now.bins.items first.value items.now boxes.now }
     requires begun { AreBegun survey.now.begun.items first.value items.now boxes.now }
     requires ended { AreEnded survey.now.ended.items first.value items.now boxes.now }
     requires start { all_gone_on first.value items.now boxes.now ≡ 0 }
     requires size { limits.size.value ≡ open_size items.now boxes.now }
     requires floor { limits.floor.value ≡ open_floor items.now boxes.now }
-    ensures { IsWalked result (length survey.now.spots.items) first.value items.now boxes.now }
+    ensures { IsWalked result (length survey.now.bins.items) first.value items.now boxes.now }
 {
-    let mut sum = Total { value: 0 };
+    let mut sum = Load { value: 0 };
     let mut carried = 0;
     let mut d = 0;
-    while d < survey.spots.len() {
+    while d < survey.bins.len() {
         let count = carried + survey.begun[d];
         let at = behind(first, d);
-        if let Some(i) = unplaceable_here(items, boxes, at, survey.spots[d], count, limits) {
+        if let Some(i) = unplaceable_here(items, boxes, at, survey.bins[d], count, limits) {
             return Walk::Unplaceable(at, i);
         }
-        sum = sum.plus(least_second(survey.spots[d], count, limits.floor));
+        sum = sum.plus(least_second(survey.bins[d], count, limits.floor));
         carried = count - survey.ended[d];
         d += 1;
     }
@@ -234,11 +234,11 @@ fn look_over(
 }
 
 /// The greatest that a size can grow.
-fn growth_of(items: &[(u32, u32, u32)], boxes: &[IntSet]) -> Total
+fn growth_of(items: &[(u32, u32, u32)], boxes: &[IntSet]) -> Load
     requires { AreItemsNamed items.now boxes.now }
     ensures { result.value ≡ growth items.now boxes.now }
 {
-    let mut most = Total { value: 0 };
+    let mut most = Load { value: 0 };
     for i in items {
         most = with_growth(most, *i, boxes);
     }
@@ -248,7 +248,7 @@ fn growth_of(items: &[(u32, u32, u32)], boxes: &[IntSet]) -> Total
 /// The least of the number and what the bins' boxes begin with.
 pub fn first_bin(items: &[(u32, u32, u32)], boxes: &[IntSet], from: Number) -> Number
     requires { AreItemsNamed items.now boxes.now }
-    ensures value { result.value ≡ first_place from.value items.now boxes.now }
+    ensures value { result.value ≡ first_bin from.value items.now boxes.now }
     ensures order { result.value ≤ℤ from.value }
 {
     let mut first = from;
@@ -261,7 +261,7 @@ pub fn first_bin(items: &[(u32, u32, u32)], boxes: &[IntSet], from: Number) -> N
 /// The greatest of the number and what the bins' boxes end with.
 pub fn last_bin(items: &[(u32, u32, u32)], boxes: &[IntSet], from: Number) -> Number
     requires { AreItemsNamed items.now boxes.now }
-    ensures value { result.value ≡ last_place from.value items.now boxes.now }
+    ensures value { result.value ≡ last_bin from.value items.now boxes.now }
     ensures order { from.value ≤ℤ result.value }
 {
     let mut last = from;
@@ -290,9 +290,9 @@ pub fn bins_of(
 ) -> (Number, Number)
     requires items { AreItemsNamed items.now boxes.now }
     requires head { IsItemNamed head boxes.now }
-    ensures first { result.0.value ≡ first_place (low_of (box_of boxes.now head.0)) items.now
+    ensures first { result.0.value ≡ first_bin (low_of (box_of boxes.now head.0)) items.now
         boxes.now }
-    ensures last { result.1.value ≡ last_place (high_of (box_of boxes.now head.0)) items.now
+    ensures last { result.1.value ≡ last_bin (high_of (box_of boxes.now head.0)) items.now
         boxes.now }
     ensures order { result.0.value ≤ℤ result.1.value }
 {
@@ -303,7 +303,7 @@ pub fn bins_of(
 }
 
 /// The least sizes and the greatest growth, added up, where that is a number of 128 bits.
-fn need_of(items: &[(u32, u32, u32)], boxes: &[IntSet]) -> Option<Total>
+fn need_of(items: &[(u32, u32, u32)], boxes: &[IntSet]) -> Option<Load>
     requires { AreItemsNamed items.now boxes.now }
     ensures { IfSome result (λ t. t.value ≡ least_sizes items.now boxes.now +ℤ growth items.now
         boxes.now) }
@@ -312,7 +312,7 @@ fn need_of(items: &[(u32, u32, u32)], boxes: &[IntSet]) -> Option<Total>
 }
 
 /// Whether the rooms, which add up to this at least, are enough for all.
-fn is_enough(items: &[(u32, u32, u32)], boxes: &[IntSet], sum: Total) -> bool
+fn is_enough(items: &[(u32, u32, u32)], boxes: &[IntSet], sum: Load) -> bool
     requires { AreItemsNamed items.now boxes.now }
     ensures { result ≡ true → (least_sizes items.now boxes.now +ℤ growth items.now boxes.now)
         ≤ℤ sum.value }

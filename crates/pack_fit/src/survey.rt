@@ -2,7 +2,7 @@
 //! one pass.
 //!
 //! `Survey::fill` counts, for each value from the first bin to the last, what stands fixed there
-//! (`Spot`) and how many ranges of the bins' boxes begin and end there. Added up from value to
+//! (`BinCounts`) and how many ranges of the bins' boxes begin and end there. Added up from value to
 //! value, the latter tell how many items may be at each.
 //!
 //! Of each bin are counted, over the items that are fixed there: the load, the tightest room, the
@@ -18,40 +18,40 @@ ghost use Rattle.ground_form.specs.Bounds.{low_of, high_of};
 ghost use Rattle.box_rules.specs.Refuted.{fixed_at, width};
 ghost use Rattle.box_rules.specs.Named.{AreItemsNamed, IsItemNamed};
 ghost use Rattle.rule_law.specs.Repeats.{is_one};
-ghost use Rattle.pack_fit.specs.Survey.{IsSpot, AreSpots, AreBegun, AreEnded, begun_at, ended_at, is_slot};
+ghost use Rattle.pack_fit.specs.Survey.{IsCounted, AreCounted, AreBegun, AreEnded, begun_at, ended_at, is_slot};
 
-use crate::loads::{Total, greatest, is_single, least, ranges_at, smaller};
+use crate::loads::{Load, greatest, is_single, least, ranges_at, smaller};
 use ground_form::Number;
 use signed_clause::IntSet;
 use std::alloc::{AllocError, Global};
 
 /// What is counted of the items whose bin is fixed at one value.
 #[derive(Clone, Copy)]
-pub struct Spot {
+pub struct BinCounts {
     /// Their least sizes, added up.
-    pub load: Total,
+    pub load: Load,
     /// The least of their greatest rooms.
     pub tight: Number,
     /// The least of their least rooms.
     pub room: Number,
     /// The greatest that one of their sizes can grow.
-    pub growth: Total,
+    pub growth: Load,
     /// How many they are.
     pub count: usize,
     /// Whether one of them has a single room.
     pub frozen: bool,
 }
 
-impl Spot {
+impl BinCounts {
     /// What is counted of no items.
-    fn bare() -> Spot
-        ensures { (v : ℤ) (boxes : Boxes) → IsSpot result v [] boxes }
+    fn bare() -> BinCounts
+        ensures { (v : ℤ) (boxes : Boxes) → IsCounted result v [] boxes }
     {
-        Spot {
-            load: Total { value: 0 },
+        BinCounts {
+            load: Load { value: 0 },
             tight: Number { value: i64::MAX },
             room: Number { value: i64::MAX },
-            growth: Total { value: 0 },
+            growth: Load { value: 0 },
             count: 0,
             frozen: false,
         }
@@ -59,36 +59,36 @@ impl Spot {
 }
 
 /// The greatest growth so far, with that of the item's size.
-pub fn with_growth(most: Total, i: (u32, u32, u32), boxes: &[IntSet]) -> Total
+pub fn with_growth(most: Load, i: (u32, u32, u32), boxes: &[IntSet]) -> Load
     requires { IsItemNamed i boxes.now }
     ensures { result.value ≡ int_max most.value (high_of (box_of boxes.now i.1) -ℤ low_of
         (box_of boxes.now i.1)) }
 {
-    let grows = Total::of(greatest(boxes, i.1)).less(least(boxes, i.1));
+    let grows = Load::of(greatest(boxes, i.1)).less(least(boxes, i.1));
     if grows.is_at_most(most) { most } else { grows }
 }
 
 /// What is counted, with one more item.
-fn with_item(spot: Spot, i: (u32, u32, u32), boxes: &[IntSet]) -> Spot
+fn with_item(bin: BinCounts, i: (u32, u32, u32), boxes: &[IntSet]) -> BinCounts
     requires item { IsItemNamed i boxes.now }
-    requires low { pos 0 ≤ℤ (spot.load.value +ℤ pos (2 ^ 127 - 2 ^ 63)) }
-    requires high { spot.load.value ≤ℤ pos (2 ^ 127 - 2 ^ 63) }
-    requires few { spot.count < 18446744073709551615 }
-    ensures load { result.load.value ≡ spot.load.value +ℤ low_of (box_of boxes.now i.1) }
-    ensures tight { result.tight.value ≡ int_min spot.tight.value (high_of (box_of boxes.now i.2)) }
-    ensures room { result.room.value ≡ int_min spot.room.value (low_of (box_of boxes.now i.2)) }
-    ensures growth { result.growth.value ≡ int_max spot.growth.value (high_of (box_of boxes.now i.1)
+    requires low { pos 0 ≤ℤ (bin.load.value +ℤ pos (2 ^ 127 - 2 ^ 63)) }
+    requires high { bin.load.value ≤ℤ pos (2 ^ 127 - 2 ^ 63) }
+    requires few { bin.count < 18446744073709551615 }
+    ensures load { result.load.value ≡ bin.load.value +ℤ low_of (box_of boxes.now i.1) }
+    ensures tight { result.tight.value ≡ int_min bin.tight.value (high_of (box_of boxes.now i.2)) }
+    ensures room { result.room.value ≡ int_min bin.room.value (low_of (box_of boxes.now i.2)) }
+    ensures growth { result.growth.value ≡ int_max bin.growth.value (high_of (box_of boxes.now i.1)
         -ℤ low_of (box_of boxes.now i.1)) }
-    ensures count { result.count ≡ suc spot.count }
-    ensures frozen { result.frozen ≡ (spot.frozen || is_one (box_of boxes.now i.2)) }
+    ensures count { result.count ≡ suc bin.count }
+    ensures frozen { result.frozen ≡ (bin.frozen || is_one (box_of boxes.now i.2)) }
 {
-    Spot {
-        load: spot.load.plus(least(boxes, i.1)),
-        tight: smaller(spot.tight, greatest(boxes, i.2)),
-        room: smaller(spot.room, least(boxes, i.2)),
-        growth: with_growth(spot.growth, i, boxes),
-        count: spot.count + 1,
-        frozen: spot.frozen || is_single(boxes, i.2),
+    BinCounts {
+        load: bin.load.plus(least(boxes, i.1)),
+        tight: smaller(bin.tight, greatest(boxes, i.2)),
+        room: smaller(bin.room, least(boxes, i.2)),
+        growth: with_growth(bin.growth, i, boxes),
+        count: bin.count + 1,
+        frozen: bin.frozen || is_single(boxes, i.2),
     }
 }
 
@@ -142,20 +142,20 @@ fn reset_counts(counts: &mut Vec<usize>, n: usize) -> Result<(), AllocError>
     Ok(())
 }
 
-/// As many spots, in which nothing is counted.
-fn reset_spots(spots: &mut Vec<Spot>, n: usize) -> Result<(), AllocError>
-    ensures size { IfOk result (λ u. length spots.new.items ≡ n) }
-    ensures none { IfOk result (λ u. (first : ℤ) (boxes : Boxes) → AreSpots spots.new.items first []
+/// As many bins, in which nothing is counted.
+fn reset_bins(bins: &mut Vec<BinCounts>, n: usize) -> Result<(), AllocError>
+    ensures size { IfOk result (λ u. length bins.new.items ≡ n) }
+    ensures none { IfOk result (λ u. (first : ℤ) (boxes : Boxes) → AreCounted bins.new.items first []
         boxes) }
 {
-    spots.clear();
-    spots.resize(n, Spot::bare())?;
+    bins.clear();
+    bins.resize(n, BinCounts::bare())?;
     Ok(())
 }
 
 /// Counts the item at `k`, where its bin is fixed, behind which all are counted.
 fn add_item(
-    spots: &mut [Spot],
+    bins: &mut [BinCounts],
     items: &[(u32, u32, u32)],
     boxes: &[IntSet],
     first: Number,
@@ -165,28 +165,28 @@ fn add_item(
     requires sets { All (λ s. IsValid s) boxes.now }
     requires within { k < length items.now }
     requires few { length items.now < 18446744073709551616 }
-    requires behind { AreSpots spots.old first.value (drop (suc k) items.now) boxes.now }
-    ensures size { length spots.new ≡ length spots.old }
-    ensures spots { AreSpots spots.new first.value (drop k items.now) boxes.now }
+    requires behind { AreCounted bins.old first.value (drop (suc k) items.now) boxes.now }
+    ensures size { length bins.new ≡ length bins.old }
+    ensures bins { AreCounted bins.new first.value (drop k items.now) boxes.now }
 {
     let i = items[k];
-    if let Some(d) = fixed_slot(boxes, i.0, first, spots.len()) {
-        spots[d] = with_item(spots[d], i, boxes);
+    if let Some(d) = fixed_slot(boxes, i.0, first, bins.len()) {
+        bins[d] = with_item(bins[d], i, boxes);
     }
 }
 
 /// Counts the items whose bin is fixed.
-fn add_items(spots: &mut [Spot], items: &[(u32, u32, u32)], boxes: &[IntSet], first: Number)
+fn add_items(bins: &mut [BinCounts], items: &[(u32, u32, u32)], boxes: &[IntSet], first: Number)
     requires named { AreItemsNamed items.now boxes.now }
     requires sets { All (λ s. IsValid s) boxes.now }
-    requires none { AreSpots spots.old first.value [] boxes.now }
-    ensures size { length spots.new ≡ length spots.old }
-    ensures spots { AreSpots spots.new first.value items.now boxes.now }
+    requires none { AreCounted bins.old first.value [] boxes.now }
+    ensures size { length bins.new ≡ length bins.old }
+    ensures bins { AreCounted bins.new first.value items.now boxes.now }
 {
     let mut k = items.len();
     while 0 < k {
         k -= 1;
-        add_item(spots, items, boxes, first, k);
+        add_item(bins, items, boxes, first, k);
     }
 }
 
@@ -303,7 +303,7 @@ fn bins_between(first: Number, last: Number) -> Result<usize, AllocError>
 #[derive(Drop)]
 pub struct Survey {
     /// What is fixed at each bin.
-    pub spots: Vec<Spot>,
+    pub bins: Vec<BinCounts>,
     /// How many ranges begin at each.
     pub begun: Vec<usize>,
     /// How many end there.
@@ -313,12 +313,12 @@ pub struct Survey {
 impl Survey {
     /// No bins. It takes no memory.
     pub fn new(alloc: Global) -> Survey
-        ensures no_spots { result.spots.items ≡ [] }
+        ensures no_bins { result.bins.items ≡ [] }
         ensures no_begun { result.begun.items ≡ [] }
         ensures no_ended { result.ended.items ≡ [] }
     {
         Survey {
-            spots: Vec::new(alloc),
+            bins: Vec::new(alloc),
             begun: Vec::new(alloc),
             ended: Vec::new(alloc),
         }
@@ -326,11 +326,11 @@ impl Survey {
 
     /// Forgets all bins. The memory stays.
     pub fn clear(&mut self)
-        ensures no_spots { self.new.spots.items ≡ [] }
+        ensures no_bins { self.new.bins.items ≡ [] }
         ensures no_begun { self.new.begun.items ≡ [] }
         ensures no_ended { self.new.ended.items ≡ [] }
     {
-        self.spots.clear();
+        self.bins.clear();
         self.begun.clear();
         self.ended.clear();
     }
@@ -350,13 +350,13 @@ impl Survey {
         requires named { AreItemsNamed items.now boxes.now }
         requires sets { All (λ s. IsValid s) boxes.now }
         requires order { first.value ≤ℤ last.value }
-        ensures size { IfOk result (λ u. length self.new.spots.items
+        ensures size { IfOk result (λ u. length self.new.bins.items
             ≡ width first.value last.value) }
         ensures begun_size { IfOk result (λ u. length self.new.begun.items
             ≡ width first.value last.value) }
         ensures ended_size { IfOk result (λ u. length self.new.ended.items
             ≡ width first.value last.value) }
-        ensures spots { IfOk result (λ u. AreSpots self.new.spots.items first.value items.now
+        ensures bins { IfOk result (λ u. AreCounted self.new.bins.items first.value items.now
             boxes.now) }
         ensures begun { IfOk result (λ u. AreBegun self.new.begun.items first.value items.now
             boxes.now) }
@@ -364,10 +364,10 @@ impl Survey {
             boxes.now) }
     {
         let n = bins_between(first, last)?;
-        reset_spots(&mut self.spots, n)?;
+        reset_bins(&mut self.bins, n)?;
         reset_counts(&mut self.begun, n)?;
         reset_counts(&mut self.ended, n)?;
-        add_items(self.spots.as_mut_slice(), items, boxes, first);
+        add_items(self.bins.as_mut_slice(), items, boxes, first);
         count_items(
             self.begun.as_mut_slice(),
             self.ended.as_mut_slice(),

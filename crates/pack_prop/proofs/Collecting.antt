@@ -28,8 +28,8 @@ join_some : (a b : Ranges) → IsValid a → IsValid b → is_nil b ≡ false �
 join_some a b f g n =
     let low = has_low b g n in let e = has-join_valid a b f g (low_of b) in has_some (join a b) (low_of b) (grind arith)
 
-join_missed : (a b box : Ranges) → IsValid a → IsValid b → IsValid box → is_disjoint a box ≡ true → is_disjoint b box ≡ true → is_disjoint (join a b) box ≡ true
-join_missed a b box f g k h j =
+join_disjoint : (a b box : Ranges) → IsValid a → IsValid b → IsValid box → is_disjoint a box ≡ true → is_disjoint b box ≡ true → is_disjoint (join a b) box ≡ true
+join_disjoint a b box f g k h j =
     (disjoint_law (join a b) box (IsValid-join a b f g) k).1 (λ v q.
     let e = has-join_valid a b f g v in
     let one = (disjoint_law a box f k).0 h v in let two = (disjoint_law b box g k).0 j v in grind arith)
@@ -39,7 +39,7 @@ join_false boxes l s b h k = record {
   named = h.named;
   some = join_some l.1 s h.valid k.valid k.some;
   valid = IsValid-join l.1 s h.valid k.valid;
-  missed = join_missed l.1 s (box_of boxes l.0) h.valid k.valid (b l.0) h.missed k.missed;
+  disjoint = join_disjoint l.1 s (box_of boxes l.0) h.valid k.valid (b l.0) h.disjoint k.disjoint;
 }
 
 with_each : (boxes : Boxes) (y : ℕ) (s : Ranges) (ls : Literals) → AreSets boxes → IsFalse boxes (y, s) → All (λ l. IsFalse boxes l) ls → All (λ l. IsFalse boxes l) (with_set y s ls)
@@ -107,14 +107,14 @@ with_says boxes y z s v (l ∷ ls) f a =
 pub record MaySay (boxes : Boxes) (y : ℕ) (s : Ranges) : Type 0 where
   pub named : y < length boxes
   pub valid : IsValid s
-  pub missed : is_disjoint s (box_of boxes y) ≡ true
+  pub disjoint : is_disjoint s (box_of boxes y) ≡ true
 
 pub said_collected : (boxes : Boxes) (y : ℕ) (s : Ranges) (ls : Literals) → AreSets boxes → MaySay boxes y s → AreCollected boxes ls → AreCollected boxes (said y s ls)
 said_collected boxes y s ls b m h =
     (elim (is_nil s) as (λ t. is_nil s ≡ t → AreCollected boxes (cond t ls (with_set y s ls))) [
       | true ↦ λ e. h
       | false ↦ λ e. record {
-        each = with_each boxes y s ls b (record { named = m.named; some = e; valid = m.valid; missed = m.missed }) h.each;
+        each = with_each boxes y s ls b (record { named = m.named; some = e; valid = m.valid; disjoint = m.disjoint }) h.each;
         differ = with_differ y s ls h.differ;
       }
     ]) refl

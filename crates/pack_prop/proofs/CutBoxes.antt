@@ -34,14 +34,14 @@ some_from (r ∷ s) v h = refl
 
 -- ---- what is left
 
-set_missed : (boxes : Boxes) (ls : Literals) (y : ℕ) (v : ℤ) → AreSets boxes → All (λ l. IsFalse boxes l) ls → has (set_of ls y) v ≡ true → has (box_of boxes y) v ≡ false
-set_missed boxes [] y v b a h = absurd (grind arith)
-set_missed boxes (l ∷ ls) y v b a h =
+set_disjoint : (boxes : Boxes) (ls : Literals) (y : ℕ) (v : ℤ) → AreSets boxes → All (λ l. IsFalse boxes l) ls → has (set_of ls y) v ≡ true → has (box_of boxes y) v ≡ false
+set_disjoint boxes [] y v b a h = absurd (grind arith)
+set_disjoint boxes (l ∷ ls) y v b a h =
     let head = a 0 l (omega arith) in
     (elim (l.0 == y) as (λ t. (l.0 == y) ≡ t → has (cond t l.1 (set_of ls y)) v ≡ true → has (box_of boxes y) v ≡ false) [
       | true ↦ λ e k. let same : l.0 ≡ y = grind (arith, nat_tests) in
-          subst (λ (z : ℕ). has (box_of boxes z) v ≡ false) same ((disjoint_law l.1 (box_of boxes l.0) head.valid (b l.0)).0 head.missed v k)
-      | false ↦ λ e k. set_missed boxes ls y v b (λ j d lt. a (suc j) d (omega arith)) k
+          subst (λ (z : ℕ). has (box_of boxes z) v ≡ false) same ((disjoint_law l.1 (box_of boxes l.0) head.valid (b l.0)).0 head.disjoint v k)
+      | false ↦ λ e k. set_disjoint boxes ls y v b (λ j d lt. a (suc j) d (omega arith)) k
     ]) refl h
 
 pub cut_has : (domains : Boxes) (ls : Literals) (y : ℕ) (v : ℤ) → AreSets domains → IsValid (set_of ls y) → has (box_of (cut domains ls) y) v ≡ (has (box_of domains y) v && not (has (set_of ls y) v))
@@ -63,7 +63,7 @@ box_in domains boxes y v o n h = (within_law (box_of boxes y) (box_of domains y)
 pub cut_keeps : (domains boxes : Boxes) (ls : Literals) (y : ℕ) (v : ℤ) → AreOver domains boxes → AreCollected boxes ls → y < length boxes → has (box_of boxes y) v ≡ true → has (box_of (cut domains ls) y) v ≡ true
 cut_keeps domains boxes ls y v o h n k =
     let there = box_in domains boxes y v o n k in
-    let out : has (set_of ls y) v ≡ false = false_from_ne_true (has (set_of ls y) v) (λ q. let gone = set_missed boxes ls y v o.box_sets h.each q in absurd cc) in
+    let out : has (set_of ls y) v ≡ false = false_from_ne_true (has (set_of ls y) v) (λ q. let gone = set_disjoint boxes ls y v o.box_sets h.each q in absurd cc) in
     let e = cut_has domains ls y v o.domain_sets (collected_sets boxes ls h y) in grind arith
 
 pub cut_some : (domains boxes : Boxes) (ls : Literals) (y : ℕ) → AreOver domains boxes → AreCollected boxes ls → y < length boxes → is_nil (box_of (cut domains ls) y) ≡ false

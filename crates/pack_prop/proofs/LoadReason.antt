@@ -118,12 +118,12 @@ pub loaded_more : (v : ℤ) (i : ℕ × ℕ × ℕ) (items : List (ℕ × ℕ ×
     AreLoaded v i items domains boxes m room spare old → AreCollected boxes new → SaysMore old new → AreLoaded v i items domains boxes m room spare new
 loaded_more v i items domains boxes m room spare old new o n j z t h says = record {
   literals = h;
-  fixed = cut_fixed domains boxes old new i.0 v o t.literals h says j.place t.fixed;
+  fixed = cut_fixed domains boxes old new i.0 v o t.literals h says j.bin t.fixed;
   upto = let high = cut_high domains boxes old new i.2 o t.literals h says j.room in let before = t.upto in omega (arith, ints);
   some = t.some;
   more =
       let loads = loads_more v m items (cut domains old) (cut domains new) boxes (λ k d lt. record {
-        fixed = λ q. cut_fixed domains boxes old new (get_or items k d).0 v o t.literals h says (n k d lt).place q;
+        fixed = λ q. cut_fixed domains boxes old new (get_or items k d).0 v o t.literals h says (n k d lt).bin q;
         low = cut_low domains boxes old new (get_or items k d).1 o t.literals h says (n k d lt).size;
         some = cut_from_zero domains boxes new (get_or items k d).1 o h (n k d lt).size (z k d lt);
       }) in
@@ -136,7 +136,7 @@ pub bin_said : (domains boxes : Boxes) (y : ℕ) (s : Ranges) → AreOver domain
 bin_said domains boxes y s o n f w = record {
   named = n;
   valid = f;
-  missed = (disjoint_law s (box_of boxes y) f (o.box_sets y)).1 (λ v q. false_from_ne_true (has (box_of boxes y) v) (λ t. let is = w v in grind arith));
+  disjoint = (disjoint_law s (box_of boxes y) f (o.box_sets y)).1 (λ v q. false_from_ne_true (has (box_of boxes y) v) (λ t. let is = w v in grind arith));
 }
 
 pub bin_fixed : (domains boxes : Boxes) (y : ℕ) (v : ℤ) (s : Ranges) (ls : Literals) → AreOver domains boxes → y < length boxes → AreCollected boxes ls → MaySay boxes y s →
@@ -190,7 +190,7 @@ loaded_said v i items domains boxes m room spare low p s ls o n named z u f e a 
     let j = slice_index_or items m (0, 0, 0) in
     let jn = n m (0, 0, 0) u in
     let one = said j.0 p ls in let two = said j.1 s one in
-    let bin = bin_said domains boxes j.0 p o jn.place a g in
+    let bin = bin_said domains boxes j.0 p o jn.bin a g in
     let c1 = said_collected boxes j.0 p ls o.box_sets bin t.literals in
     let size = size_said domains boxes j.1 low low s o jn.size b e (omega (arith, ints)) h in
     let c2 = said_collected boxes j.1 s one o.box_sets size c1 in
@@ -198,7 +198,7 @@ loaded_said v i items domains boxes m room spare low p s ls o n named z u f e a 
     let m2 = said_more boxes j.1 s one b c1 in
     let t1 = loaded_more v i items domains boxes m room spare ls one o n named z t c1 m1 in
     let t2 = loaded_more v i items domains boxes m room spare one two o n named z t1 c2 m2 in
-    let fixed = cut_fixed domains boxes one two j.0 v o c1 c2 m2 jn.place (bin_fixed domains boxes j.0 v p ls o jn.place t.literals bin g f) in
+    let fixed = cut_fixed domains boxes one two j.0 v o c1 c2 m2 jn.bin (bin_fixed domains boxes j.0 v p ls o jn.bin t.literals bin g f) in
     let from = size_from domains boxes j.1 low s one o jn.size c1 size h in
     let loads = load_is (fixed_at (box_of boxes j.0) v) (fixed_at (box_of (cut domains two) j.0) v) (low_of (box_of boxes j.1)) (low_of (box_of (cut domains two) j.1)) f fixed (omega (arith, ints)) in
     loaded_next v i items domains boxes m room spare spare two u t.some (omega (arith, ints)) t2

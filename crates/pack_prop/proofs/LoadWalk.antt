@@ -32,15 +32,15 @@ over_begins domains boxes items x k part v room load spare old new p o c u e l s
     let s = less (box_of domains i.0) (box_of b i.0) in
     let valid = IsValid-less (box_of domains i.0) (box_of b i.0) (over.domain_sets i.0) (over.box_sets i.0) in
     let values = has-less_valid (box_of domains i.0) (box_of b i.0) (over.domain_sets i.0) (over.box_sets i.0) in
-    let bin = bin_said domains b i.0 s over n.place valid values in
+    let bin = bin_said domains b i.0 s over n.bin valid values in
     let next = said_collected b i.0 s old over.box_sets bin c in
     let more = said_more b i.0 s old valid c in
     subst (λ (z : Literals). AreOverfull v items domains b 0 spare z) (sym e)
     (record {
-      place = k;
+      index = k;
       there = o.there;
       room = room;
-      loaded = loaded_none v i items domains b room spare load (said i.0 s old) next (bin_fixed domains b i.0 v s old over n.place c bin values o.fixed)
+      loaded = loaded_none v i items domains b room spare load (said i.0 s old) next (bin_fixed domains b i.0 v s old over n.bin c bin values o.fixed)
           (let high = cut_high domains b old (said i.0 s old) i.2 over c next more n.room in omega (arith, ints)) l some fits;
     })
 
@@ -58,10 +58,10 @@ pub over_open : (domains boxes : Boxes) (items : List (ℕ × ℕ × ℕ)) (x m 
 over_open domains boxes items x m part v spare ls p u f w =
     let j = slice_index_or items m (0, 0, 0) in let b = with_part boxes x part in
     let none = none_added (fixed_at (box_of b j.0) v) (low_of (box_of b j.1)) f in record {
-      place = w.place;
+      index = w.index;
       there = w.there;
       room = w.room;
-      loaded = loaded_free v (slice_index_or items w.place (0, 0, 0)) items domains b m w.room spare spare ls (part_over domains boxes items x part p) (part_named boxes x part items p.named) p.sizes u w.loaded.some (omega (arith, ints)) w.loaded;
+      loaded = loaded_free v (slice_index_or items w.index (0, 0, 0)) items domains b m w.room spare spare ls (part_over domains boxes items x part p) (part_named boxes x part items p.named) p.sizes u w.loaded.some (omega (arith, ints)) w.loaded;
     }
 
 -- its least size is to spare
@@ -71,10 +71,10 @@ pub over_spared : (domains boxes : Boxes) (items : List (ℕ × ℕ × ℕ)) (x 
 over_spared domains boxes items x m part v spare low next ls p u f e n l w =
     let j = slice_index_or items m (0, 0, 0) in let b = with_part boxes x part in
     let all = all_added (fixed_at (box_of b j.0) v) (low_of (box_of b j.1)) f in record {
-      place = w.place;
+      index = w.index;
       there = w.there;
       room = w.room;
-      loaded = loaded_free v (slice_index_or items w.place (0, 0, 0)) items domains b m w.room spare next ls (part_over domains boxes items x part p) (part_named boxes x part items p.named) p.sizes u (omega (arith, ints)) (omega (arith, ints)) w.loaded;
+      loaded = loaded_free v (slice_index_or items w.index (0, 0, 0)) items domains b m w.room spare next ls (part_over domains boxes items x part p) (part_named boxes x part items p.named) p.sizes u (omega (arith, ints)) (omega (arith, ints)) w.loaded;
     }
 
 -- its bin and its size are said
@@ -90,17 +90,17 @@ over_said domains boxes items x m part d s v spare low ls mid last p u f e q r g
     let t = less (box_of domains j.0) (box_of b j.0) in
     subst (λ (z : Literals). AreOverfull v items domains b (m + 1) spare z) (sym (n ∙ ap (λ (z : Literals). said j.1 s z) q))
     (record {
-      place = w.place;
+      index = w.index;
       there = w.there;
       room = w.room;
-      loaded = loaded_said v (slice_index_or items w.place (0, 0, 0)) items domains b m w.room spare low t s ls over named (named w.place (0, 0, 0) w.there) p.sizes u f e
+      loaded = loaded_said v (slice_index_or items w.index (0, 0, 0)) items domains b m w.room spare low t s ls over named (named w.index (0, 0, 0) w.there) p.sizes u f e
           (IsValid-less (box_of domains j.0) (box_of b j.0) (over.domain_sets j.0) (over.box_sets j.0)) g (has-less_valid (box_of domains j.0) (box_of b j.0) (over.domain_sets j.0) (over.box_sets j.0))
           (λ z. h z ∙ ap (λ (c : Ranges). has c z && int_lt z low) r) w.loaded;
     })
 
 pub over_reason : (con : Con) (domains boxes : Boxes) (items : List (ℕ × ℕ × ℕ)) (x : ℕ) (part : Ranges) (v spare : ℤ) (ls : Literals) → con ≡ Pack items → IsPart domains boxes items x part → AreOverfull v items domains (with_part boxes x part) (length items) spare ls →
     IsReason con domains boxes ls
-over_reason con domains boxes items x part v spare ls e p w = loaded_reason con v w.place items domains boxes x part w.room spare ls e p w.there w.loaded
+over_reason con domains boxes items x part v spare ls e p w = loaded_reason con v w.index items domains boxes x part w.room spare ls e p w.there w.loaded
 
 pub over_less : (v : ℤ) (items : List (ℕ × ℕ × ℕ)) (boxes : Boxes) (k : ℕ) (room total load : ℤ) → IsOverfilled v items boxes k → room ≡ high_of (box_of boxes (slice_index_or items k (0, 0, 0)).2) → total ≡ room → load ≡ fixed_load v items boxes → total <ℤ load
 over_less v items boxes k room total load o r t l = let over = o.over in grind (arith, ints)

@@ -11,7 +11,7 @@ use Rattle.std.proofs.lemmas.List.Elements.{All-cons, All-nil}
 use Rattle.signed_clause.specs.Ranges.{Ranges, has}
 use Rattle.signed_clause.specs.Clauses.{Boxes, box_of}
 use Rattle.ground_form.specs.Bounds.{low_of, high_of}
-use Rattle.box_rules.specs.Refuted.{best_room, rooms_from, first_place, last_place, width, all_room}
+use Rattle.box_rules.specs.Refuted.{best_room, rooms_from, first_bin, last_bin, width, all_room}
 use Rattle.box_rules.proofs.PackLaws.{best_room-ge}
 use Rattle.pack_prop.specs.RoomRows.{best_rooms, IsRow, row_sum, raised, is_short}
 
@@ -173,5 +173,5 @@ pub all_room_row : (first last : ℤ) (row : List (ℤ × ℤ)) (items : List (�
     ((w : ℤ) → w <ℤ first → best_room w items boxes ≡ pos 0) → ((w : ℤ) → last <ℤ w → best_room w items boxes ≡ pos 0) → all_room items boxes ≤ℤ row_sum row
 all_room_row first last row [] boxes r a b h = row_ge row [] boxes a
 all_room_row first last row (i ∷ is) boxes r a b h =
-    let u = first_place (low_of (box_of boxes i.0)) is boxes in let t = last_place (high_of (box_of boxes i.0)) is boxes in
+    let u = first_bin (low_of (box_of boxes i.0)) is boxes in let t = last_bin (high_of (box_of boxes i.0)) is boxes in
     rooms_row (width u t) u first last row (i ∷ is) boxes r a b h

@@ -29,7 +29,7 @@ vars_named con domains boxes items e w b k d lt =
 
 items_named : (items : List (ℕ × ℕ × ℕ)) (boxes : Boxes) → All (λ x. x < length boxes) (item_vars items) → AreItemsNamed items boxes
 items_named [] boxes h k d lt = absurd (omega arith)
-items_named (i ∷ is) boxes h zero d lt = record { place = h 0 0 (omega arith); size = h 1 0 (omega arith); room = h 2 0 (omega arith) }
+items_named (i ∷ is) boxes h zero d lt = record { bin = h 0 0 (omega arith); size = h 1 0 (omega arith); room = h 2 0 (omega arith) }
 items_named (i ∷ is) boxes h (suc k) d lt = items_named is boxes (λ j e l. h (suc (suc (suc j))) e (omega arith)) k d (omega arith)
 
 pub pack_named : (con : Con) (domains boxes : Boxes) (items : List (ℕ × ℕ × ℕ)) → con ≡ Pack items → IsWellMadeCon domains con → AreBoxesWithin domains boxes → AreItemsNamed items boxes

@@ -6,41 +6,41 @@ use Rattle.std.proofs.lemmas.Int.{ints}
 use Rattle.signed_clause.specs.Ranges.{has}
 use Rattle.signed_clause.specs.Clauses.{Boxes, box_of}
 use Rattle.ground_form.specs.Bounds.{low_of, high_of}
-use Rattle.box_rules.specs.Refuted.{first_place, last_place, least_sizes}
-use Rattle.box_rules.proofs.PackLaws.{first_place-le, last_place-ge}
-use Rattle.pack_prop.specs.declared.best_rooms.Best.{Best}
-use Rattle.pack_prop.specs.Tight.{IsBest, AreBestRooms, firsts, seconds, lefts, all_grow, may_be_in, may_move, may_shrink, all_loose, IsBetween, HasEach}
+use Rattle.box_rules.specs.Refuted.{first_bin, last_bin, least_sizes}
+use Rattle.box_rules.proofs.PackLaws.{first_bin-le, last_bin-ge}
+use Rattle.pack_prop.specs.declared.best_rooms.ValueRooms.{ValueRooms}
+use Rattle.pack_prop.specs.Tight.{AreValueRooms, AreBestRooms, firsts, seconds, lefts, all_grow, may_be_in, may_move, may_shrink, all_loose, IsBetween, HasEach}
 use Rattle.rule_law.specs.Repeats.{is_one}
 use Rattle.pack_fit.proofs.TotalRoom.{first_is, second_le}
 
-more_best_rooms : (v at : ℤ) (bs : List Best) (b : Best) (items : List (ℕ × ℕ × ℕ)) (boxes : Boxes) → AreBestRooms v bs items boxes → v +ℤ pos (length bs) ≡ at → IsBest at b items boxes → AreBestRooms v (bs ++ b ∷ []) items boxes
+more_best_rooms : (v at : ℤ) (bs : List ValueRooms) (b : ValueRooms) (items : List (ℕ × ℕ × ℕ)) (boxes : Boxes) → AreBestRooms v bs items boxes → v +ℤ pos (length bs) ≡ at → AreValueRooms at b items boxes → AreBestRooms v (bs ++ b ∷ []) items boxes
 more_best_rooms v at [] b items boxes h e is =
-    let same : at ≡ v = omega (arith, ints) in (subst (λ (z : ℤ). IsBest z b items boxes) same is, tt)
+    let same : at ≡ v = omega (arith, ints) in (subst (λ (z : ℤ). AreValueRooms z b items boxes) same is, tt)
 more_best_rooms v at (c ∷ bs) b items boxes h e is = (h.0, more_best_rooms (v +ℤ pos 1) at bs b items boxes h.1 (omega (arith, ints)) is)
 
-one_longer : (bs : List Best) (b : Best) → length (bs ++ b ∷ []) ≡ suc (length bs)
+one_longer : (bs : List ValueRooms) (b : ValueRooms) → length (bs ++ b ∷ []) ≡ suc (length bs)
 one_longer [] b = refl
 one_longer (c ∷ bs) b = let more = one_longer bs b in omega arith
 
-pub push_best : (v at : ℤ) (bs cs : List Best) (b : Best) (items : List (ℕ × ℕ × ℕ)) (boxes : Boxes) → cs ≡ bs ++ b ∷ [] → AreBestRooms v bs items boxes → v +ℤ pos (length bs) ≡ at → IsBest at b items boxes → AreBestRooms v cs items boxes
-push_best v at bs cs b items boxes is h e k = subst (λ (z : List Best). AreBestRooms v z items boxes) (sym is) (more_best_rooms v at bs b items boxes h e k)
+pub push_best : (v at : ℤ) (bs cs : List ValueRooms) (b : ValueRooms) (items : List (ℕ × ℕ × ℕ)) (boxes : Boxes) → cs ≡ bs ++ b ∷ [] → AreBestRooms v bs items boxes → v +ℤ pos (length bs) ≡ at → AreValueRooms at b items boxes → AreBestRooms v cs items boxes
+push_best v at bs cs b items boxes is h e k = subst (λ (z : List ValueRooms). AreBestRooms v z items boxes) (sym is) (more_best_rooms v at bs b items boxes h e k)
 
-pub push_length : (v at next : ℤ) (bs cs : List Best) (b : Best) → cs ≡ bs ++ b ∷ [] → v +ℤ pos (length bs) ≡ at → next ≡ at +ℤ pos 1 → v +ℤ pos (length cs) ≡ next
-push_length v at next bs cs b is e n = let l = one_longer bs b in subst (λ (z : List Best). v +ℤ pos (length z) ≡ next) (sym is) (omega (arith, ints))
+pub push_length : (v at next : ℤ) (bs cs : List ValueRooms) (b : ValueRooms) → cs ≡ bs ++ b ∷ [] → v +ℤ pos (length bs) ≡ at → next ≡ at +ℤ pos 1 → v +ℤ pos (length cs) ≡ next
+push_length v at next bs cs b is e n = let l = one_longer bs b in subst (λ (z : List ValueRooms). v +ℤ pos (length z) ≡ next) (sym is) (omega (arith, ints))
 
-pub no_best_rooms : (v : ℤ) (bs : List Best) (items : List (ℕ × ℕ × ℕ)) (boxes : Boxes) → bs ≡ [] → AreBestRooms v bs items boxes
-no_best_rooms v bs items boxes e = subst (λ (z : List Best). AreBestRooms v z items boxes) (sym e) tt
+pub no_best_rooms : (v : ℤ) (bs : List ValueRooms) (items : List (ℕ × ℕ × ℕ)) (boxes : Boxes) → bs ≡ [] → AreBestRooms v bs items boxes
+no_best_rooms v bs items boxes e = subst (λ (z : List ValueRooms). AreBestRooms v z items boxes) (sym e) tt
 
-pub no_length : (v : ℤ) (bs : List Best) → bs ≡ [] → v +ℤ pos (length bs) ≡ v
-no_length v bs e = subst (λ (z : List Best). v +ℤ pos (length z) ≡ v) (sym e) (omega (arith, ints))
+pub no_length : (v : ℤ) (bs : List ValueRooms) → bs ≡ [] → v +ℤ pos (length bs) ≡ v
+no_length v bs e = subst (λ (z : List ValueRooms). v +ℤ pos (length z) ≡ v) (sym e) (omega (arith, ints))
 
 -- ---- bins lie among the values
 
-pub bins_between : (v w start end : ℤ) (is : List (ℕ × ℕ × ℕ)) (boxes : Boxes) → start ≤ℤ first_place v is boxes → last_place w is boxes <ℤ end → All (λ i. IsBetween start end i boxes) is
+pub bins_between : (v w start end : ℤ) (is : List (ℕ × ℕ × ℕ)) (boxes : Boxes) → start ≤ℤ first_bin v is boxes → last_bin w is boxes <ℤ end → All (λ i. IsBetween start end i boxes) is
 bins_between v w start end [] boxes h l k d lt = absurd (omega arith)
 bins_between v w start end (i ∷ is) boxes h l zero d lt =
-    let first = first_place-le (int_min v (low_of (box_of boxes i.0))) is boxes in
-    let last = last_place-ge (int_max w (high_of (box_of boxes i.0))) is boxes in
+    let first = first_bin-le (int_min v (low_of (box_of boxes i.0))) is boxes in
+    let last = last_bin-ge (int_max w (high_of (box_of boxes i.0))) is boxes in
     record { low = grind (arith, ints); high = grind (arith, ints) }
 bins_between v w start end (i ∷ is) boxes h l (suc k) d lt =
     bins_between (int_min v (low_of (box_of boxes i.0))) (int_max w (high_of (box_of boxes i.0))) start end is boxes h l k d (omega arith)
@@ -51,7 +51,7 @@ none_from : {X : Type 0} (r : Option X) (A B C D : Type 0) → (A → B → C �
 none_from None A B C D f a b c = f a b c
 none_from (Some x) A B C D f a b c = tt
 
-pub each_enough : {X : Type 0} (r : Option X) (items : List (ℕ × ℕ × ℕ)) (boxes : Boxes) (v w start last : ℤ) (rows : List Best) → start ≡ first_place v items boxes → last ≡ last_place w items boxes →
+pub each_enough : {X : Type 0} (r : Option X) (items : List (ℕ × ℕ × ℕ)) (boxes : Boxes) (v w start last : ℤ) (rows : List ValueRooms) → start ≡ first_bin v items boxes → last ≡ last_bin w items boxes →
     AreBestRooms start rows items boxes → start +ℤ pos (length rows) ≡ last +ℤ pos 1 → IfNone r (least_sizes items boxes ≤ℤ firsts rows) → IfNone r (all_grow (least_sizes items boxes) (firsts rows) items boxes ≡ true) →
     IfNone r (all_loose (least_sizes items boxes) rows items boxes ≡ true) → IfNone r (HasEach items boxes)
 each_enough r items boxes v w start last rows e f best_rooms all enough grow loose =
@@ -71,7 +71,7 @@ kept_second : (there : Bool) (first second room : ℤ) → second ≤ℤ first �
 kept_second true first second room h = grind (arith, ints)
 kept_second false first second room h = h
 
-seconds_lefts : (v : ℤ) (bs : List Best) (room : ℤ) (i : ℕ × ℕ × ℕ) (items : List (ℕ × ℕ × ℕ)) (boxes : Boxes) → AreBestRooms v bs items boxes → seconds bs ≤ℤ lefts bs room i boxes
+seconds_lefts : (v : ℤ) (bs : List ValueRooms) (room : ℤ) (i : ℕ × ℕ × ℕ) (items : List (ℕ × ℕ × ℕ)) (boxes : Boxes) → AreBestRooms v bs items boxes → seconds bs ≤ℤ lefts bs room i boxes
 seconds_lefts v [] room i items boxes h = omega (arith, ints)
 seconds_lefts v (b ∷ bs) room i items boxes h =
     let first = h.0.first_is in let second = h.0.second_is in let is = first_is v items boxes in let le = second_le v items boxes in
@@ -86,7 +86,7 @@ either : (one two : Bool) → two ≡ true → (one || two) ≡ true
 either true two h = refl
 either false two h = h
 
-loose_of : (need v : ℤ) (bs : List Best) (is items : List (ℕ × ℕ × ℕ)) (boxes : Boxes) → AreBestRooms v bs items boxes → need ≤ℤ seconds bs → all_loose need bs is boxes ≡ true
+loose_of : (need v : ℤ) (bs : List ValueRooms) (is items : List (ℕ × ℕ × ℕ)) (boxes : Boxes) → AreBestRooms v bs items boxes → need ≤ℤ seconds bs → all_loose need bs is boxes ≡ true
 loose_of need v bs [] items boxes h k = refl
 loose_of need v bs (i ∷ is) items boxes h k =
     let out = sure_of need (seconds bs) (lefts bs (pos 0) i boxes) k (seconds_lefts v bs (pos 0) i items boxes h) in
@@ -95,5 +95,5 @@ loose_of need v bs (i ∷ is) items boxes h k =
     let shrink : may_shrink need bs i boxes ≡ true = either (is_one (box_of boxes i.2)) (int_le need (lefts bs (low_of (box_of boxes i.2)) i boxes)) least in
     rw (move, shrink) (loose_of need v bs is items boxes h k)
 
-pub sure_loose : (v : ℤ) (bs : List Best) (items : List (ℕ × ℕ × ℕ)) (boxes : Boxes) → AreBestRooms v bs items boxes → least_sizes items boxes ≤ℤ seconds bs → all_loose (least_sizes items boxes) bs items boxes ≡ true
+pub sure_loose : (v : ℤ) (bs : List ValueRooms) (items : List (ℕ × ℕ × ℕ)) (boxes : Boxes) → AreBestRooms v bs items boxes → least_sizes items boxes ≤ℤ seconds bs → all_loose (least_sizes items boxes) bs items boxes ≡ true
 sure_loose v bs items boxes h k = loose_of (least_sizes items boxes) v bs items items boxes h k

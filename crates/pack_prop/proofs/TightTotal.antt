@@ -15,8 +15,8 @@ use Rattle.rule_law.specs.Repeats.{is_one}
 use Rattle.box_view.proofs.EndLaws.{AreSets, above_low, below_high, single_has}
 use Rattle.box_rules.proofs.PackLaws.{best_room-ge}
 use Rattle.box_view.proofs.SetLaws.{fixing_same}
-use Rattle.pack_prop.specs.declared.best_rooms.Best.{Best}
-use Rattle.pack_prop.specs.Tight.{IsBest, AreBestRooms, firsts, left_at, lefts, may_grow, may_be_at, may_be_in, may_move, may_shrink, all_grow, all_loose, IsBetween, HasEach}
+use Rattle.pack_prop.specs.declared.best_rooms.ValueRooms.{ValueRooms}
+use Rattle.pack_prop.specs.Tight.{AreValueRooms, AreBestRooms, firsts, left_at, lefts, may_grow, may_be_at, may_be_in, may_move, may_shrink, all_grow, all_loose, IsBetween, HasEach}
 use Rattle.pack_fit.proofs.Spots.{Role, Bin, Size, Room}
 use Rattle.pack_fit.proofs.OneBox.{other_box, best_away, sizes_away, sizes_split}
 use Rattle.pack_fit.proofs.TotalRoom.{first_is, second_without, in_all}
@@ -85,7 +85,7 @@ upto_rest true first second high rest room e h =
     ]) refl
 upto_rest false first second high rest room e h = omega (arith, ints)
 
-left_upto : (w : ℤ) (b : Best) (front : List (ℕ × ℕ × ℕ)) (i : ℕ × ℕ × ℕ) (back : List (ℕ × ℕ × ℕ)) (boxes : Boxes) (room : ℤ) → (is_one (box_of boxes i.0) && is_one (box_of boxes i.2)) ≡ false → IsBest w b (front ++ i ∷ back) boxes →
+left_upto : (w : ℤ) (b : ValueRooms) (front : List (ℕ × ℕ × ℕ)) (i : ℕ × ℕ × ℕ) (back : List (ℕ × ℕ × ℕ)) (boxes : Boxes) (room : ℤ) → (is_one (box_of boxes i.0) && is_one (box_of boxes i.2)) ≡ false → AreValueRooms w b (front ++ i ∷ back) boxes →
     left_at b room i boxes ≤ℤ cond (has (box_of boxes i.0) w) (int_max room (best_room w (front ++ back) boxes)) (best_room w (front ++ back) boxes)
 left_upto w b front i back boxes room f is =
     let first : b.first.value ≡ cond (has (box_of boxes i.0) w) (int_max (high_of (box_of boxes i.2)) (best_room w (front ++ back) boxes)) (best_room w (front ++ back) boxes) =
@@ -99,15 +99,15 @@ left_upto w b front i back boxes room f is =
 
 -- at no value more is left than the greatest room in the later boxes
 abbrev Lefts : List (ℕ × ℕ × ℕ) → Boxes → ℤ → ℕ × ℕ × ℕ → Boxes → Type 0
-Lefts items boxes room i later = (w : ℤ) (b : Best) → IsBest w b items boxes → left_at b room i boxes ≤ℤ best_room w items later
+Lefts items boxes room i later = (w : ℤ) (b : ValueRooms) → AreValueRooms w b items boxes → left_at b room i boxes ≤ℤ best_room w items later
 
-lefts_le : (v : ℤ) (bs : List Best) (items : List (ℕ × ℕ × ℕ)) (boxes : Boxes) (room : ℤ) (i : ℕ × ℕ × ℕ) (later : Boxes) → Lefts items boxes room i later → AreBestRooms v bs items boxes →
+lefts_le : (v : ℤ) (bs : List ValueRooms) (items : List (ℕ × ℕ × ℕ)) (boxes : Boxes) (room : ℤ) (i : ℕ × ℕ × ℕ) (later : Boxes) → Lefts items boxes room i later → AreBestRooms v bs items boxes →
     lefts bs room i boxes ≤ℤ rooms_from (length bs) v items later
 lefts_le v [] items boxes room i later h a = omega (arith, ints)
 lefts_le v (b ∷ bs) items boxes room i later h a =
     let one = h v b a.0 in let more = lefts_le (v +ℤ pos 1) bs items boxes room i later h a.1 in omega (arith, ints, one, more)
 
-firsts_le : (v : ℤ) (bs : List Best) (items : List (ℕ × ℕ × ℕ)) (boxes later : Boxes) → ((w : ℤ) → best_room w items later ≡ best_room w items boxes) → AreBestRooms v bs items boxes →
+firsts_le : (v : ℤ) (bs : List ValueRooms) (items : List (ℕ × ℕ × ℕ)) (boxes later : Boxes) → ((w : ℤ) → best_room w items later ≡ best_room w items boxes) → AreBestRooms v bs items boxes →
     firsts bs ≤ℤ rooms_from (length bs) v items later
 firsts_le v [] items boxes later h a = omega (arith, ints)
 firsts_le v (b ∷ bs) items boxes later h a =
@@ -115,13 +115,13 @@ firsts_le v (b ∷ bs) items boxes later h a =
     let more = firsts_le (v +ℤ pos 1) bs items boxes later h a.1 in omega (arith, ints, one, first, is, more)
 
 -- what is gained at the bin
-gain_at : (need sum : ℤ) (b : Best) (i : ℕ × ℕ × ℕ) (boxes : Boxes) (u : ℤ) → may_be_at need sum b i boxes ≡ true → has (box_of boxes i.0) u ≡ true → b.at.value ≡ u → need ≤ℤ (sum +ℤ (b.first.value -ℤ left_at b (pos 0) i boxes))
+gain_at : (need sum : ℤ) (b : ValueRooms) (i : ℕ × ℕ × ℕ) (boxes : Boxes) (u : ℤ) → may_be_at need sum b i boxes ≡ true → has (box_of boxes i.0) u ≡ true → b.at.value ≡ u → need ≤ℤ (sum +ℤ (b.first.value -ℤ left_at b (pos 0) i boxes))
 gain_at need sum b i boxes u h there e =
     let at : has (box_of boxes i.0) b.at.value ≡ true = subst (λ (z : ℤ). has (box_of boxes i.0) z ≡ true) (sym e) there in
     let k : int_le need (sum +ℤ (b.first.value -ℤ left_at b (pos 0) i boxes)) ≡ true = or_second (has (box_of boxes i.0) b.at.value) (int_le need (sum +ℤ (b.first.value -ℤ left_at b (pos 0) i boxes))) h at in
     le_from need (sum +ℤ (b.first.value -ℤ left_at b (pos 0) i boxes)) k
 
-gain_le : (need sum v u : ℤ) (bs : List Best) (items : List (ℕ × ℕ × ℕ)) (boxes : Boxes) (i : ℕ × ℕ × ℕ) (later : Boxes) → Lefts items boxes (pos 0) i later → best_room u items boxes ≤ℤ best_room u items later →
+gain_le : (need sum v u : ℤ) (bs : List ValueRooms) (items : List (ℕ × ℕ × ℕ)) (boxes : Boxes) (i : ℕ × ℕ × ℕ) (later : Boxes) → Lefts items boxes (pos 0) i later → best_room u items boxes ≤ℤ best_room u items later →
     has (box_of boxes i.0) u ≡ true → v ≤ℤ u → u <ℤ (v +ℤ pos (length bs)) → AreBestRooms v bs items boxes → may_be_in need sum bs i boxes ≡ true →
     (need +ℤ lefts bs (pos 0) i boxes) ≤ℤ (sum +ℤ rooms_from (length bs) v items later)
 gain_le need sum v u [] items boxes i later h m there l k a e = absurd (omega (arith, ints))
@@ -154,7 +154,7 @@ rest_same w front i back boxes x v r = best_away w (front ++ back) boxes x v (va
 
 -- ---- what is tested of the item
 
-record IsLoose (need : ℤ) (rows : List Best) (i : ℕ × ℕ × ℕ) (boxes : Boxes) : Type 0 where
+record IsLoose (need : ℤ) (rows : List ValueRooms) (i : ℕ × ℕ × ℕ) (boxes : Boxes) : Type 0 where
   move : may_move need rows i boxes ≡ true
   shrink : may_shrink need rows i boxes ≡ true
 
@@ -162,7 +162,7 @@ grow_at : (need all : ℤ) (front : List (ℕ × ℕ × ℕ)) (i : ℕ × ℕ ×
 grow_at need all [] i back boxes h = (and_parts (may_grow need all i boxes) (all_grow need all back boxes) h).0
 grow_at need all (j ∷ front) i back boxes h = grow_at need all front i back boxes (and_parts (may_grow need all j boxes) (all_grow need all (front ++ i ∷ back) boxes) h).1
 
-loose_at : (need : ℤ) (rows : List Best) (front : List (ℕ × ℕ × ℕ)) (i : ℕ × ℕ × ℕ) (back : List (ℕ × ℕ × ℕ)) (boxes : Boxes) → all_loose need rows (front ++ i ∷ back) boxes ≡ true → IsLoose need rows i boxes
+loose_at : (need : ℤ) (rows : List ValueRooms) (front : List (ℕ × ℕ × ℕ)) (i : ℕ × ℕ × ℕ) (back : List (ℕ × ℕ × ℕ)) (boxes : Boxes) → all_loose need rows (front ++ i ∷ back) boxes ≡ true → IsLoose need rows i boxes
 loose_at need rows [] i back boxes h =
     let p = and_parts (may_move need rows i boxes) (may_shrink need rows i boxes && all_loose need rows back boxes) h in
     let q = and_parts (may_shrink need rows i boxes) (all_loose need rows back boxes) p.1 in record { move = p.0; shrink = q.0 }
@@ -179,7 +179,7 @@ between_at a b (j ∷ front) i back boxes h = between_at a b front i back boxes 
 
 record Rows (items : List (ℕ × ℕ × ℕ)) (i : ℕ × ℕ × ℕ) (boxes : Boxes) : Type 0 where
   start : ℤ
-  rows : List Best
+  rows : List ValueRooms
   rooms : AreBestRooms start rows items boxes
   bin : IsBetween start (start +ℤ pos (length rows)) i boxes
   grow : may_grow (least_sizes items boxes) (firsts rows) i boxes ≡ true

@@ -62,23 +62,23 @@ part_over domains boxes items x s p =
 pub part_named : (boxes : Boxes) (x : ℕ) (s : Ranges) (items : List (ℕ × ℕ × ℕ)) → AreItemsNamed items boxes → AreItemsNamed items (with_part boxes x s)
 part_named boxes x s items h k d lt =
     let size = set_length boxes x s in let i = h k d lt in
-    let place = i.place in let size_var = i.size in let room = i.room in record {
-      place = omega arith;
+    let bin = i.bin in let size_var = i.size in let room = i.room in record {
+      bin = omega arith;
       size = omega arith;
       room = omega arith;
     }
 
 -- ---- what acts
 
-missed_other : (boxes : Boxes) (x : ℕ) (s : Ranges) (l : Literal) → (l.0 == x) ≡ false → IsFalse (with_part boxes x s) l → is_disjoint l.1 (box_of boxes l.0) ≡ true
-missed_other boxes x s l e h =
+disjoint_other : (boxes : Boxes) (x : ℕ) (s : Ranges) (l : Literal) → (l.0 == x) ≡ false → IsFalse (with_part boxes x s) l → is_disjoint l.1 (box_of boxes l.0) ≡ true
+disjoint_other boxes x s l e h =
     let other : box_of (with_part boxes x s) l.0 ≡ box_of boxes l.0 = part_other boxes x l.0 s (λ q. let t : (l.0 == x) ≡ true = grind (arith, nat_tests) in absurd cc) in
-    subst (λ (b : Ranges). is_disjoint l.1 b ≡ true) other h.missed
+    subst (λ (b : Ranges). is_disjoint l.1 b ≡ true) other h.disjoint
 
 others_false : (boxes : Boxes) (x : ℕ) (s : Ranges) (ls : Literals) → has_number x (clause_vars ls) ≡ false → All (λ l. IsFalse (with_part boxes x s) l) ls → false_in boxes ls ≡ true
 others_false boxes x s [] n a = refl
 others_false boxes x s (l ∷ ls) n a =
-    let here = missed_other boxes x s l (grind arith) (a 0 l (omega arith)) in
+    let here = disjoint_other boxes x s l (grind arith) (a 0 l (omega arith)) in
     let more = others_false boxes x s ls (grind arith) (λ k d lt. a (suc k) d (omega arith)) in grind arith
 
 acts_from : (domains boxes : Boxes) (items : List (ℕ × ℕ × ℕ)) (x : ℕ) (s : Ranges) (ls : Literals) → IsPart domains boxes items x s → no_repeat (clause_vars ls) ≡ true → All (λ l. IsFalse (with_part boxes x s) l) ls → Acts boxes ls
@@ -95,12 +95,12 @@ acts_from domains boxes items x s (l ∷ ls) p d a =
           let value = has_low s p.valid p.some in
           let of_box : has (box_of boxes x) (low_of s) ≡ true = (within_law s (box_of boxes x) p.valid (sets x)).0 p.within (low_of s) value in
           let at : box_of (with_part boxes x s) l.0 ≡ s = subst (λ (z : ℕ). box_of (with_part boxes x s) z ≡ s) (sym same) (part_same boxes x s p.var) in
-          let missed : is_disjoint l.1 s ≡ true = subst (λ (b : Ranges). is_disjoint l.1 b ≡ true) at head.missed in
+          let disjoint : is_disjoint l.1 s ≡ true = subst (λ (b : Ranges). is_disjoint l.1 b ≡ true) at head.disjoint in
           let open_box : is_within (box_of boxes x) l.1 ≡ false = false_from_ne_true (is_within (box_of boxes x) l.1) (λ q.
           let there = (within_law (box_of boxes x) l.1 (sets x) head.valid).0 q (low_of s) of_box in
-          let none = (disjoint_law l.1 s head.valid p.valid).0 missed (low_of s) there in absurd cc) in
+          let none = (disjoint_law l.1 s head.valid p.valid).0 disjoint (low_of s) there in absurd cc) in
           acts_first boxes l ls (others_false boxes x s ls gone tail) (subst (λ (z : ℕ). is_within (box_of boxes z) l.1 ≡ false) (sym same) open_box)
-      | false ↦ λ e. acts_next boxes l ls (missed_other boxes x s l e head) (acts_from domains boxes items x s ls p parts.1 tail)
+      | false ↦ λ e. acts_next boxes l ls (disjoint_other boxes x s l e head) (acts_from domains boxes items x s ls p parts.1 tail)
     ]) refl
 
 pub part_reason : (con : Con) (domains boxes : Boxes) (items : List (ℕ × ℕ × ℕ)) (x : ℕ) (s : Ranges) (ls : Literals) → IsPart domains boxes items x s → AreCollected (with_part boxes x s) ls → justified con domains ls ≡ true → IsReason con domains boxes ls
@@ -177,7 +177,7 @@ pub room_said : (domains boxes : Boxes) (y : ℕ) (h : ℤ) (s : Ranges) (ls : L
 room_said domains boxes y h s ls o n c f e w = record {
   named = n;
   valid = f;
-  missed = (disjoint_law s (box_of boxes y) f (o.box_sets y)).1 (λ v q. false_from_ne_true (has (box_of boxes y) v) (λ t.
+  disjoint = (disjoint_law s (box_of boxes y) f (o.box_sets y)).1 (λ v q. false_from_ne_true (has (box_of boxes y) v) (λ t.
       let high = below_high (box_of boxes y) v (o.box_sets y) t in let is = w v in let above : int_lt h v ≡ true = grind arith in grind (arith, ints)));
 }
 
@@ -228,9 +228,9 @@ pub short_said : (items : List (ℕ × ℕ × ℕ)) (domains boxes : Boxes) (k :
     IsValid s → ((v : ℤ) → has s v ≡ (has (box_of domains (slice_index_or items k (0, 0, 0)).0) v && is_short v h row)) → AreBest row items boxes → MaySay boxes (slice_index_or items k (0, 0, 0)).0 s
 short_said items domains boxes k h row s o n u e f w b =
     let i = slice_index_or items k (0, 0, 0) in record {
-      named = (n k (0, 0, 0) u).place;
+      named = (n k (0, 0, 0) u).bin;
       valid = f;
-      missed = (disjoint_law s (box_of boxes i.0) f (o.box_sets i.0)).1 (λ v q. false_from_ne_true (has (box_of boxes i.0) v) (λ t.
+      disjoint = (disjoint_law s (box_of boxes i.0) f (o.box_sets i.0)).1 (λ v q. false_from_ne_true (has (box_of boxes i.0) v) (λ t.
           let is = w v in let short : is_short v h row ≡ true = grind arith in
           let less = short_less v h row items boxes b short in
           let room = best_in v k items boxes u t in omega (arith, ints)));
@@ -308,7 +308,7 @@ pub size_said : (domains boxes : Boxes) (y : ℕ) (to low : ℤ) (s : Ranges) �
 size_said domains boxes y to low s o n f e l w = record {
   named = n;
   valid = f;
-  missed = (disjoint_law s (box_of boxes y) f (o.box_sets y)).1 (λ v q. false_from_ne_true (has (box_of boxes y) v) (λ t.
+  disjoint = (disjoint_law s (box_of boxes y) f (o.box_sets y)).1 (λ v q. false_from_ne_true (has (box_of boxes y) v) (λ t.
       let above = above_low (box_of boxes y) v (o.box_sets y) t in let is = w v in let below : int_lt v to ≡ true = grind arith in grind (arith, ints)));
 }
 

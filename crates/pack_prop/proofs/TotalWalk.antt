@@ -11,8 +11,8 @@ use Rattle.ground_form.specs.declared.con.Con.TheVariants.{Pack}
 use Rattle.ground_form.specs.Bounds.{low_of, high_of}
 use Rattle.box_view.specs.Views.{cut}
 use Rattle.rule_law.specs.Reasons.{IsReason}
-use Rattle.box_rules.specs.Refuted.{least_sizes, first_place, last_place}
-use Rattle.box_rules.proofs.PackLaws.{first_place-le, last_place-ge}
+use Rattle.box_rules.specs.Refuted.{least_sizes, first_bin, last_bin}
+use Rattle.box_rules.proofs.PackLaws.{first_bin-le, last_bin-ge}
 use Rattle.pack_prop.specs.Collected.{said, AreCollected, SaysMore}
 use Rattle.pack_prop.specs.RoomRows.{best_rooms, row_sum, raised, is_short}
 use Rattle.pack_prop.specs.Sources.{with_part, IsPart}
@@ -23,19 +23,19 @@ use Rattle.pack_prop.proofs.TotalReason.{part_over, part_named, totalled_more, t
 
 -- ---- the window
 
-first_upto : (a : ℤ) (items : List (ℕ × ℕ × ℕ)) (d : Boxes) → All (λ i. first_place a items d ≤ℤ low_of (box_of d i.0)) items
-first_upto a [] d = All-nil (λ (i : ℕ × ℕ × ℕ). first_place a [] d ≤ℤ low_of (box_of d i.0))
+first_upto : (a : ℤ) (items : List (ℕ × ℕ × ℕ)) (d : Boxes) → All (λ i. first_bin a items d ≤ℤ low_of (box_of d i.0)) items
+first_upto a [] d = All-nil (λ (i : ℕ × ℕ × ℕ). first_bin a [] d ≤ℤ low_of (box_of d i.0))
 first_upto a (i ∷ is) d =
-    let here = first_place-le (int_min a (low_of (box_of d i.0))) is d in
-    All-cons (λ (j : ℕ × ℕ × ℕ). first_place (int_min a (low_of (box_of d i.0))) is d ≤ℤ low_of (box_of d j.0)) i is (grind (arith, ints)) (first_upto (int_min a (low_of (box_of d i.0))) is d)
+    let here = first_bin-le (int_min a (low_of (box_of d i.0))) is d in
+    All-cons (λ (j : ℕ × ℕ × ℕ). first_bin (int_min a (low_of (box_of d i.0))) is d ≤ℤ low_of (box_of d j.0)) i is (grind (arith, ints)) (first_upto (int_min a (low_of (box_of d i.0))) is d)
 
-last_from : (b : ℤ) (items : List (ℕ × ℕ × ℕ)) (d : Boxes) → All (λ i. high_of (box_of d i.0) ≤ℤ last_place b items d) items
-last_from b [] d = All-nil (λ (i : ℕ × ℕ × ℕ). high_of (box_of d i.0) ≤ℤ last_place b [] d)
+last_from : (b : ℤ) (items : List (ℕ × ℕ × ℕ)) (d : Boxes) → All (λ i. high_of (box_of d i.0) ≤ℤ last_bin b items d) items
+last_from b [] d = All-nil (λ (i : ℕ × ℕ × ℕ). high_of (box_of d i.0) ≤ℤ last_bin b [] d)
 last_from b (i ∷ is) d =
-    let here = last_place-ge (int_max b (high_of (box_of d i.0))) is d in
-    All-cons (λ (j : ℕ × ℕ × ℕ). high_of (box_of d j.0) ≤ℤ last_place (int_max b (high_of (box_of d i.0))) is d) i is (grind (arith, ints)) (last_from (int_max b (high_of (box_of d i.0))) is d)
+    let here = last_bin-ge (int_max b (high_of (box_of d i.0))) is d in
+    All-cons (λ (j : ℕ × ℕ × ℕ). high_of (box_of d j.0) ≤ℤ last_bin (int_max b (high_of (box_of d i.0))) is d) i is (grind (arith, ints)) (last_from (int_max b (high_of (box_of d i.0))) is d)
 
-pub window_is : (first last : ℤ) (n : ℕ) (items : List (ℕ × ℕ × ℕ)) (d : Boxes) → first ≡ first_place (pos 9999) items d → last ≡ last_place (pos 0) items d → pos 0 ≤ℤ first → first ≤ℤ last → last ≤ℤ pos 9999 →
+pub window_is : (first last : ℤ) (n : ℕ) (items : List (ℕ × ℕ × ℕ)) (d : Boxes) → first ≡ first_bin (pos 9999) items d → last ≡ last_bin (pos 0) items d → pos 0 ≤ℤ first → first ≤ℤ last → last ≤ℤ pos 9999 →
     first +ℤ pos n ≡ last +ℤ pos 1 → IsWindow first n items d
 window_is first last n items d e f l o h w = record {
   low = l;

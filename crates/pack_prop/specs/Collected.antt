@@ -22,7 +22,7 @@ pub record IsFalse (boxes : Boxes) (l : Literal) : Type 0 where
   pub named : l.0 < length boxes
   pub some : is_nil l.1 ≡ false
   pub valid : IsValid l.1
-  pub missed : is_disjoint l.1 (box_of boxes l.0) ≡ true
+  pub disjoint : is_disjoint l.1 (box_of boxes l.0) ≡ true
 
 -- each literal is so, and no two are of one variable
 pub record AreCollected (boxes : Boxes) (ls : Literals) : Type 0 where

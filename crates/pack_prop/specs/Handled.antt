@@ -3,7 +3,7 @@ use Rattle.std.specs.Prelude.{Bool, true, false}
 use Rattle.ground_form.specs.declared.kind.Kind.{Kind}
 use Rattle.ground_form.specs.declared.kind.Kind.TheVariants as kind
 
--- places that differ, and items to be packed
+-- variables that differ, and items to be packed
 abbrev pub is_handled : Kind → Bool
 is_handled kind.AllDiff = true
 is_handled kind.Pack = true

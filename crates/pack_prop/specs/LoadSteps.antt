@@ -30,8 +30,8 @@ pub record AreLoaded (v : ℤ) (i : ℕ × ℕ × ℕ) (items : List (ℕ × ℕ
 
 -- the same for some item and some room
 pub record AreOverfull (v : ℤ) (items : List (ℕ × ℕ × ℕ)) (domains boxes : Boxes) (m : ℕ) (spare : ℤ) (ls : Literals) : Type 0 where
-  pub place : ℕ
-  pub there : place < length items
+  pub index : ℕ
+  pub there : index < length items
   pub room : ℤ
-  pub loaded : AreLoaded v (slice_index_or items place (0, 0, 0)) items domains boxes m room spare
+  pub loaded : AreLoaded v (slice_index_or items index (0, 0, 0)) items domains boxes m room spare
       ls

@@ -16,7 +16,7 @@ ghost use Rattle.box_rules.specs.Named.{AreItemsNamed, IsItemNamed};
 ghost use Rattle.rule_law.specs.Repeats.{is_one};
 ghost use Rattle.pack_fit.specs.Packing.{put};
 ghost use Rattle.pack_prop.specs.Spans.{is_in};
-ghost use Rattle.pack_prop.specs.Tight.{IsBest, AreBestRooms, HaveBestRooms, IsRaised};
+ghost use Rattle.pack_prop.specs.Tight.{AreValueRooms, AreBestRooms, HaveBestRooms, IsRaised};
 
 use crate::spans::{Span, span_of};
 use ground_form::Number;
@@ -26,7 +26,7 @@ use std::alloc::{AllocError, Global};
 
 /// The rooms of a value, each at least 0.
 #[derive(Clone, Copy)]
-pub struct Best {
+pub struct ValueRooms {
     /// The value.
     pub at: Number,
     /// The greatest room of the items that may be there.
@@ -74,11 +74,11 @@ fn with_room(two: (i64, i64), more: Brought) -> (i64, i64)
 }
 
 /// The rooms of the value, with one more.
-fn raised(best: Best, more: Brought) -> Best
+fn raised(best: ValueRooms, more: Brought) -> ValueRooms
     ensures { IsRaised true more.room.value more.stays best result }
 {
     let two = with_room((best.first.value, best.second.value), more);
-    Best {
+    ValueRooms {
         at: best.at,
         first: Number { value: two.0 },
         second: Number { value: two.1 },
@@ -86,10 +86,10 @@ fn raised(best: Best, more: Brought) -> Best
 }
 
 /// Adds the room to each entry of the span.
-fn raise_span(rows: &mut [Best], span: Span, more: Brought)
+fn raise_span(rows: &mut [ValueRooms], span: Span, more: Brought)
     requires within { span.end ≤ length rows.old }
     ensures size { length rows.new ≡ length rows.old }
-    ensures rows { (d : Best) (e : ℕ) → e < length rows.old → IsRaised (is_in span e)
+    ensures rows { (d : ValueRooms) (e : ℕ) → e < length rows.old → IsRaised (is_in span e)
         more.room.value more.stays (slice_index_or rows.old e d) (slice_index_or rows.new e d) }
 {
     for e in span.begin..span.end {
@@ -98,9 +98,9 @@ fn raise_span(rows: &mut [Best], span: Span, more: Brought)
 }
 
 /// Adds the room at each value of the range.
-fn raise_range(rows: &mut [Best], r: (i64, i64), more: Brought, first: Number)
+fn raise_range(rows: &mut [ValueRooms], r: (i64, i64), more: Brought, first: Number)
     ensures size { length rows.new ≡ length rows.old }
-    ensures rows { (d : Best) (e : ℕ) → e < length rows.old
+    ensures rows { (d : ValueRooms) (e : ℕ) → e < length rows.old
         → IsRaised (in_range r (first.value +ℤ pos e)) more.room.value more.stays
         (slice_index_or rows.old e d) (slice_index_or rows.new e d) }
 {
@@ -109,10 +109,10 @@ fn raise_range(rows: &mut [Best], r: (i64, i64), more: Brought, first: Number)
 }
 
 /// Adds the room at each value of the set.
-fn raise_ranges(rows: &mut [Best], ranges: &[(i64, i64)], more: Brought, first: Number)
+fn raise_ranges(rows: &mut [ValueRooms], ranges: &[(i64, i64)], more: Brought, first: Number)
     requires valid { IsValid ranges.now }
     ensures size { length rows.new ≡ length rows.old }
-    ensures rows { (d : Best) (e : ℕ) → e < length rows.old
+    ensures rows { (d : ValueRooms) (e : ℕ) → e < length rows.old
         → IsRaised (has ranges.now (first.value +ℤ pos e)) more.room.value more.stays
         (slice_index_or rows.old e d) (slice_index_or rows.new e d) }
 {
@@ -124,7 +124,13 @@ fn raise_ranges(rows: &mut [Best], ranges: &[(i64, i64)], more: Brought, first: 
 }
 
 /// Adds the room of the item at `k`, behind which all are added.
-fn add_item(rows: &mut [Best], items: &[(u32, u32, u32)], boxes: &[IntSet], first: Number, k: usize)
+fn add_item(
+    rows: &mut [ValueRooms],
+    items: &[(u32, u32, u32)],
+    boxes: &[IntSet],
+    first: Number,
+    k: usize,
+)
     requires named { AreItemsNamed items.now boxes.now }
     requires within { k < length items.now }
     requires behind { HaveBestRooms rows.old first.value (drop (suc k) items.now) boxes.now }
@@ -136,7 +142,7 @@ fn add_item(rows: &mut [Best], items: &[(u32, u32, u32)], boxes: &[IntSet], firs
 }
 
 /// Adds the rooms of all items.
-fn add_items(rows: &mut [Best], items: &[(u32, u32, u32)], boxes: &[IntSet], first: Number)
+fn add_items(rows: &mut [ValueRooms], items: &[(u32, u32, u32)], boxes: &[IntSet], first: Number)
     requires named { AreItemsNamed items.now boxes.now }
     requires none { HaveBestRooms rows.old first.value [] boxes.now }
     ensures size { length rows.new ≡ length rows.old }
@@ -150,10 +156,10 @@ fn add_items(rows: &mut [Best], items: &[(u32, u32, u32)], boxes: &[IntSet], fir
 }
 
 /// The rooms of the value where there is no item.
-fn bare_at(at: Number) -> Best
-    ensures { (boxes : Boxes) → IsBest at.value result [] boxes }
+fn bare_at(at: Number) -> ValueRooms
+    ensures { (boxes : Boxes) → AreValueRooms at.value result [] boxes }
 {
-    Best {
+    ValueRooms {
         at,
         first: Number { value: 0 },
         second: Number { value: 0 },
@@ -169,7 +175,7 @@ fn next(n: Number, last: Number) -> Number
 }
 
 /// Adds an entry without rooms for each value from `first` to `last`.
-fn push_bare(rows: &mut Vec<Best>, first: Number, last: Number) -> Result<(), AllocError>
+fn push_bare(rows: &mut Vec<ValueRooms>, first: Number, last: Number) -> Result<(), AllocError>
     requires none { rows.old.items ≡ [] }
     requires order { first.value ≤ℤ last.value }
     ensures rooms { IfOk result (λ u. (boxes : Boxes) → AreBestRooms first.value rows.new.items []
@@ -190,7 +196,7 @@ fn push_bare(rows: &mut Vec<Best>, first: Number, last: Number) -> Result<(), Al
 /// Memory for one call, in which nothing is kept from one call to the next.
 #[derive(Drop)]
 pub struct BestRooms {
-    rows: Vec<Best>,
+    rows: Vec<ValueRooms>,
 }
 
 impl BestRooms {
@@ -213,7 +219,7 @@ impl BestRooms {
         boxes: &[IntSet],
         first: Number,
         last: Number,
-    ) -> Result<&[Best], AllocError>
+    ) -> Result<&[ValueRooms], AllocError>
         requires items { AreItemsNamed items.now boxes.now }
         requires order { first.value ≤ℤ last.value }
         ensures rooms { IfOk result (λ rows. AreBestRooms first.value rows.now items.now

@@ -1,4 +1,4 @@
-//! Prunes by places that differ (`AllDiff`) and by items to be packed (`Pack`).
+//! Prunes by variables that differ (`AllDiff`) and by items to be packed (`Pack`).
 //!
 //! A packing says that in each bin sizes add up to at most the room, which each item may have of
 //! its own. Three things refute it: a fixed item in an overfull bin, an item that no bin has room
@@ -11,7 +11,7 @@
 //!
 //! Shaw (2004) for the bounds; explanations as of cumulatives by Schutt et al. (2011).
 //!
-//! - `propagator`: `PackProp`, and what a constraint answers. Places that differ are pruned by
+//! - `propagator`: `PackProp`, and what a constraint answers. Variables that differ are pruned by
 //!   `all_different_pruner`.
 //! - `packing`: items to be packed. `pack_fit` shows that they have slack, or finds an item that
 //!   doesn't fit; `unplaceable` and `overfull` say what such an item takes away, and why.

@@ -21,13 +21,13 @@ use crate::literals::{domain_at, say_bin, say_room};
 use crate::total::{difference, spare_of};
 use crate::with_part::{Tried, greatest, is_fixed, least};
 use ground_form::{Con, Number};
-use pack_fit::Total;
+use pack_fit::Load;
 use rule_law::pruning;
 use signed_clause::{Clause, IntSet};
 use std::alloc::{AllocError, Global};
 
 /// The load with the item's least size, where its bin is fixed at the value.
-fn with_load(load: Total, i: (u32, u32, u32), tried: Tried<'_>, at: Number) -> Total
+fn with_load(load: Load, i: (u32, u32, u32), tried: Tried<'_>, at: Number) -> Load
     requires var { tried.x < length tried.boxes.now }
     requires item { IsItemNamed i tried.boxes.now }
     requires low { pos 0 ≤ℤ (load.value +ℤ pos (2 ^ 127 - 2 ^ 63)) }
@@ -47,13 +47,13 @@ fn with_load(load: Total, i: (u32, u32, u32), tried: Tried<'_>, at: Number) -> T
 }
 
 /// The least sizes of the items whose bin is fixed at the value, added up.
-fn load_at(tried: Tried<'_>, at: Number) -> Total
+fn load_at(tried: Tried<'_>, at: Number) -> Load
     requires var { tried.x < length tried.boxes.now }
     requires items { AreItemsNamed tried.items.now tried.boxes.now }
     ensures { result.value ≡ fixed_load at.value tried.entry.items.now
         (with_part tried.entry.boxes.now tried.entry.x tried.entry.part.now) }
 {
-    let mut load = Total { value: 0 };
+    let mut load = Load { value: 0 };
     for i in tried.items {
         load = with_load(load, *i, tried, at);
     }
@@ -61,7 +61,7 @@ fn load_at(tried: Tried<'_>, at: Number) -> Total
 }
 
 /// Whether the item is fixed at the value, and the load there is more than its greatest room.
-fn is_over(i: (u32, u32, u32), tried: Tried<'_>, at: Number, load: Total) -> bool
+fn is_over(i: (u32, u32, u32), tried: Tried<'_>, at: Number, load: Load) -> bool
     requires var { tried.x < length tried.boxes.now }
     requires item { IsItemNamed i tried.boxes.now }
     ensures { result ≡ (fixed_at (box_of
@@ -181,7 +181,7 @@ pub fn explain_part(
     let mut literals = Vec::new(alloc);
     let room = say_room(&mut literals, tried, k)?;
     say_bin(&mut literals, tried, k)?;
-    let spare = spare_of(load, Total::of(room));
+    let spare = spare_of(load, Load::of(room));
     say_load(&mut literals, tried, k, at, spare)?;
     Ok(pruning(con, tried.domains, tried.boxes, literals))
 }

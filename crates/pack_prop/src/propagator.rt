@@ -19,7 +19,7 @@ use std::alloc::{AllocError, Global};
 /// What is kept between calls.
 #[derive(Drop)]
 pub struct Kept {
-    /// What is kept of places that differ.
+    /// What is kept of variables that differ.
     pub all_different: AllDifferent,
     /// The greatest rooms of values.
     pub best_rooms: BestRooms,
@@ -34,7 +34,7 @@ impl Kept {
     pub fn new(alloc: Global) -> Kept
         ensures no_starts { result.all_different.counters.starts.items ≡ [] }
         ensures no_ends { result.all_different.counters.ends.items ≡ [] }
-        ensures no_spots { result.survey.spots.items ≡ [] }
+        ensures no_bins { result.survey.bins.items ≡ [] }
         ensures no_begun { result.survey.begun.items ≡ [] }
         ensures no_ended { result.survey.ended.items ≡ [] }
         ensures no_best_rooms { result.best_rooms.rows.items ≡ [] }
@@ -48,7 +48,7 @@ impl Kept {
     }
 }
 
-/// Prunes by places that differ and by items to be packed.
+/// Prunes by variables that differ and by items to be packed.
 pub struct PackProp {
     alloc: Global,
     kept: Kept,
@@ -66,7 +66,7 @@ impl PackProp {
         ensures alloc { result.alloc ≡ alloc }
         ensures no_starts { result.kept.all_different.counters.starts.items ≡ [] }
         ensures no_ends { result.kept.all_different.counters.ends.items ≡ [] }
-        ensures no_spots { result.kept.survey.spots.items ≡ [] }
+        ensures no_bins { result.kept.survey.bins.items ≡ [] }
         ensures no_begun { result.kept.survey.begun.items ≡ [] }
         ensures no_ended { result.kept.survey.ended.items ≡ [] }
         ensures no_best_rooms { result.kept.best_rooms.rows.items ≡ [] }

@@ -14,7 +14,7 @@ ghost use Rattle.pack_prop.specs.Spans.{is_in};
 use crate::spans::{Span, span_of};
 use crate::with_part::{Tried, box_at, greatest};
 use ground_form::Number;
-use pack_fit::{Total, greater};
+use pack_fit::{Load, greater};
 use signed_clause::IntSet;
 use std::alloc::{AllocError, Global};
 
@@ -172,10 +172,10 @@ pub fn best_row(
 }
 
 /// The row's rooms, added up.
-pub fn sum_of(row: &[(i64, i64)]) -> Total
+pub fn sum_of(row: &[(i64, i64)]) -> Load
     ensures { result.value ≡ row_sum row.now }
 {
-    let mut sum = Total { value: 0 };
+    let mut sum = Load { value: 0 };
     for p in row {
         sum = sum.plus(room_of(*p));
     }

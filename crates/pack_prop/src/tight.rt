@@ -26,12 +26,12 @@ ghost use Rattle.rule_law.specs.Repeats.{open_vars};
 ghost use Rattle.pack_fit.specs.Packing.{AllFit};
 ghost use Rattle.pack_prop.specs.Tight.{AreBestRooms, firsts, seconds, left_at, lefts, may_grow, all_grow, may_be_at, may_move, may_shrink, all_loose, HasEach};
 
-use crate::best_rooms::{Best, BestRooms};
+use crate::best_rooms::{BestRooms, ValueRooms};
 use crate::total::explain_total;
 use crate::unplaceable::{Trial, clamped, part_of};
 use crate::with_part::Tried;
 use ground_form::Number;
-use pack_fit::{Total, bins_of, ends_at, greater, greatest, is_single, least, may_be, sizes_of};
+use pack_fit::{Load, bins_of, ends_at, greater, greatest, is_single, least, may_be, sizes_of};
 use rule_law::{Subject, probe};
 use signed_clause::{Clause, IntSet};
 use std::alloc::{AllocError, Global};
@@ -39,17 +39,17 @@ use std::alloc::{AllocError, Global};
 // ---- what is left
 
 /// The greatest room of the value.
-fn first_at(b: Best) -> Number
+fn first_at(b: ValueRooms) -> Number
     ensures { result.value ≡ b.first.value }
 {
     b.first
 }
 
 /// The greatest rooms, added up.
-fn firsts_of(best_rooms: &[Best]) -> Total
+fn firsts_of(best_rooms: &[ValueRooms]) -> Load
     ensures { result.value ≡ firsts best_rooms.now }
 {
-    let mut sum = Total { value: 0 };
+    let mut sum = Load { value: 0 };
     for b in best_rooms {
         sum = sum.plus(first_at(*b));
     }
@@ -57,17 +57,17 @@ fn firsts_of(best_rooms: &[Best]) -> Total
 }
 
 /// The second greatest room of the value.
-fn second_at(b: Best) -> Number
+fn second_at(b: ValueRooms) -> Number
     ensures { result.value ≡ b.second.value }
 {
     b.second
 }
 
 /// The second greatest rooms, added up.
-fn seconds_of(best_rooms: &[Best]) -> Total
+fn seconds_of(best_rooms: &[ValueRooms]) -> Load
     ensures { result.value ≡ seconds best_rooms.now }
 {
-    let mut sum = Total { value: 0 };
+    let mut sum = Load { value: 0 };
     for b in best_rooms {
         sum = sum.plus(second_at(*b));
     }
@@ -75,7 +75,7 @@ fn seconds_of(best_rooms: &[Best]) -> Total
 }
 
 /// What is left of the greatest room, where that of the item counts as `room` only.
-fn left_at(boxes: &[IntSet], i: (u32, u32, u32), b: Best, room: Number) -> Number
+fn left_at(boxes: &[IntSet], i: (u32, u32, u32), b: ValueRooms, room: Number) -> Number
     requires { IsItemNamed i boxes.now }
     ensures { result.value ≡ left_at b room.value i boxes.now }
 {
@@ -87,11 +87,11 @@ fn left_at(boxes: &[IntSet], i: (u32, u32, u32), b: Best, room: Number) -> Numbe
 }
 
 /// What is left of all, added up.
-fn lefts_of(boxes: &[IntSet], i: (u32, u32, u32), best_rooms: &[Best], room: Number) -> Total
+fn lefts_of(boxes: &[IntSet], i: (u32, u32, u32), best_rooms: &[ValueRooms], room: Number) -> Load
     requires { IsItemNamed i boxes.now }
     ensures { result.value ≡ lefts best_rooms.now room.value i boxes.now }
 {
-    let mut sum = Total { value: 0 };
+    let mut sum = Load { value: 0 };
     for b in best_rooms {
         sum = sum.plus(left_at(boxes, i, *b, room));
     }
@@ -101,7 +101,7 @@ fn lefts_of(boxes: &[IntSet], i: (u32, u32, u32), best_rooms: &[Best], room: Num
 // ---- sizes
 
 /// Whether the sum is at least the need with some more.
-fn does_reach(sum: Total, need: Total, more: Total) -> bool
+fn does_reach(sum: Load, need: Load, more: Load) -> bool
     ensures { result ≡ true → (need.value +ℤ more.value) ≤ℤ sum.value }
 {
     match need.with(more) {
@@ -111,13 +111,13 @@ fn does_reach(sum: Total, need: Total, more: Total) -> bool
 }
 
 /// The sizes of the item that take too much of all room, where there are some.
-fn excess_of_size(boxes: &[IntSet], i: (u32, u32, u32), need: Total, all: Total) -> Option<Trial>
+fn excess_of_size(boxes: &[IntSet], i: (u32, u32, u32), need: Load, all: Load) -> Option<Trial>
     requires { IsItemNamed i boxes.now }
     ensures some { IfSome result (λ t. t.var < length boxes.now) }
     ensures none { IfNone result (may_grow need.value all.value i boxes.now ≡ true) }
 {
     let low = least(boxes, i.1);
-    if does_reach(all, need, Total::of(greatest(boxes, i.1)).less(low)) {
+    if does_reach(all, need, Load::of(greatest(boxes, i.1)).less(low)) {
         return None;
     }
     let spare = all.value.saturating_sub(need.value);
@@ -132,8 +132,8 @@ fn excess_of_size(boxes: &[IntSet], i: (u32, u32, u32), need: Total, all: Total)
 fn excess_of_sizes(
     items: &[(u32, u32, u32)],
     boxes: &[IntSet],
-    need: Total,
-    all: Total,
+    need: Load,
+    all: Load,
 ) -> Option<Trial>
     requires { AreItemsNamed items.now boxes.now }
     ensures some { IfSome result (λ t. t.var < length boxes.now) }
@@ -152,7 +152,7 @@ fn excess_of_sizes(
 
 /// Whether there is room enough where the bin of the item is that of `b`, and `sum` is left without
 /// the item.
-fn is_enough_at(boxes: &[IntSet], i: (u32, u32, u32), b: Best, sum: Total, need: Total) -> bool
+fn is_enough_at(boxes: &[IntSet], i: (u32, u32, u32), b: ValueRooms, sum: Load, need: Load) -> bool
     requires { IsItemNamed i boxes.now }
     ensures { result ≡ true → may_be_at need.value sum.value b i boxes.now ≡ true }
 {
@@ -160,7 +160,7 @@ fn is_enough_at(boxes: &[IntSet], i: (u32, u32, u32), b: Best, sum: Total, need:
         return true;
     }
     let left = left_at(boxes, i, b, Number { value: 0 });
-    match sum.with(Total::of(b.first).less(left)) {
+    match sum.with(Load::of(b.first).less(left)) {
         Some(gained) => need.is_at_most(gained),
         None => false,
     }
@@ -170,8 +170,8 @@ fn is_enough_at(boxes: &[IntSet], i: (u32, u32, u32), b: Best, sum: Total, need:
 fn excess_of_bin(
     boxes: &[IntSet],
     i: (u32, u32, u32),
-    best_rooms: &[Best],
-    need: Total,
+    best_rooms: &[ValueRooms],
+    need: Load,
 ) -> Option<Trial>
     requires { IsItemNamed i boxes.now }
     ensures some { IfSome result (λ t. t.var < length boxes.now) }
@@ -212,8 +212,8 @@ fn middle(low: Number, high: Number) -> Number
 fn most_too_little(
     boxes: &[IntSet],
     i: (u32, u32, u32),
-    best_rooms: &[Best],
-    need: Total,
+    best_rooms: &[ValueRooms],
+    need: Load,
     ends: (Number, Number),
 ) -> Number
     requires item { IsItemNamed i boxes.now }
@@ -237,8 +237,8 @@ fn most_too_little(
 fn excess_of_room(
     boxes: &[IntSet],
     i: (u32, u32, u32),
-    best_rooms: &[Best],
-    need: Total,
+    best_rooms: &[ValueRooms],
+    need: Load,
 ) -> Option<Trial>
     requires item { IsItemNamed i boxes.now }
     ensures some { IfSome result (λ t. t.var < length boxes.now) }
@@ -259,8 +259,8 @@ fn excess_of_room(
 fn excess_of_bins(
     items: &[(u32, u32, u32)],
     boxes: &[IntSet],
-    best_rooms: &[Best],
-    need: Total,
+    best_rooms: &[ValueRooms],
+    need: Load,
 ) -> Option<Trial>
     requires { AreItemsNamed items.now boxes.now }
     ensures some { IfSome result (λ t. t.var < length boxes.now) }
@@ -287,7 +287,7 @@ fn excess_of_bins(
 fn excess(
     items: &[(u32, u32, u32)],
     boxes: &[IntSet],
-    best_rooms: &[Best],
+    best_rooms: &[ValueRooms],
     head: (u32, u32, u32),
     first: Number,
 ) -> Option<Trial>

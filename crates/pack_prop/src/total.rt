@@ -22,7 +22,7 @@ use crate::literals::{domain_at, say_room};
 use crate::room_row::{best_row, raise, short_values, sum_of};
 use crate::with_part::{self, Tried};
 use ground_form::{Con, LAST_BIN, Number};
-use pack_fit::{Total, first_bin, last_bin, least};
+use pack_fit::{Load, first_bin, last_bin, least};
 use rule_law::pruning;
 use signed_clause::{Clause, IntSet};
 use std::alloc::{AllocError, Global};
@@ -52,13 +52,13 @@ fn window(items: &[(u32, u32, u32)], domains: &[IntSet]) -> Option<(Number, usiz
 }
 
 /// All least sizes, added up.
-fn sizes_of(tried: Tried<'_>) -> Total
+fn sizes_of(tried: Tried<'_>) -> Load
     requires var { tried.x < length tried.boxes.now }
     requires items { AreItemsNamed tried.items.now tried.boxes.now }
     ensures { result.value ≡ least_sizes tried.entry.items.now
         (with_part tried.entry.boxes.now tried.entry.x tried.entry.part.now) }
 {
-    let mut sum = Total { value: 0 };
+    let mut sum = Load { value: 0 };
     for i in tried.items {
         sum = sum.plus(with_part::least(tried, i.1));
     }
@@ -72,7 +72,7 @@ fn seat(
     tried: Tried<'_>,
     k: usize,
     row: Vec<(i64, i64)>,
-    sizes: Total,
+    sizes: Load,
 ) -> Result<Vec<(i64, i64)>, AllocError>
     requires ground { IsPart tried.domains.now tried.boxes.now tried.items.now tried.x
         tried.part.now }
@@ -103,7 +103,7 @@ fn seat_all(
     literals: &mut Vec<(u32, IntSet)>,
     tried: Tried<'_>,
     row: Vec<(i64, i64)>,
-    sizes: Total,
+    sizes: Load,
 ) -> Result<Vec<(i64, i64)>, AllocError>
     requires ground { IsPart tried.domains.now tried.boxes.now tried.items.now tried.x
         tried.part.now }
@@ -135,7 +135,7 @@ pub fn difference(a: Number, b: Number) -> Number
 }
 
 /// By how much more the sizes are above the rooms than by one, as far as 64 bits tell.
-pub fn spare_of(sizes: Total, rooms: Total) -> Number
+pub fn spare_of(sizes: Load, rooms: Load) -> Number
     requires { rooms.value <ℤ sizes.value }
     ensures some { pos 0 ≤ℤ result.value }
     ensures fits { ((rooms.value +ℤ pos 1) +ℤ result.value) ≤ℤ sizes.value }

@@ -27,15 +27,15 @@ use Rattle.root_boxes.specs.Following.{AreRootBoxes, Follows}
 abbrev pub AreIn : Boxes → List ℤ → Type 0
 AreIn boxes a = (x : ℕ) → x < length boxes → has (box_of boxes x) (value_of a x) ≡ true
 
-missed : (l : ℕ × Ranges) (boxes : Boxes) (a : List ℤ) → AreValid boxes → IsValid l.1 → l.0 < length boxes → AreIn boxes a → is_disjoint l.1 (box_of boxes l.0) ≡ true → has l.1 (value_of a l.0) ≡ false
-missed l boxes a v s lt at h = has_from_disjoint l.1 (box_of boxes l.0) (value_of a l.0) s (v l.0) h (at l.0 lt)
+has_from_box : (l : ℕ × Ranges) (boxes : Boxes) (a : List ℤ) → AreValid boxes → IsValid l.1 → l.0 < length boxes → AreIn boxes a → is_disjoint l.1 (box_of boxes l.0) ≡ true → has l.1 (value_of a l.0) ≡ false
+has_from_box l boxes a v s lt at h = has_from_disjoint l.1 (box_of boxes l.0) (value_of a l.0) s (v l.0) h (at l.0 lt)
 
 -- a clause that is false in the boxes isn't true there
 false_there : (c : Literals) (n : ℕ) (boxes : Boxes) (a : List ℤ) → AreValid boxes → IsClauseFrom n c → IsWithinBoxes c boxes → AreIn boxes a → false_in boxes c ≡ true → clause_true c a ≡ false
 false_there [] n boxes a v f w at h = refl
 false_there (l ∷ c) n boxes a v f w at h =
     let parts = and_parts (is_disjoint l.1 (box_of boxes l.0)) (false_in boxes c) h in
-    let here = missed l boxes a v f.2 (All-head (λ (k : ℕ × Ranges). k.0 < length boxes) l c w) at parts.0 in
+    let here = has_from_box l boxes a v f.2 (All-head (λ (k : ℕ × Ranges). k.0 < length boxes) l c w) at parts.0 in
     let rest = false_there c (suc l.0) boxes a v f.3 (All-tail (λ (k : ℕ × Ranges). k.0 < length boxes) l c w) at parts.1 in
     rw (here, rest) refl
 
@@ -69,7 +69,7 @@ unit_there [] n boxes u a v f w at e h = absurd (none_some u e)
 unit_there (l ∷ c) n boxes u a v f w at e h =
     (elim (is_disjoint l.1 (box_of boxes l.0)) as (λ b. is_disjoint l.1 (box_of boxes l.0) ≡ b → cond b (unit_of boxes c) (alone_of boxes l c) ≡ Some u → has u.1 (value_of a u.0) ≡ true) [
       | true ↦ λ m e.
-          let here = missed l boxes a v f.2 (All-head (λ (k : ℕ × Ranges). k.0 < length boxes) l c w) at m in
+          let here = has_from_box l boxes a v f.2 (All-head (λ (k : ℕ × Ranges). k.0 < length boxes) l c w) at m in
           unit_there c (suc l.0) boxes u a v f.3 (All-tail (λ (k : ℕ × Ranges). k.0 < length boxes) l c w) at e (or_right (has l.1 (value_of a l.0)) (clause_true c a) here h)
       | false ↦ λ m e. alone_there l c boxes u a v (omega arith, f.1, f.2, f.3) w at e h
     ]) refl e

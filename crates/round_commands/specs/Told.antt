@@ -15,8 +15,8 @@ pub record HoldsLog (journal : Journal) : Type 0 where
   pub taken : accepted ground journal.lines ≡ true
 
 -- the text of the journal's log, where one is wanted
-abbrev pub IsLogOf : Bool → Journal → Option (List ℕ) → Type 0
-IsLogOf false journal log = log ≡ None
-IsLogOf true journal None = ⊥
-IsLogOf true journal (Some text) =
+abbrev pub IsToldLog : Bool → Journal → Option (List ℕ) → Type 0
+IsToldLog false journal log = log ≡ None
+IsToldLog true journal None = ⊥
+IsToldLog true journal (Some text) =
     (g : Ground) × (journal.ground ≡ Some g) × (text ≡ log_text g journal)

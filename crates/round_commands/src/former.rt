@@ -15,7 +15,7 @@ ghost use Rattle.round_commands.specs.Statuses.{former_status};
 use conf_request::FileName;
 use conf_session::copied_words;
 use conf_syntax::PathText;
-use config_json::{Former, FormerError, hints_of, read_config};
+use config_json::{ConfigText, FormerError, hints_of, read_config};
 use desk_io::{Desk, ReadError, read_all};
 use model_limits::CONFIG_BYTES;
 use model_reader::Built;
@@ -70,7 +70,7 @@ pub fn config_bytes<D: Desk>(
 }
 
 /// What the bytes of a configuration's text are read as.
-pub fn former_of(alloc: Global, bytes: &[u8]) -> Result<Former, Status>
+pub fn former_of(alloc: Global, bytes: &[u8]) -> Result<ConfigText, Status>
     requires short { IsShort bytes.now }
     ensures read { IfOk result (λ former. value_read bytes.now ≡ Some (json_of former)) }
     ensures object { IfOk result (λ former. IsSome (as_object (json_of former))) }

@@ -32,4 +32,4 @@ pub use blaming::blame_model;
 pub use finder::Resources;
 pub use former::{config_bytes, former_of, repair_in, repair_of};
 pub use session::hold_model;
-pub use solving::{Wanted, generated, solve};
+pub use solving::{SearchWish, generated, solve};

@@ -5,14 +5,14 @@ ghost use Rattle.std.specs.Option.{option_map};
 ghost use Rattle.conf_limits.specs.Measures.{model_narrow};
 ghost use Rattle.conf_types.specs.Typing.{IsTypedModel};
 ghost use Rattle.model_search.specs.Runs.{HasRun};
-ghost use Rattle.model_search.specs.Wanted.{IsUnderstood};
+ghost use Rattle.model_search.specs.SearchWish.{IsUnderstood};
 ghost use Rattle.proof_log.specs.Rounds.{empty};
 ghost use Rattle.run_promise.specs.Answer.{IsSearched, searched_status, order_at};
 ghost use Rattle.answer_text.specs.Texts.{solve_text, gen_text};
 ghost use Rattle.command_limits.specs.Limits.{generated_budget};
 ghost use Rattle.model_reader.specs.Ready.{IsReady};
 ghost use Rattle.run_status.specs.Stages.{Answered, stage_of};
-ghost use Rattle.round_commands.specs.Told.{HoldsLog, IsLogOf};
+ghost use Rattle.round_commands.specs.Told.{HoldsLog, IsToldLog};
 
 use crate::answer::{Answer, question_of};
 use crate::finder::{Resources, Searching};
@@ -30,7 +30,7 @@ use std::alloc::{AllocError, Global};
 /// What is wanted of a search: its budget of decisions, the number of its order, and whether its
 /// log is.
 #[derive(Clone, Copy)]
-pub struct Wanted {
+pub struct SearchWish {
     pub budget: u32,
     pub order: u8,
     pub logged: bool,
@@ -89,7 +89,7 @@ fn found(
 /// The text of the journal's log, where it is wanted.
 fn wanted_log(alloc: Global, logged: bool, journal: &Journal) -> Result<Option<Vec<u8>>, AllocError>
     requires holds { HoldsLog journal.now }
-    ensures { IfOk result (λ log. IsLogOf logged journal.now
+    ensures { IfOk result (λ log. IsToldLog logged journal.now
         (option_map (λ text. text.items) log)) }
 {
     if !logged {
@@ -106,7 +106,7 @@ pub fn solve(
     with: Resources<'_>,
     built: Built<'_>,
     repair: Option<&Repair>,
-    wanted: Wanted,
+    wanted: SearchWish,
     kit: &mut Kit,
     journal: &mut Journal,
 ) -> Result<Answer, AllocError>
@@ -121,7 +121,7 @@ pub fn solve(
         journal.new a.status (solve_text built.entry.objects.now built.entry.model.now.goals
         (option_copied repair.entry) wanted.budget) a.text.items) }
     ensures stage { IfOk result (λ a. stage_of a.status ≡ Answered) }
-    ensures log { IfOk result (λ a. IsLogOf wanted.logged journal.new
+    ensures log { IfOk result (λ a. IsToldLog wanted.logged journal.new
         (option_map (λ text. text.items) a.log)) }
     ensures rounds { journal.new.rounds ≡ journal.old.rounds }
 {

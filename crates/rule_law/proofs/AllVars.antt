@@ -1,4 +1,4 @@
--- A list that is built by its places.
+-- A list that is built by its indexes.
 use Rattle.std.proofs.Common.{◌≡◌, ℕ, suc, ◌++◌, Some, List, [], ◌∷◌, drop, length, slice_get, append_assoc, arith, ap, sym, ◌∙◌}
 use Rattle.ground_form.proofs.VarsAt.{next_var}
 

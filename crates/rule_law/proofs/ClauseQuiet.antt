@@ -18,7 +18,7 @@ use Rattle.box_view.proofs.EndLaws.{AreSets}
 use Rattle.box_view.proofs.CutLaws.{cut_box}
 use Rattle.box_view.proofs.SetLaws.{fixing_same, fixing_other, single-is_disjoint}
 use Rattle.box_rules.proofs.QuietFrom.{AreSome, quiet_from}
-use Rattle.box_view.proofs.Leaving.{value_valid, missed_by_rest}
+use Rattle.box_view.proofs.Leaving.{value_valid, disjoint_rest}
 
 -- ---- it follows from itself
 
@@ -33,7 +33,7 @@ false_cut domains whole [] n s f h = refl
 false_cut domains whole (l ∷ ls) n s f h =
     let box : box_of (cut domains whole) l.0 ≡ less (box_of domains l.0) l.1 =
     cut_box domains whole l.0 ∙ ap (λ (z : Ranges). less (box_of domains l.0) z) (h l.0 f.0 ∙ set_first l ls) in
-    let this : is_disjoint l.1 (box_of (cut domains whole) l.0) ≡ true = ap (λ (z : Ranges). is_disjoint l.1 z) box ∙ missed_by_rest (box_of domains l.0) l.1 (s l.0) f.2 in
+    let this : is_disjoint l.1 (box_of (cut domains whole) l.0) ≡ true = ap (λ (z : Ranges). is_disjoint l.1 z) box ∙ disjoint_rest (box_of domains l.0) l.1 (s l.0) f.2 in
     let first = f.0 in
     and_from (is_disjoint l.1 (box_of (cut domains whole) l.0)) (false_in (cut domains whole) ls) this
     (false_cut domains whole ls (suc l.0) s f.3 (λ x k. h x (omega arith) ∙ set_later l ls x k))
@@ -90,9 +90,9 @@ behind false false u h k = absurd cc
 neither_part : (f : Bool) (u : Option (ℕ × List (ℤ × ℤ))) → (f || is_some u) ≡ false → is_some u ≡ false
 neither_part f u h = grind arith
 
-when_missed : (m f : Bool) (u v : Option (ℕ × List (ℤ × ℤ))) → m ≡ true → ((m && f) || is_some (cond m u v)) ≡ false → (f || is_some u) ≡ false
-when_missed true f u v e h = h
-when_missed false f u v e h = absurd cc
+when_disjoint : (m f : Bool) (u v : Option (ℕ × List (ℤ × ℤ))) → m ≡ true → ((m && f) || is_some (cond m u v)) ≡ false → (f || is_some u) ≡ false
+when_disjoint true f u v e h = h
+when_disjoint false f u v e h = absurd cc
 
 when_met : (m f : Bool) (u v : Option (ℕ × List (ℤ × ℤ))) → m ≡ false → ((m && f) || is_some (cond m u v)) ≡ false → is_some v ≡ false
 when_met true f u v e h = absurd cc
@@ -106,7 +106,7 @@ still_open boxes (l ∷ ls) n x v lt s f h k =
     let P : Bool → Type 0 = λ t. is_disjoint l.1 box ≡ t → false_in (fixing boxes x v) (l ∷ ls) ≡ false in
     (elim (is_disjoint l.1 box) as P [
       | true ↦ λ e. not_second (is_disjoint l.1 (box_of (fixing boxes x v) l.0)) (false_in (fixing boxes x v) ls)
-          (still_open boxes ls (suc l.0) x v lt s f.3 h (when_missed (is_disjoint l.1 box) (false_in boxes ls) (unit_of boxes ls) (alone_of boxes l ls) e k))
+          (still_open boxes ls (suc l.0) x v lt s f.3 h (when_disjoint (is_disjoint l.1 box) (false_in boxes ls) (unit_of boxes ls) (alone_of boxes l ls) e k))
       | false ↦ λ e.
           let none : is_some (alone_of boxes l ls) ≡ false = when_met (is_disjoint l.1 box) (false_in boxes ls) (unit_of boxes ls) (alone_of boxes l ls) e k in
           let Q : Bool → Type 0 = λ t. false_in boxes ls ≡ t → false_in (fixing boxes x v) (l ∷ ls) ≡ false in

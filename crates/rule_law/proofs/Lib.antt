@@ -5,7 +5,7 @@ pub mod NumberLists
 pub mod ProbeLaws
 pub mod PlanLaws
 pub mod FlagPlans
-pub mod Twice
+pub mod Repeated
 pub mod UpTo
 pub mod AllVars
 pub mod CutToLaws

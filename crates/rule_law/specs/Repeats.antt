@@ -12,9 +12,9 @@ abbrev pub is_repeated : ℕ → List ℕ → Bool
 is_repeated x [] = false
 is_repeated x (y ∷ ys) = (y == x && has_number x ys) || is_repeated x ys
 
--- `twice` has what stands twice in the list, and nothing else
+-- `repeated` has what stands twice in the list, and nothing else
 abbrev pub AreRepeated : List ℕ → List ℕ → Type 0
-AreRepeated twice xs = (x : ℕ) → has_number x twice ≡ is_repeated x xs
+AreRepeated repeated xs = (x : ℕ) → has_number x repeated ≡ is_repeated x xs
 
 -- the set is one value
 abbrev pub is_one : Ranges → Bool
@@ -52,6 +52,6 @@ doubles_after last [] = []
 doubles_after last (x ∷ xs) =
     cond (is_again last x) (x ∷ doubles_after (Some x) xs) (doubles_after (Some x) xs)
 
--- the list at the place is xs
+-- the list at the index is xs
 abbrev pub IsKept : List (List ℕ × List ℕ) → ℕ → List ℕ → Type 0
 IsKept known i xs = (i < length known) × ((d : List ℕ × List ℕ) → (slice_index_or known i d).0 ≡ xs)

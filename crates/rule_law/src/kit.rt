@@ -90,25 +90,25 @@ fn prune_one(
     p.prune(g, k, boxes)
 }
 
-/// What the member at the place answers.
+/// What the member at the index answers.
 fn prune_at(
     list: &mut [Box<dyn Propagator>],
-    place: usize,
+    index: usize,
     g: &Ground,
     k: u32,
     boxes: &[IntSet],
 ) -> Result<Option<Clause>, AllocError>
-    requires place { place < length list.old }
+    requires index { index < length list.old }
     requires well_made { IsWellMade g.now }
     requires con { k < length g.now.cons }
     requires handled { IfSome (slice_get g.now.cons k) (λ con. (d : _)
-        → handled (slice_index_or list.old place d) (kinds.kind_of con) ≡ true) }
+        → handled (slice_index_or list.old index d) (kinds.kind_of con) ≡ true) }
     requires boxes { AreBoxesWithin g.now.domains boxes.now }
     ensures answer { IfOk result (λ answer. IfSome (slice_get g.now.cons k)
         (λ con. IsAnswer con g.now.domains boxes.now answer)) }
     ensures handled { map (λ p. handled p) list.new ≡ map (λ p. handled p) list.old }
 {
-    prune_one(&mut list[place], g, k, boxes)
+    prune_one(&mut list[index], g, k, boxes)
 }
 
 /// The kind with the number.
@@ -270,7 +270,7 @@ impl Kit {
     {
         let con = &g.cons.items()[k as usize];
         match member_for(self.list.as_slice(), &self.members, kind_of(con)) {
-            Some(place) => prune_at(self.list.as_mut_slice(), place, g, k, boxes),
+            Some(index) => prune_at(self.list.as_mut_slice(), index, g, k, boxes),
             None => probe(con, g.domains.items(), boxes, *self.list.allocator()),
         }
     }

@@ -23,7 +23,7 @@ use std::marker::Model;
 #[derive(Drop)]
 struct Known {
     vars: Vec<u32>,
-    twice: Vec<u32>,
+    repeated: Vec<u32>,
 }
 
 impl Model for Known {
@@ -32,9 +32,9 @@ impl Model for Known {
 
     ghost Value = { List ℕ × List ℕ };
 
-    ghost view = { λ k. (k.vars.items, k.twice.items) };
+    ghost view = { λ k. (k.vars.items, k.repeated.items) };
 
-    ghost invariant = { λ k. AreRepeated k.twice.items k.vars.items };
+    ghost invariant = { λ k. AreRepeated k.repeated.items k.vars.items };
 }
 
 impl Known {
@@ -46,16 +46,16 @@ impl Known {
     }
 
     /// Those that stand twice in it.
-    fn twice(&self) -> &[u32]
+    fn repeated(&self) -> &[u32]
         ensures { AreRepeated result.now self.now.0 }
     {
-        self.twice.as_slice()
+        self.repeated.as_slice()
     }
 }
 
 // ---- variables that ascend
 
-/// The number behind the last of the constraint's variables from the place on, where they ascend.
+/// The number behind the last of the constraint's variables from the index on, where they ascend.
 #[tactic(auto, using(ground_form::proofs::VarsAt::next_var, ground_form::proofs::VarsAt::no_var))]
 fn end_of_rise(con: &Con, from: usize) -> Option<u64>
     ensures { IfSome result (λ top. ascends 0 top (drop from (vars_of con.now)) ≡ true) }
@@ -125,8 +125,8 @@ fn doubles(sorted: &[u32], alloc: Global) -> Result<Vec<u32>, AllocError>
 
 /// The variables that stand twice in the constraint, found by a copy of its variables that is
 /// sorted.
-fn find_twice(con: &Con, alloc: Global) -> Result<Vec<u32>, AllocError>
-    ensures { IfOk result (λ twice. AreRepeated twice.items (vars_of con.now)) }
+fn find_repeated(con: &Con, alloc: Global) -> Result<Vec<u32>, AllocError>
+    ensures { IfOk result (λ repeated. AreRepeated repeated.items (vars_of con.now)) }
 {
     let mut sorted = all_vars(con, alloc)?;
     sorted.sort_unstable();
@@ -175,7 +175,7 @@ fn are_vars(vars: &[u32], con: &Con) -> bool
     }
 }
 
-/// Whether the variable is the constraint's at the place.
+/// Whether the variable is the constraint's at the index.
 fn is_at(con: &Con, i: usize, x: u32) -> bool
     ensures { result ≡ true → slice_get (vars_of con.now) i ≡ Some x }
 {
@@ -186,13 +186,13 @@ fn is_at(con: &Con, i: usize, x: u32) -> bool
 }
 
 /// Where the constraint's list is kept, if it is.
-fn place_of(places: &[usize], known: &[Known], k: u32, con: &Con) -> Option<usize>
+fn index_of(indexes: &[usize], known: &[Known], k: u32, con: &Con) -> Option<usize>
     ensures { IfSome result (λ i. IsKept known.now i (vars_of con.now)) }
 {
-    if k as usize >= places.len() {
+    if k as usize >= indexes.len() {
         return None;
     }
-    let i = places[k as usize];
+    let i = indexes[k as usize];
     if i < known.len() && are_vars(known[i].vars(), con) {
         Some(i)
     } else {
@@ -202,7 +202,7 @@ fn place_of(places: &[usize], known: &[Known], k: u32, con: &Con) -> Option<usiz
 
 /// Keeps a list, and tells where.
 fn keep(
-    places: &mut Vec<usize>,
+    indexes: &mut Vec<usize>,
     known: &mut Vec<Known>,
     k: u32,
     found: Known,
@@ -210,12 +210,12 @@ fn keep(
     ensures { IfOk result (λ i. IsKept known.new.items i found.0) }
 {
     let end = known.len();
-    for _i in places.len()..k as usize + 1 {
-        places.push(end)?;
+    for _i in indexes.len()..k as usize + 1 {
+        indexes.push(end)?;
     }
     known.push(found)?;
-    if (k as usize) < places.len() {
-        places[k as usize] = end;
+    if (k as usize) < indexes.len() {
+        indexes[k as usize] = end;
     }
     Ok(end)
 }
@@ -236,7 +236,7 @@ pub fn has_var(vars: &[u32], x: u32) -> bool
 /// twice.
 pub struct Repeats {
     alloc: Global,
-    places: Vec<usize>,
+    indexes: Vec<usize>,
     known: Vec<Known>,
 }
 
@@ -244,7 +244,7 @@ impl Drop for Repeats {
     fn drop(self) {
         let Repeats {
             alloc: _,
-            places: _,
+            indexes: _,
             known: _,
         } = self;
     }
@@ -258,7 +258,7 @@ impl Repeats {
     {
         Repeats {
             alloc,
-            places: Vec::new(alloc),
+            indexes: Vec::new(alloc),
             known: Vec::new(alloc),
         }
     }
@@ -267,7 +267,7 @@ impl Repeats {
     pub fn forget(&mut self)
         ensures { self.new.known.items ≡ [] }
     {
-        self.places.clear();
+        self.indexes.clear();
         self.known.clear();
     }
 
@@ -275,12 +275,17 @@ impl Repeats {
     fn find(&mut self, k: u32, con: &Con) -> Result<usize, AllocError>
         ensures { IfOk result (λ i. IsKept self.new.known.items i (vars_of con.now)) }
     {
-        if let Some(i) = place_of(self.places.as_slice(), self.known.as_slice(), k, con) {
+        if let Some(i) = index_of(self.indexes.as_slice(), self.known.as_slice(), k, con) {
             return Ok(i);
         }
         let vars = all_vars(con, self.alloc)?;
-        let twice = find_twice(con, self.alloc)?;
-        let i = keep(&mut self.places, &mut self.known, k, Known { vars, twice })?;
+        let repeated = find_repeated(con, self.alloc)?;
+        let i = keep(
+            &mut self.indexes,
+            &mut self.known,
+            k,
+            Known { vars, repeated },
+        )?;
         Ok(i)
     }
 
@@ -296,7 +301,7 @@ impl Repeats {
             return Ok(true);
         }
         let i = self.find(k, con)?;
-        Ok(self.known[i].twice().is_empty())
+        Ok(self.known[i].repeated().is_empty())
     }
 
     /// Whether neither of two variables stands twice in the constraint with the number. Memory is
@@ -316,8 +321,8 @@ impl Repeats {
             return Ok(true);
         }
         let i = self.find(k, con)?;
-        let twice = self.known[i].twice();
-        Ok(!has_var(twice, x) && !has_var(twice, y))
+        let repeated = self.known[i].repeated();
+        Ok(!has_var(repeated, x) && !has_var(repeated, y))
     }
 
     /// Whether no variable whose box isn't one value stands twice in the constraint with the
@@ -338,6 +343,6 @@ impl Repeats {
             return Ok(true);
         }
         let i = self.find(k, con)?;
-        Ok(are_all_one(self.known[i].twice(), boxes))
+        Ok(are_all_one(self.known[i].repeated(), boxes))
     }
 }

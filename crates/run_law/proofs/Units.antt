@@ -122,14 +122,14 @@ unit_first : (l : ℕ × Ranges) (c : Literals) (boxes : Boxes) (half : Ranges) 
     IsValid l.1 → AreValid boxes → IsHalf boxes l.0 half →
     is_disjoint l.1 half ≡ true → false_in boxes c ≡ true → false_in boxes (l ∷ c) ≡ false →
     IsUnitAt boxes l.0 half (l ∷ c) l.1
-unit_first l c boxes half v a w missed later q =
+unit_first l c boxes half v a w disjoint later q =
     let here : is_disjoint l.1 (box_of boxes l.0) ≡ false = grind arith in
     let out : is_within (box_of boxes l.0) l.1 ≡ false =
-    not_within half (box_of boxes l.0) l.1 w.valid (a l.0) v w.some w.part missed in
+    not_within half (box_of boxes l.0) l.1 w.valid (a l.0) v w.some w.part disjoint in
     record {
       unit = rw (here, later, out) refl;
       by = record { exists = w.exists; is = refl; valid = v; meets = here };
-      lacks = missed;
+      lacks = disjoint;
     }
 
 unit_later : (l : ℕ × Ranges) (c : Literals) (boxes : Boxes) (x : ℕ) (half s : Ranges) →
@@ -148,9 +148,9 @@ unit_same l c n boxes half f a w p q =
     let parts = and_parts (is_disjoint l.1 (box_of behind l.0)) (false_in behind c) p in
     let later : false_in boxes c ≡ true =
     sym (false-set c (suc l.0) boxes l.0 half f.3 (omega arith)) ∙ parts.1 in
-    let missed : is_disjoint l.1 half ≡ true = subst (λ (z : Ranges). is_disjoint l.1 z ≡ true)
+    let disjoint : is_disjoint l.1 half ≡ true = subst (λ (z : Ranges). is_disjoint l.1 z ≡ true)
     (box-set_same boxes l.0 half w.exists) parts.0 in
-    unit_first l c boxes half f.2 a w missed later q
+    unit_first l c boxes half f.2 a w disjoint later q
 
 -- a clause that is false behind a decision and not before it is unit before it
 pub unit_before : (c : Literals) (n : ℕ) (boxes : Boxes) (x : ℕ) (half : Ranges) →
@@ -170,9 +170,9 @@ unit_before (l ∷ c) n boxes x half f a w p q =
           subst P (sym e) at w p
       | inr ne ↦
           let other = box-set_other boxes x l.0 half (λ e. ne (sym e)) in
-          let missed : is_disjoint l.1 (box_of boxes l.0) ≡ true =
+          let disjoint : is_disjoint l.1 (box_of boxes l.0) ≡ true =
           subst (λ (z : Ranges). is_disjoint l.1 z ≡ true) other parts.0 in
           let rest : false_in boxes c ≡ false = grind arith in
           let more = unit_before c (suc l.0) boxes x half f.3 a w parts.1 rest in
-          (more.0, unit_later l c boxes x half more.0 missed more.1)
+          (more.0, unit_later l c boxes x half more.0 disjoint more.1)
     ]

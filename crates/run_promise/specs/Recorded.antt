@@ -24,7 +24,7 @@ use Rattle.run_promise.specs.Answer.{searched_status, order_at}
 use Rattle.command_limits.specs.Limits.{generated_budget}
 
 -- of a search by this order within this budget; but for a repair it had no values to go by
-pub record HasSearched (repaired : Bool) (order : Order) (budget : ℕ) (s : Status)
+pub record HasRecordedRun (repaired : Bool) (order : Order) (budget : ℕ) (s : Status)
     (journal : Journal) : Type 0 where
   pub ground : Ground
   pub kept : journal.ground ≡ Some ground
@@ -70,10 +70,10 @@ pub record HasBlamed (budget : ℕ) (s : Status) (journal : Journal) : Type 0 wh
 
 abbrev pub IsRecorded : List Order → Request → Status → Journal → Type 0
 IsRecorded os (Solve model budget log order) s journal =
-    HasSearched false (order_at os order) budget s journal
+    HasRecordedRun false (order_at os order) budget s journal
 IsRecorded os (Reconfigure model former failed budget log order) s journal =
-    HasSearched true (order_at os order) budget s journal
-IsRecorded os (Gen n) s journal = HasSearched false (order_at os 0) generated_budget s journal
+    HasRecordedRun true (order_at os order) budget s journal
+IsRecorded os (Gen n) s journal = HasRecordedRun false (order_at os 0) generated_budget s journal
 IsRecorded os (Check model log former failed) s journal = HasChecked journal
 IsRecorded os (Verify model config) s journal = journal ≡ empty
 IsRecorded os (Session model former events budget order) s journal = HasHeld budget s journal

@@ -11,7 +11,7 @@ use std::alloc::AllocError;
 /// Adds the row that constraint k says of a bin, where it says one.
 fn push_row(
     maker: &Maker,
-    places: &[usize],
+    indexes: &[usize],
     rows: &mut Vec<Row>,
     k: usize,
 ) -> Result<(), AllocError>
@@ -21,19 +21,19 @@ fn push_row(
     let Some(con) = maker.cons().get(k) else {
         return Ok(());
     };
-    if let Some(row) = row_of(maker, places, con)? {
+    if let Some(row) = row_of(maker, indexes, con)? {
         rows.push(row)?;
     }
     Ok(())
 }
 
 /// The rows that the constraints say, in their order.
-pub(crate) fn rows_stated(maker: &Maker, places: &[usize]) -> Result<Vec<Row>, AllocError>
+pub(crate) fn rows_stated(maker: &Maker, indexes: &[usize]) -> Result<Vec<Row>, AllocError>
     ensures { IfOk result (λ rows. All (FollowsIn maker.now) rows.items) }
 {
     let mut rows = Vec::new(maker.alloc());
     for k in 0..maker.cons().len() {
-        push_row(maker, places, &mut rows, k)?;
+        push_row(maker, indexes, &mut rows, k)?;
     }
     Ok(rows)
 }

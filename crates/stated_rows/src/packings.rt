@@ -8,7 +8,7 @@ ghost use Rattle.stated_rows.specs.Following.{FollowsIn};
 use crate::finding::rows_stated;
 use crate::groups::{Group, Planned, groups_of, packing_of};
 use form_build::Maker;
-use goal_rows::definition_places;
+use goal_rows::definition_indexes;
 use ground_form::{Con, Number};
 use packed_rows::{Row, pack_rows};
 use signed_clause::IntSet;
@@ -199,8 +199,8 @@ fn pack_groups(maker: &mut Maker, rows: &[Row], groups: &[Group]) -> Result<(), 
 pub fn pack_stated(maker: &mut Maker) -> Result<(), AllocError>
     ensures { OnOk result (Defines maker.old maker.new) }
 {
-    let places = definition_places(maker)?;
-    let rows = rows_stated(maker, places.as_slice())?;
+    let indexes = definition_indexes(maker)?;
+    let rows = rows_stated(maker, indexes.as_slice())?;
     let groups = groups_of(maker.alloc(), rows.as_slice())?;
     pack_groups(maker, rows.as_slice(), groups.as_slice())?;
     Ok(())

@@ -62,11 +62,11 @@ fn least_of(maker: &Maker, t: (i64, u32)) -> Option<Share>
 }
 
 /// The variable of which the flag tells whether it is in the bin.
-fn item_of(maker: &Maker, places: &[usize], bin: u64, flag: u32) -> Option<u32>
+fn item_of(maker: &Maker, indexes: &[usize], bin: u64, flag: u32) -> Option<u32>
     ensures { IfSome result (λ x. Contains maker.now.cons
         (con.MemberDef flag x ((pos bin, pos bin) ∷ []))) }
 {
-    let (x, value) = question(maker, places, flag)?;
+    let (x, value) = question(maker, indexes, flag)?;
     if value == bin { Some(x) } else { None }
 }
 
@@ -78,10 +78,10 @@ fn factor_of(t: (i64, u32)) -> Number
 }
 
 /// The load that a term is, where its variable is a flag that tells of the bin.
-fn flag_load(maker: &Maker, places: &[usize], bin: u64, t: (i64, u32)) -> Option<Share>
+fn flag_load(maker: &Maker, indexes: &[usize], bin: u64, t: (i64, u32)) -> Option<Share>
     ensures { IfSome result (λ s. IsShareOf maker.now (pos bin) t s) }
 {
-    let x = item_of(maker, places, bin, t.1)?;
+    let x = item_of(maker, indexes, bin, t.1)?;
     if t.0 > 0 {
         Some(Share::Load(x, factor_of(t)))
     } else {
@@ -123,34 +123,34 @@ fn least_size(maker: &Maker, t: (i64, u32), item: u32) -> Option<Number>
 
 /// The load that a term is at least, where its variable is an item's size if the item is in the
 /// bin, and else 0.
-fn chosen_load(maker: &Maker, places: &[usize], bin: u64, t: (i64, u32)) -> Option<Share>
+fn chosen_load(maker: &Maker, indexes: &[usize], bin: u64, t: (i64, u32)) -> Option<Share>
     ensures { IfSome result (λ s. IsShareOf maker.now (pos bin) t s) }
 {
-    let (flag, item) = chosen_by(definition(maker, places, t.1)?, t.1)?;
-    let x = item_of(maker, places, bin, flag)?;
+    let (flag, item) = chosen_by(definition(maker, indexes, t.1)?, t.1)?;
+    let x = item_of(maker, indexes, bin, flag)?;
     let size = least_size(maker, t, item)?;
     Some(Share::Load(x, size))
 }
 
 /// What a term adds to the bin at least.
-pub(crate) fn share_of(maker: &Maker, places: &[usize], bin: u64, t: (i64, u32)) -> Option<Share>
+pub(crate) fn share_of(maker: &Maker, indexes: &[usize], bin: u64, t: (i64, u32)) -> Option<Share>
     ensures { IfSome result (λ s. IsShareOf maker.now (pos bin) t s) }
 {
-    if let Some(s) = flag_load(maker, places, bin, t) {
+    if let Some(s) = flag_load(maker, indexes, bin, t) {
         return Some(s);
     }
-    if let Some(s) = chosen_load(maker, places, bin, t) {
+    if let Some(s) = chosen_load(maker, indexes, bin, t) {
         return Some(s);
     }
     least_of(maker, t)
 }
 
 /// The bin of which a flag tells.
-pub(crate) fn bin_asked(maker: &Maker, places: &[usize], x: u32) -> Option<u64> {
-    if let Some((_, bin)) = question(maker, places, x) {
+pub(crate) fn bin_asked(maker: &Maker, indexes: &[usize], x: u32) -> Option<u64> {
+    if let Some((_, bin)) = question(maker, indexes, x) {
         return Some(bin);
     }
-    let (flag, _) = chosen_by(definition(maker, places, x)?, x)?;
-    let (_, bin) = question(maker, places, flag)?;
+    let (flag, _) = chosen_by(definition(maker, indexes, x)?, x)?;
+    let (_, bin) = question(maker, indexes, flag)?;
     Some(bin)
 }

@@ -3,10 +3,10 @@ use Rattle.signed_clause.specs.Clauses.{Literals}
 use Rattle.log_form.specs.declared.line.Line.TheVariants.{Chain}
 use Rattle.bound_search.specs.Awaited.{keeping, is_sure}
 use Rattle.bound_search.specs.declared.engine.Engine.{Engine}
-use Rattle.bound_search.specs.Engines.{added_of, MayTakeIn, IsTakenIn}
+use Rattle.bound_search.specs.Engines.{added_of, MayBackjump, IsBackjumped}
 use Rattle.bound_search.proofs.Steps.{alike}
 use Rattle.bound_search.proofs.Turning.{awaited_same}
-use Rattle.bound_search.proofs.Learning.{conflict_known, IsLesson, lesson_kept, lesson_closes, may_take_in, lesson_reached, lesson_falls, taken_same, taken_table}
+use Rattle.bound_search.proofs.Learning.{conflict_known, IsLesson, lesson_kept, lesson_closes, may_backjump, lesson_reached, lesson_falls, taken_same, taken_table}
 use Rattle.bound_search.proofs.engine.learn.Goals as goal
 
 pub analyse-requires-clause-exists : goal.analyse-requires-clause-exists
@@ -87,8 +87,8 @@ returns-then-learnt-eq0-clause-alike c =
     alike c.args.journal.now.lines c.push.new.self.lines (Chain l.chain c.in_ok-copy.field-0)
     c.in_ok-push.ensures.ok refl
 
-pub take_in-requires-clause-level : goal.take_in-requires-clause-level
-take_in-requires-clause-level c =
+pub backjump-requires-clause-level : goal.backjump-requires-clause-level
+backjump-requires-clause-level c =
     let e = c.args.e.now in
     let l = c.in_ok-learnt.learnt in
     let lines = c.args.journal.now.lines in
@@ -105,9 +105,9 @@ take_in-requires-clause-level c =
     } in
     let some = c.if-learnt-eq0.false in
     let lt : 0 < l.level = omega (arith, some) in
-    let may = may_take_in c.args.g.now lines e c.args.n l.chain l.clause l.level c.requires.at lesson
+    let may = may_backjump c.args.g.now lines e c.args.n l.chain l.clause l.level c.requires.at lesson
     lt in
-    subst (λ (d : Literals). MayTakeIn c.args.g.now e.board.store d l.level)
+    subst (λ (d : Literals). MayBackjump c.args.g.now e.board.store d l.level)
     (sym c.in_ok-handle.ensures) may
 
 pub returns-in_err-after-clause-kept : goal.returns-in_err-after-clause-kept
@@ -158,8 +158,8 @@ returns-clause-kept c =
       rounds = c.in_ok-push.ensures.rounds;
     })
 
--- what was taken in, told of the engine before the analysis
-taken : (c : goal.In_ok-after) → IsTakenIn c.args.g.now c.args.e.now c.take_in.new.e
+-- the backjump, told of the engine before the analysis
+taken : (c : goal.In_ok-after) → IsBackjumped c.args.g.now c.args.e.now c.backjump.new.e
     c.in_ok-learnt.learnt.clause c.in_ok-learnt.learnt.level c.in_ok-after.after
 taken c =
     let g = c.args.g.now in
@@ -176,7 +176,7 @@ taken c =
       recent = d.recent;
       running = c.analyse.new.running;
     } in
-    let now = c.take_in.new.e in
+    let now = c.backjump.new.e in
     let sure = is_sure now.board.store c.in_ok-handle.handle in
     let waits : added_of now ≡ keeping sure (length d.clauses) c.in_ok-handle.handle (added_of d) =
     awaited_same now.board.watches.added (cond sure d.board.watches.added
@@ -184,13 +184,13 @@ taken c =
     d.asked.items now.sure.items
     (cond sure (d.sure.items ++ c.in_ok-handle.handle ∷ []) d.sure.items) t.watched
     t.asked t.sure in
-    let told : IsTakenIn g f c.take_in.new.e c.in_ok-handle.handle l.level a = record {
+    let told : IsBackjumped g f c.backjump.new.e c.in_ok-handle.handle l.level a = record {
       applied = record { mode = t.mode; store = t.store; board = t.board };
       engine = record { clauses_are = t.numbered; added_are = waits; table = t.table };
     } in
-    taken_table g d f c.take_in.new.e l.clause l.level a refl refl refl
+    taken_table g d f c.backjump.new.e l.clause l.level a refl refl refl
     c.in_ok-learnt.ensures.len
-    (taken_same g f c.take_in.new.e c.in_ok-handle.handle l.clause l.level a
+    (taken_same g f c.backjump.new.e c.in_ok-handle.handle l.clause l.level a
     c.in_ok-handle.ensures told)
 
 pub returns-clause-at : goal.returns-clause-at
@@ -211,7 +211,7 @@ returns-clause-at c =
     } in
     let some = c.if-learnt-eq0.false in
     let lt : 0 < l.level = omega (arith, some) in
-    let may = may_take_in c.args.g.now lines e c.args.n l.chain l.clause l.level c.requires.at lesson
+    let may = may_backjump c.args.g.now lines e c.args.n l.chain l.clause l.level c.requires.at lesson
     lt in
     lesson_reached c.args.g.now c.args.journal.now c.push.new.self e _ c.args.n l.chain l.clause
     l.level c.in_ok-after.after c.requires.at lesson (record {
@@ -240,7 +240,7 @@ returns-clause-fall c =
     } in
     let some = c.if-learnt-eq0.false in
     let lt : 0 < l.level = omega (arith, some) in
-    let may = may_take_in c.args.g.now lines e c.args.n l.chain l.clause l.level c.requires.at lesson
+    let may = may_backjump c.args.g.now lines e c.args.n l.chain l.clause l.level c.requires.at lesson
     lt in
     lesson_falls c.args.g.now e _ l.clause l.level c.in_ok-after.after may
     (taken c)

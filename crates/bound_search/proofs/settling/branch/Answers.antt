@@ -10,7 +10,7 @@ choose-requires g c =
     (sym c.boxes.ensures.boxes) (asked_at c.args.g.now c.args.journal.now.lines c.args.e.now
     c.args.hints.now c.requires.at c.requires.hints)
 
-pub finish-requires-clause-single : goal.finish-requires-clause-single
-finish-requires-clause-single g c =
+pub record_solution-requires-clause-single : goal.record_solution-requires-clause-single
+record_solution-requires-clause-single g c =
     subst (λ (b : Boxes). AreAllSingle b c.args.g.now.search) c.boxes.ensures.boxes
     (c.choose.ensures.none c.in-None.is)

@@ -18,16 +18,16 @@ decisions-init g c =
 
 pub returns-then-left-eq0-clause-ends : goal.returns-then-left-eq0-clause-ends
 returns-then-left-eq0-clause-ends g c =
-    let lines = c.settle.new.journal.lines in
+    let lines = c.until_decision.new.journal.lines in
     let order = c.args.chooser.now.order in
     let hints = c.args.hints.now in
     let split = c.in-Some.split in
-    let due : IsDue c.args.g.now lines order hints c.settle.new.e split =
-    subst (λ (o : Option Split). SettledOf c.args.g.now lines order hints c.settle.new.e o)
-    c.in-Some.is c.in_ok-settle.ensures.settled in
+    let due : IsDue c.args.g.now lines order hints c.until_decision.new.e split =
+    subst (λ (o : Option Split). SettledOf c.args.g.now lines order hints c.until_decision.new.e o)
+    c.in-Some.is c.in_ok-until_decision.ensures.settled in
     let decided = c.decisions.invariant.decided in
-    let alike = c.in_ok-settle.ensures.alike in
+    let alike = c.in_ok-until_decision.ensures.alike in
     let none = c.if-left-eq0.true in (
       omega (arith, decided, alike, none),
-      due_may_decide c.args.g.now lines order hints c.settle.new.e split due c.know_half.ensures,
+      due_may_decide c.args.g.now lines order hints c.until_decision.new.e split due c.know_half.ensures,
     )

@@ -4,7 +4,7 @@ use Rattle.clause_watches.specs.Watching.{clause_of, rest_of}
 use Rattle.clause_watches.specs.Rows.{names}
 use Rattle.clause_watches.specs.Looking.{IsOut}
 use Rattle.clause_watches.proofs.PackLaws.{copy_there, variable_below, named_out, disjoint_out, link_made, none_from}
-use Rattle.clause_watches.proofs.SettleLaws.{clause_form}
+use Rattle.clause_watches.proofs.VisitLaws.{clause_form}
 use Rattle.clause_watches.proofs.look.link_at.Goals as goal
 
 pub returns-then-names-clause-none : goal.returns-then-names-clause-none

@@ -2,7 +2,7 @@ use Rattle.std.proofs.Common.{◌≡◌, ◌<◌, ℕ, List, subst, sym, slice_s
 use Rattle.clause_watches.specs.declared.rest.Rest.{Rest}
 use Rattle.clause_watches.specs.Watching.{rest_of}
 use Rattle.clause_watches.specs.Looking.{linked, left_in}
-use Rattle.clause_watches.proofs.SettleLaws.{clause_form}
+use Rattle.clause_watches.proofs.VisitLaws.{clause_form}
 use Rattle.clause_watches.proofs.LookLaws.{left_linked, left_held, acts_left}
 use Rattle.clause_watches.proofs.PackLaws.{packed_same}
 use Rattle.clause_watches.proofs.search.look.Goals as goal

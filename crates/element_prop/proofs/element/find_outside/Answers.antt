@@ -11,7 +11,7 @@ returns-then-has_another c =
     let boxes = c.args.boxes.now in let vars = c.args.vars in let items = c.args.items.now in
     let out : c.index-boxes-vars.result ≡ box_of boxes vars.0 = grind (arith, common_steps) in
     let index : c.index-boxes-vars-2.result ≡ box_of boxes vars.1 = grind (arith, common_steps) in
-    idle_at items vars.0 vars.1 c.in-Some.i (pos 0, 0) boxes c.index-boxes-vars.result c.index-boxes-vars-2.result out index c.requires.apart c.requires.met c.requires.full c.requires.offered
+    idle_at items vars.0 vars.1 c.in-Some.i (pos 0, 0) boxes c.index-boxes-vars.result c.index-boxes-vars-2.result out index c.requires.different c.requires.met c.requires.full c.requires.offered
     c.in-Some.ensures.within (c.in-Some.ensures.can (pos 0, 0)) (inl (sym c.has_another.ensures ∙ c.if-has_another.true))
 
 pub returns-then-within : goal.returns-then-within
@@ -20,7 +20,7 @@ returns-then-within c =
     let out : c.index-boxes-vars.result ≡ box_of boxes vars.0 = grind (arith, common_steps) in
     let index : c.index-boxes-vars-2.result ≡ box_of boxes vars.1 = grind (arith, common_steps) in
     let here : c.index-boxes-x.result ≡ box_of boxes (get_or items c.in-Some.i (pos 0, 0)).1 = grind (arith, common_steps) in
-    idle_at items vars.0 vars.1 c.in-Some.i (pos 0, 0) boxes c.index-boxes-vars.result c.index-boxes-vars-2.result out index c.requires.apart c.requires.met c.requires.full c.requires.offered
+    idle_at items vars.0 vars.1 c.in-Some.i (pos 0, 0) boxes c.index-boxes-vars.result c.index-boxes-vars-2.result out index c.requires.different c.requires.met c.requires.full c.requires.offered
     c.in-Some.ensures.within (c.in-Some.ensures.can (pos 0, 0)) (inr (ap (λ (s : Ranges). is_within s c.index-boxes-vars.result) (sym here) ∙ sym c.within.ensures.list ∙ c.if-within.true))
 
 pub returns-else-within : goal.returns-else-within

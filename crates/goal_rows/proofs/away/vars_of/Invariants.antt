@@ -3,4 +3,4 @@ use Rattle.goal_rows.specs.Hosts.{ArePartsAway}
 use Rattle.goal_rows.proofs.away.vars_of.Given as goal
 
 abbrev pub invariant-loop-part : goal.invariant-loop-part
-invariant-loop-part l = ArePartsAway l.maker (take l.part-index l.parts) l.place l.vars.items
+invariant-loop-part l = ArePartsAway l.maker (take l.part-index l.parts) l.bin l.vars.items

@@ -6,10 +6,10 @@ pub returns : goal.returns
 returns c = record {
   exists = c.if-not-is_flag.ensures.exists refl;
   near = c.if-not-is_flag.ensures.near refl;
-  place = c.requires.away.small;
+  bin = c.requires.away.small;
   stays = c.in_ok-more.ensures.stays;
   more = c.in_ok-more.ensures.small;
   fits =
-      host_fits c.args.maker.now c.args.p.now c.args.flag c.args.none c.args.w.now.place c.in_ok-stays.stays c.in_ok-more.more c.args.w.now.vars.items
+      host_fits c.args.maker.now c.args.p.now c.args.flag c.args.none c.args.w.now.bin c.in_ok-stays.stays c.in_ok-more.more c.args.w.now.vars.items
       c.requires.packing c.requires.flag c.requires.away.none c.in_ok-stays.ensures c.in_ok-more.ensures.room;
 }

@@ -3,4 +3,4 @@ use Rattle.goal_rows.specs.Hosts.{StayAt}
 use Rattle.goal_rows.proofs.hosts.stay_at.Given as goal
 
 abbrev pub invariant-loop-s : goal.invariant-loop-s
-invariant-loop-s l = StayAt l.boxes l.vars l.place (take l.s-index l.items) l.sum
+invariant-loop-s l = StayAt l.boxes l.vars l.bin (take l.s-index l.items) l.sum

@@ -21,8 +21,8 @@ loop-left-init c = record {
       c.requires.start c.in_ok-load.ensures.form c.in_ok-load.ensures.clause c.requires.none;
 }
 
-pub turn-requires-clause-var : goal.turn-requires-clause-var
-turn-requires-clause-var c =
+pub resolve_entry-requires-clause-var : goal.resolve_entry-requires-clause-var
+resolve_entry-requires-clause-var c =
     let room = c.requires.start.room in
     let size = c.loop-left.invariant.size in
     entry_var c.args.clauses.now c.args.store.now.top.now c.trail-trail.result.now c.args.conflict
@@ -31,8 +31,8 @@ turn-requires-clause-var c =
     (record { left_is = omega arith; within = omega arith; is = c.index-trail-left.is })
     (omega (arith, room, size)) c.loop-left.invariant.walking
 
-pub turn-requires-clause-step : goal.turn-requires-clause-step
-turn-requires-clause-step c =
+pub resolve_entry-requires-clause-step : goal.resolve_entry-requires-clause-step
+resolve_entry-requires-clause-step c =
     let room = c.requires.start.room in
     let size = c.loop-left.invariant.size in
     entry_resolves c.args.clauses.now c.args.store.now c.trail-trail.result.now c.loop-left.running
@@ -45,28 +45,28 @@ turn-requires-clause-step c =
 pub returns-then-branch-clause-learnt : goal.returns-then-branch-clause-learnt
 returns-then-branch-clause-learnt c =
     let ends : ends_at c.index-trail-left.result (listed 0 c.loop-left.running) ≡ true =
-    sym c.in_ok-turn.ensures.ends ∙ c.if-branch.true in
+    sym c.in_ok-resolve_entry.ensures.ends ∙ c.if-branch.true in
     walk_ends c.args.clauses.now c.args.store.now c.trail-trail.result.now c.args.conflict
     (c.loop-left.left - 1) c.loop-left.left c.index-trail-left.result _ _ _ _
     (record { levels_are = c.trail-trail.ensures.stack; kept = c.trail-trail.ensures.kept })
     (record { left_is = omega arith; within = omega arith; is = c.index-trail-left.is })
     c.loop-left.invariant.walking
-    ends c.in_ok-turn.ensures.clause c.in_ok-turn.ensures.steps
+    ends c.in_ok-resolve_entry.ensures.clause c.in_ok-resolve_entry.ensures.steps
 
 pub loop-left-preserved : goal.loop-left-preserved
 loop-left-preserved c =
     let goes : ends_at c.index-trail-left.result (listed 0 c.loop-left.running) ≡ false =
-    sym c.in_ok-turn.ensures.ends ∙ c.if-branch.false in
+    sym c.in_ok-resolve_entry.ensures.ends ∙ c.if-branch.false in
     record {
       left = omega arith;
-      size = c.in_ok-turn.ensures.len ∙ c.loop-left.invariant.size;
+      size = c.in_ok-resolve_entry.ensures.len ∙ c.loop-left.invariant.size;
       walking = walking_on c.args.clauses.now c.args.store.now c.trail-trail.result.now
           c.args.conflict (c.loop-left.left - 1) c.loop-left.left c.index-trail-left.result _ _ _ _
           (record { levels_are = c.trail-trail.ensures.stack; kept = c.trail-trail.ensures.kept })
           c.requires.start.within
           (record { left_is = omega arith; within = omega arith; is = c.index-trail-left.is })
           c.loop-left.invariant.walking
-          goes c.in_ok-turn.ensures.form c.in_ok-turn.ensures.clause c.in_ok-turn.ensures.steps;
+          goes c.in_ok-resolve_entry.ensures.form c.in_ok-resolve_entry.ensures.clause c.in_ok-resolve_entry.ensures.steps;
     }
 
 pub returns-clause-learnt : goal.returns-clause-learnt

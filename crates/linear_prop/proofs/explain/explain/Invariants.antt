@@ -3,4 +3,4 @@ use Rattle.linear_prop.specs.Explaining.{IsSoFar}
 use Rattle.linear_prop.proofs.explain.explain.Given as goal
 
 abbrev pub invariant-loop-i : goal.invariant-loop-i
-invariant-loop-i l = IsSoFar (terms_of l.row) l.domains l.boxes l.row.bound.value l.fn.cause.place l.fn.cause.to.value l.i l.out.items l.slack
+invariant-loop-i l = IsSoFar (terms_of l.row) l.domains l.boxes l.row.bound.value l.fn.cause.index l.fn.cause.to.value l.i l.out.items l.slack

@@ -21,6 +21,6 @@ fall_of-requires-clause-fits c = factor_fits c.args.t c.factor_of-c.result.value
 
 pub returns : goal.returns
 returns c =
-    turn_elsewhere_done (terms_of c.args.scene.row.now) c.args.scene.domains.now c.args.scene.boxes.now c.args.scene.row.now.bound.value c.args.scene.cause.place c.args.scene.cause.to.value c.args.i c.args.out.now.items c.put.new.out.items
+    turn_elsewhere_done (terms_of c.args.scene.row.now) c.args.scene.domains.now c.args.scene.boxes.now c.args.scene.row.now.bound.value c.args.scene.cause.index c.args.scene.cause.to.value c.args.i c.args.out.now.items c.put.new.out.items
     c.args.slack c.in_ok-f.f.left c.args.t c.factor_of-c.result.value _ c.set_at-domain.result.now c.set_at.result.now c.in_ok-f.f.literal c.requires.turn c.requires.so_far c.requires.other
     c.factor_of-c.ensures c.set_at-domain.ensures c.set_at.ensures c.lowest-at.ensures.value c.in_ok-f.ensures c.in_ok-put.ensures

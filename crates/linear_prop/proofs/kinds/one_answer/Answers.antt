@@ -1,14 +1,14 @@
 use Rattle.std.proofs.Common.{arith}
 use Rattle.std.proofs.lemmas.Int.{ints}
-use Rattle.linear_prop.proofs.KindLaws.{fits_one, over_one, flag_apart}
+use Rattle.linear_prop.proofs.KindLaws.{fits_one, over_one, flag_different}
 use Rattle.linear_prop.proofs.KindAnswers.{follows_one_con, one_answer_done}
 use Rattle.linear_prop.proofs.kinds.one_answer.Goals as goal
 
 pub fixed_answer-requires-clause-over : goal.fixed_answer-requires-clause-over
 fixed_answer-requires-clause-over c = over_one c.args.flag c.args.terms.now c.args.bound c.args.subject.domains.now c.args.subject.boxes.now c.requires.well_made c.requires.sets c.requires.boxes c.requires.differ
 
-pub fixed_answer-requires-clause-apart : goal.fixed_answer-requires-clause-apart
-fixed_answer-requires-clause-apart c = flag_apart c.args.flag c.args.terms.now c.requires.differ
+pub fixed_answer-requires-clause-different : goal.fixed_answer-requires-clause-different
+fixed_answer-requires-clause-different c = flag_different c.args.flag c.args.terms.now c.requires.differ
 
 pub fixed_answer-requires-clause-follows : goal.fixed_answer-requires-clause-follows
 fixed_answer-requires-clause-follows c o h n =

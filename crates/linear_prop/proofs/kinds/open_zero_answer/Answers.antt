@@ -1,15 +1,15 @@
 use Rattle.std.proofs.Common.{arith}
 use Rattle.std.proofs.lemmas.Int.{ints}
 use Rattle.box_view.proofs.EndLaws.{are_sets}
-use Rattle.linear_prop.proofs.KindLaws.{fits_zero, over_zero, flag_apart_turned}
+use Rattle.linear_prop.proofs.KindLaws.{fits_zero, over_zero, flag_different_turned}
 use Rattle.linear_prop.proofs.KindAnswers.{follows_zero_con, open_zero}
 use Rattle.linear_prop.proofs.kinds.open_zero_answer.Goals as goal
 
 pub open_answer-requires-clause-over : goal.open_answer-requires-clause-over
 open_answer-requires-clause-over c = over_zero c.args.flag c.args.terms.now c.args.bound c.args.subject.domains.now c.args.subject.boxes.now c.requires.well_made c.requires.sets c.requires.boxes c.requires.differ
 
-pub open_answer-requires-clause-apart : goal.open_answer-requires-clause-apart
-open_answer-requires-clause-apart c = flag_apart_turned c.args.flag c.args.terms.now c.requires.differ
+pub open_answer-requires-clause-different : goal.open_answer-requires-clause-different
+open_answer-requires-clause-different c = flag_different_turned c.args.flag c.args.terms.now c.requires.differ
 
 pub open_answer-requires-clause-open : goal.open_answer-requires-clause-open
 open_answer-requires-clause-open c = open_zero c.args.flag c.args.subject.boxes.now (are_sets c.args.subject.boxes.now c.requires.boxes.sets c.args.flag) c.requires.open

@@ -4,11 +4,11 @@ use Rattle.linear_prop.proofs.row_clauses.clause_of.Goals as goal
 
 pub explain-requires-clause-so_far : goal.explain-requires-clause-so_far
 explain-requires-clause-so_far c =
-    begun (terms_of c.args.row.now) c.args.subject.domains.now c.args.subject.boxes.now c.args.row.now.bound.value c.args.cause.place c.args.cause.to.value c.args.cause.slack c.new-out.result.items c.requires.cause c.new-out.ensures.items
+    begun (terms_of c.args.row.now) c.args.subject.domains.now c.args.subject.boxes.now c.args.row.now.bound.value c.args.cause.index c.args.cause.to.value c.args.cause.slack c.new-out.result.items c.requires.cause c.new-out.ensures.items
 
 pub pruning-requires : goal.pruning-requires
 pruning-requires c = record {
   reason =
-      row_reason c.args.subject.con.now (terms_of c.args.row.now) c.args.subject.domains.now c.args.subject.boxes.now c.args.row.now.bound.value c.args.cause.place c.args.cause.to.value c.in_ok-_left._left c.explain.new.out.items
+      row_reason c.args.subject.con.now (terms_of c.args.row.now) c.args.subject.domains.now c.args.subject.boxes.now c.args.row.now.bound.value c.args.cause.index c.args.cause.to.value c.in_ok-_left._left c.explain.new.out.items
       c.in_ok-_left.ensures c.requires.follows;
 }

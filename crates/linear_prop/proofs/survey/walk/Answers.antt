@@ -1,7 +1,7 @@
 use Rattle.std.proofs.Common.{◌≡◌, ◌<◌, ◌-ℤ◌, ℕ, ℤ, pos, get_or, length, arith, ap, sym, ◌∙◌}
 use Rattle.std.proofs.lemmas.Int.{ints, clamps}
 use Rattle.linear_prop.specs.Rows.{terms_of, spread_of}
-use Rattle.linear_prop.proofs.WalkSteps.{spread_some, value_step, fits_step, term_fits, low_fits, high_fits, rise_is, spread_step, some_step, place_step, widest_step}
+use Rattle.linear_prop.proofs.WalkSteps.{spread_some, value_step, fits_step, term_fits, low_fits, high_fits, rise_is, spread_step, some_step, index_step, widest_step}
 use Rattle.linear_prop.proofs.survey.walk.Goals as goal
 
 pub loop-i-init : goal.loop-i-init
@@ -13,7 +13,7 @@ loop-i-init c =
       fits = omega (arith, ints);
       spread = omega (arith, ints, clamps);
       some = omega (arith, ints);
-      place = λ h. absurd (omega (arith, ints));
+      index = λ h. absurd (omega (arith, ints));
       widest = λ h. absurd (omega (arith, ints));
     }
 
@@ -52,6 +52,6 @@ loop-i-preserved c =
       fits = fits_step ts boxes i c.term.result c.loop-i.found.least.value c.term_ends.result.0.value _ _ lt e c.term_ends.ensures.least c.with-found.ensures.least c.loop-i.invariant.fits;
       spread = spread_step ts boxes i c.term.result c.loop-i.found.spread.value x _ _ lt e is c.with-found.ensures.spread c.loop-i.invariant.spread;
       some = some_step c.loop-i.found.spread.value x _ c.with-found.ensures.spread c.loop-i.invariant.some;
-      place = place_step c.loop-i.found.spread.value x _ i c.loop-i.found.place _ c.with-found.ensures.spread c.with-found.ensures.place c.loop-i.invariant.place;
-      widest = widest_step (λ (k : ℕ). spread_of (get_or ts k (pos 0, 0)) boxes) c.loop-i.found.spread.value x _ i c.loop-i.found.place _ at c.with-found.ensures.spread c.with-found.ensures.place c.loop-i.invariant.widest;
+      index = index_step c.loop-i.found.spread.value x _ i c.loop-i.found.index _ c.with-found.ensures.spread c.with-found.ensures.index c.loop-i.invariant.index;
+      widest = widest_step (λ (k : ℕ). spread_of (get_or ts k (pos 0, 0)) boxes) c.loop-i.found.spread.value x _ i c.loop-i.found.index _ at c.with-found.ensures.spread c.with-found.ensures.index c.loop-i.invariant.widest;
     }

@@ -10,6 +10,6 @@ invariant-loop-i l = record {
   fits : unsigned_abs l.found.least.value + weight_of (drop l.i (terms_of l.row)) l.boxes ≤ weight_of (terms_of l.row) l.boxes;
   spread : int_max l.found.spread.value (greatest_spread (drop l.i (terms_of l.row)) l.boxes) ≡ greatest_spread (terms_of l.row) l.boxes;
   some : pos 0 ≤ℤ l.found.spread.value;
-  place : pos 0 <ℤ l.found.spread.value → l.found.place < l.i;
-  widest : pos 0 <ℤ l.found.spread.value → spread_of (get_or (terms_of l.row) l.found.place (pos 0, 0)) l.boxes ≡ l.found.spread.value;
+  index : pos 0 <ℤ l.found.spread.value → l.found.index < l.i;
+  widest : pos 0 <ℤ l.found.spread.value → spread_of (get_or (terms_of l.row) l.found.index (pos 0, 0)) l.boxes ≡ l.found.spread.value;
 }

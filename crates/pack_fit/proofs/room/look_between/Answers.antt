@@ -17,7 +17,7 @@ returns-then-is_enough c = (
   fit_everywhere c.args.head c.args.items.now c.args.boxes.now c.bins_of.result.0.value c.bins_of.result.1.value c.requires.sets c.requires.some c.bins_of.ensures.first c.bins_of.ensures.last
       (λ v l m. c.in-Room.ensures.fit v l (width_end _ _ v _ c.in_ok-fill.ensures.size c.bins_of.ensures.order m)),
   (
-    length c.fill.new.self.spots.items,
+    length c.fill.new.self.bins.items,
     c.bins_of.result.0.value,
     seconds_enough _ c.bins_of.result.0.value c.args.items.now c.args.boxes.now _ c.in-Room.sum.value (c.is_enough.ensures c.if-is_enough.true) c.in-Room.ensures.room,
   ),

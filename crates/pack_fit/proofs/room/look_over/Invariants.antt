@@ -10,8 +10,8 @@ invariant-loop-d l = record {
   low : pos 0 ≤ℤ l.sum.value;
   high : l.sum.value ≤ℤ pos (l.d * 9223372036854775807);
   carried : l.carried ≡ all_gone_on (l.first.value +ℤ pos l.d) l.items l.boxes;
-  upto : l.d ≤ length l.survey.spots.items;
+  upto : l.d ≤ length l.survey.bins.items;
 }
 
 abbrev pub decreases-loop-d : goal.decreases-loop-d
-decreases-loop-d l = length l.survey.spots.items - l.d
+decreases-loop-d l = length l.survey.bins.items - l.d

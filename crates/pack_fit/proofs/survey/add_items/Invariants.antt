@@ -1,11 +1,11 @@
 use Rattle.std.proofs.Common.{◌≡◌, ◌≤◌, drop, length}
-use Rattle.pack_fit.specs.Survey.{AreSpots}
+use Rattle.pack_fit.specs.Survey.{AreCounted}
 use Rattle.pack_fit.proofs.survey.add_items.Given as goal
 
 abbrev pub invariant-loop-k : goal.invariant-loop-k
 invariant-loop-k l = record {
-  size : length l.spots ≡ length l.fn.spots;
-  behind : AreSpots l.spots l.first.value (drop l.k l.items) l.boxes;
+  size : length l.bins ≡ length l.fn.bins;
+  behind : AreCounted l.bins l.first.value (drop l.k l.items) l.boxes;
   upto : l.k ≤ length l.items;
 }
 

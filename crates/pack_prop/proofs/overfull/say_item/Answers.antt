@@ -23,7 +23,7 @@ returns c =
     c.domain_at.ensures c.in_ok-under.ensures.valid c.in_ok-under.ensures.values c.in_ok-say.ensures c.requires.so_far
 
 pub is_fixed-requires-clause-named : goal.is_fixed-requires-clause-named
-is_fixed-requires-clause-named c = (c.requires.ground.named c.args.m (0, 0, 0) c.requires.there).place
+is_fixed-requires-clause-named c = (c.requires.ground.named c.args.m (0, 0, 0) c.requires.there).bin
 
 pub least-low-requires-clause-named : goal.least-low-requires-clause-named
 least-low-requires-clause-named c = (c.requires.ground.named c.args.m (0, 0, 0) c.requires.there).size

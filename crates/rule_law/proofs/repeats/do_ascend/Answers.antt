@@ -1,6 +1,6 @@
 use Rattle.std.proofs.Common.{sym, arith, ◌∙◌}
 use Rattle.ground_form.specs.Meaning.{vars_of}
-use Rattle.rule_law.proofs.Twice.{no_first, first_behind, first_before}
+use Rattle.rule_law.proofs.Repeated.{no_first, first_behind, first_before}
 use Rattle.rule_law.proofs.repeats.do_ascend.Goals as goal
 
 pub returns-in-None : goal.returns-in-None

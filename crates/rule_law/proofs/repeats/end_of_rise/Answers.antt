@@ -1,6 +1,6 @@
 use Rattle.std.proofs.Common.{sym, arith, ◌∙◌}
 use Rattle.ground_form.specs.Meaning.{vars_of}
-use Rattle.rule_law.proofs.Twice.{rise_on}
+use Rattle.rule_law.proofs.Repeated.{rise_on}
 use Rattle.rule_law.proofs.repeats.end_of_rise.Goals as goal
 
 pub loop-i-preserved : goal.loop-i-preserved

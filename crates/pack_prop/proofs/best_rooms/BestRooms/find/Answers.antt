@@ -1,6 +1,6 @@
 use Rattle.std.proofs.Common.{rules, [], List, ◌≡◌, length, arith, subst, sym, ap, ◌∙◌}
 use Rattle.std.proofs.lemmas.Int.{ints}
-use Rattle.pack_prop.specs.declared.best_rooms.Best.{Best}
+use Rattle.pack_prop.specs.declared.best_rooms.ValueRooms.{ValueRooms}
 use Rattle.pack_prop.specs.Tight.{AreBestRooms}
 use Rattle.pack_prop.proofs.BestRows.{as_slice, best_rooms_have, best_rooms_are, written}
 use Rattle.pack_prop.proofs.best_rooms.BestRooms.find.Goals as goal
@@ -17,6 +17,6 @@ returns c =
     let size : length c.as_slice.result.now ≡ length c.push_bare.new.rows.items = ap length same ∙ c.add_items.ensures.size ∙ ap length c.as_mut_slice.ensures.value in
     let all = c.in_ok-push_bare.ensures.all in
     record {
-      rooms = subst (λ (z : List Best). AreBestRooms c.args.first.value z c.args.items.now c.args.boxes.now) (sym same) rows;
+      rooms = subst (λ (z : List ValueRooms). AreBestRooms c.args.first.value z c.args.items.now c.args.boxes.now) (sym same) rows;
       all = omega (arith, ints, size, all);
     }

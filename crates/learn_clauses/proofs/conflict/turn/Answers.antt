@@ -1,6 +1,0 @@
-use Rattle.std.proofs.Common.{sym, ◌∙◌}
-use Rattle.learn_clauses.proofs.conflict.turn.Goals as goal
-
-pub resolve-requires : goal.resolve-requires
-resolve-requires c =
-    c.requires.step c.in-Some.j c.in-Some.is (sym c.is_passed.ensures ∙ c.if-is_passed.false)
