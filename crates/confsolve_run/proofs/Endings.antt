@@ -23,6 +23,7 @@ use Rattle.round_commands.specs.Unreadable.{Unreadable}
 use Rattle.round_commands.specs.Told.{IsToldLog}
 use Rattle.confsolve_run.specs.Told.{stored, StoresSome, IsToldBroken}
 use Rattle.round_commands.proofs.Begun.{answer_begun}
+use Rattle.round_commands.proofs.Ends.{same_outside}
 use Rattle.round_commands.proofs.Reading.{risen_earlier}
 use Rattle.round_commands.proofs.Asking.{asked_map, text_map, text_read}
 
@@ -134,9 +135,6 @@ pub run_denied : (t : Trace) (s : Status) → t.journal.rounds ≡ [] → Unread
 run_denied t s none (inl h) same = subst (λ x. RunEndsAt (stage_of x) t x) (sym h.0) (h.1, same)
 run_denied t s none (inr (inl h)) same = subst (λ x. RunEndsAt (stage_of x) t x) (sym h) (inl (same, none))
 run_denied t s none (inr (inr h)) same = subst (λ g. RunEndsAt g t s) (sym h.0) (text_map t.before.files t.request _ _ (λ bytes long. inl long) h.1, same)
-
-same_outside : (files now_files : Option Files) (printed now_printed : Option (List ℕ)) → now_files ≡ files → now_printed ≡ printed → outside now_files now_printed ≡ outside files printed
-same_outside files now_files printed now_printed f q = ap (λ x. outside x now_printed) f ∙ ap (λ x. outside files x) q
 
 pub denied_from : (r : Request) (os : List Order) (journal : Journal) (files now_files : Option Files) (printed now_printed : Option (List ℕ)) (reads reads_now writes writes_now : ℕ) (s : Status) → journal.rounds ≡ [] → now_files ≡ files → now_printed ≡ printed → Unreadable reads reads_now s (OfText files r (λ bytes. IsTooLongText bytes s)) → RunEnds (trace r os journal (outside files printed) (outside now_files now_printed) reads reads_now writes writes_now) s
 denied_from r os journal files now_files printed now_printed reads reads_now writes writes_now s none f q h =

@@ -1,5 +1,5 @@
 -- A session that was held, as a run over a model ends.
-use Rattle.std.proofs.Common.{◌≡◌, ◌⊎◌, false, cond, inl, inr, ◌∙◌, ℕ, true, List, [], ◌∷◌, ℤ, Option, None, Some, Result, Ok, Err, IfOk, IfErr, OnErr, All, IfSome, IsSome, IsSomeAnd, suc, length, map, refl, sym, subst, ap, append-nil}
+use Rattle.std.proofs.Common.{◌≡◌, ◌⊎◌, false, cond, inl, inr, ◌∙◌, ℕ, true, List, [], ◌∷◌, ℤ, Option, None, Some, All, IfSome, IsSome, IsSomeAnd, suc, length, map, refl, sym, subst, ap, append-nil}
 use Rattle.std.proofs.lemmas.List.Elements.{All-nil, All-cons}
 use Rattle.std.specs.List.{list_any}
 use Rattle.branch_choice.specs.declared.split.Order.{Order}
@@ -14,9 +14,7 @@ use Rattle.desk_io.specs.Desk.{Files, OfFile}
 use Rattle.model_search.specs.Asked.{functions}
 use Rattle.ground_form.specs.declared.ground.Ground.{Ground}
 use Rattle.model_reader.proofs.ModelParts.{at_model}
-use Rattle.desk_io.specs.declared.whole.WriteError.{WriteError}
 use Rattle.model_reader.specs.Building.{IsResolved}
-use Rattle.model_reader.specs.ModelRefusal.{IsRefusedFor}
 use Rattle.model_reader.specs.Models.{IsWithin}
 use Rattle.model_search.specs.Rounds.{told_by}
 use Rattle.model_search.specs.Problems.{IsProblemOf}
@@ -34,11 +32,13 @@ use Rattle.round_commands.specs.Events.{StandsAt, situation_of}
 use Rattle.run_promise.specs.Sessions.{Situation, Subject, situation, situation_behind, subject, session_status, is_none_told, IsAnswered, AreAnswered, AreHeld, AreBegun}
 use Rattle.run_promise.specs.Answer.{IsModelAnswer, IsModelBegun, IsDay}
 use Rattle.run_promise.specs.Asking.{Asked, Best, Generated, Checked, Satisfied, Held, Blamed, FormerText, OfAsked, former_text}
+use Rattle.desk_io.specs.Fault.{HasRisen}
 use Rattle.run_promise.specs.Delivery.{IsLogged, IsLogFront}
-use Rattle.round_commands.specs.Ending.{Trace, Prints, Breaks, IsBegun, IsHeldWhole}
+use Rattle.round_commands.specs.Ending.{Trace, Prints, Breaks, IsBegun, IsHeldWhole, EndsModel, EndsModelAt}
+use Rattle.round_commands.proofs.Ends.{model_denied}
 use Rattle.round_commands.proofs.Asking.{asked_map, file_map}
 use Rattle.round_commands.specs.Holding.{AreTextsRefused, ForModel, IsDayOf, IsDayRefused, IsOpenedBy, IsOpenedFor, HasBudget, HasWhole, HasPart}
-use Rattle.run_promise.specs.Refusal.{IsDenied, IsDeniedOf, IsEventsRefused, IsFormerRefused, IsUnread}
+use Rattle.run_promise.specs.Refusal.{IsDenied, IsEventsRefused, IsFormerRefused, IsUnread}
 use Rattle.round_commands.specs.Unreadable.{Unreadable}
 use Rattle.round_commands.proofs.Reading.{unread_map}
 use Rattle.round_commands.proofs.Rounds.{round_of}
@@ -97,9 +97,6 @@ opened_for told q o x model former events before bytes budget order d is f e h a
     (file_map told former (λ r. r ≡ before) _ (λ r same.
     file_map told events (λ r. r ≡ bytes) (λ bs. IsOpenedBy o r bs budget order x) (λ bs equal.
     subst (λ (a : List ℕ). IsOpenedBy o a bs budget order x) (sym same) (subst (λ (b : List ℕ). IsOpenedBy o before b budget order x) (sym equal) (opened_by o before bytes budget order x d h at evs within))) e) f)
-
-pub has_budget : (q : Request) (model former events : List ℕ) (budget order n : ℕ) → q ≡ Session model former events budget order → n ≡ budget → HasBudget q n
-has_budget q model former events budget order n is within = subst (λ (r : Request). HasBudget r n) (sym is) within
 
 -- a text that isn't read as an object is refused as a former one
 pub unread_refused : (o : Outline) (f : FormerText) (s : Status) → IsUnread f.bytes s → IsFormerRefused o f s
@@ -250,29 +247,40 @@ module _ (t : Trace) (p : Program) (table o : Outline) (cs : List ResolvedConstr
         )) asked_for;
       }
 
--- ---- results
+-- ---- how a session over a model ends
+
+held_whole : (t : Trace) (p : Program) (s : Status) → IsHeldWhole t p s → EndsModel t p s
+held_whole t p s h =
+    subst (λ g. EndsModelAt g t p s) (sym h.stage) (h.delivers, (h.within, h.prints))
 
 module _ (t : Trace) (o : Outline) (cs : List ResolvedConstraint) (gs : List ResolvedGoal) (x : Opened) (mid : Option (List ℕ)) (same : mid ≡ t.before.printed) (asked_for : OfAsked t.before.files t.request (IsOpenedFor o x)) (budget : HasBudget t.request x.budget) (files : t.now.files ≡ t.before.files) where
-  pub wholes : (res : Result Status WriteError) → IfOk res (λ end. HasWhole o cs gs x t.journal end mid t.now.printed) → IfOk res (λ end. ForModel o cs gs (λ p. IsHeldWhole t p end))
-  wholes (Ok end) h = λ p table objects_are made within. whole_of t p table o cs gs objects_are made within x asked_for budget files end (subst (λ (q : Option (List ℕ)). HasWhole o cs gs x t.journal end q t.now.printed) same h)
-  wholes (Err e) h = tt
+  begun_of : HasPart o cs gs x t.journal mid t.now.printed → ForModel o cs gs (λ p. IsBegun t p)
+  begun_of h = λ p table objects_are made within.
+      part_of t p table o cs gs objects_are made within x asked_for budget files
+      (subst (λ (q : Option (List ℕ)). HasPart o cs gs x t.journal q t.now.printed) same h)
 
-  pub parts : (res : Result Status WriteError) → OnErr res (HasPart o cs gs x t.journal mid t.now.printed) → OnErr res (ForModel o cs gs (λ p. IsBegun t p))
-  parts (Ok end) h = tt
-  parts (Err e) h = λ p table objects_are made within. part_of t p table o cs gs objects_are made within x asked_for budget files (subst (λ (q : Option (List ℕ)). HasPart o cs gs x t.journal q t.now.printed) same h)
+  -- all events were answered
+  pub ends_whole : (end : Status) → HasWhole o cs gs x t.journal end mid t.now.printed → ForModel o cs gs (λ p. EndsModel t p end)
+  ends_whole end h = λ p table objects_are made within.
+      held_whole t p end (whole_of t p table o cs gs objects_are made within x asked_for budget files end
+      (subst (λ (q : Option (List ℕ)). HasWhole o cs gs x t.journal end q t.now.printed) same h))
 
-module _ (t : Trace) (p : Program) (table o : Outline) (cs : List ResolvedConstraint) (gs : List ResolvedGoal) (objects_are : o ≡ table) (made : IsResolved p table cs gs) (within : IsWithin p) where
-  pub model_whole : (res : Result (Result Status WriteError) Status) → IfOk res (λ r. IfOk r (λ end. ForModel o cs gs (λ q. IsHeldWhole t q end))) → IfOk res (λ r. IfOk r (IsHeldWhole t p))
-  model_whole (Ok (Ok end)) h = h p table objects_are made within
-  model_whole (Ok (Err e)) h = tt
-  model_whole (Err s) h = tt
+  -- writing failed
+  pub ends_unwritten : HasRisen t.writes t.writes_now → HasPart o cs gs x t.journal mid t.now.printed → ForModel o cs gs (λ p. EndsModel t p status.WriteFault)
+  ends_unwritten risen h = λ p table objects_are made within.
+      let b = begun_of h p table objects_are made within in
+      (risen, b.begins, (b.within, b.breaks))
 
-  pub model_part : (res : Result (Result Status WriteError) Status) → IfOk res (λ r. OnErr r (ForModel o cs gs (λ q. IsBegun t q))) → IfOk res (λ r. OnErr r (IsBegun t p))
-  model_part (Ok (Ok end)) h = tt
-  model_part (Ok (Err e)) h = h p table objects_are made within
-  model_part (Err s) h = tt
+  -- there was no memory
+  pub ends_lost : HasPart o cs gs x t.journal mid t.now.printed → ForModel o cs gs (λ p. EndsModel t p status.Memory)
+  ends_lost h = λ p table objects_are made within.
+      let b = begun_of h p table objects_are made within in
+      inr (inl (b.begins, (b.within, b.breaks)))
 
-  pub model_denies : (reads reads_now : ℕ) (told : Option Files) (q : Request) (journal : Journal) (res : Result (Result Status WriteError) Status) → IfErr res (λ s. Unreadable reads reads_now s ((j : Journal) → IsDenied told q j s o cs gs)) → IfErr res (λ s. Unreadable reads reads_now s (IsRefusedFor s p ⊎ (IsWithin p × IsDeniedOf told q journal s p)))
-  model_denies reads reads_now told q journal (Ok r) h = tt
-  model_denies reads reads_now told q journal (Err s) h =
-      unread_map reads reads_now s _ _ (λ d. inr (within, at_model p table o cs gs objects_are made (λ y ks hs. IsDenied told q journal s y ks hs) (d journal))) h
+-- a session that wasn't opened leaves everything as it was
+pub ends_denied : (t : Trace) (o : Outline) (cs : List ResolvedConstraint) (gs : List ResolvedGoal) (s : Status) → t.journal.rounds ≡ [] → t.now ≡ t.before → Unreadable t.reads t.reads_now s ((journal : Journal) → IsDenied t.before.files t.request journal s o cs gs) → ForModel o cs gs (λ p. EndsModel t p s)
+ends_denied t o cs gs s none same h = λ p table objects_are made within.
+    model_denied t p s (inl none)
+    (unread_map t.reads t.reads_now s _ _
+    (λ d. inr (within, at_model p table o cs gs objects_are made (λ y ks hs. IsDenied t.before.files t.request t.journal s y ks hs) (d t.journal))) h)
+    same

@@ -31,5 +31,5 @@ pub use answer::{Answer, question_of};
 pub use blaming::blame_model;
 pub use finder::Resources;
 pub use former::{config_bytes, former_of, repair_in, repair_of};
-pub use session::hold_model;
+pub use session::{SessionWish, hold_model};
 pub use solving::{SearchWish, generated, solve};

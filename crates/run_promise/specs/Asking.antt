@@ -105,16 +105,6 @@ OfFormer told (Check model log former failed) P = OfNamed told former failed P
 OfFormer told (Session model former events budget order) P = OfNamed told (Some former) [] P
 OfFormer told r P = ⊥
 
--- the request is a session
-abbrev pub is_session : Request → Bool
-is_session (Solve model budget log order) = false
-is_session (Reconfigure model former failed budget log order) = false
-is_session (Check model log former failed) = false
-is_session (Verify model config) = false
-is_session (Gen n) = false
-is_session (Session model former events budget order) = true
-is_session (Core model budget order) = false
-
 -- the searches of the request are rounds of the journal
 abbrev pub closes_rounds : Request → Bool
 closes_rounds (Solve model budget log order) = false
