@@ -59,7 +59,7 @@ fn refused_file(error: FileCheck) -> Status
 }
 
 /// The verdict of the log in this file.
-fn verdict_of<D: Desk>(
+fn file_verdict<D: Desk>(
     alloc: Global,
     desk: &mut D,
     file: &FileName,
@@ -117,7 +117,7 @@ fn told_by<D: Desk>(
     ensures write_faults { D.write_faults desk.new ≡ D.write_faults desk.old }
     ensures may_write { D.may_write desk.new ≡ D.may_write desk.old }
 {
-    let verdict = verdict_of(alloc, desk, file, g)?;
+    let verdict = file_verdict(alloc, desk, file, g)?;
     let told = finding_of(alloc, question, g, &verdict)?;
     Ok(told)
 }

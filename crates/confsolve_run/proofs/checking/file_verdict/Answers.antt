@@ -5,7 +5,7 @@ use Rattle.run_status.specs.declared.status.Status.TheVariants as status
 use Rattle.run_promise.specs.Refusal.{IsUnfit}
 use Rattle.round_commands.specs.Unreadable.{Unreadable}
 use Rattle.confsolve_run.proofs.LogFiles.{file_refused, rest_refused, log_of}
-use Rattle.confsolve_run.proofs.checking.verdict_of.Goals as goal
+use Rattle.confsolve_run.proofs.checking.file_verdict.Goals as goal
 
 pub returns-in-Err-clause-refused : goal.returns-in-Err-clause-refused
 returns-in-Err-clause-refused g c =
