@@ -25,6 +25,7 @@ module _ (o : Outline) (ks : List ResolvedConstraint) (gs : List ResolvedGoal) (
         ordered = h.ordered;
         taken = h.taken;
         status_is = a.status_is ∙ ap (searched_status budget) h.shown;
+        within = h.within;
         all = λ is. (h.spent (subst (λ f. is_open f ≡ true) (sym h.shown) is)).all;
         due = λ is. (h.spent (subst (λ f. is_open f ≡ true) (sym h.shown) is)).due;
       }

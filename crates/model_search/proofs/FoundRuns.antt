@@ -44,8 +44,9 @@ spent_by g budget ls ended.Spent v is closed spent lacks = spent refl
 pub has_searched : (g : Ground) (budget : ℕ) (ls read kept : List Line) (end : Ended) (v : Ending) →
     read ≡ ls → kept ≡ ls → is_run g ls ≡ true → v ≡ ending g read → Means g (shown_of v) →
     FoundSolves g v.found → (end ≡ ended.Closed → has_empty (made g ls).clauses ≡ true) →
-    (end ≡ ended.Spent → (decisions ls ≡ budget) × MayDecide g ls) → HasSearched g budget kept v
-has_searched g budget ls read kept end v r k run is sound found closed spent =
+    (end ≡ ended.Spent → (decisions ls ≡ budget) × MayDecide g ls) → decisions ls ≤ budget →
+    HasSearched g budget kept v
+has_searched g budget ls read kept end v r k run is sound found closed spent within =
     let here : v ≡ ending g ls = is ∙ ap (λ xs. ending g xs) r in
     subst (λ xs. HasSearched g budget xs v) (sym k)
     (record {
@@ -53,6 +54,7 @@ has_searched g budget ls read kept end v r k run is sound found closed spent =
       verdict_is = here;
       sound = sound;
       found = found;
+      within = within;
       spent = λ lacks. spent_by g budget ls end v here closed spent lacks;
     })
 
@@ -93,6 +95,7 @@ has_run o ks gs r g order budget j told v kept problem searched ordered is more 
       shown = is ∙ ap (λ e. finding g e) searched.verdict_is;
       tells = subst (λ f. Tells o ks gs r f) (sym is)
           (verdict_tells o ks gs r g v problem searched.sound searched.found);
+      within = searched.within;
       spent = λ told_open. spent_of o g budget j v searched more (subst (λ f. is_open f ≡ true) is told_open);
     }
 

@@ -46,6 +46,7 @@ round_of o ks gs r budget round told h =
         well_made = subst (λ (g : Ground). IsWellMade g) (sym same) h.problem.stands.well_made;
         run = subst (λ (g : Ground). is_run g round.lines ≡ true) (sym same) h.run;
         taken = subst (λ (g : Ground). accepted g round.lines ≡ true) (sym same) h.taken;
+        within = h.within;
         all = λ is. (h.spent (subst (λ (f : Finding). is_open f ≡ true) shown is)).all;
         due = λ is. subst (λ (g : Ground). MayDecide g round.lines) (sym same)
             (h.spent (subst (λ (f : Finding). is_open f ≡ true) shown is)).due;

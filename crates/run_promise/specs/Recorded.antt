@@ -1,7 +1,7 @@
 -- What the journal holds behind an answer, whatever is known of files. What a reader believes after
 -- this file: a ground problem and the lines of a search over it, which are a run, are accepted, and
 -- show what the status says.
-use Rattle.std.specs.Prelude.{◌≡◌, [], ◌∷◌, Bool, true, false, List, Option, None, Some, map, replicate, ℕ, ℤ}
+use Rattle.std.specs.Prelude.{◌≡◌, ◌≤◌, [], ◌∷◌, Bool, true, false, List, Option, None, Some, map, replicate, ℕ, ℤ}
 use Rattle.std.specs.List.{All}
 use Rattle.branch_choice.specs.declared.split.Order.{Order}
 use Rattle.conf_request.specs.declared.request.Request.{Request}
@@ -35,6 +35,7 @@ pub record HasRecordedRun (repaired : Bool) (order : Order) (budget : ℕ) (s : 
   pub ordered : IsOrdered ground order values journal.lines
   pub taken : accepted ground journal.lines ≡ true
   pub status_is : s ≡ searched_status budget (finding ground (ending ground journal.lines))
+  pub within : decisions journal.lines ≤ budget
   pub all : is_open (finding ground (ending ground journal.lines)) ≡ true
       → decisions journal.lines ≡ budget
   pub due : is_open (finding ground (ending ground journal.lines)) ≡ true
@@ -52,6 +53,7 @@ pub record IsRoundOf (budget : ℕ) (round : Round) : Type 0 where
   pub well_made : IsWellMade round.ground
   pub run : is_run round.ground round.lines ≡ true
   pub taken : accepted round.ground round.lines ≡ true
+  pub within : decisions round.lines ≤ budget
   pub all : is_open (told_by round) ≡ true → decisions round.lines ≡ budget
   pub due : is_open (told_by round) ≡ true → MayDecide round.ground round.lines
 

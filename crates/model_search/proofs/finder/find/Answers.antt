@@ -7,4 +7,4 @@ returns-clause-searched g c =
     c.keep.new.self.lines c.in_ok-end.end c.in_ok-verdict.verdict c.lines.ensures
     c.keep.ensures.lines c.in_ok-end.ensures.run c.in_ok-verdict.ensures.verdict
     c.in_ok-verdict.ensures.sound c.in_ok-verdict.ensures.found c.in_ok-end.ensures.closed
-    c.in_ok-end.ensures.spent
+    c.in_ok-end.ensures.spent c.in_ok-end.ensures.within
