@@ -59,6 +59,12 @@ narrowed_first ks rounds list p h =
     }
 
 -- a search over the list tells so
+pub round_narrowed : (ks : List ResolvedConstraint) (list : List ℕ) (rounds : List Round)
+    (end : VerdictKind) → IsPart ks list → HasRound rounds (λ part. part ≡ list) end →
+    end ≡ kinds.NoSolution → IsNarrowed ks rounds [] list
+round_narrowed ks list rounds end p h e =
+    narrowed_first ks rounds list p (subst (λ x. HasRound rounds (λ part. part ≡ list) x) e h)
+
 pub tried_narrowed : (o : Outline) (ks : List ResolvedConstraint) (budget : ℕ) (list : List ℕ)
     (rounds now : List Round) (end : VerdictKind) → IsPart ks list →
     HasTried o ks budget list rounds now end → end ≡ kinds.NoSolution →

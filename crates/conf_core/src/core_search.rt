@@ -14,7 +14,7 @@ use crate::answer::CoreAnswer;
 use crate::blame::blamed_by;
 use crate::indexes::all_indexes;
 use crate::narrowing::{Settled, indexes, narrowed, unsure};
-use crate::part_search::{Subject, Tried, try_part};
+use crate::part_search::{Subject, Tried, decide_part, try_part};
 use conf_types::TypedModel;
 use ground_model::Origins;
 use log_check::VerdictKind;
@@ -25,7 +25,7 @@ use run_finder::Finder;
 use std::alloc::{AllocError, Global};
 
 /// Whether no configuration satisfies these constraints either: a search over them tells.
-#[tactic(auto, using(crate::proofs::Rounds::tried_grown, crate::proofs::Rounds::same_grown, crate::proofs::Narrowings::tried_narrowed))]
+#[tactic(auto, using(crate::proofs::Narrowings::round_narrowed))]
 fn are_impossible<F: Finder>(
     with: Subject<'_>,
     list: &[u32],
@@ -48,8 +48,8 @@ fn are_impossible<F: Finder>(
     ensures lines { OnOk result (journal.new.lines ≡ []) }
     ensures budget { F.allowed finder.new ≡ F.allowed finder.old }
 {
-    let tried = try_part(with, list.to_vec(with.alloc)?, finder, journal)?;
-    Ok(tried.end == VerdictKind::NoSolution)
+    let end = decide_part(with, list, finder, journal)?;
+    Ok(end == VerdictKind::NoSolution)
 }
 
 /// Constraints that no configuration satisfies, and how many of them are left out first.

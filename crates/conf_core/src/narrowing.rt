@@ -13,7 +13,7 @@ ghost use Rattle.conf_types.specs.Typing.{IsTypedModel};
 ghost use Rattle.proof_log.specs.declared.journal.Round.{Round as ARound};
 ghost use Rattle.log_check.specs.declared.verdict.VerdictKind.TheVariants as kinds;
 
-use crate::part_search::{Subject, try_part};
+use crate::part_search::{Subject, decide_part};
 use log_check::VerdictKind;
 use proof_log::Journal;
 use run_finder::Finder;
@@ -68,7 +68,7 @@ fn part_with(alloc: Global, settled: &[Settled], others: &[u32]) -> Result<Vec<u
 }
 
 /// Searches with the settled constraints and these others, which are the rest but for the first.
-#[tactic(auto, using(crate::proofs::Rounds::tried_round, crate::proofs::Rounds::tried_grown, crate::proofs::Rounds::same_grown))]
+#[tactic(auto, using(crate::proofs::Rounds::same_grown))]
 fn tried_with<F: Finder>(
     with: Subject<'_>,
     n: &Narrowing,
@@ -94,8 +94,8 @@ fn tried_with<F: Finder>(
     ensures budget { F.allowed finder.new ≡ F.allowed finder.old }
 {
     let part = part_with(with.alloc, &n.settled, others)?;
-    let tried = try_part(with, part, finder, journal)?;
-    Ok(tried.end)
+    let end = decide_part(with, &part, finder, journal)?;
+    Ok(end)
 }
 
 /// The first of them.

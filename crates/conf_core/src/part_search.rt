@@ -1,7 +1,8 @@
 //! A search over a part of a model, which is a round of the journal.
 ghost use Rattle.std.specs.Prelude.{◌≡◌, [], true, None, IfOk, OnOk, OnErr};
 ghost use Rattle.conf_core.specs.Parts.{IsPart, HasTried};
-ghost use Rattle.conf_core.specs.Searching.{HasClosed};
+ghost use Rattle.conf_core.specs.Cores.{HasRound};
+ghost use Rattle.conf_core.specs.Searching.{HasClosed, HasGrown};
 ghost use Rattle.conf_limits.specs.Measures.{model_narrow};
 ghost use Rattle.conf_types.specs.Typing.{IsTypedModel};
 ghost use Rattle.ground_form.specs.WellMade.{IsWellMade};
@@ -130,4 +131,68 @@ pub(crate) fn try_part<F: Finder>(
     );
     let end = verdict.kind();
     Ok(Tried { end, origins })
+}
+
+/// How the search over a part ended, which is then the journal's last round.
+#[tactic(auto, using(crate::proofs::Rounds::tried_round, crate::proofs::Rounds::tried_grown, crate::proofs::Rounds::same_grown))]
+fn part_end<F: Finder>(
+    with: Subject<'_>,
+    part: &[u32],
+    finder: &mut F,
+    journal: &mut Journal,
+) -> Result<VerdictKind, AllocError>
+    requires typed { IsTypedModel with.objects.now with.model.now.constraints
+        with.model.now.goals }
+    requires narrow { model_narrow with.objects.now with.model.now.constraints
+        with.model.now.goals ≡ true }
+    requires part { IsPart with.model.now.constraints part.now }
+    requires budget { F.allowed finder.old ≡ with.budget }
+    requires ground { journal.old.ground ≡ None }
+    requires lines { journal.old.lines ≡ [] }
+    ensures tried { IfOk result (λ end. HasRound journal.new.rounds (λ p. p ≡ part.now) end) }
+    ensures grown { HasGrown with.entry.objects.now with.entry.model.now.constraints
+        with.entry.budget journal.old.rounds journal.new.rounds }
+    ensures ground { OnOk result (journal.new.ground ≡ None) }
+    ensures lines { OnOk result (journal.new.lines ≡ []) }
+    ensures budget { F.allowed finder.new ≡ F.allowed finder.old }
+{
+    let tried = try_part(with, part.to_vec(with.alloc)?, finder, journal)?;
+    Ok(tried.end)
+}
+
+/// How the search over a part ended. Where it is undecided the part is searched once more by
+/// another order, if the finder has one. It goes on by the order that decided.
+///
+/// # Errors
+/// Want of memory.
+pub(crate) fn decide_part<F: Finder>(
+    with: Subject<'_>,
+    part: &[u32],
+    finder: &mut F,
+    journal: &mut Journal,
+) -> Result<VerdictKind, AllocError>
+    requires typed { IsTypedModel with.objects.now with.model.now.constraints
+        with.model.now.goals }
+    requires narrow { model_narrow with.objects.now with.model.now.constraints
+        with.model.now.goals ≡ true }
+    requires part { IsPart with.model.now.constraints part.now }
+    requires budget { F.allowed finder.old ≡ with.budget }
+    requires ground { journal.old.ground ≡ None }
+    requires lines { journal.old.lines ≡ [] }
+    ensures tried { IfOk result (λ end. HasRound journal.new.rounds (λ p. p ≡ part.now) end) }
+    ensures grown { HasGrown with.entry.objects.now with.entry.model.now.constraints
+        with.entry.budget journal.old.rounds journal.new.rounds }
+    ensures ground { OnOk result (journal.new.ground ≡ None) }
+    ensures lines { OnOk result (journal.new.lines ≡ []) }
+    ensures budget { F.allowed finder.new ≡ F.allowed finder.old }
+{
+    let end = part_end(with, part, finder, journal)?;
+    if end != VerdictKind::Open || !finder.next_order() {
+        return Ok(end);
+    }
+    let again = part_end(with, part, finder, journal)?;
+    if again == VerdictKind::Open {
+        let _back = finder.next_order();
+    }
+    Ok(again)
 }

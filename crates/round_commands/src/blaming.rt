@@ -64,6 +64,14 @@ fn blame<F: Finder>(
     })
 }
 
+/// The number of the order by which a search that was undecided is made once more: fewest values
+/// first, and of that the order of the cells.
+fn other_order(order: u8) -> u8
+    ensures { result ≤ 2 }
+{
+    if order == 1 { 0 } else { 1 }
+}
+
 /// The answer to `core`, by searches each of which may take so many decisions, with the chooser of
 /// this number.
 pub fn blame_model(
@@ -89,6 +97,7 @@ pub fn blame_model(
     let choosers = with.choosers;
     let all = &choosers[..];
     let chooser = &all[order as usize];
+    let spare = Some(&all[other_order(order) as usize]);
     kit.begin();
     let limits = Limits {
         alloc: with.alloc,
@@ -98,6 +107,7 @@ pub fn blame_model(
         limits,
         kit,
         chooser,
+        spare,
     };
     blame(with.alloc, built, &mut finder, journal)
 }

@@ -25,6 +25,8 @@ pub(crate) struct Searching<'a> {
     pub limits: Limits,
     pub kit: &'a mut Kit,
     pub chooser: &'a Chooser,
+    /// Another order, by which searches may go on.
+    pub spare: Option<&'a Chooser>,
 }
 
 impl<'a> Finder for Searching<'a> {
@@ -34,6 +36,17 @@ impl<'a> Finder for Searching<'a> {
 
     fn budget(&self) -> u32 {
         self.limits.budget
+    }
+
+    fn next_order(&mut self) -> bool {
+        match self.spare {
+            Some(other) => {
+                self.spare = Some(self.chooser);
+                self.chooser = other;
+                true
+            }
+            None => false,
+        }
     }
 
     fn find(

@@ -302,6 +302,7 @@ fn hold_opened<D: Desk>(
         limits,
         kit,
         chooser,
+        spare: None,
     };
     let setting = Setting {
         alloc: with.alloc,

@@ -82,6 +82,7 @@ fn found(
         limits,
         kit,
         chooser,
+        spare: None,
     };
     find_best(with.alloc, question, &mut finder, journal)
 }

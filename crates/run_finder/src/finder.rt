@@ -23,6 +23,10 @@ pub trait Finder {
     fn budget(&self) -> u32
         ensures { result ≡ allowed self.now };
 
+    /// From now on it decides by another order, where it has one; it answers whether it has.
+    fn next_order(&mut self) -> bool
+        ensures budget { allowed self.new ≡ allowed self.old };
+
     /// Searches for a best solution, and leaves problem and run in the present round of the
     /// journal. The round has neither yet, and `hints` has a value, or none, for each searched
     /// variable. The rounds before it stay as they are, after want of memory too.
