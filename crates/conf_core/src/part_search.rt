@@ -165,6 +165,7 @@ fn part_end<F: Finder>(
 ///
 /// # Errors
 /// Want of memory.
+#[tactic(auto, using(crate::proofs::Rounds::grown_more))]
 pub(crate) fn decide_part<F: Finder>(
     with: Subject<'_>,
     part: &[u32],
