@@ -138,8 +138,8 @@ pub fn learn(g: &Ground, e: &mut Engine, journal: &mut Journal, n: u64) -> Resul
     Ok(after)
 }
 
-/// Backjumps for a learnt clause: its level is dropped, it is applied in the boxes below, and it gets a
-/// number and is kept.
+/// Backjumps for a learnt clause: its level is dropped, it is applied in the boxes below, and it
+/// gets a number and is kept.
 fn backjump(
     g: &Ground,
     e: &mut Engine,

@@ -11,8 +11,8 @@
 //!
 //! - `watches`: the clauses, and what callers do with them.
 //! - `table`: all that is kept of them; `build`: how it begins and grows.
-//! - `next`: the search for a clause, in two halves: `visiting` walks the rows of changed variables,
-//!   `search` opens listed clauses.
+//! - `next`: the search for a clause, in two halves: `visiting` walks the rows of changed
+//!   variables, `search` opens listed clauses.
 //! - `look`, `link`, `held`: what is found in a clause, and what is written down then.
 //! - `packed`: the literals of each clause once more, as looks read them.
 //! - `rest`, `steps`: why a clause needs no look, and what becomes of that.

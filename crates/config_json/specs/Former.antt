@@ -1,5 +1,5 @@
--- The values that a former JSON value gives: of each leaf the value at the leaf's position, where it
--- is one of the leaf's.
+-- The values that a former JSON value gives: of each leaf the value at the leaf's position, where
+-- it is one of the leaf's.
 use Rattle.std.specs.Prelude.{ℕ, zero, suc, Bool, ◌&&◌, cond, List, [], ◌∷◌, ◌++◌, Option, None, Some, ℤ, pos, int_le, is_some, length, map, nat_eq, position, replicate, slice_get, option_map, option_and_then}
 use Rattle.std.specs.List.{flat_map, list_any}
 use Rattle.std.specs.Option.{option_map_or}

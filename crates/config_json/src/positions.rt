@@ -60,8 +60,8 @@ pub(crate) fn owner_position<'v>(
     owner: Option<u32>,
 ) -> Option<&'v Value>
     requires owner { IfSome owner (λ n. n < length positions.now) }
-    ensures position { seen result ≡ owner_position (λ n. seen (slice_index_or positions.now n None))
-        (view former.now) owner }
+    ensures position { seen result
+        ≡ owner_position (λ n. seen (slice_index_or positions.now n None)) (view former.now) owner }
 {
     match owner {
         Some(n) => positions[n as usize],
@@ -96,8 +96,8 @@ fn step_to<'v>(
     }
 }
 
-/// The position of an object, from the positions of those before it: an object is held by one with a
-/// lesser number.
+/// The position of an object, from the positions of those before it: an object is held by one with
+/// a lesser number.
 fn position_of<'v>(
     alloc: Global,
     objects: &Objects<'_>,

@@ -12,8 +12,8 @@ use Rattle.run_promise.specs.Answer.{searched_status, IsSearched}
 use Rattle.run_promise.specs.Recorded.{HasRecordedRun}
 
 module _ (o : Outline) (ks : List ResolvedConstraint) (gs : List ResolvedGoal) (order : Order) (budget : ℕ) (journal : Journal) (s : Status) (text : Finding → List ℕ) (printed : List ℕ) where
-  has_searched : (repaired : Bool) (r : Option Repair) → (repaired ≡ false → r ≡ None) → IsSearched o ks gs r order budget journal s text printed → HasRecordedRun repaired order budget s journal
-  has_searched repaired r none a =
+  has_recorded_run : (repaired : Bool) (r : Option Repair) → (repaired ≡ false → r ≡ None) → IsSearched o ks gs r order budget journal s text printed → HasRecordedRun repaired order budget s journal
+  has_recorded_run repaired r none a =
       let h = a.run in
       record {
         ground = h.ground;
@@ -32,7 +32,7 @@ module _ (o : Outline) (ks : List ResolvedConstraint) (gs : List ResolvedGoal) (
 
   -- a search without a repair had no values to go by
   pub has_solved : IsSearched o ks gs None order budget journal s text printed → HasRecordedRun false order budget s journal
-  has_solved a = has_searched false None (λ e. refl) a
+  has_solved a = has_recorded_run false None (λ e. refl) a
 
   pub has_repaired : (r : Option Repair) → IsSearched o ks gs r order budget journal s text printed → HasRecordedRun true order budget s journal
-  has_repaired r a = has_searched true r (λ e. absurd cc) a
+  has_repaired r a = has_recorded_run true r (λ e. absurd cc) a

@@ -88,8 +88,8 @@ all_gone_on v (i ∷ is) boxes = gone_on v (box_of boxes i.0) + all_gone_on v is
 
 abbrev pub AreCounted : List BinCounts → ℤ → List (ℕ × ℕ × ℕ) → Boxes → Type 0
 AreCounted bins v items boxes =
-    (d : BinCounts) (e : ℕ) → e < length bins → IsCounted (slice_index_or bins e d) (v +ℤ pos e) items
-    boxes
+    (d : BinCounts) (e : ℕ) → e < length bins →
+    IsCounted (slice_index_or bins e d) (v +ℤ pos e) items boxes
 
 abbrev pub AreBegun : List ℕ → ℤ → List (ℕ × ℕ × ℕ) → Boxes → Type 0
 AreBegun counts v items boxes =

@@ -145,8 +145,8 @@ fn reset_counts(counts: &mut Vec<usize>, n: usize) -> Result<(), AllocError>
 /// As many bins, in which nothing is counted.
 fn reset_bins(bins: &mut Vec<BinCounts>, n: usize) -> Result<(), AllocError>
     ensures size { IfOk result (λ u. length bins.new.items ≡ n) }
-    ensures none { IfOk result (λ u. (first : ℤ) (boxes : Boxes) → AreCounted bins.new.items first []
-        boxes) }
+    ensures none { IfOk result (λ u. (first : ℤ) (boxes : Boxes)
+        → AreCounted bins.new.items first [] boxes) }
 {
     bins.clear();
     bins.resize(n, BinCounts::bare())?;

@@ -28,7 +28,8 @@ AreBestRooms v (b ∷ bs) items boxes =
 -- the same, entry by entry
 abbrev pub HaveBestRooms : List ValueRooms → ℤ → List (ℕ × ℕ × ℕ) → Boxes → Type 0
 HaveBestRooms rows v items boxes =
-    (d : ValueRooms) (e : ℕ) → e < length rows → AreValueRooms (v +ℤ pos e) (slice_index_or rows e d) items boxes
+    (d : ValueRooms) (e : ℕ) → e < length rows →
+    AreValueRooms (v +ℤ pos e) (slice_index_or rows e d) items boxes
 
 -- the second is the first with one more room, if there is one
 pub record IsRaised (there : Bool) (room : ℤ) (stays : Bool) (b c : ValueRooms) : Type 0 where

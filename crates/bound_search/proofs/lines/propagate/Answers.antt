@@ -4,7 +4,7 @@ use Rattle.bound_search.specs.Engines.{TurnOf}
 use Rattle.bound_search.proofs.UseAxiom.{kept_both}
 use Rattle.bound_search.proofs.lines.propagate.Goals as goal
 
-pub returns-in_err-propagate_once-clause-kept : goal.returns-in_err-turn-clause-kept
+pub returns-in_err-propagate_once-clause-kept : goal.returns-in_err-propagate_once-clause-kept
 returns-in_err-propagate_once-clause-kept g c =
     kept_both c.args.g.now c.args.journal.now c.lines.journal c.propagate_once.new.journal
     c.lines.invariant.kept c.propagate_once.ensures.kept

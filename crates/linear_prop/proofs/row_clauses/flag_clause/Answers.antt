@@ -10,5 +10,5 @@ pub pruning-requires : goal.pruning-requires
 pruning-requires c = record {
   reason =
       flag_done c.args.subject.con.now (terms_of c.args.row.now) c.args.subject.domains.now c.args.subject.boxes.now c.args.row.now.bound.value c.args.cause.index c.args.cause.to.value c.in_ok-_left._left c.args.flag c.args.v.value
-      c.explain.new.out.items c.put_flag.new.out.items c.set_at.result.now c.requires.over c.in_ok-_left.ensures c.set_at.ensures c.in_ok-put_flag.ensures c.requires.flag c.requires.apart c.requires.opposed c.requires.follows;
+      c.explain.new.out.items c.put_flag.new.out.items c.set_at.result.now c.requires.over c.in_ok-_left.ensures c.set_at.ensures c.in_ok-put_flag.ensures c.requires.flag c.requires.different c.requires.opposed c.requires.follows;
 }

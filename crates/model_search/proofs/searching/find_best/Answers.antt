@@ -14,7 +14,7 @@ returns-clause-run g c =
     found_run o q.model.now.constraints q.model.now.goals (option_copied q.repair) c.in_ok-g.g here
     (g.F.Finder.order c.args.finder.now) (g.F.Finder.allowed c.args.finder.now)
     c.searched.new.journal c.in_ok-told.told c.in_ok-verdict.verdict
-    c.in_ok-verdict.ensures.problem c.ground.ensures.some c.in_ok-g.ensures.problem
+    c.in_ok-verdict.ensures.problem c.in-Some.ensures.some c.in_ok-g.ensures.problem
     c.in_ok-verdict.ensures.searched c.in_ok-verdict.ensures.ordered c.in_ok-told.ensures.finding
     (subst (λ ls. MayDecide here ls → decisions ls + 2 ≤ configuration_count o) c.lines.ensures
     c.undecided_has_more.ensures.more)
