@@ -31,14 +31,21 @@ fn mark(marks: &mut Vec<bool>, index: u32)
     }
 }
 
+/// Sets the mark of the constraint that is at this place of a part.
+fn mark_at(marks: &mut Vec<bool>, part: &[u32], i: usize)
+    ensures { length marks.new.items ≡ length marks.old.items }
+{
+    if i < part.len() {
+        mark(marks, part[i]);
+    }
+}
+
 /// Sets the mark of the constraint of this part for which the problem's was stated.
 fn mark_origin(marks: &mut Vec<bool>, part: &[u32], origins: &Origins, con: u32)
     ensures { length marks.new.items ≡ length marks.old.items }
 {
-    if let Some(i) = origins.of(con)
-        && i < part.len()
-    {
-        mark(marks, part[i]);
+    if let Some(i) = origins.of(con) {
+        mark_at(marks, part, i);
     }
 }
 
@@ -58,9 +65,7 @@ fn mark_fixing(marks: &mut Vec<bool>, part: &[u32], origins: &Origins)
     ensures { length marks.new.items ≡ length marks.old.items }
 {
     for i in origins.fixing() {
-        if *i < part.len() {
-            mark(marks, part[*i]);
-        }
+        mark_at(marks, part, *i);
     }
 }
 

@@ -23,7 +23,7 @@ is_simple (tree.Minus at e) = is_simple e
 is_simple (tree.Not at e) = is_simple e
 is_simple (tree.Dot at e k s) = is_simple e
 is_simple (tree.Pair at q l r) = is_simple l && is_simple r
-is_simple (tree.Quant at k over filter bodies) = false
+is_simple (tree.Quant at k over f bodies) = false
 is_simple t = true
 
 abbrev pub is_simple_filter : Filter → Bool
