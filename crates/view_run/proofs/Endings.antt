@@ -19,7 +19,7 @@ use Rattle.view_run.specs.declared.status.Status.TheVariants.{Same, Differs, Sho
 -- both files were read, and the plan between them made
 pub is_asked : (files later : Option Files) (a : PlanAsked) (d e : Data) (text : List ℕ) (b : Bool)
     → later ≡ files → OfFile files a.former (λ bytes. text_json bytes ≡ Some d)
-    → OfFile later a.new (λ bytes. text_json bytes ≡ Some e) → IsPlanText d e text b
+    → OfFile later a.new (λ bytes. text_json bytes ≡ Some e) → IsPlanText d e a.options text b
     → IsAsked files a text b
 is_asked files later a d e text b same former new planned = record {
   before = d;

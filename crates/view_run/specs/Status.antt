@@ -27,7 +27,7 @@ line_of Differs = []
 line_of Shown = []
 line_of Stuck = codes "stuck"
 line_of Usage =
-    codes "usage: confsolve-view plan FORMER NEW, picture CONFIG .., or steps FORMER NEW .."
+    codes "usage: confsolve-view plan FORMER NEW .., picture CONFIG .., steps FORMER NEW .."
 line_of (Unreadable Former) = codes "former unreadable"
 line_of (Unreadable New) = codes "new unreadable"
 line_of (Unreadable Config) = codes "configuration unreadable"
