@@ -9,9 +9,8 @@ use Rattle.view_leaves.specs.Reading.{text_json}
 use Rattle.view_run.specs.Answers.{IsPlanText}
 use Rattle.view_run.specs.Ending.{Trace, IsAsked, IsAnswered, IsCutOff, PlanEnds, IsFaulty, IsDenied, IsDelivered, IsPictured, PictureEnds, IsUndrawn, IsHandedOut, IsLedOut, StepsEnds, IsUnordered, IsSentOut, two_files}
 use Rattle.view_run.specs.Pictured.{IsPicture, IsBlank, IsDrawn}
-use Rattle.view_run.specs.Stepped.{IsStepped, IsUnstepped, IsOrdered, LacksSteps, has_known, has_failed}
+use Rattle.view_run.specs.Stepped.{IsStepped, IsUnstepped, IsOrdered, LacksSteps, HasSetAmong, has_known, has_failed}
 use Rattle.view_run.specs.Words.{PlanAsked, PictureAsked, StepsAsked}
-use Rattle.view_steps.specs.Answer.{MovesSets as MovesSomeSet}
 use Rattle.view_run.specs.declared.status.Source.TheVariants.{Former, New, Config}
 use Rattle.view_run.specs.declared.status.Status.{Status as Ended}
 use Rattle.view_run.specs.declared.status.Status.TheVariants.{Same, Differs, Shown, Stuck, Usage, Unreadable, TooLong, NotJson, NotObject, NoAttribute, NoPart, MovesSets, WriteFault, Memory}
@@ -312,7 +311,7 @@ unstepped files later a d e reads now NoAttribute same former new h =
 unstepped files later a d e reads now NoPart same former new h =
     lacks_steps files later a d e (λ x y. has_failed y a ≡ false) same former new h
 unstepped files later a d e reads now MovesSets same former new h =
-    lacks_steps files later a d e (λ x y. MovesSomeSet x y a.attribute) same former new h
+    lacks_steps files later a d e (HasSetAmong a) same former new h
 unstepped files later a d e reads now WriteFault same former new h = absurd h
 unstepped files later a d e reads now Memory same former new h = tt
 

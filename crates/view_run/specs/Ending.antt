@@ -8,9 +8,8 @@ use Rattle.serde_json.specs.Data.{Data}
 use Rattle.view_leaves.specs.Reading.{text_json, IsOther}
 use Rattle.view_run.specs.Answers.{IsPlanText}
 use Rattle.view_run.specs.Pictured.{IsDrawn, LacksAttribute, LacksPart}
-use Rattle.view_run.specs.Stepped.{IsOrdered, LacksSteps, has_known, has_failed}
+use Rattle.view_run.specs.Stepped.{IsOrdered, LacksSteps, HasSetAmong, has_known, has_failed}
 use Rattle.view_run.specs.Words.{Asked, PlanAsked, PictureAsked, StepsAsked, plan, picture, steps}
-use Rattle.view_steps.specs.Answer.{MovesSets as MovesSomeSet}
 use Rattle.view_run.specs.declared.status.Source.{Source}
 use Rattle.view_run.specs.declared.status.Source.TheVariants.{Former, New, Config}
 use Rattle.view_run.specs.declared.status.Status.{Status as Ended}
@@ -245,7 +244,7 @@ IsUnordered files asked reads reads_now NoAttribute =
 IsUnordered files asked reads reads_now NoPart =
     LacksSteps files asked (λ d e. has_failed e asked ≡ false)
 IsUnordered files asked reads reads_now MovesSets =
-    LacksSteps files asked (λ d e. MovesSomeSet d e asked.attribute)
+    LacksSteps files asked (HasSetAmong asked)
 IsUnordered files asked reads reads_now WriteFault = ⊥
 IsUnordered files asked reads reads_now Memory = ⊤
 
@@ -267,7 +266,7 @@ StepsEnds files asked t NoAttribute =
 StepsEnds files asked t NoPart =
     IsRefused t (LacksSteps files asked (λ d e. has_failed e asked ≡ false))
 StepsEnds files asked t MovesSets =
-    IsRefused t (LacksSteps files asked (λ d e. MovesSomeSet d e asked.attribute))
+    IsRefused t (LacksSteps files asked (HasSetAmong asked))
 StepsEnds files asked t WriteFault = IsBrokenOff files asked t
 StepsEnds files asked t Memory = ⊤
 

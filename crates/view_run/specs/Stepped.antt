@@ -24,6 +24,10 @@ pub record IsStepped (d e : Data) (a : StepsAsked) (text : List ℕ) (stuck : Bo
   pub there : has_failed e a ≡ true
   pub steps : IsSteps d e a.attribute (sizes_of false a.options) text stuck
 
+-- a set is among what moves
+abbrev pub HasSetAmong : StepsAsked → Data → Data → Type 0
+HasSetAmong a d e = MovesSomeSet d e a.attribute
+
 -- why there is no order
 abbrev pub IsUnstepped : Data → Data → StepsAsked → Ended → Type 0
 IsUnstepped d e a Same = ⊥
@@ -37,7 +41,7 @@ IsUnstepped d e a (NotJson s) = ⊥
 IsUnstepped d e a (NotObject s) = ⊥
 IsUnstepped d e a NoAttribute = has_known d e a ≡ false
 IsUnstepped d e a NoPart = has_failed e a ≡ false
-IsUnstepped d e a MovesSets = MovesSomeSet d e a.attribute
+IsUnstepped d e a MovesSets = HasSetAmong a d e
 IsUnstepped d e a WriteFault = ⊥
 IsUnstepped d e a Memory = ⊤
 

@@ -7,13 +7,16 @@ use Rattle.std.proofs.lemmas.List.Sorted.{IsPermutation-refl, IsPermutation-map,
 use mathlib.Core.List.{map-append}
 use Rattle.serde_json.specs.Data.{Data}
 use Rattle.view_leaves.specs.Ascending.{IsAscending, paths}
+use Rattle.view_leaves.specs.Leaves.{PathLeaf, leaves}
 use Rattle.view_leaves.specs.Paths.{Path, path_cmp}
-use Rattle.view_picture.specs.Picture.{PictureSize}
+use Rattle.view_picture.specs.Picture.{PictureLoad, PictureSize, carried}
 use Rattle.view_plan.specs.Plan.{PlanLine, line_path, IsPlan}
 use Rattle.view_steps.specs.Rooms.{found, first_rooms, rooms}
 use Rattle.view_steps.specs.Runs.{is_fit, all_back, last_made, IsSite, IsRun}
 use Rattle.view_steps.specs.Moves.{are_plain, moves_among}
-use Rattle.view_steps.specs.Steps.{Site, Lacks, AllFit, standing, last_first, IsOrder}
+use Rattle.view_steps.specs.Answer.{has_some, IsSteps, MovesSets}
+use Rattle.view_steps.specs.Steps.{Site, Lacks, AllFit, standing, last_first, site_of, IsOrder, IsOrdered}
+use Rattle.view_steps.specs.Text.{IsStepsText}
 use Rattle.view_steps.specs.Views.{move_line, move_path, IsSized, IsMove}
 use Rattle.view_steps.specs.declared.moves.Move.{Move}
 use Rattle.view_steps.specs.declared.run.Run.{Run}
@@ -82,3 +85,47 @@ run_ends site run is none =
           (sym (lines_last run.made.items))
           (line_lacks site (last_made run.made.items) run.left.items (all_lack site run is none));
     }
+
+-- what a run that has ended answers
+pub stepped : (d e : Data) (a : List ℕ) (sizes : List PictureSize) (old new : List PathLeaf)
+    (lines : List PlanLine) (ms all : List Move) (start run : Run)
+    (scales : List (List ℕ × List PictureLoad)) (text : List ℕ) (stuck : Bool)
+    → old ≡ leaves d → new ≡ leaves e
+    → IsPlan old new lines → IsAscending (paths old) → IsAscending (paths new)
+    → map move_line ms ≡ moves_among a lines → All (IsSized e a sizes) ms
+    → are_plain (map move_line all) ≡ true → all ≡ ms
+    → scales ≡ map (carried e a sizes new) (parts new)
+    → start.left.items ≡ ms → start.made.items ≡ []
+    → ((w : Bor (List ℕ)) → found start.rooms.entries w.now ≡ all_back ms w.now (first_rooms scales w.now))
+    → ((site : Site) → IsRun site start → IsRun site run)
+    → All (λ m. is_fit run.rooms.entries m ≡ false) run.left.items
+    → IsStepsText (map move_line run.made.items) (map move_line run.left.items) text
+    → stuck ≡ has_some (map move_line run.left.items)
+    → IsSteps d e a sizes text stuck
+stepped d e a sizes old new lines ms all start run scales text stuck olds news plan before behind same sized plain these carry left made back kept none shown is =
+    let site = site_of e a sizes old new lines in
+    let begins : IsRun site start = run_begins site lines ms start refl same plan before behind sized
+        (ap (λ xs. are_plain (map move_line xs)) (sym these) ∙ plain) left made
+        (λ w. back w ∙ ap (λ ss. all_back ms w.now (first_rooms ss w.now)) carry) in
+    let order = map move_line run.made.items in
+    let rest = map move_line run.left.items in
+    let ordered : IsOrdered e a sizes old new order rest = record { lines = lines; plan = plan; ordered = run_ends site run (kept site begins) none } in
+    record {
+      made = order;
+      left = rest;
+      ordered = subst (λ ls. IsOrdered e a sizes ls (leaves e) order rest) olds
+          (subst (λ ls. IsOrdered e a sizes old ls order rest) news ordered);
+      some_left = is;
+      shown = shown;
+    }
+
+-- a set among the moves
+pub moves_sets : (d e : Data) (a : List ℕ) (old new : List PathLeaf) (lines : List PlanLine)
+    (ms all : List Move) → old ≡ leaves d → new ≡ leaves e → IsPlan old new lines
+    → map move_line ms ≡ moves_among a lines
+    → are_plain (map move_line all) ≡ false → all ≡ ms → MovesSets d e a
+moves_sets d e a old new lines ms all olds news plan same sets these = record {
+  lines = lines;
+  plan = subst (λ ls. IsPlan ls (leaves e) lines) olds (subst (λ ls. IsPlan old ls lines) news plan);
+  sets = ap are_plain (sym same) ∙ ap (λ xs. are_plain (map move_line xs)) (sym these) ∙ sets;
+}

@@ -1,5 +1,6 @@
 pub mod AnswerLaws
 pub mod ListLaws
+pub mod MoveLaws
 pub mod OrderLaws
 pub mod RoomLaws
 pub mod SiteLaws

@@ -1,9 +1,9 @@
 //! What each holder can still take.
-ghost use Rattle.std.specs.Prelude.{◌≡◌, ◌∷◌, [], None, Some, ℕ, List, map, drop, option_map, if◌then◌else◌, IfOk, IfSome, OnOk, true};
+ghost use Rattle.std.specs.Prelude.{◌≡◌, ◌<◌, ◌∷◌, [], None, Some, ℕ, List, map, drop, length, option_map, slice_index_or, if◌then◌else◌, IfOk, IfSome, OnOk, true};
 ghost use Rattle.std.specs.Borrow.{Bor};
 ghost use Rattle.view_picture.specs.PictureViews.{load_seen, scale_seen};
 ghost use Rattle.view_steps.specs.Moves.{is_word};
-ghost use Rattle.view_steps.specs.Rooms.{allowed, taken, first, all_allowed, all_taken, found, is_one, word_allowed, some_taken, load_room, first_rooms, first_of};
+ghost use Rattle.view_steps.specs.Rooms.{Room, allowed, taken, first, all_allowed, all_taken, found, is_one, word_allowed, some_taken, load_room, first_rooms, first_of};
 
 use indexmap::IndexMap;
 use std::alloc::{AllocError, Global};
@@ -47,16 +47,51 @@ pub(crate) fn amount_at(amounts: &[i128], number: usize) -> i128
     }
 }
 
+/// The room of a number.
+fn room_at(rooms: &[Option<i128>], number: usize) -> Option<i128>
+    requires { number < length rooms.now }
+    ensures { (d : Room) → result ≡ slice_index_or rooms.now number d }
+{
+    rooms[number]
+}
+
+/// Whether so much of the size of a number may be put where there is this room.
+fn allowed_at(rooms: &[Option<i128>], amounts: &[i128], number: usize) -> bool
+    requires { number < length rooms.now }
+    ensures { result ≡ allowed (slice_index_or rooms.now number None)
+        (first (drop number amounts.now)) }
+{
+    let room = room_at(rooms, number);
+    let amount = amount_at(amounts, number);
+    allowed(room, amount)
+}
+
 /// Whether so much of each size may be put where there is this room.
 fn all_allowed(rooms: &[Option<i128>], amounts: &[i128]) -> bool
     ensures { result ≡ all_allowed rooms.now amounts.now }
 {
-    for (number, room) in rooms.iter().enumerate() {
-        if !allowed(*room, amount_at(amounts, number)) {
+    for number in 0..rooms.len() {
+        if !allowed_at(rooms, amounts, number) {
             return false;
         }
     }
     true
+}
+
+/// The room that is left of the size of a number.
+fn taken_at(
+    rooms: &[Option<i128>],
+    amounts: &[i128],
+    number: usize,
+) -> Result<Option<i128>, AllocError>
+    requires { number < length rooms.now }
+    ensures { IfOk result (λ left. left ≡ taken (slice_index_or rooms.now number None)
+        (first (drop number amounts.now))) }
+{
+    let room = room_at(rooms, number);
+    let amount = amount_at(amounts, number);
+    let left = taken(room, amount)?;
+    Ok(left)
 }
 
 /// The room that is left behind so much of each size.
@@ -68,8 +103,9 @@ fn all_taken(
     ensures { IfOk result (λ left. left.items ≡ all_taken rooms.now amounts.now) }
 {
     let mut left = Vec::new(alloc);
-    for (number, room) in rooms.iter().enumerate() {
-        left.push(taken(*room, amount_at(amounts, number))?)?;
+    for number in 0..rooms.len() {
+        let room = taken_at(rooms, amounts, number)?;
+        left.push(room)?;
     }
     Ok(left)
 }
@@ -129,7 +165,8 @@ pub(crate) fn put_at(
             None => Ok(()),
             Some((text, list)) => {
                 let left = all_taken(alloc, &list, amounts)?;
-                put_in(rooms, text, left)
+                put_in(rooms, text, left)?;
+                Ok(())
             }
         },
     }

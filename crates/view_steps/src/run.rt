@@ -41,7 +41,8 @@ pub(crate) fn put(
         step.now.less.items (found rooms.old.entries w.now)) }
 {
     put_at(alloc, rooms, to_word(&step.line.change), &step.more)?;
-    put_at(alloc, rooms, from_word(&step.line.change), &step.less)
+    put_at(alloc, rooms, from_word(&step.line.change), &step.less)?;
+    Ok(())
 }
 
 /// Puts a guest back where its move came from.
@@ -55,7 +56,8 @@ pub(crate) fn put_back(
         step.now.less.items (found rooms.old.entries w.now)) }
 {
     put_at(alloc, rooms, from_word(&step.line.change), &step.more)?;
-    put_at(alloc, rooms, to_word(&step.line.change), &step.less)
+    put_at(alloc, rooms, to_word(&step.line.change), &step.less)?;
+    Ok(())
 }
 
 /// Makes a move that fits.
@@ -89,7 +91,7 @@ fn first_fit(run: &Run<'_, '_, '_>) -> Option<usize>
 }
 
 /// Makes moves until none of those that are left fits.
-pub(crate) fn settle(alloc: Global, run: &mut Run<'_, '_, '_>) -> Result<(), AllocError>
+pub(crate) fn make_fitting(alloc: Global, run: &mut Run<'_, '_, '_>) -> Result<(), AllocError>
     ensures kept { OnOk result ((site : Site) → IsRun site run.old → IsRun site run.new) }
     ensures none { OnOk result (All (λ m. is_fit run.new.rooms.entries m ≡ false)
         run.new.left.items) }

@@ -3,21 +3,25 @@ ghost use Rattle.std.specs.Prelude.{◌≡◌, ℕ, List, [], false, map, IfErr,
 ghost use Rattle.std.specs.List.{All};
 ghost use Rattle.std.specs.Borrow.{Bor};
 ghost use Rattle.serde_json.specs.View.{view};
+ghost use Rattle.view_leaves.specs.Ascending.{IsAscending, paths};
+ghost use Rattle.view_leaves.specs.Leaves.{leaves};
+ghost use Rattle.view_leaves.specs.Views.{leaves_seen};
 ghost use Rattle.view_picture.specs.PictureViews.{scale_seen, size_seen};
-ghost use Rattle.view_steps.specs.Answer.{IsSteps, IsStepsRefused};
+ghost use Rattle.view_steps.specs.Answer.{has_some, IsSteps, IsStepsRefused};
 ghost use Rattle.view_steps.specs.Rooms.{found, first_rooms};
 ghost use Rattle.view_steps.specs.Runs.{all_back, is_fit, IsRun};
 ghost use Rattle.view_steps.specs.Steps.{Site};
+ghost use Rattle.view_steps.specs.Views.{move_line};
 ghost use Rattle.view_steps.specs.declared.steps.StepsError.TheVariants.{Memory};
 
-use crate::hints::{all_ready, rush};
+use crate::agenda::{all_ready, rush};
 use crate::moves::{Measure, Move, are_plain, moves_of};
 use crate::rooms::{Rooms, rooms_of};
-use crate::run::{Run, arrange, put_back, settle};
+use crate::run::{Run, arrange, make_fitting, put_back};
 use crate::text::steps_text;
 use serde_json::Value;
 use std::alloc::{AllocError, Global};
-use view_leaves::leaves_of;
+use view_leaves::{Leaf, leaves_of};
 use view_picture::{Scale, scales_of};
 use view_plan::plan;
 
@@ -95,11 +99,50 @@ fn ran<'t, 'l, 'a>(
         made.left.items) }
 {
     let mut run = start;
-    let mut hints = all_ready(alloc, &run.left, sizes, failed)?;
-    rush(alloc, &mut run, &mut hints)?;
-    settle(alloc, &mut run)?;
+    let mut agenda = all_ready(alloc, &run.left, sizes, failed)?;
+    rush(alloc, &mut run, &mut agenda)?;
+    make_fitting(alloc, &mut run)?;
     arrange(&mut run)?;
     Ok(run)
+}
+
+/// Whether moves are left.
+fn has_left(run: &Run<'_, '_, '_>) -> bool
+    ensures { result ≡ has_some (map move_line run.now.left.items) }
+{
+    !run.left.is_empty()
+}
+
+/// An order of the moves from one configuration to another, of which these are the leaves.
+fn steps_between<'v>(
+    alloc: Global,
+    former: &'v Value,
+    old: &[Leaf<'v>],
+    new: &[Leaf<'v>],
+    measure: Measure<'_, 'v>,
+    failed: &[&str],
+) -> Result<Steps, StepsError>
+    requires old { leaves_seen old.now ≡ leaves (view former.now) }
+    requires new { leaves_seen new.now ≡ leaves (view measure.whole.now) }
+    requires before { IsAscending (paths (leaves_seen old.now)) }
+    requires behind { IsAscending (paths (leaves_seen new.now)) }
+    ensures steps { IfOk result (λ made. IsSteps (view former.now) (view measure.entry.whole.now)
+        measure.entry.attribute.now (map size_seen measure.entry.sizes.now) made.text.items
+        made.stuck) }
+    ensures refused { IfErr result (IsStepsRefused (view former.now) (view measure.entry.whole.now)
+        measure.entry.attribute.now) }
+{
+    let lines = plan(alloc, old, new)?;
+    let moves = moves_of(alloc, measure, lines)?;
+    if !are_plain(&moves) {
+        return Err(StepsError::Sets);
+    }
+    let scales = scales_of(alloc, measure.whole, new, measure.attribute, measure.sizes)?;
+    let start = begun(alloc, &scales, moves)?;
+    let ended = ran(alloc, start, measure.sizes.len(), failed)?;
+    let text = steps_text(alloc, &ended, measure.sizes)?;
+    let stuck = has_left(&ended);
+    Ok(Steps { text, stuck })
 }
 
 /// An order of the moves from one configuration to another.
@@ -117,17 +160,6 @@ pub fn steps_of<'v>(
 {
     let old = leaves_of(alloc, former)?;
     let new = leaves_of(alloc, measure.whole)?;
-    let lines = plan(alloc, &old, &new)?;
-    let moves = moves_of(alloc, measure, lines)?;
-    if !are_plain(&moves) {
-        return Err(StepsError::Sets);
-    }
-    let scales = scales_of(alloc, measure.whole, &new, measure.attribute, measure.sizes)?;
-    let start = begun(alloc, &scales, moves)?;
-    let run = ran(alloc, start, measure.sizes.len(), failed)?;
-    let text = steps_text(alloc, &run, measure.sizes)?;
-    Ok(Steps {
-        text,
-        stuck: !run.left.is_empty(),
-    })
+    let steps = steps_between(alloc, former, &old, &new, measure, failed)?;
+    Ok(steps)
 }

@@ -1,5 +1,5 @@
 //! The text of an order of moves.
-ghost use Rattle.std.specs.Prelude.{◌≡◌, ◌++◌, false, decimal, IfOk, OnOk, map};
+ghost use Rattle.std.specs.Prelude.{◌≡◌, ◌++◌, codes, false, decimal, IfOk, OnOk, map};
 ghost use Rattle.std.specs.List.{flat_map, list_any};
 ghost use Rattle.view_plan.specs.Text.{line_text, shows_fraction};
 ghost use Rattle.view_steps.specs.Text.{counted_text, IsStepsText};
@@ -129,7 +129,28 @@ fn push_counted(
         → text.new.items ≡ text.old.items ++ counted_text what.now (map move_line moves.now)) }
 {
     push_moves(alloc, text, moves)?;
-    push_count(alloc, text, moves.len(), what)
+    push_count(alloc, text, moves.len(), what)?;
+    Ok(())
+}
+
+/// The text of the moves that were made.
+fn made_text(alloc: Global, run: &Run<'_, '_, '_>) -> Result<Vec<u8>, AllocError>
+    ensures { IfOk result (λ text. list_any shows_fraction (map move_line run.now.made.items) ≡ false
+        → text.items ≡ counted_text (codes " steps\n") (map move_line run.now.made.items)) }
+{
+    let mut text = Vec::new(alloc);
+    push_counted(alloc, &mut text, &run.made, " steps\n")?;
+    Ok(text)
+}
+
+/// Writes the moves that are left.
+fn push_left(alloc: Global, text: &mut Vec<u8>, run: &Run<'_, '_, '_>) -> Result<(), AllocError>
+    ensures { OnOk result (list_any shows_fraction (map move_line run.now.left.items) ≡ false
+        → text.new.items ≡ text.old.items
+        ++ counted_text (codes " left\n") (map move_line run.now.left.items)) }
+{
+    push_counted(alloc, text, &run.left, " left\n")?;
+    Ok(())
 }
 
 /// The text of an order: a line for each move, and how many; and where moves are left, a line for
@@ -143,8 +164,7 @@ pub(crate) fn steps_text(
     ensures { IfOk result (λ text. IsStepsText (map move_line run.now.made.items) (map move_line
         run.now.left.items) text.items) }
 {
-    let mut text = Vec::new(alloc);
-    push_counted(alloc, &mut text, &run.made, " steps\n")?;
+    let mut text = made_text(alloc, run)?;
     if run.left.is_empty() {
         return Ok(text);
     }
@@ -152,7 +172,7 @@ pub(crate) fn steps_text(
         rooms: &run.rooms,
         sizes,
     };
-    push_counted(alloc, &mut text, &run.left, " left\n")?;
+    push_left(alloc, &mut text, run)?;
     let lacks = needs(alloc, &board, &run.left)?;
     text.extend_from_slice(&lacks)?;
     Ok(text)

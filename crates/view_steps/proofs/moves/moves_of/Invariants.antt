@@ -1,5 +1,6 @@
 use Rattle.std.proofs.Common.{◌≡◌, ◌++◌, map}
 use Rattle.std.specs.List.{All}
+use Rattle.std.specs.Vec.Iter.{into_iter_items}
 use Rattle.serde_json.specs.View.{view}
 use Rattle.view_picture.specs.PictureViews.{size_seen}
 use Rattle.view_plan.specs.Views.{lines_seen}
@@ -11,7 +12,7 @@ use Rattle.view_steps.proofs.moves.moves_of.Given as goal
 abbrev pub invariant-loop-line : goal.invariant-loop-line
 invariant-loop-line l =
     (map move_line l.moves.items
-    ++ moves_among l.measure.attribute.now (lines_seen l.line-iterator)
-    ≡ moves_among l.measure.attribute.now (lines_seen l.lines.items))
+    ++ moves_among l.measure.attribute.now (lines_seen (into_iter_items l.line-iterator))
+    ≡ moves_among l.measure.attribute.now (lines_seen l.fn.lines.items))
     × All (IsSized (view l.measure.whole.now) l.measure.attribute.now (map size_seen
     l.measure.sizes.now)) l.moves.items

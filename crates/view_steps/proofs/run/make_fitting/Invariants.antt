@@ -1,7 +1,7 @@
 use Rattle.std.proofs.Common.{length}
 use Rattle.view_steps.specs.Runs.{IsRun}
 use Rattle.view_steps.specs.Steps.{Site}
-use Rattle.view_steps.proofs.run.settle.Given as goal
+use Rattle.view_steps.proofs.run.make_fitting.Given as goal
 
 -- what was so stays so
 abbrev pub invariant-loop-number : goal.invariant-loop-number

@@ -17,13 +17,13 @@ type Heap = BinaryHeap<Reverse<(i128, usize)>>;
 
 /// What is known of the moves that are left.
 #[derive(Drop)]
-pub(crate) struct Hints<'t> {
+pub(crate) struct Agenda<'t> {
     /// Those to be tried: the urgent ones first, then by number.
     ready: BinaryHeap<Reverse<(bool, usize)>>,
     /// Whether a move may wait until the urgent ones were tried.
     patient: Vec<bool>,
     /// Where each move stands among those that are left.
-    places: Vec<usize>,
+    indices: Vec<usize>,
     /// Those that wait for room, for each size by holder.
     waiting: Vec<IndexMap<&'t [u8], Heap>>,
 }
@@ -36,33 +36,33 @@ fn is_urgent(step: &Move<'_, '_>, failed: &[&str]) -> bool {
     }
 }
 
-/// The first hints: all moves are to be tried.
+/// The first agenda: all moves are to be tried.
 pub(crate) fn all_ready<'t>(
     alloc: Global,
     moves: &[Move<'_, 't>],
     sizes: usize,
     failed: &[&str],
-) -> Result<Hints<'t>, AllocError> {
-    let mut hints = Hints {
+) -> Result<Agenda<'t>, AllocError> {
+    let mut agenda = Agenda {
         ready: BinaryHeap::new(alloc),
         patient: Vec::new(alloc),
-        places: Vec::new(alloc),
+        indices: Vec::new(alloc),
         waiting: Vec::new(alloc),
     };
     for (number, step) in moves.iter().enumerate() {
         let patient = !is_urgent(step, failed);
-        hints.ready.push(Reverse((patient, number)))?;
-        hints.patient.push(patient)?;
-        hints.places.push(number)?;
+        agenda.ready.push(Reverse((patient, number)))?;
+        agenda.patient.push(patient)?;
+        agenda.indices.push(number)?;
     }
-    add_waiting(alloc, &mut hints, sizes)?;
-    Ok(hints)
+    add_waiting(alloc, &mut agenda, sizes)?;
+    Ok(agenda)
 }
 
 /// Adds an empty map for each size.
-fn add_waiting(alloc: Global, hints: &mut Hints<'_>, sizes: usize) -> Result<(), AllocError> {
+fn add_waiting(alloc: Global, agenda: &mut Agenda<'_>, sizes: usize) -> Result<(), AllocError> {
     for _ in 0..sizes {
-        hints.waiting.push(IndexMap::new(alloc))?;
+        agenda.waiting.push(IndexMap::new(alloc))?;
     }
     Ok(())
 }
@@ -82,14 +82,14 @@ fn lacking(rooms: &Rooms<'_>, word: Option<&str>, amounts: &[i128]) -> Option<(u
 /// Lets a move wait for a holder's room.
 fn wait_at<'t>(
     alloc: Global,
-    hints: &mut Hints<'t>,
+    agenda: &mut Agenda<'t>,
     word: Option<&'t str>,
     lack: Option<(usize, i128)>,
     number: usize,
 ) -> Result<(), AllocError> {
     if let (Some(word), Some((size, amount))) = (word, lack) {
-        if size < hints.waiting.len() {
-            let map = &mut hints.waiting[size];
+        if size < agenda.waiting.len() {
+            let map = &mut agenda.waiting[size];
             let mut heap = match map.swap_remove(word.as_bytes()) {
                 Some(heap) => heap,
                 None => BinaryHeap::new(alloc),
@@ -104,18 +104,18 @@ fn wait_at<'t>(
 /// Lets a move wait for the room that it lacks.
 fn wait<'t>(
     alloc: Global,
-    hints: &mut Hints<'t>,
+    agenda: &mut Agenda<'t>,
     rooms: &Rooms<'_>,
     step: &Move<'_, 't>,
 ) -> Result<(), AllocError> {
     let to = to_word(&step.line.change);
     let lack = lacking(rooms, to, &step.more);
     if lack.is_some() {
-        wait_at(alloc, hints, to, lack, step.number)
+        wait_at(alloc, agenda, to, lack, step.number)
     } else {
         let from = from_word(&step.line.change);
         let lack = lacking(rooms, from, &step.less);
-        wait_at(alloc, hints, from, lack, step.number)
+        wait_at(alloc, agenda, from, lack, step.number)
     }
 }
 
@@ -148,15 +148,15 @@ fn release(
 
 /// Makes ready what waits for this size of a holder, where it has room now.
 fn wake_size(
-    hints: &mut Hints<'_>,
+    agenda: &mut Agenda<'_>,
     rooms: &Rooms<'_>,
     word: &str,
     size: usize,
 ) -> Result<(), AllocError> {
-    if size < hints.waiting.len() {
+    if size < agenda.waiting.len() {
         if let Some(room) = room_at(rooms, word, size) {
-            if let Some(heap) = hints.waiting[size].get_mut(word.as_bytes()) {
-                release(&mut hints.ready, &hints.patient, heap, room)?;
+            if let Some(heap) = agenda.waiting[size].get_mut(word.as_bytes()) {
+                release(&mut agenda.ready, &agenda.patient, heap, room)?;
             }
         }
     }
@@ -164,10 +164,10 @@ fn wake_size(
 }
 
 /// Makes ready what waits for a holder and now has room there.
-fn wake(hints: &mut Hints<'_>, rooms: &Rooms<'_>, word: Option<&str>) -> Result<(), AllocError> {
+fn wake(agenda: &mut Agenda<'_>, rooms: &Rooms<'_>, word: Option<&str>) -> Result<(), AllocError> {
     if let Some(word) = word {
-        for size in 0..hints.waiting.len() {
-            wake_size(hints, rooms, word, size)?;
+        for size in 0..agenda.waiting.len() {
+            wake_size(agenda, rooms, word, size)?;
         }
     }
     Ok(())
@@ -177,35 +177,35 @@ fn wake(hints: &mut Hints<'_>, rooms: &Rooms<'_>, word: Option<&str>) -> Result<
 fn attempt<'t>(
     alloc: Global,
     run: &mut Run<'_, '_, 't>,
-    hints: &mut Hints<'t>,
+    agenda: &mut Agenda<'t>,
     number: usize,
 ) -> Result<(), AllocError>
     ensures kept { OnOk result ((site : Site) → IsRun site run.old → IsRun site run.new) }
 {
-    if number >= hints.places.len() {
+    if number >= agenda.indices.len() {
         return Ok(());
     }
-    let place = hints.places[number];
-    if place >= run.left.len() || run.left[place].number != number {
+    let index = agenda.indices[number];
+    if index >= run.left.len() || run.left[index].number != number {
         return Ok(());
     }
-    if !is_fit(&run.rooms, &run.left[place]) {
-        return wait(alloc, hints, &run.rooms, &run.left[place]);
+    if !is_fit(&run.rooms, &run.left[index]) {
+        return wait(alloc, agenda, &run.rooms, &run.left[index]);
     }
-    let from = from_word(&run.left[place].line.change);
-    let to = to_word(&run.left[place].line.change);
-    make(alloc, run, place)?;
-    note_place(run, hints, place);
-    wake(hints, &run.rooms, from)?;
-    wake(hints, &run.rooms, to)
+    let from = from_word(&run.left[index].line.change);
+    let to = to_word(&run.left[index].line.change);
+    make(alloc, run, index)?;
+    note_index(run, agenda, index);
+    wake(agenda, &run.rooms, from)?;
+    wake(agenda, &run.rooms, to)
 }
 
-/// Notes which move took this place.
-fn note_place(run: &Run<'_, '_, '_>, hints: &mut Hints<'_>, place: usize) {
-    if place < run.left.len() {
-        let number = run.left[place].number;
-        if number < hints.places.len() {
-            hints.places[number] = place;
+/// Notes which move took this index.
+fn note_index(run: &Run<'_, '_, '_>, agenda: &mut Agenda<'_>, index: usize) {
+    if index < run.left.len() {
+        let number = run.left[index].number;
+        if number < agenda.indices.len() {
+            agenda.indices[number] = index;
         }
     }
 }
@@ -214,14 +214,14 @@ fn note_place(run: &Run<'_, '_, '_>, hints: &mut Hints<'_>, place: usize) {
 pub(crate) fn rush<'t>(
     alloc: Global,
     run: &mut Run<'_, '_, 't>,
-    hints: &mut Hints<'t>,
+    agenda: &mut Agenda<'t>,
 ) -> Result<(), AllocError>
     ensures kept { OnOk result ((site : Site) → IsRun site run.old → IsRun site run.new) }
 {
     for _ in 0..u64::MAX {
-        match hints.ready.pop() {
+        match agenda.ready.pop() {
             None => return Ok(()),
-            Some(Reverse((_, number))) => attempt(alloc, run, hints, number)?,
+            Some(Reverse((_, number))) => attempt(alloc, run, agenda, number)?,
         }
     }
     Ok(())
