@@ -1,6 +1,7 @@
 -- From the steps of a run to what its status says.
 use Rattle.std.proofs.Common.{arith, ◌≡◌, ◌≤◌, ◌+◌, ◌-◌, ◌^◌, min, ℕ, List, Bool, true, false, Option, Some, None, sym, ap, ◌∙◌, subst}
 use Rattle.std.proofs.lemmas.Grind.{common_steps}
+use Rattle.std.specs.Prelude.{Result, Ok, Err, IfOk, IfErr}
 use Rattle.desk_io.specs.Desk.{Files, OfFile, with_printed}
 use Rattle.desk_io.specs.Fault.{HasRisen}
 use Rattle.desk_io.specs.Whole.{PrintsFront}
@@ -11,6 +12,7 @@ use Rattle.view_run.specs.Ending.{Trace, IsAsked, IsAnswered, IsCutOff, PlanEnds
 use Rattle.view_run.specs.Pictured.{IsPicture, IsBlank, IsDrawn}
 use Rattle.view_run.specs.Stepped.{IsStepped, IsUnstepped, IsOrdered, LacksSteps, HasSetAmong, has_known, has_failed}
 use Rattle.view_run.specs.Words.{PlanAsked, PictureAsked, StepsAsked}
+use Rattle.view_steps.specs.declared.steps.Steps.{Steps}
 use Rattle.view_run.specs.declared.status.Source.TheVariants.{Former, New, Config}
 use Rattle.view_run.specs.declared.status.Status.{Status as Ended}
 use Rattle.view_run.specs.declared.status.Status.TheVariants.{Same, Differs, Shown, Stuck, Usage, Unreadable, TooLong, NotJson, NotObject, NoAttribute, NoPart, MovesSets, WriteFault, Memory}
@@ -314,6 +316,24 @@ unstepped files later a d e reads now MovesSets same former new h =
     lacks_steps files later a d e (HasSetAmong a) same former new h
 unstepped files later a d e reads now WriteFault same former new h = absurd h
 unstepped files later a d e reads now Memory same former new h = tt
+
+-- what came of them
+pub steps_or_not : (files later : Option Files) (a : StepsAsked) (d e : Data) (reads now : ℕ)
+    (r : Result Steps Ended) → later ≡ files → OfFile files a.former (λ bytes. text_json bytes ≡ Some d)
+    → OfFile later a.new (λ bytes. text_json bytes ≡ Some e) → IfErr r (IsUnstepped d e a)
+    → IfErr r (IsUnordered files a reads now)
+steps_or_not files later a d e reads now (Ok steps) same former new h = tt
+steps_or_not files later a d e reads now (Err s) same former new h =
+    unstepped files later a d e reads now s same former new h
+
+pub steps_or_none : (files later : Option Files) (a : StepsAsked) (d e : Data)
+    (r : Result Steps Ended) → later ≡ files → OfFile files a.former (λ bytes. text_json bytes ≡ Some d)
+    → OfFile later a.new (λ bytes. text_json bytes ≡ Some e)
+    → IfOk r (λ (made : Steps). IsStepped d e a made.text.items made.stuck)
+    → IfOk r (λ (made : Steps). IsOrdered files a made.text.items made.stuck)
+steps_or_none files later a d e (Ok steps) same former new h =
+    is_ordered files later a d e steps.text.items steps.stuck same former new h
+steps_or_none files later a d e (Err s) same former new h = tt
 
 pub unordered_ends : (files : Option Files) (a : StepsAsked) (t : Trace) (s : Ended)
     → IsUnordered files a t.reads t.reads_now s → t.printed_now ≡ t.printed

@@ -145,8 +145,7 @@ fn steps_asked<D: Desk>(
 {
     let former = source_json(alloc, desk, request.former, Source::Former)?;
     let new = source_json(alloc, desk, request.new, Source::New)?;
-    let steps = steps_between(alloc, &former, &new, request)?;
-    Ok(steps)
+    steps_between(alloc, &former, &new, request)
 }
 
 /// Prints steps.
