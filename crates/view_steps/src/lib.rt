@@ -1,4 +1,4 @@
-//! In what order to move: the moves of a plan, so that no holder is filled in between.
+//! In what order to move: the moves of a plan, so that no holder is overfilled.
 #![tactic(auto)]
 
 mod agenda;
