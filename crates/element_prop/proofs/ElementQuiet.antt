@@ -17,15 +17,13 @@ use Rattle.ground_form.specs.WellMade.{IsWellMadeCon, lacks_value}
 use Rattle.box_rules.specs.Refuted.{none_picked}
 use Rattle.box_view.specs.Views.{fixing}
 use Rattle.box_rules.specs.Quiet.{probed, quiet}
-use Rattle.rule_law.specs.Reasons.{has_number}
-use Rattle.rule_law.specs.Repeats.{is_repeated}
 use Rattle.ground_form.specs.Bounds.{low_of}
-use Rattle.box_view.proofs.EndLaws.{AreSets, has_low}
+use Rattle.box_view.proofs.EndLaws.{AreSets, has_low, single_has}
 use Rattle.box_view.proofs.SetLaws.{fixing_same, fixing_other, single-is_disjoint, is_disjoint-single}
 use Rattle.box_rules.proofs.QuietFrom.{Each, each_probed}
 use Rattle.box_view.proofs.Leaving.{value_valid, has_one}
 use Rattle.element_prop.specs.declared.element.Further.TheVariants.{OutOfSet}
-use Rattle.element_prop.specs.Elements.{count_possible, all_meet, some_with, some_other, some_offers, all_offered, AreHeadsDifferent, IsIdle, IsFurther}
+use Rattle.element_prop.specs.Elements.{count_possible, all_meet, some_with, some_other, some_offers, all_offered, lacks_var, AreHeadsDifferent, IsIdle, IsFurther}
 use Rattle.element_prop.proofs.OfferLaws.{each_offered}
 use Rattle.element_prop.proofs.ItemCount.{each_value}
 use Rattle.box_rules.proofs.QuietFrom.{each_then, quiet_probed}
@@ -130,15 +128,22 @@ with_other out index a y (t ∷ ts) boxes n h =
     by_test : (p q : ℕ) → (p == q) ≡ true → p ≡ q
     by_test p q k = grind (arith, nat_tests)
 
--- other boxes don't matter
-same_picked : (out index : Ranges) (y : ℕ) (v : ℤ) (items : List (ℤ × ℕ)) (boxes : Boxes) → has_number y (term_vars items) ≡ false → none_picked out index items (fixing boxes y v) ≡ none_picked out index items boxes
-same_picked out index y v [] boxes h = refl
-same_picked out index y v (t ∷ ts) boxes h =
-    let this : (t.1 == y) ≡ false = grind arith in
-    let rest : has_number y (term_vars ts) ≡ false = grind arith in
-    let same = fixing_other boxes y t.1 v (λ e. let yes : (t.1 == y) ≡ true = grind (arith, nat_tests) in absurd (grind arith)) in
-    let more = same_picked out index y v ts boxes rest in
-    rw (same, more) refl
+-- other boxes don't matter: those of items whose value none of a part of the index is
+same_picked : (out index s : Ranges) (y : ℕ) (v : ℤ) (items : List (ℤ × ℕ)) (boxes : Boxes) → ((w : ℤ) → has s w ≡ true → has index w ≡ true) → lacks_var y items index ≡ true →
+    none_picked out s items (fixing boxes y v) ≡ none_picked out s items boxes
+same_picked out index s y v [] boxes part h = refl
+same_picked out index s y v (t ∷ ts) boxes part h =
+    let parts = and_parts (not (has index t.0) || not (t.1 == y)) (lacks_var y ts index) h in
+    let more = same_picked out index s y v ts boxes part parts.1 in
+    let P : Bool → Type 0 = λ b. has s t.0 ≡ b →
+        ((not b || is_disjoint (box_of (fixing boxes y v) t.1) out) && none_picked out s ts (fixing boxes y v)) ≡ ((not b || is_disjoint (box_of boxes t.1) out) && none_picked out s ts boxes) in
+    (elim (has s t.0) as P [
+      | true ↦ λ k.
+          let there = part t.0 k in
+          let same = fixing_other boxes y t.1 v (λ e. let yes : (t.1 == y) ≡ true = grind (arith, nat_tests) in absurd (grind arith)) in
+          rw (same, more) refl
+      | false ↦ λ k. more
+    ]) refl
 
 -- ---- quietness
 
@@ -149,7 +154,7 @@ fixed_picked domains boxes con o x items t i y v n lt h =
     subst (λ (s : Ranges). none_picked s (box_of (fixing boxes y v) x) items (fixing boxes y v) ≡ false) (sym (fixing_other boxes y o v n)) (elim (cases_eq x y) [
       | inl e ↦ subst (λ (z : ℕ). z < length boxes → has (box_of boxes z) v ≡ true → none_picked out (box_of (fixing boxes z v) x) items (fixing boxes z v) ≡ false) e
           (λ l m. subst (λ (s : Ranges). none_picked out s items (fixing boxes x v) ≡ false) (sym (fixing_same boxes x v l))
-          (same_picked out ((v, v) ∷ []) x v items boxes i.different.index_different ∙ value_picked out index ((v, v) ∷ []) v items boxes m (has_one v) i.met (each_value items index v (valid x) t.distinct i.full m))) lt h
+          (same_picked out index ((v, v) ∷ []) x v items boxes (λ w k. subst (λ (u : ℤ). has index u ≡ true) ((Decides-int_eq v w).0 (sym (single_has v w) ∙ k)) m) i.different.index_different ∙ value_picked out index ((v, v) ∷ []) v items boxes m (has_one v) i.met (each_value items index v (valid x) t.distinct i.full m))) lt h
       | inr e ↦ subst (λ (s : Ranges). none_picked out s items (fixing boxes y v) ≡ false) (sym (fixing_other boxes y x v e)) (elim (cases_eq i.var y) [
         | inr g ↦ other_picked out index y v items boxes (with_other out index i.var y items boxes g i.one)
         | inl g ↦ elim i.free [
@@ -161,12 +166,12 @@ fixed_picked domains boxes con o x items t i y v n lt h =
       ])
     ])
 
-out_picked : (domains boxes : Boxes) (con : Con) (o x : ℕ) (items : List (ℤ × ℕ)) → IsElement con domains boxes o x items → AreHeadsDifferent o x items → (v : ℤ) → some_offers items v (box_of boxes x) boxes ≡ true →
+out_picked : (domains boxes : Boxes) (con : Con) (o x : ℕ) (items : List (ℤ × ℕ)) → IsElement con domains boxes o x items → AreHeadsDifferent o x items (box_of boxes x) → (v : ℤ) → some_offers items v (box_of boxes x) boxes ≡ true →
     none_picked (box_of (fixing boxes o v) o) (box_of (fixing boxes o v) x) items (fixing boxes o v) ≡ false
 out_picked domains boxes con o x items t a v h =
     subst (λ (s : Ranges). none_picked s (box_of (fixing boxes o v) x) items (fixing boxes o v) ≡ false) (sym (fixing_same boxes o v t.out))
     (subst (λ (s : Ranges). none_picked ((v, v) ∷ []) s items (fixing boxes o v) ≡ false) (sym (fixing_other boxes o x v (λ e. a.differ (sym e))))
-    (same_picked ((v, v) ∷ []) (box_of boxes x) o v items boxes a.out_different ∙ offered_picked (box_of boxes x) v items boxes t.good.narrow h))
+    (same_picked ((v, v) ∷ []) (box_of boxes x) (box_of boxes x) o v items boxes (λ w k. k) a.out_different ∙ offered_picked (box_of boxes x) v items boxes t.good.narrow h))
 
 pub idle_quiet : (con : Con) (domains boxes : Boxes) (o x : ℕ) (items : List (ℤ × ℕ)) → IsElement con domains boxes o x items → IsWellMadeCon domains con → IsIdle items o x boxes → quiet con boxes ≡ true
 idle_quiet con domains boxes o x items t w i =
@@ -203,7 +208,7 @@ with_at (t ∷ ts) (suc i) d out index boxes lt h =
     either_way a b k = grind arith
 
 -- what the tests find, of the boxes that they looked at
-pub idle_at : (items : List (ℤ × ℕ)) (o x i : ℕ) (d : ℤ × ℕ) (boxes : Boxes) (out index : Ranges) → out ≡ box_of boxes o → index ≡ box_of boxes x → AreHeadsDifferent o x items →
+pub idle_at : (items : List (ℤ × ℕ)) (o x i : ℕ) (d : ℤ × ℕ) (boxes : Boxes) (out index : Ranges) → out ≡ box_of boxes o → index ≡ box_of boxes x → AreHeadsDifferent o x items (box_of boxes x) →
     all_meet items (box_of boxes o) (box_of boxes x) boxes ≡ true → count_of (box_of boxes x) ≤ count_possible items (box_of boxes x) → all_offered (probed (box_of boxes o)) items (box_of boxes x) boxes ≡ true → i < length items →
     (has index (get_or items i d).0 && not (is_disjoint (box_of boxes (get_or items i d).1) out)) ≡ true →
     (some_other items (get_or items i d).1 out index boxes ≡ true) ⊎ (is_within (box_of boxes (get_or items i d).1) out ≡ true) → IsIdle items o x boxes
@@ -221,17 +226,3 @@ outside_at items o x i d boxes out index eo ex lt h k n =
     let F : Ranges → Ranges → Type 0 = λ p q. (has q (get_or items i d).0 && not (is_disjoint (box_of boxes y) p)) ≡ true → some_other items y p q boxes ≡ false → is_within (box_of boxes y) p ≡ false → IsFurther items o x boxes (OutOfSet y) in
     let here : F (box_of boxes o) (box_of boxes x) = λ h2 k2 n2. (with_at items i d (box_of boxes o) (box_of boxes x) boxes lt h2, k2, n2) in
     let there : F out index = subst (λ (q : Ranges). F out q) (sym ex) (subst (λ (p : Ranges). F p (box_of boxes x)) (sym eo) here) in there h k n
-
--- what the test of the variables finds
-pub heads_different : (con : Con) (o x : ℕ) (items : List (ℤ × ℕ)) → con ≡ ElementDef o x items → is_repeated o (vars_of con) ≡ false → is_repeated x (vars_of con) ≡ false → AreHeadsDifferent o x items
-heads_different con o x items is first second =
-    let one : is_repeated o (o ∷ x ∷ term_vars items) ≡ false = sym (ap (λ (k : Con). is_repeated o (vars_of k)) is) ∙ first in
-    let two : is_repeated x (o ∷ x ∷ term_vars items) ≡ false = sym (ap (λ (k : Con). is_repeated x (vars_of k)) is) ∙ second in
-    let self : (o == o) ≡ true = grind (arith, nat_tests) in
-    let same : (x == x) ≡ true = grind (arith, nat_tests) in
-    let there : (x == o) ≡ false = grind arith in
-    record {
-      differ = λ e. let bad : (x == o) ≡ true = grind (arith, nat_tests) in cc;
-      out_different = grind arith;
-      index_different = grind arith;
-    }

@@ -22,7 +22,7 @@ some_value : (s : Ranges) (v : ℤ) → has s v ≡ true → is_nil s ≡ false
 some_value [] v h = absurd (grind arith)
 some_value (r ∷ rs) v h = refl
 
-one_count : (v : ℤ) → count_of ((v, v) ∷ []) ≡ 1
+pub one_count : (v : ℤ) → count_of ((v, v) ∷ []) ≡ 1
 one_count v = omega (arith, ints)
 
 turned : (a b : ℤ) → int_eq b a ≡ false → int_eq a b ≡ false
@@ -39,7 +39,7 @@ lacks_head v t ts h =
     (elim (int_eq t.0 v) as P [ true ↦ λ k. absurd (let f : false ≡ true = k in grind arith) | false ↦ λ k. refl ]) h
 
 -- a value that no item has doesn't matter to the count
-same_count : (w : ℤ) (items : List (ℤ × ℕ)) (s : Ranges) → IsValid s → IsValid ((w, w) ∷ []) → lacks_value w items ≡ true → count_possible items (less s ((w, w) ∷ [])) ≡ count_possible items s
+pub same_count : (w : ℤ) (items : List (ℤ × ℕ)) (s : Ranges) → IsValid s → IsValid ((w, w) ∷ []) → lacks_value w items ≡ true → count_possible items (less s ((w, w) ∷ [])) ≡ count_possible items s
 same_count w [] s f g h = refl
 same_count w (t ∷ ts) s f g h =
     let other : has ((w, w) ∷ []) t.0 ≡ false = single_has w t.0 ∙ turned w t.0 (lacks_head w t ts h) in

@@ -9,3 +9,4 @@ pub mod OutLaws
 pub mod OfferLaws
 pub mod OutsideLaws
 pub mod ItemCount
+pub mod NearLaws

@@ -8,13 +8,12 @@ use Rattle.signed_clause.specs.SetAlgebra.{is_disjoint}
 use Rattle.signed_clause.specs.Clauses.{Boxes, box_of}
 use Rattle.ground_form.specs.declared.con.Con.{Con}
 use Rattle.ground_form.specs.declared.con.Con.TheVariants.{ElementDef}
-use Rattle.ground_form.specs.Meaning.{term_vars}
 use Rattle.box_rules.specs.Refuted.{none_picked}
-use Rattle.rule_law.specs.Reasons.{has_number, IsReason}
+use Rattle.rule_law.specs.Reasons.{IsReason}
 use Rattle.rule_law.specs.Plans.{literals_of}
 use Rattle.box_view.proofs.Leaving.{less_disjoint}
 use Rattle.element_prop.specs.declared.element.Further.TheVariants.{OutOfSet}
-use Rattle.element_prop.specs.Elements.{pick_plan, all_meet, some_with, some_other, AreHeadsDifferent, IsFurther}
+use Rattle.element_prop.specs.Elements.{pick_plan, all_meet, some_with, some_other, lacks_var, AreHeadsDifferent, IsFurther}
 use Rattle.element_prop.proofs.ElementLaws.{IsElement, IsPick, lies_reason}
 
 -- a variable of which an item can be picked is an item's
@@ -31,16 +30,19 @@ with_named (t ∷ ts) y n out index boxes h w =
     by_test : (p q : ℕ) → (p == q) ≡ true → p ≡ q
     by_test p q k = grind (arith, nat_tests)
 
-with_in : (items : List (ℤ × ℕ)) (y : ℕ) (out index : Ranges) (boxes : Boxes) → some_with items y out index boxes ≡ true → has_number y (term_vars items) ≡ true
-with_in [] y out index boxes w = absurd cc
-with_in (t ∷ ts) y out index boxes w =
+-- and differs from one that no such item has
+different_from : (items : List (ℤ × ℕ)) (y z : ℕ) (out index : Ranges) (boxes : Boxes) → some_with items y out index boxes ≡ true → lacks_var z items index ≡ true → z ≡ y → ⊥
+different_from [] y z out index boxes w h e = absurd cc
+different_from (t ∷ ts) y z out index boxes w h e =
+    let parts = and_parts (not (has index t.0) || not (t.1 == z)) (lacks_var z ts index) h in
     elim (or_cases ((t.1 == y) && (has index t.0 && not (is_disjoint (box_of boxes t.1) out))) (some_with ts y out index boxes) w) [
-      | inl e ↦ let same = (and_parts (t.1 == y) (has index t.0 && not (is_disjoint (box_of boxes t.1) out)) e).0 in rw same refl
-      | inr e ↦ let more = with_in ts y out index boxes e in grind arith
+      | inl k ↦
+          let both = and_parts (t.1 == y) (has index t.0 && not (is_disjoint (box_of boxes t.1) out)) k in
+          let can = (and_parts (has index t.0) (not (is_disjoint (box_of boxes t.1) out)) both.1).0 in
+          let same : (t.1 == z) ≡ true = subst (λ (n : ℕ). (t.1 == n) ≡ true) (sym e) both.0 in
+          absurd (grind arith)
+      | inr k ↦ different_from ts y z out index boxes k parts.1 e
     ]
-
-different_from : (items : List (ℤ × ℕ)) (y z : ℕ) → has_number y (term_vars items) ≡ true → has_number z (term_vars items) ≡ false → z ≡ y → ⊥
-different_from items y z h k e = let no : has_number y (term_vars items) ≡ false = subst (λ (n : ℕ). has_number n (term_vars items) ≡ false) e k in cc
 
 -- where its box meets out's in no value, no item can be picked
 none_else : (out index : Ranges) (y : ℕ) (items : List (ℤ × ℕ)) (boxes rest : Boxes) → is_disjoint (box_of rest y) out ≡ true → all_meet items out index boxes ≡ true → some_other items y out index boxes ≡ false → none_picked out index items rest ≡ true
@@ -65,19 +67,18 @@ none_else out index y (t ∷ ts) boxes rest h m n =
     unpicked : (a b c : Bool) → (a && not b) ≡ false → (not a || not b) ≡ true → (not a || c) ≡ true
     unpicked a b c h k = grind arith
 
-pub outside_reason : (con : Con) (domains boxes : Boxes) (o x : ℕ) (items : List (ℤ × ℕ)) (y : ℕ) → IsElement con domains boxes o x items → AreHeadsDifferent o x items → All (λ t. t.1 < length boxes) items →
+pub outside_reason : (con : Con) (domains boxes : Boxes) (o x : ℕ) (items : List (ℤ × ℕ)) (y : ℕ) → IsElement con domains boxes o x items → AreHeadsDifferent o x items (box_of boxes x) → All (λ t. t.1 < length boxes) items →
     all_meet items (box_of boxes o) (box_of boxes x) boxes ≡ true → IsFurther items o x boxes (OutOfSet y) → IsReason con domains boxes (literals_of domains (pick_plan domains boxes x (box_of boxes x) y o))
 outside_reason con domains boxes o x items y t a named m f =
     let g = t.good in let out = box_of boxes o in let index = box_of boxes x in
-    let member = with_in items y out index boxes f.0 in
     let pick : IsPick domains boxes x y o = record {
       good = g;
       index = t.index;
       first = with_named items y (length boxes) out index boxes named f.0;
       second = t.out;
-      first_differs = λ e. different_from items y x member a.index_different (sym e);
+      first_differs = λ e. different_from items y x out index boxes f.0 a.index_different (sym e);
       second_differs = a.differ;
-      different = different_from items y o member a.out_different;
+      different = different_from items y o out index boxes f.0 a.out_different;
     } in
     subst (λ (k : Con). IsReason k domains boxes (literals_of domains (pick_plan domains boxes x index y o))) (sym t.is)
     (lies_reason (ElementDef o x items) domains boxes x y o pick f.2 (λ rest e k l.

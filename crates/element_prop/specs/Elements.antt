@@ -5,9 +5,7 @@ use Rattle.std.specs.Prelude.{◌≡◌, ℕ, suc, ◌<◌, ◌≤◌, Bool, tru
 use Rattle.signed_clause.specs.Ranges.{Ranges, has, count_of}
 use Rattle.signed_clause.specs.SetAlgebra.{is_disjoint, is_within, less}
 use Rattle.signed_clause.specs.Clauses.{Boxes, Literals, box_of}
-use Rattle.ground_form.specs.Meaning.{term_vars}
 use Rattle.box_rules.specs.Refuted.{fixed_at}
-use Rattle.rule_law.specs.Reasons.{has_number}
 use Rattle.box_rules.specs.Quiet.{probed}
 use Rattle.element_prop.specs.declared.element.Finding.{Finding}
 use Rattle.element_prop.specs.declared.element.Further.{Further}
@@ -109,17 +107,23 @@ some_other (t ∷ ts) x out index boxes =
     (not (t.1 == x) && (has index t.0 && not (is_disjoint (box_of boxes t.1) out)))
     || some_other ts x out index boxes
 
--- out, the index and the items' variables are different, these last not from each other
-pub record AreHeadsDifferent (o x : ℕ) (items : List (ℤ × ℕ)) : Type 0 where
+-- the variable is that of no item whose value the index can be
+abbrev pub lacks_var : ℕ → List (ℤ × ℕ) → Ranges → Bool
+lacks_var y [] index = true
+lacks_var y (t ∷ ts) index = (not (has index t.0) || not (t.1 == y)) && lacks_var y ts index
+
+-- out, the index and the variables of the items that can be picked are different, these last not
+-- from each other
+pub record AreHeadsDifferent (o x : ℕ) (items : List (ℤ × ℕ)) (index : Ranges) : Type 0 where
   pub differ : o ≡ x → ⊥
-  pub out_different : has_number o (term_vars items) ≡ false
-  pub index_different : has_number x (term_vars items) ≡ false
+  pub out_different : lacks_var o items index ≡ true
+  pub index_different : lacks_var x items index ≡ true
 
 -- the variables are different, each value of the index is an item's and that item can be out, each
 -- value of out that is probed is offered, and two items of different variables can be picked, or of
 -- the variable of one that can be picked no value is outside out's box
 pub record IsIdle (items : List (ℤ × ℕ)) (o x : ℕ) (boxes : Boxes) : Type 0 where
-  pub different : AreHeadsDifferent o x items
+  pub different : AreHeadsDifferent o x items (box_of boxes x)
   pub met : all_meet items (box_of boxes o) (box_of boxes x) boxes ≡ true
   pub full : count_of (box_of boxes x) ≤ count_possible items (box_of boxes x)
   pub offered : all_offered (probed (box_of boxes o)) items (box_of boxes x) boxes ≡ true

@@ -3,3 +3,4 @@ pub mod Within
 pub mod Equalities
 pub mod Conditionals
 pub mod Elements
+pub mod Near

@@ -12,7 +12,10 @@
 //! Where an index has more values than items can be picked, the count proves that some value is
 //! none's. A value of out that no item offers is taken away together with all such values. Whether
 //! a variable stands twice is asked of out and the index alone.
-ghost use Rattle.std.specs.Prelude.{◌≡◌, ◌<◌, ◌≤◌, ◌&&◌, ◌||◌, ◌++◌, ◌∷◌, [], not, cond, true, false, IfOk, OnOk, IfSome, IfNone, length, slice_index_or};
+//!
+//! Only items that the index may pick are looked at (`near`), so a call costs no more where the
+//! index is nearly known, however many items there are.
+ghost use Rattle.std.specs.Prelude.{◌≡◌, ◌<◌, ◌≤◌, ◌&&◌, ◌||◌, ◌++◌, ◌∷◌, [], ◌↔◌, IsTrue, not, cond, true, false, IfOk, OnOk, IfSome, IfNone, length, slice_index_or};
 ghost use Rattle.std.specs.List.{All};
 ghost use Rattle.signed_clause.specs.Ranges.{has, is_nil, count_of, IsValid};
 ghost use Rattle.signed_clause.specs.SetAlgebra.{is_disjoint, less};
@@ -25,9 +28,11 @@ ghost use Rattle.rule_law.specs.Reasons.{IsReason, no_repeat};
 ghost use Rattle.box_rules.specs.Refuted.{none_picked};
 ghost use Rattle.box_rules.specs.Quiet.{probed};
 ghost use Rattle.rule_law.specs.Plans.{literals_of};
-ghost use Rattle.element_prop.specs.Elements.{HasToPick, pick_plan, Says, all_meet, count_possible, some_other, without_one, without_items, without_boxes, out_plan, some_offers, all_offered, AreHeadsDifferent, IsFurther};
+ghost use Rattle.element_prop.specs.Elements.{HasToPick, pick_plan, Says, all_meet, count_possible, some_other, without_one, without_items, without_boxes, out_plan, some_offers, all_offered, lacks_var, AreHeadsDifferent, IsFurther};
+ghost use Rattle.element_prop.specs.Near.{IsNear};
 
 use crate::equality::{alone, is_value};
+use crate::near::{Near, near_items, possible_items};
 use crate::offers::unoffered;
 use ground_form::Number;
 use rule_law::{Repeats, Subject, keep_out, planned_pruning, probe, pruning};
@@ -79,12 +84,14 @@ fn is_out_out(t: (i64, u32), out: &IntSet, index: &IntSet, boxes: &[IntSet]) -> 
 }
 
 /// The first item that tells something.
-fn find(items: &[(i64, u32)], out: &IntSet, index: &IntSet, boxes: &[IntSet]) -> Finding
-    requires { All (λ t. t.1 < length boxes.now) items.now }
+#[tactic(auto, using(crate::proofs::NearLaws::meet_from, crate::proofs::NearLaws::meet_to))]
+fn find(items: &[(i64, u32)], near: Near, out: &IntSet, index: &IntSet, boxes: &[IntSet]) -> Finding
+    requires items { All (λ t. t.1 < length boxes.now) items.now }
+    requires near { IsNear items.now index.now near }
     ensures { Says items.now out.now index.now boxes.now result }
 {
-    let mut i = 0;
-    while i < items.len() {
+    let mut i = near.from;
+    while i < near.to {
         if is_item_out(items[i], out, index, boxes) {
             return Finding::Item(i);
         }
@@ -96,13 +103,6 @@ fn find(items: &[(i64, u32)], out: &IntSet, index: &IntSet, boxes: &[IntSet]) ->
     Finding::Open
 }
 
-/// Whether the index can be the item's value.
-fn is_possible(t: (i64, u32), index: &IntSet) -> bool
-    ensures { result ≡ has index.now t.0 }
-{
-    index.contains(t.0)
-}
-
 /// Whether the index can be the item's value, and the item can be out.
 fn can_pick(t: (i64, u32), out: &IntSet, index: &IntSet, boxes: &[IntSet]) -> bool
     requires { t.1 < length boxes.now }
@@ -111,31 +111,24 @@ fn can_pick(t: (i64, u32), out: &IntSet, index: &IntSet, boxes: &[IntSet]) -> bo
     index.contains(t.0) && !boxes[t.1 as usize].disjoint(out)
 }
 
-/// How many items' values the index can be.
-fn possible_items(items: &[(i64, u32)], index: &IntSet) -> usize
-    ensures { result ≡ count_possible items.now index.now }
-{
-    let mut count = 0;
-    let mut i = 0;
-    while i < items.len() {
-        if is_possible(items[i], index) {
-            count += 1;
-        }
-        i += 1;
-    }
-    count
-}
-
-/// The index of the first item that can be picked.
-fn first_pick(items: &[(i64, u32)], out: &IntSet, index: &IntSet, boxes: &[IntSet]) -> Option<usize>
-    requires { All (λ t. t.1 < length boxes.now) items.now }
+/// The place of the first item that can be picked.
+#[tactic(auto, using(crate::proofs::NearLaws::picked_from, crate::proofs::NearLaws::picked_to))]
+fn first_pick(
+    items: &[(i64, u32)],
+    near: Near,
+    out: &IntSet,
+    index: &IntSet,
+    boxes: &[IntSet],
+) -> Option<usize>
+    requires items { All (λ t. t.1 < length boxes.now) items.now }
+    requires near { IsNear items.now index.now near }
     ensures within { IfSome result (λ i. i < length items.now) }
     ensures none { IfNone result (none_picked out.now index.now items.now boxes.now ≡ true) }
     ensures can { IfSome result (λ i. (d : _) → (has index.now (slice_index_or items.now i d).0
         && not (is_disjoint (box_of boxes.now (slice_index_or items.now i d).1) out.now)) ≡ true) }
 {
-    let mut i = 0;
-    while i < items.len() {
+    let mut i = near.from;
+    while i < near.to {
         if can_pick(items[i], out, index, boxes) {
             return Some(i);
         }
@@ -145,25 +138,62 @@ fn first_pick(items: &[(i64, u32)], out: &IntSet, index: &IntSet, boxes: &[IntSe
 }
 
 /// Whether an item of another variable can be picked.
-fn has_another(items: &[(i64, u32)], x: u32, out: &IntSet, index: &IntSet, boxes: &[IntSet]) -> bool
-    requires { All (λ t. t.1 < length boxes.now) items.now }
+#[tactic(auto, using(crate::proofs::NearLaws::other_from, crate::proofs::NearLaws::other_to))]
+fn has_another(
+    items: &[(i64, u32)],
+    near: Near,
+    x: u32,
+    out: &IntSet,
+    index: &IntSet,
+    boxes: &[IntSet],
+) -> bool
+    requires items { All (λ t. t.1 < length boxes.now) items.now }
+    requires near { IsNear items.now index.now near }
     ensures { result ≡ some_other items.now x out.now index.now boxes.now }
 {
-    for t in items {
-        if t.1 != x && can_pick(*t, out, index, boxes) {
+    let mut i = near.from;
+    while i < near.to {
+        if items[i].1 != x && can_pick(items[i], out, index, boxes) {
             return true;
         }
+        i += 1;
     }
     false
 }
 
+/// Whether the variable is that of an item whose value the index can be.
+#[tactic(auto, using(crate::proofs::NearLaws::lacks_from, crate::proofs::NearLaws::lacks_to))]
+fn has_var(items: &[(i64, u32)], near: Near, x: u32, index: &IntSet) -> bool
+    requires near { IsNear items.now index.now near }
+    ensures { result ≡ not (lacks_var x items.now index.now) }
+{
+    let mut i = near.from;
+    while i < near.to {
+        if items[i].1 == x && index.contains(items[i].0) {
+            return true;
+        }
+        i += 1;
+    }
+    false
+}
+
+/// Whether out and the index differ from each other and from the variables of the items that can be
+/// picked.
+fn are_heads_different(items: &[(i64, u32)], near: Near, vars: (u32, u32), index: &IntSet) -> bool
+    requires near { IsNear items.now index.now near }
+    ensures { result ≡ true → AreHeadsDifferent vars.0 vars.1 items.now index.now }
+{
+    vars.0 != vars.1 && !has_var(items, near, vars.0, index) && !has_var(items, near, vars.1, index)
+}
+
 /// What there is to find where each value of out that is probed is offered: whether two items of
 /// different variables can be picked, or the only variable's box lies within that of out.
-fn find_outside(items: &[(i64, u32)], vars: (u32, u32), boxes: &[IntSet]) -> Further
+fn find_outside(items: &[(i64, u32)], near: Near, vars: (u32, u32), boxes: &[IntSet]) -> Further
     requires out { vars.0 < length boxes.now }
     requires index { vars.1 < length boxes.now }
     requires items { All (λ t. t.1 < length boxes.now) items.now }
-    requires different { AreHeadsDifferent vars.0 vars.1 items.now }
+    requires near { IsNear items.now (box_of boxes.now vars.1) near }
+    requires different { AreHeadsDifferent vars.0 vars.1 items.now (box_of boxes.now vars.1) }
     requires met { all_meet items.now (box_of boxes.now vars.0) (box_of boxes.now vars.1) boxes.now
         ≡ true }
     requires full { count_of (box_of boxes.now vars.1) ≤ count_possible items.now
@@ -176,10 +206,10 @@ fn find_outside(items: &[(i64, u32)], vars: (u32, u32), boxes: &[IntSet]) -> Fur
 {
     let out = &boxes[vars.0 as usize];
     let index = &boxes[vars.1 as usize];
-    match first_pick(items, out, index, boxes) {
+    match first_pick(items, near, out, index, boxes) {
         Some(i) => {
             let x = items[i].1;
-            if has_another(items, x, out, index, boxes) {
+            if has_another(items, near, x, out, index, boxes) {
                 return Further::Idle;
             }
             if boxes[x as usize].within(out) {
@@ -193,13 +223,14 @@ fn find_outside(items: &[(i64, u32)], vars: (u32, u32), boxes: &[IntSet]) -> Fur
 }
 
 /// What there is to find where each value of the index is an item's that can be out.
-fn find_further(items: &[(i64, u32)], vars: (u32, u32), boxes: &[IntSet]) -> Further
+fn find_further(items: &[(i64, u32)], near: Near, vars: (u32, u32), boxes: &[IntSet]) -> Further
     requires out { vars.0 < length boxes.now }
     requires index { vars.1 < length boxes.now }
     requires items { All (λ t. t.1 < length boxes.now) items.now }
     requires some { is_nil (box_of boxes.now vars.0) ≡ false }
     requires sets { All (λ s. IsValid s) boxes.now }
-    requires different { AreHeadsDifferent vars.0 vars.1 items.now }
+    requires near { IsNear items.now (box_of boxes.now vars.1) near }
+    requires different { AreHeadsDifferent vars.0 vars.1 items.now (box_of boxes.now vars.1) }
     requires met { all_meet items.now (box_of boxes.now vars.0) (box_of boxes.now vars.1) boxes.now
         ≡ true }
     requires full { count_of (box_of boxes.now vars.1) ≤ count_possible items.now
@@ -210,12 +241,13 @@ fn find_further(items: &[(i64, u32)], vars: (u32, u32), boxes: &[IntSet]) -> Fur
 {
     match unoffered(
         items,
+        near,
         &boxes[vars.0 as usize],
         &boxes[vars.1 as usize],
         boxes,
     ) {
         Some(v) => Further::Unoffered(v),
-        None => find_outside(items, vars, boxes),
+        None => find_outside(items, near, vars, boxes),
     }
 }
 
@@ -377,6 +409,14 @@ fn prune_out(
     Ok(clause)
 }
 
+/// Whether as many items can be picked as the index has values.
+fn is_full(items: &[(i64, u32)], near: Near, index: &IntSet) -> bool
+    requires near { IsNear items.now index.now near }
+    ensures { IsTrue result ↔ (count_of index.now ≤ count_possible items.now index.now) }
+{
+    near.full || index.at_most(possible_items(items, near.from, near.to, index) as u64)
+}
+
 /// What an element of which no single item tells anything has to say.
 fn prune_open(
     alloc: Global,
@@ -385,11 +425,13 @@ fn prune_open(
     subject: Subject<'_>,
     vars: (u32, u32),
     items: &[(i64, u32)],
+    near: Near,
 ) -> Result<Option<Clause>, AllocError>
     requires is { subject.con.now ≡ ElementDef vars.0 vars.1 items.now }
     requires well_made { IsWellMadeCon subject.domains.now subject.con.now }
     requires boxes { AreBoxesWithin subject.domains.now subject.boxes.now }
     requires sets { All (λ d. IsValid d) subject.domains.now }
+    requires near { IsNear items.now (box_of subject.boxes.now vars.1) near }
     requires domain { vars.1 < length subject.domains.now }
     requires domain_out { vars.0 < length subject.domains.now }
     requires domain_items { All (λ t. t.1 < length subject.domains.now) items.now }
@@ -403,15 +445,14 @@ fn prune_open(
 {
     let (con, domains, boxes) = (subject.con, subject.domains, subject.boxes);
     let index = &boxes[vars.1 as usize];
-    if !index.at_most(possible_items(items, index) as u64) {
+    if !is_full(items, near, index) {
         let clause = prune_index(subject, vars, items, alloc)?;
         return Ok(Some(clause));
     }
-    let once = repeats.occur_once(k, con, vars.0, vars.1)?;
-    if !once {
+    if !are_heads_different(items, near, vars, index) {
         return probe(con, domains, boxes, alloc);
     }
-    match find_further(items, vars, boxes) {
+    match find_further(items, near, vars, boxes) {
         Further::Idle => Ok(None),
         Further::OutOfSet(x) => {
             let clause = explain_pick(subject, vars.1, index, x, vars.0, alloc)?;
@@ -509,8 +550,15 @@ pub fn prune_element(
 {
     let (con, domains, boxes) = (subject.con, subject.domains, subject.boxes);
     let (out, index) = vars;
-    match find(items, &boxes[out as usize], &boxes[index as usize], boxes) {
-        Finding::Open => prune_open(alloc, repeats, k, subject, vars, items),
+    let near = near_items(items, &boxes[index as usize]);
+    match find(
+        items,
+        near,
+        &boxes[out as usize],
+        &boxes[index as usize],
+        boxes,
+    ) {
+        Finding::Open => prune_open(alloc, repeats, k, subject, vars, items, near),
         Finding::Item(i) => {
             let t = items[i];
             if !are_different(index, t.1, out) {

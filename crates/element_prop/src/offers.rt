@@ -13,7 +13,9 @@ ghost use Rattle.signed_clause.specs.Clauses.{box_of};
 ghost use Rattle.ground_form.specs.Bounds.{low_of, high_of};
 ghost use Rattle.box_rules.specs.Quiet.{probed};
 ghost use Rattle.element_prop.specs.Elements.{some_covers, some_offers, all_offered};
+ghost use Rattle.element_prop.specs.Near.{IsNear};
 
+use crate::near::Near;
 use ground_form::{Number, ends_of};
 use signed_clause::IntSet;
 
@@ -26,14 +28,24 @@ fn does_cover(t: (i64, u32), out: &IntSet, index: &IntSet, boxes: &[IntSet]) -> 
 }
 
 /// Whether one of the items can be whatever out can.
-fn is_covered(items: &[(i64, u32)], out: &IntSet, index: &IntSet, boxes: &[IntSet]) -> bool
-    requires { All (λ t. t.1 < length boxes.now) items.now }
+#[tactic(auto, using(crate::proofs::NearLaws::covers_from, crate::proofs::NearLaws::covers_to))]
+fn is_covered(
+    items: &[(i64, u32)],
+    near: Near,
+    out: &IntSet,
+    index: &IntSet,
+    boxes: &[IntSet],
+) -> bool
+    requires items { All (λ t. t.1 < length boxes.now) items.now }
+    requires near { IsNear items.now index.now near }
     ensures { result ≡ some_covers items.now out.now index.now boxes.now }
 {
-    for t in items {
-        if does_cover(*t, out, index, boxes) {
+    let mut i = near.from;
+    while i < near.to {
+        if does_cover(items[i], out, index, boxes) {
             return true;
         }
+        i += 1;
     }
     false
 }
@@ -106,18 +118,28 @@ fn reach_of(t: (i64, u32), at: Number, index: &IntSet, boxes: &[IntSet]) -> Opti
 }
 
 /// How far, from the value on, the first item that offers it does so of each value.
-fn reach(items: &[(i64, u32)], at: Number, index: &IntSet, boxes: &[IntSet]) -> Option<Number>
-    requires { All (λ t. t.1 < length boxes.now) items.now }
+#[tactic(auto, using(crate::proofs::NearLaws::offers_from, crate::proofs::NearLaws::offers_to))]
+fn reach(
+    items: &[(i64, u32)],
+    near: Near,
+    at: Number,
+    index: &IntSet,
+    boxes: &[IntSet],
+) -> Option<Number>
+    requires items { All (λ t. t.1 < length boxes.now) items.now }
+    requires near { IsNear items.now index.now near }
     ensures none { IfNone result (some_offers items.now at.value index.now boxes.now ≡ false) }
     ensures order { IfSome result (λ end. at.value ≤ℤ end.value) }
     ensures some { IfSome result (λ end. (v : ℤ) → at.value ≤ℤ v → v ≤ℤ end.value
         → some_offers items.now v index.now boxes.now ≡ true) }
 {
-    for t in items {
-        let end = reach_of(*t, at, index, boxes);
+    let mut i = near.from;
+    while i < near.to {
+        let end = reach_of(items[i], at, index, boxes);
         if end.is_some() {
             return end;
         }
+        i += 1;
     }
     None
 }
@@ -133,12 +155,14 @@ fn next(n: Number, last: Number) -> Number
 /// The first of the values from `first` to `last` that no item offers.
 fn unoffered_between(
     items: &[(i64, u32)],
+    near: Near,
     first: Number,
     last: Number,
     index: &IntSet,
     boxes: &[IntSet],
 ) -> Option<Number>
     requires items { All (λ t. t.1 < length boxes.now) items.now }
+    requires near { IsNear items.now index.now near }
     requires order { first.value ≤ℤ last.value }
     ensures none { IfNone result ((v : ℤ) → first.value ≤ℤ v → v ≤ℤ last.value
         → some_offers items.now v index.now boxes.now ≡ true) }
@@ -148,7 +172,7 @@ fn unoffered_between(
 {
     let mut at = first;
     loop {
-        let Some(end) = reach(items, at, index, boxes) else {
+        let Some(end) = reach(items, near, at, index, boxes) else {
             return Some(at);
         };
         if last.value <= end.value {
@@ -161,35 +185,39 @@ fn unoffered_between(
 /// The first value of the range that no item offers.
 fn unoffered_in(
     items: &[(i64, u32)],
+    near: Near,
     range: (i64, i64),
     index: &IntSet,
     boxes: &[IntSet],
 ) -> Option<Number>
     requires items { All (λ t. t.1 < length boxes.now) items.now }
+    requires near { IsNear items.now index.now near }
     requires order { range.0 ≤ℤ range.1 }
     ensures none { IfNone result ((v : ℤ) → in_range range v ≡ true → some_offers items.now v
         index.now boxes.now ≡ true) }
     ensures some { IfSome result (λ v. some_offers items.now v.value index.now boxes.now ≡ false) }
     ensures within { IfSome result (λ v. in_range range v.value ≡ true) }
 {
-    unoffered_between(items, start_of(range), end_of(range), index, boxes)
+    unoffered_between(items, near, start_of(range), end_of(range), index, boxes)
 }
 
 /// The first value of the set that no item offers.
 fn unoffered_of(
     items: &[(i64, u32)],
+    near: Near,
     set: &IntSet,
     index: &IntSet,
     boxes: &[IntSet],
 ) -> Option<Number>
-    requires { All (λ t. t.1 < length boxes.now) items.now }
+    requires items { All (λ t. t.1 < length boxes.now) items.now }
+    requires near { IsNear items.now index.now near }
     ensures none { IfNone result ((v : ℤ) → has set.now v ≡ true → some_offers items.now v index.now
         boxes.now ≡ true) }
     ensures some { IfSome result (λ v. some_offers items.now v.value index.now boxes.now ≡ false) }
     ensures within { IfSome result (λ v. has set.now v.value ≡ true) }
 {
     for r in set.ranges() {
-        let found = unoffered_in(items, *r, index, boxes);
+        let found = unoffered_in(items, near, *r, index, boxes);
         if found.is_some() {
             return found;
         }
@@ -200,11 +228,13 @@ fn unoffered_of(
 /// The least or the greatest value of the set, which isn't empty, where no item offers it.
 fn unoffered_end(
     items: &[(i64, u32)],
+    near: Near,
     set: &IntSet,
     index: &IntSet,
     boxes: &[IntSet],
 ) -> Option<Number>
     requires items { All (λ t. t.1 < length boxes.now) items.now }
+    requires near { IsNear items.now index.now near }
     requires some { is_nil set.now ≡ false }
     ensures low { IfNone result (some_offers items.now (low_of set.now) index.now boxes.now
         ≡ true) }
@@ -214,10 +244,10 @@ fn unoffered_end(
     ensures within { IfSome result (λ v. has set.now v.value ≡ true) }
 {
     let (low, high) = set_ends(set);
-    if reach(items, low, index, boxes).is_none() {
+    if reach(items, near, low, index, boxes).is_none() {
         return Some(low);
     }
-    if reach(items, high, index, boxes).is_none() {
+    if reach(items, near, high, index, boxes).is_none() {
         return Some(high);
     }
     None
@@ -226,11 +256,13 @@ fn unoffered_end(
 /// The first value of out, of those that are probed, that no item offers.
 pub fn unoffered(
     items: &[(i64, u32)],
+    near: Near,
     out: &IntSet,
     index: &IntSet,
     boxes: &[IntSet],
 ) -> Option<Number>
     requires items { All (λ t. t.1 < length boxes.now) items.now }
+    requires near { IsNear items.now index.now near }
     requires some { is_nil out.now ≡ false }
     requires sets { All (λ s. IsValid s) boxes.now }
     ensures none { IfNone result (all_offered (probed out.now) items.now index.now boxes.now
@@ -239,12 +271,12 @@ pub fn unoffered(
     ensures within { IfSome result (λ v. has out.now v.value ≡ true) }
 {
     out.ranges();
-    if is_covered(items, out, index, boxes) {
+    if is_covered(items, near, out, index, boxes) {
         return None;
     }
     if out.at_most(64) {
-        unoffered_of(items, out, index, boxes)
+        unoffered_of(items, near, out, index, boxes)
     } else {
-        unoffered_end(items, out, index, boxes)
+        unoffered_end(items, near, out, index, boxes)
     }
 }

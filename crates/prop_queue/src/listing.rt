@@ -98,8 +98,7 @@ impl Listing {
         }
     }
 
-    /// The first listed number, where there is one: one of the soonest urgency, and of these the
-    /// one that was listed first.
+    /// The first listed number, where there is one: one of the soonest urgency.
     #[tactic(auto, using(crate::proofs::MarkLaws::first_there))]
     pub fn first(&self) -> Option<u32>
         ensures first { result ≡ first_of self.now.order }

@@ -1,32 +1,29 @@
-//! Three lists of numbers, one for each urgency, each first in, first out.
-ghost use Rattle.std.specs.Prelude.{◌≡◌, ◌<◌, [], ◌∷◌, length, IfOk, IfSome, IfNone};
-ghost use Rattle.prop_queue.specs.Urgencies.{waiting, order_of, first_of, queued};
+//! Numbers that wait, of three urgencies, those of each in sweeps.
+ghost use Rattle.std.specs.Prelude.{◌≡◌, ◌<◌, [], ◌∷◌, false, length, IfOk, IfSome, IfNone};
+ghost use Rattle.prop_queue.specs.Urgencies.{sweep, waiting, order_of, first_of, queued};
 
+use crate::sweeps::Sweeps;
 use crate::urgency::Urgency;
 use std::alloc::{AllocError, Global};
-use std::collections::VecDeque;
 use std::marker::Model;
 
 /// Numbers in the order in which they are taken: those of the soonest urgency first.
 #[derive(Drop)]
 pub struct Lists {
-    cheap: VecDeque<u32>,
-    sums: VecDeque<u32>,
-    packings: VecDeque<u32>,
+    cheap: Sweeps,
+    sums: Sweeps,
+    packings: Sweeps,
 }
 
 impl Model for Lists {
     ghost use Rattle.std.specs.Prelude.{◌≤◌};
-    ghost use Rattle.std.specs.VecDeque.{deque_capacity};
     ghost use Rattle.prop_queue.specs.Urgencies.{Waiting, waiting};
 
     ghost Value = { Waiting };
 
-    ghost view = { λ l. waiting l.cheap.items l.sums.items l.packings.items
-        (deque_capacity l.cheap) };
+    ghost view = { λ l. waiting l.cheap l.sums l.packings l.cheap.room };
 
-    ghost invariant = { λ l. (deque_capacity l.cheap ≤ deque_capacity l.sums)
-        × (deque_capacity l.cheap ≤ deque_capacity l.packings) };
+    ghost invariant = { λ l. (l.cheap.room ≤ l.sums.room) × (l.cheap.room ≤ l.packings.room) };
 }
 
 impl Lists {
@@ -35,11 +32,12 @@ impl Lists {
     /// # Errors
     /// Want of memory.
     pub fn with_room(alloc: Global, room: usize) -> Result<Lists, AllocError>
-        ensures { IfOk result (λ l. l ≡ waiting [] [] [] room) }
+        ensures { IfOk result (λ l. l ≡ waiting (sweep [] [] false room) (sweep [] [] false room)
+            (sweep [] [] false room) room) }
     {
-        let cheap = VecDeque::with_capacity(alloc, room)?;
-        let sums = VecDeque::with_capacity(alloc, room)?;
-        let packings = VecDeque::with_capacity(alloc, room)?;
+        let cheap = Sweeps::with_room(alloc, room)?;
+        let sums = Sweeps::with_room(alloc, room)?;
+        let packings = Sweeps::with_room(alloc, room)?;
         Ok(Lists {
             cheap,
             sums,
@@ -52,12 +50,12 @@ impl Lists {
         ensures { result ≡ first_of (order_of self.now) }
     {
         if let Some(k) = self.cheap.front() {
-            return Some(*k);
+            return Some(k);
         }
         if let Some(k) = self.sums.front() {
-            return Some(*k);
+            return Some(k);
         }
-        self.packings.front().copied()
+        self.packings.front()
     }
 
     /// Takes it.
@@ -67,24 +65,24 @@ impl Lists {
         ensures left { IfNone result (order_of self.new ≡ []) }
         ensures room { self.new.room ≡ self.old.room }
     {
-        if let Some(k) = self.cheap.pop_front() {
+        if let Some(k) = self.cheap.pop() {
             return Some(k);
         }
-        if let Some(k) = self.sums.pop_front() {
+        if let Some(k) = self.sums.pop() {
             return Some(k);
         }
-        self.packings.pop_front()
+        self.packings.pop()
     }
 
-    /// Adds a number behind those of its urgency. It takes no memory.
+    /// Adds a number to those of its urgency. It takes no memory.
     pub fn push(&mut self, urgency: Urgency, k: u32)
         requires { length (order_of self.old) < self.old.room }
         ensures { self.new ≡ queued urgency k self.old }
     {
         match urgency {
-            Urgency::Cheap => self.cheap.push_back_reserved(k),
-            Urgency::Sum => self.sums.push_back_reserved(k),
-            Urgency::Packing => self.packings.push_back_reserved(k),
+            Urgency::Cheap => self.cheap.push(k),
+            Urgency::Sum => self.sums.push(k),
+            Urgency::Packing => self.packings.push(k),
         }
     }
 }

@@ -63,7 +63,7 @@ impl Model for Queue {
 
 impl Queue {
     /// The queue over the problem, with every constraint listed and every clause to be looked at.
-    /// It makes the room that listing will ever need, 18 bytes a constraint, for each variable a
+    /// It makes the room that listing will ever need, 30 bytes a constraint, for each variable a
     /// list of the constraints that name it, and the watches of the clauses.
     ///
     /// # Errors

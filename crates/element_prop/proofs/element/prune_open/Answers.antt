@@ -20,7 +20,7 @@ pub explain_pick-requires-clause-reason : goal.explain_pick-requires-clause-reas
 explain_pick-requires-clause-reason c =
     let con = c.args.subject.con.now in let domains = c.args.subject.domains.now in let boxes = c.args.subject.boxes.now in let vars = c.args.vars in let items = c.args.items.now in
     let index : c.index-boxes-vars.result ≡ box_of boxes vars.1 = grind (arith, common_steps) in
-    let different : AreHeadsDifferent vars.0 vars.1 items = search rules in
+    let different : AreHeadsDifferent vars.0 vars.1 items (box_of boxes vars.1) = subst (λ (s : Ranges). AreHeadsDifferent vars.0 vars.1 items s) index (search rules) in
     subst (λ (s : Ranges). IsReason con domains boxes (literals_of domains (pick_plan domains boxes vars.1 s c.in-OutOfSet.x vars.0))) (sym index)
     (outside_reason con domains boxes vars.0 vars.1 items c.in-OutOfSet.x (element con domains boxes vars.0 vars.1 items c.requires.is c.requires.well_made c.requires.boxes c.requires.sets) different c.requires.items c.requires.met c.in-OutOfSet.ensures)
 

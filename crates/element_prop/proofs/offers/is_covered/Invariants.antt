@@ -1,6 +1,13 @@
-use Rattle.std.proofs.Common.{◌≡◌, drop}
+use Rattle.std.proofs.Common.{◌≡◌, ◌≤◌, ◌-◌, drop}
 use Rattle.element_prop.specs.Elements.{some_covers}
 use Rattle.element_prop.proofs.offers.is_covered.Given as goal
 
-abbrev pub invariant-loop-t : goal.invariant-loop-t
-invariant-loop-t l = some_covers (drop l.t-index l.items) l.out l.index l.boxes ≡ some_covers l.items l.out l.index l.boxes
+abbrev pub invariant-loop-i : goal.invariant-loop-i
+invariant-loop-i l = record {
+  begun : l.near.from ≤ l.i;
+  end : l.i ≤ l.near.to;
+  same : some_covers (drop l.i l.items) l.out l.index l.boxes ≡ some_covers l.items l.out l.index l.boxes;
+}
+
+abbrev pub decreases-loop-i : goal.decreases-loop-i
+decreases-loop-i l = l.near.to - l.i

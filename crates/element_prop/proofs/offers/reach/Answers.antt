@@ -6,4 +6,4 @@ use Rattle.element_prop.proofs.offers.reach.Goals as goal
 pub returns-then-is_some-clause-some : goal.returns-then-is_some-clause-some
 returns-then-is_some-clause-some c =
     IfSome_then c.reach_of-end.result c.reach_of-end.ensures.some
-    (λ end h v low high. offered_at c.args.items.now c.loop-t.t-index (pos 0, 0) v c.args.index.now c.args.boxes.now c.loop-t-test.true (h v low high))
+    (λ end h v low high. offered_at c.args.items.now c.loop-i.i (pos 0, 0) v c.args.index.now c.args.boxes.now c.loop-i-test.true (h v low high))
