@@ -29,16 +29,16 @@ last (x ∷ a) k j = count_cases (x == j) (k == j) (occurs j a) (occurs j (a ++ 
 
 -- how often it stands in both lists together
 occurs_both : (j : ℕ) (a b : List ℕ) → occurs j (a ++ b) ≡ occurs j a + occurs j b
-occurs_both j [] b = refl
+occurs_both j [] b = omega arith
 occurs_both j (x ∷ a) b =
     let more = occurs_both j a b in
     let P : Bool → Type 0 = λ c. cond c (suc (occurs j (a ++ b))) (occurs j (a ++ b))
-        ≡ cond c (suc (occurs j a)) (occurs j a) + occurs j b in
-    elim (x == j) as P [ true ↦ ap (λ (z : ℕ). suc z) more | false ↦ more ]
+    ≡ cond c (suc (occurs j a)) (occurs j a) + occurs j b in
+    elim (x == j) as P [ true ↦ omega (arith, more) | false ↦ more ]
 
 add_cases : (b : Bool) (m n r : ℕ) → m ≡ cond b (suc n) n →
     m + r ≡ cond b (suc (n + r)) (n + r)
-add_cases true m n r e = ap (λ (z : ℕ). z + r) e
+add_cases true m n r e = omega (arith, e)
 add_cases false m n r e = ap (λ (z : ℕ). z + r) e
 
 before : (more xs b : List ℕ) (k : ℕ) → HasMore k more xs → HasMore k (more ++ b) (xs ++ b)
@@ -78,7 +78,7 @@ added_length : (k : ℕ) (s : Sweep) →
     length (sweep_order (added k s)) ≡ suc (length (sweep_order s))
 added_length k s =
     let P : Bool → Type 0 = λ c. length (s.current ++ cond c (k ∷ s.later) (s.later ++ k ∷ []))
-        ≡ suc (length (s.current ++ s.later)) in
+    ≡ suc (length (s.current ++ s.later)) in
     elim s.turned as P [
       | true ↦ grind (arith, common_steps)
       | false ↦ grind (arith, common_steps)
