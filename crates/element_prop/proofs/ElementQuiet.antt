@@ -136,7 +136,7 @@ same_picked out index s y v (t ∷ ts) boxes part h =
     let parts = and_parts (not (has index t.0) || not (t.1 == y)) (lacks_var y ts index) h in
     let more = same_picked out index s y v ts boxes part parts.1 in
     let P : Bool → Type 0 = λ b. has s t.0 ≡ b →
-        ((not b || is_disjoint (box_of (fixing boxes y v) t.1) out) && none_picked out s ts (fixing boxes y v)) ≡ ((not b || is_disjoint (box_of boxes t.1) out) && none_picked out s ts boxes) in
+    ((not b || is_disjoint (box_of (fixing boxes y v) t.1) out) && none_picked out s ts (fixing boxes y v)) ≡ ((not b || is_disjoint (box_of boxes t.1) out) && none_picked out s ts boxes) in
     (elim (has s t.0) as P [
       | true ↦ λ k.
           let there = part t.0 k in

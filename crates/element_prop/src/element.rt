@@ -550,14 +550,9 @@ pub fn prune_element(
 {
     let (con, domains, boxes) = (subject.con, subject.domains, subject.boxes);
     let (out, index) = vars;
-    let near = near_items(items, &boxes[index as usize]);
-    match find(
-        items,
-        near,
-        &boxes[out as usize],
-        &boxes[index as usize],
-        boxes,
-    ) {
+    let index_box = &boxes[index as usize];
+    let near = near_items(items, index_box);
+    match find(items, near, &boxes[out as usize], index_box, boxes) {
         Finding::Open => prune_open(alloc, repeats, k, subject, vars, items, near),
         Finding::Item(i) => {
             let t = items[i];
