@@ -8,3 +8,4 @@ pub mod LoadSteps
 pub mod LoadLaws
 pub mod WholeLaws
 pub mod QuantifiedTruths
+pub mod BlockLaws

@@ -3,3 +3,4 @@ pub mod AlikeParts
 pub mod Clashing
 pub mod Packing
 pub mod Rows
+pub mod Blocks

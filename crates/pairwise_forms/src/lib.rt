@@ -4,6 +4,7 @@
 //! one flag, however many objects they may be.
 //!
 //! - `apart`: that members have different values, stated pair by pair.
+//! - `blocks`: that the values of many variables differ, by blocks of them.
 //! - `bodies`: the bodies of a possible member, and what each of them is.
 //! - `clashes`: whether some two members have one value.
 //! - `keys`: forms as variables that tell their values apart.
@@ -15,6 +16,7 @@
 #![tactic(auto)]
 
 mod apart;
+mod blocks;
 mod bodies;
 mod clashes;
 mod keys;

@@ -1,13 +1,14 @@
 //! Quantifiers that compare their members, as constraints of their own.
 //!
-//! Where all members are kept in any case, and they are few and numbers small, this is one
-//! constraint of the kind that was made for it. Else that values differ is stated pair by pair, and
-//! a packing by its form.
+//! Where all members are kept in any case, and numbers are small, this is one constraint of the kind
+//! that was made for it, or of many members that differ one for each two blocks of them. Else that
+//! values differ is stated pair by pair, and a packing by its form.
 ghost use Rattle.std.specs.Prelude.{◌≡◌, ◌<◌, ◌∷◌, [], List, ℤ, true, not, length, map, IfOk, IfSome, OnOk};
 ghost use Rattle.std.specs.List.{All};
 ghost use Rattle.conf_eval.specs.Meaning.{truth_of};
 ghost use Rattle.conf_syntax.specs.declared.tree.QuantKind.TheVariants as kind;
 ghost use Rattle.ground_build.specs.Growing.{AreItemVariables};
+ghost use Rattle.ground_form.specs.Meaning.{all_differ};
 ghost use Rattle.form_build.specs.declared.form.Truth.TheVariants as truth;
 ghost use Rattle.form_build.specs.Worlds.{IsWorld, Adds, Defines};
 ghost use Rattle.quantifier_forms.specs.PartValues.{kept_values, over_values};
@@ -18,6 +19,7 @@ ghost use Rattle.pairwise_forms.specs.Packing.{some_overfull, IsPacked, AreNarro
 ghost use Rattle.pairwise_forms.specs.Rows.{AreRows};
 
 use crate::apart::state_no_clash;
+use crate::blocks::state_blocks;
 use crate::clashes::keyed;
 use crate::loads::{none_overfull, packed};
 use crate::members::{Keyed, Packed};
@@ -60,6 +62,23 @@ fn keys(alloc: Global, members: &[Keyed]) -> Result<Vec<u32>, AllocError>
     Ok(vars)
 }
 
+/// The most members of one constraint that values differ. What it costs to look at grows with the
+/// third power of their number.
+const MOST_DIFFERENT: usize = 64;
+
+/// States that the values of the variables differ.
+fn state_values(maker: &mut Maker, vars: &[u32]) -> Result<(), AllocError>
+    requires variables { All (λ x. x < length maker.old.domains) vars.now }
+    ensures says { OnOk result (Adds [] maker.old maker.new (λ a. all_differ vars.now a)) }
+{
+    if vars.len() > MOST_DIFFERENT {
+        return state_blocks(maker, vars);
+    }
+    maker.ask(1)?;
+    maker.require_different(vars)?;
+    Ok(())
+}
+
 /// States that no two members clash, where all are kept.
 fn require_different(maker: &mut Maker, members: &[Keyed]) -> Result<(), AllocError>
     requires members { All (IsKeyed (length maker.old.domains)) members.now }
@@ -67,25 +86,13 @@ fn require_different(maker: &mut Maker, members: &[Keyed]) -> Result<(), AllocEr
     ensures says { OnOk result (Adds [] maker.old maker.new (λ a. not (some_clash members.now a))) }
 {
     let vars = keys(maker.alloc(), members)?;
-    maker.ask(1)?;
-    maker.require_different(vars.as_slice())?;
+    state_values(maker, vars.as_slice())?;
     Ok(())
 }
-
-/// The most members of one constraint that values differ. What it costs to look at grows with the
-/// third power of their number.
-const MOST_DIFFERENT: usize = 64;
 
 /// The most members of one packing. What it costs to look at packed items grows with their number
 /// and that of bins.
 pub const MOST_PACKED: usize = 1024;
-
-/// Whether that the members' values differ is stated as one constraint.
-fn is_one_constraint(members: &[Keyed]) -> bool
-    ensures { result ≡ true → All (λ e. e.kept ≡ truth.Fixed true) members.now }
-{
-    members.len() <= MOST_DIFFERENT && are_kept(members)
-}
 
 /// States that the values of all members that are kept differ.
 pub fn state_different(maker: &mut Maker, parts: &[Part]) -> Result<(), AllocError>
@@ -95,7 +102,7 @@ pub fn state_different(maker: &mut Maker, parts: &[Part]) -> Result<(), AllocErr
         (λ a. truth_of (over_values kind.AllDifferent (kept_values parts.now a)))) }
 {
     let members = keyed(maker, parts)?;
-    if is_one_constraint(&members) {
+    if are_kept(&members) {
         require_different(maker, &members)?;
         return Ok(());
     }

@@ -8,11 +8,11 @@ use Rattle.pairwise_forms.specs.Clashing.{some_clash}
 use Rattle.pairwise_forms.proofs.ClashLaws.{different_said}
 use Rattle.pairwise_forms.proofs.whole.state_different.Goals as goal
 
-pub returns-then-is_one_constraint : goal.returns-then-is_one_constraint
-returns-then-is_one_constraint c = record {
-  says = defined_says c.args.maker.now c.keyed.new.maker c.require_different.new.maker (λ a. not (some_clash c.deref-then-is_one_constraint.result.now a)) (λ a. truth_of (over_values kind.AllDifferent (kept_values c.args.parts.now a)))
+pub returns-then-are_kept : goal.returns-then-are_kept
+returns-then-are_kept c = record {
+  says = defined_says c.args.maker.now c.keyed.new.maker c.require_different.new.maker (λ a. not (some_clash c.deref-then-are_kept.result.now a)) (λ a. truth_of (over_values kind.AllDifferent (kept_values c.args.parts.now a)))
       c.in_ok-members.ensures.adds c.in_ok-require_different.ensures.says
-      (λ a w. ap (λ (es : List Keyed). not (some_clash es a)) c.deref-then-is_one_constraint.ensures.value
+      (λ a w. ap (λ (es : List Keyed). not (some_clash es a)) c.deref-then-are_kept.ensures.value
       ∙ different_said c.args.maker.now.domains c.args.parts.now c.in_ok-members.members.items a c.requires.alike (c.in_ok-members.ensures.keyed.seen a w));
 }
 
