@@ -5,13 +5,16 @@ use Rattle.pairwise_forms.specs.Clashing.{some_clash}
 use Rattle.pairwise_forms.proofs.WholeLaws.{keys_exist, different_says}
 use Rattle.pairwise_forms.proofs.whole.require_different.Goals as goal
 
-pub require_different-requires-clause-variables : goal.require_different-requires-clause-variables
-require_different-requires-clause-variables c =
-    keys_exist (length c.args.maker.now.domains) c.args.members.now c.as_slice.result.now (c.as_slice.ensures.value ∙ c.in_ok-vars.ensures) c.requires.members
+pub state_values-requires : goal.state_values-requires
+state_values-requires c = record {
+  variables =
+      keys_exist (length c.args.maker.now.domains) c.args.members.now c.as_slice.result.now
+      (c.as_slice.ensures.value ∙ c.in_ok-vars.ensures) c.requires.members;
+}
 
 pub returns : goal.returns
 returns c = record {
-  says = adds_same [] c.args.maker.now c.require_different.new.self (λ a. all_differ c.as_slice.result.now a) (λ a. not (some_clash c.args.members.now a))
+  says = adds_same [] c.args.maker.now c.state_values.new.maker (λ a. all_differ c.as_slice.result.now a) (λ a. not (some_clash c.args.members.now a))
       (λ a w kn. different_says c.args.members.now c.as_slice.result.now a c.requires.kept (c.as_slice.ensures.value ∙ c.in_ok-vars.ensures))
-      c.in_ok-require_different.ensures.says;
+      c.in_ok-state_values.ensures.says;
 }
