@@ -9,3 +9,4 @@ pub mod LoadLaws
 pub mod WholeLaws
 pub mod QuantifiedTruths
 pub mod BlockLaws
+pub mod CountLaws

@@ -7,6 +7,7 @@
 //! - `blocks`: that the values of many variables differ, by blocks of them.
 //! - `bodies`: the bodies of a possible member, and what each of them is.
 //! - `clashes`: whether some two members have one value.
+//! - `counted`: that the values of many variables differ, as a packing.
 //! - `keys`: forms as variables that tell their values apart.
 //! - `loads`: how much counts at an item's place, and whether that is more than its room.
 //! - `members`: what is kept of a possible member to compare it with others.
@@ -19,6 +20,7 @@ mod apart;
 mod blocks;
 mod bodies;
 mod clashes;
+mod counted;
 mod keys;
 mod loads;
 mod members;

@@ -1,8 +1,8 @@
 //! Quantifiers that compare their members, as constraints of their own.
 //!
 //! Where all members are kept in any case, and numbers are small, this is one constraint of the kind
-//! that was made for it, or of many members that differ one for each two blocks of them. Else that
-//! values differ is stated pair by pair, and a packing by its form.
+//! that was made for it, or of many members that differ one for each two blocks of them, and a
+//! packing. Else that values differ is stated pair by pair, and a packing by its form.
 ghost use Rattle.std.specs.Prelude.{◌≡◌, ◌<◌, ◌∷◌, [], List, ℤ, true, not, length, map, IfOk, IfSome, OnOk};
 ghost use Rattle.std.specs.List.{All};
 ghost use Rattle.conf_eval.specs.Meaning.{truth_of};
@@ -21,6 +21,7 @@ ghost use Rattle.pairwise_forms.specs.Rows.{AreRows};
 use crate::apart::state_no_clash;
 use crate::blocks::state_blocks;
 use crate::clashes::keyed;
+use crate::counted::state_counted;
 use crate::loads::{none_overfull, packed};
 use crate::members::{Keyed, Packed};
 use form_build::{Maker, Truth, settled};
@@ -66,16 +67,24 @@ fn keys(alloc: Global, members: &[Keyed]) -> Result<Vec<u32>, AllocError>
 /// third power of their number.
 const MOST_DIFFERENT: usize = 64;
 
-/// States that the values of the variables differ.
+/// The most members of one packing. What it costs to look at packed items grows with their number
+/// and that of bins.
+pub const MOST_PACKED: usize = 1024;
+
+/// States that the values of the variables differ: of many by blocks, and as one packing.
 fn state_values(maker: &mut Maker, vars: &[u32]) -> Result<(), AllocError>
     requires variables { All (λ x. x < length maker.old.domains) vars.now }
     ensures says { OnOk result (Adds [] maker.old maker.new (λ a. all_differ vars.now a)) }
 {
-    if vars.len() > MOST_DIFFERENT {
-        return state_blocks(maker, vars);
+    if vars.len() <= MOST_DIFFERENT {
+        maker.ask(1)?;
+        maker.require_different(vars)?;
+        return Ok(());
     }
-    maker.ask(1)?;
-    maker.require_different(vars)?;
+    state_blocks(maker, vars)?;
+    if vars.len() <= MOST_PACKED {
+        state_counted(maker, vars)?;
+    }
     Ok(())
 }
 
@@ -89,10 +98,6 @@ fn require_different(maker: &mut Maker, members: &[Keyed]) -> Result<(), AllocEr
     state_values(maker, vars.as_slice())?;
     Ok(())
 }
-
-/// The most members of one packing. What it costs to look at packed items grows with their number
-/// and that of bins.
-pub const MOST_PACKED: usize = 1024;
 
 /// States that the values of all members that are kept differ.
 pub fn state_different(maker: &mut Maker, parts: &[Part]) -> Result<(), AllocError>
