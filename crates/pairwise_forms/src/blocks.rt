@@ -13,8 +13,9 @@ ghost use Rattle.pairwise_forms.specs.Blocks.{KeepsApart};
 use form_build::Maker;
 use std::alloc::{AllocError, Global};
 
-/// How many variables a block has: those of two blocks are few enough for one constraint.
-const BLOCK: usize = 32;
+/// How many variables a block has. With fewer there are more constraints, with more each look costs
+/// more: with 16 both take about as long.
+const BLOCK: usize = 16;
 
 /// The first block, and the variables behind it.
 fn split(vars: &[u32]) -> (&[u32], &[u32])
