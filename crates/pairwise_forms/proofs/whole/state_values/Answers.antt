@@ -11,8 +11,8 @@ state_counted-requires c = record {
       c.in_ok-state_blocks.ensures.says.grows c.requires.variables;
 }
 
-pub returns-then : goal.returns-then
-returns-then c = record {
+pub returns-in_ok-state_counted : goal.returns-in_ok-state_counted
+returns-in_ok-state_counted c = record {
   says =
       said_already c.args.maker.now c.state_blocks.new.maker c.state_counted.new.maker
       (λ a. all_differ c.args.vars.now a) c.in_ok-state_blocks.ensures.says
