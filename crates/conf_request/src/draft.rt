@@ -10,7 +10,7 @@ ghost use Rattle.conf_request.specs.Views.{given, plain, request_of};
 use crate::command::{Command, command_named};
 use crate::file_name::FileName;
 use crate::numbers::number_within;
-use crate::options::Given;
+use crate::options::{Given, OrderName};
 use crate::paths::Paths;
 use crate::request::Request;
 use crate::scan::{PlainWords, given_in};
@@ -21,10 +21,10 @@ use std::alloc::{AllocError, Global};
 #[derive(Clone, Copy)]
 pub enum Draft<'a> {
     /// `solve`: the model, the budget, the log and the order.
-    Solve(&'a str, u32, Option<&'a str>, u8),
+    Solve(&'a str, u32, Option<&'a str>, OrderName),
     /// `reconfigure`: the model, the former configuration, what failed, the budget, the log and the
     /// order.
-    Reconfigure(&'a str, &'a str, PlainWords<'a>, u32, Option<&'a str>, u8),
+    Reconfigure(&'a str, &'a str, PlainWords<'a>, u32, Option<&'a str>, OrderName),
     /// `check` without a former configuration: the model and the log.
     Check(&'a str, &'a str),
     /// `check` with one: the model, the log, the former configuration and what failed.
@@ -34,9 +34,9 @@ pub enum Draft<'a> {
     /// `gen`: the number.
     Gen(u32),
     /// `session`: the model, the former configuration, the events, the budget and the order.
-    Session(&'a str, &'a str, &'a str, u32, u8),
+    Session(&'a str, &'a str, &'a str, u32, OrderName),
     /// `core`: the model, the budget and the order.
-    Core(&'a str, u32, u8),
+    Core(&'a str, u32, OrderName),
 }
 
 /// What `solve` asks for.
@@ -47,7 +47,12 @@ fn solve<'a>(words: PlainWords<'a>, options: &Given<'a>) -> Option<Draft<'a>>
     let (model, more) = words.split_first()?;
     match more.split_first() {
         Some(_) => None,
-        None => Some(Draft::Solve(model, options.budget()?, options.log, options.order(0)?)),
+        None => Some(Draft::Solve(
+            model,
+            options.budget()?,
+            options.log,
+            options.order(OrderName::First)?,
+        )),
     }
 }
 
@@ -59,7 +64,7 @@ fn reconfigure<'a>(words: PlainWords<'a>, options: &Given<'a>) -> Option<Draft<'
     let (model, more) = words.split_first()?;
     let (former, failed) = more.split_first()?;
     let budget = options.budget()?;
-    let order = options.order(2)?;
+    let order = options.order(OrderName::Former)?;
     Some(Draft::Reconfigure(model, former, failed, budget, options.log, order))
 }
 
@@ -111,7 +116,13 @@ fn session<'a>(words: PlainWords<'a>, options: &Given<'a>) -> Option<Draft<'a>>
     let (events, more) = more.split_first()?;
     match more.split_first() {
         Some(_) => None,
-        None => Some(Draft::Session(model, former, events, options.budget()?, options.order(2)?)),
+        None => Some(Draft::Session(
+            model,
+            former,
+            events,
+            options.budget()?,
+            options.order(OrderName::Former)?,
+        )),
     }
 }
 
@@ -126,7 +137,7 @@ fn core<'a>(words: PlainWords<'a>, options: &Given<'a>) -> Option<Draft<'a>>
     let (model, more) = words.split_first()?;
     match more.split_first() {
         Some(_) => None,
-        None => Some(Draft::Core(model, options.budget()?, options.order(0)?)),
+        None => Some(Draft::Core(model, options.budget()?, options.order(OrderName::First)?)),
     }
 }
 

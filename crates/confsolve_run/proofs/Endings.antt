@@ -9,19 +9,21 @@ use Rattle.desk_io.specs.Desk.{Files, with_file, with_printed}
 use Rattle.desk_io.specs.Whole.{StoresFront}
 use Rattle.proof_log.specs.Rounds.{Journal}
 use Rattle.run_status.specs.declared.status.Status.{Status}
-use Rattle.round_commands.specs.Answer.{IsAnswer}
-use Rattle.round_commands.specs.Asking.{OfAsked, OfText, log_file}
+use Rattle.run_promise.specs.Answer.{IsAnswer}
+use Rattle.run_promise.specs.Asking.{OfAsked, OfText, log_file}
 use Rattle.model_reader.specs.TextModel.{IsModelOf}
-use Rattle.round_commands.specs.Delivery.{Outside, outside, log_text, IsLoggedIn, IsLogFrontIn, IsLogFront, IsCutOff}
+use Rattle.run_promise.specs.Delivery.{Outside, outside, log_text, IsLoggedIn, IsLogFrontIn, IsLogFront, IsCutOff}
 use Rattle.round_commands.specs.Ending.{Trace, trace, Searches, IsBegun, EndsModel, EndsModelAt, Ends, EndsAt, RunEnds, RunEndsAt}
 use Rattle.model_reader.specs.Models.{IsWithin, outline_of, constraints_of, goals_of}
-use Rattle.round_commands.specs.Recorded.{IsRecorded}
-use Rattle.round_commands.specs.Refusal.{IsReason, IsDeniedOf, IsTooLongText}
+use Rattle.run_promise.specs.Recorded.{IsRecorded}
+use Rattle.run_promise.specs.Refusal.{IsReason, IsDeniedOf, IsTooLongText}
 use Rattle.model_reader.specs.ModelRefusal.{IsRefusedFor, IsTextRefused}
 use Rattle.run_status.specs.Stages.{Stage, Unasked, Unread, Refused, Answered, Unwritten, Lost, stage_of, Denied}
 use Rattle.round_commands.specs.Unreadable.{Unreadable}
-use Rattle.confsolve_run.specs.Told.{IsToldLog, stored, StoresSome, IsToldBroken}
+use Rattle.round_commands.specs.Told.{IsToldLog}
+use Rattle.confsolve_run.specs.Told.{stored, StoresSome, IsToldBroken}
 use Rattle.round_commands.proofs.Begun.{answer_begun}
+use Rattle.round_commands.proofs.Ends.{same_outside}
 use Rattle.round_commands.proofs.Reading.{risen_earlier}
 use Rattle.round_commands.proofs.Asking.{asked_map, text_map, text_read}
 
@@ -133,9 +135,6 @@ pub run_denied : (t : Trace) (s : Status) → t.journal.rounds ≡ [] → Unread
 run_denied t s none (inl h) same = subst (λ x. RunEndsAt (stage_of x) t x) (sym h.0) (h.1, same)
 run_denied t s none (inr (inl h)) same = subst (λ x. RunEndsAt (stage_of x) t x) (sym h) (inl (same, none))
 run_denied t s none (inr (inr h)) same = subst (λ g. RunEndsAt g t s) (sym h.0) (text_map t.before.files t.request _ _ (λ bytes long. inl long) h.1, same)
-
-same_outside : (files now_files : Option Files) (printed now_printed : Option (List ℕ)) → now_files ≡ files → now_printed ≡ printed → outside now_files now_printed ≡ outside files printed
-same_outside files now_files printed now_printed f q = ap (λ x. outside x now_printed) f ∙ ap (λ x. outside files x) q
 
 pub denied_from : (r : Request) (os : List Order) (journal : Journal) (files now_files : Option Files) (printed now_printed : Option (List ℕ)) (reads reads_now writes writes_now : ℕ) (s : Status) → journal.rounds ≡ [] → now_files ≡ files → now_printed ≡ printed → Unreadable reads reads_now s (OfText files r (λ bytes. IsTooLongText bytes s)) → RunEnds (trace r os journal (outside files printed) (outside now_files now_printed) reads reads_now writes writes_now) s
 denied_from r os journal files now_files printed now_printed reads reads_now writes writes_now s none f q h =

@@ -20,7 +20,7 @@ use Rattle.reconfigure.specs.declared.repair.Repair.{Repair}
 use Rattle.run_status.specs.declared.status.Status.{Status}
 use Rattle.run_status.specs.declared.status.Status.TheVariants as status
 use Rattle.confsolve_run.specs.Checking.{file_status, IsShownBy}
-use Rattle.round_commands.specs.Refusal.{IsUnfit, IsUnchecked}
+use Rattle.run_promise.specs.Refusal.{IsUnfit, IsUnchecked}
 use Rattle.round_commands.specs.Unreadable.{Unreadable}
 use Rattle.round_commands.proofs.Asking.{file_map}
 

@@ -5,10 +5,10 @@ use Rattle.conf_request.specs.declared.request.Request.{Request}
 use Rattle.desk_io.specs.Desk.{Files}
 use Rattle.branch_choice.specs.declared.split.Order.{Order}
 use Rattle.proof_log.specs.Rounds.{Journal}
-use Rattle.round_commands.specs.Answer.{IsAnswer, IsModelAnswer}
+use Rattle.run_promise.specs.Answer.{IsAnswer, IsModelAnswer}
 use Rattle.model_reader.specs.Models.{IsWithin}
-use Rattle.round_commands.specs.Refusal.{IsDenied, IsDeniedOf}
-use Rattle.round_commands.specs.Asking.{Asked}
+use Rattle.run_promise.specs.Refusal.{IsDenied, IsDeniedOf}
+use Rattle.run_promise.specs.Asking.{Asked}
 use Rattle.model_reader.specs.TextModel.{IsModelOf, HasModel}
 use Rattle.model_reader.proofs.OneModel.{Said}
 use Rattle.model_reader.proofs.OneStatus.{with_of}

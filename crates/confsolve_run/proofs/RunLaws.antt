@@ -8,10 +8,10 @@ use Rattle.model_limits.specs.Limits.{model_bytes}
 use Rattle.proof_log.specs.Rounds.{Journal}
 use Rattle.run_status.specs.declared.status.Status.{Status}
 use Rattle.run_status.specs.declared.status.Status.TheVariants as status
-use Rattle.round_commands.specs.Asking.{OfText, log_file, text_of}
-use Rattle.round_commands.specs.Delivery.{IsLogFront, IsLogFrontIn}
+use Rattle.run_promise.specs.Asking.{OfText, log_file, text_of}
+use Rattle.run_promise.specs.Delivery.{IsLogFront, IsLogFrontIn}
 use Rattle.round_commands.specs.Ending.{Trace, Prints, Breaks, Searches, Delivers, Begins, IsUntouched, RunEnds, RunEndsAt, OfTrace}
-use Rattle.round_commands.specs.Refusal.{IsReason, IsTooLongText, IsStanding}
+use Rattle.run_promise.specs.Refusal.{IsReason, IsTooLongText, IsStanding}
 use Rattle.model_reader.specs.ModelRefusal.{IsTextRefused}
 use Rattle.run_status.specs.Stages.{Stage, Unasked, Unread, Refused, Answered, Unwritten, Lost, stage_of, is_silent, is_partial, IsSettled, IsUnless}
 use Rattle.round_commands.specs.Unreadable.{Unreadable}

@@ -7,12 +7,12 @@ ghost use Rattle.desk_io.specs.Desk.{with_printed};
 ghost use Rattle.desk_io.specs.Fault.{HasRisen};
 ghost use Rattle.proof_log.specs.Rounds.{empty};
 ghost use Rattle.run_status.specs.declared.status.Status.{Status as AStatus};
-ghost use Rattle.round_commands.specs.Answer.{IsAnswer, IsAnswerBegun, IsAnswerSearched};
-ghost use Rattle.round_commands.specs.Asking.{Reads, Writes, IsFurther, OfText, closes_rounds, log_file, text_of};
-ghost use Rattle.round_commands.specs.Delivery.{outside, IsLogged, IsLogFront, IsCutOff};
-ghost use Rattle.round_commands.specs.Ending.{OfRequest, RunEnds, trace};
-ghost use Rattle.round_commands.specs.Recorded.{IsRecorded};
-ghost use Rattle.round_commands.specs.Refusal.{IsReason, IsStanding};
+ghost use Rattle.run_promise.specs.Answer.{IsAnswer, IsAnswerBegun, IsAnswerSearched};
+ghost use Rattle.run_promise.specs.Asking.{Reads, Writes, IsFurther, OfRequest, OfText, closes_rounds, log_file, text_of};
+ghost use Rattle.run_promise.specs.Delivery.{outside, IsLogged, IsLogFront, IsCutOff};
+ghost use Rattle.round_commands.specs.Ending.{RunEnds, trace};
+ghost use Rattle.run_promise.specs.Recorded.{IsRecorded};
+ghost use Rattle.run_promise.specs.Refusal.{IsReason, IsStanding};
 ghost use Rattle.run_status.specs.Stages.{Refused, Answered, stage_of, is_silent, is_partial, IsSettled, IsUnless};
 
 use crate::answering::run_text;

@@ -8,13 +8,13 @@ ghost use Rattle.conf_syntax.specs.OneModel.{AreOneModel};
 ghost use Rattle.desk_io.specs.Desk.{Files};
 ghost use Rattle.proof_log.specs.Rounds.{Journal as AJournal};
 ghost use Rattle.run_status.specs.declared.status.Status.{Status as AStatus};
-ghost use Rattle.round_commands.specs.Answer.{IsAnswer};
-ghost use Rattle.round_commands.specs.Asking.{Asked};
+ghost use Rattle.run_promise.specs.Answer.{IsAnswer};
+ghost use Rattle.run_promise.specs.Asking.{Asked};
 ghost use Rattle.model_reader.specs.TextModel.{IsModelOf, HasModel};
 ghost use Rattle.model_reader.specs.Meaning.{IsTyped};
 ghost use Rattle.model_reader.specs.Models.{IsWithin, outline_of};
 ghost use Rattle.model_reader.specs.ModelRefusal.{IsRefusedAs, IsRefusedFor};
-ghost use Rattle.round_commands.specs.Refusal.{IsDeniedOf};
+ghost use Rattle.run_promise.specs.Refusal.{IsDeniedOf};
 
 use conf_syntax::Program;
 

@@ -6,10 +6,10 @@ use Rattle.conf_events.specs.declared.event.Event.{Event}
 use Rattle.conf_types.specs.Programs.{ResolvedConstraint, ResolvedGoal}
 use Rattle.proof_log.specs.Rounds.{Journal}
 use Rattle.proof_log.specs.declared.journal.Round.{Round}
-use Rattle.round_commands.specs.Answer.{IsModelAnswer, IsModelBegun}
-use Rattle.round_commands.specs.Asking.{Asked, Best, Generated, Checked, Satisfied, Held, Blamed}
+use Rattle.run_promise.specs.Answer.{IsModelAnswer, IsModelBegun}
+use Rattle.run_promise.specs.Asking.{Asked, Best, Generated, Checked, Satisfied, Held, Blamed}
 use Rattle.run_status.specs.declared.status.Status.{Status}
-use Rattle.session_run.specs.Sessions.{Situation, Subject, situation, subject, AreHeld, AreBegun}
+use Rattle.run_promise.specs.Sessions.{Situation, Subject, situation, subject, AreHeld, AreBegun}
 
 all_begun : (s : Subject) (p : Situation) (es : List Event) (rounds : List Round) (end : Status) (text : List ℕ) → AreHeld s p es rounds end text → AreBegun s p es rounds text
 all_begun s p es rounds end text h = record { done = es; left = []; events_are = sym (append-nil es); told = h.told; answered = h.answered }

@@ -1,32 +1,27 @@
 -- A session that was held, as a run over a model ends.
-use Rattle.std.proofs.Common.{◌≡◌, ◌⊎◌, false, cond, inl, inr, ◌∙◌, ℕ, true, List, [], ◌∷◌, ℤ, Option, None, Some, Result, Ok, Err, IfOk, IfErr, OnErr, All, IfSome, IsSome, IsSomeAnd, suc, length, map, refl, sym, subst, ap, append-nil}
+use Rattle.std.proofs.Common.{◌≡◌, ◌⊎◌, false, cond, inl, inr, ◌∙◌, ℕ, true, List, [], ◌∷◌, ℤ, Option, None, Some, All, IfSome, IsSome, IsSomeAnd, suc, length, map, refl, sym, subst, ap, append-nil}
 use Rattle.std.proofs.lemmas.List.Elements.{All-nil, All-cons}
 use Rattle.std.specs.List.{list_any}
 use Rattle.branch_choice.specs.declared.split.Order.{Order}
 use Rattle.class_table.specs.Outline.{Outline}
 use Rattle.conf_events.specs.declared.event.Event.{Event}
+use Rattle.conf_request.specs.declared.options.OrderName.{OrderName}
 use Rattle.conf_request.specs.declared.request.Request.{Request}
 use Rattle.conf_request.specs.declared.request.Request.TheVariants.{Solve, Reconfigure, Check, Verify, Gen, Session, Core}
 use Rattle.conf_syntax.specs.declared.tree.Program.{Program}
 use Rattle.conf_types.specs.Programs.{ResolvedConstraint, ResolvedGoal}
 use Rattle.conf_session.specs.Standing.{Standing}
 use Rattle.desk_io.specs.Desk.{Files, OfFile}
-use Rattle.ground_cells.specs.CellBoxes.{domain_box}
-use Rattle.model_rounds.specs.Asked.{functions}
+use Rattle.model_search.specs.Asked.{functions}
 use Rattle.ground_form.specs.declared.ground.Ground.{Ground}
 use Rattle.model_reader.proofs.ModelParts.{at_model}
-use Rattle.desk_io.specs.declared.whole.WriteError.{WriteError}
 use Rattle.model_reader.specs.Building.{IsResolved}
-use Rattle.model_reader.specs.ModelRefusal.{IsRefusedFor}
 use Rattle.model_reader.specs.Models.{IsWithin}
-use Rattle.model_rounds.specs.Rounds.{told_by}
-use Rattle.model_rounds.specs.Problems.{IsProblemOf}
-use Rattle.model_rounds.specs.Runs.{is_open}
-use Rattle.model_rounds.specs.Finding.{Finding}
-use Rattle.object_alloc.proofs.HintLaws.{hints_lie}
-use Rattle.object_alloc.specs.Cells.{cells}
-use Rattle.object_alloc.specs.Hints.{AreCellHints, AreHints}
-use Rattle.object_alloc.specs.declared.object.Cell.{Cell}
+use Rattle.model_search.specs.Rounds.{told_by}
+use Rattle.model_search.specs.Problems.{IsProblemOf}
+use Rattle.model_search.specs.Runs.{is_open}
+use Rattle.model_search.specs.declared.finding.Finding.{Finding}
+use Rattle.object_alloc.specs.Hints.{AreHints}
 use Rattle.proof_log.specs.Rounds.{Journal}
 use Rattle.proof_log.specs.declared.journal.Round.{Round}
 use Rattle.reconfigure.specs.Failing.{unknown_word}
@@ -34,37 +29,25 @@ use Rattle.run_status.specs.declared.status.FormerKind.TheVariants as former
 use Rattle.run_status.specs.declared.status.Status.TheVariants as status
 use Rattle.run_status.specs.Stages.{Answered, Denied, stage_of}
 use Rattle.run_status.specs.declared.status.Status.{Status}
-use Rattle.session_run.specs.Holding.{StandsAt, situation_of}
-use Rattle.session_run.specs.Sessions.{Situation, Subject, situation, situation_behind, subject, session_status, is_none_told, IsAnswered, AreAnswered, AreHeld, AreBegun}
-use Rattle.round_commands.specs.Answer.{IsModelAnswer, IsModelBegun, IsDay}
-use Rattle.round_commands.specs.Asking.{Asked, Best, Generated, Checked, Satisfied, Held, Blamed, FormerText, OfAsked, former_text}
-use Rattle.round_commands.specs.Delivery.{IsLogged, IsLogFront}
-use Rattle.round_commands.specs.Ending.{Trace, Prints, Breaks, IsBegun, IsHeldWhole}
+use Rattle.round_commands.specs.Events.{StandsAt, situation_of}
+use Rattle.run_promise.specs.Sessions.{Situation, Subject, situation, situation_behind, subject, session_status, is_none_told, IsAnswered, AreAnswered, AreHeld, AreBegun}
+use Rattle.run_promise.specs.Answer.{IsModelAnswer, IsModelBegun, IsDay}
+use Rattle.run_promise.specs.Asking.{Asked, Best, Generated, Checked, Satisfied, Held, Blamed, FormerText, OfAsked, former_text}
+use Rattle.desk_io.specs.Fault.{HasRisen}
+use Rattle.run_promise.specs.Delivery.{IsLogged, IsLogFront}
+use Rattle.round_commands.specs.Ending.{Trace, Prints, Breaks, IsBegun, IsHeldWhole, EndsModel, EndsModelAt}
+use Rattle.round_commands.proofs.Ends.{model_denied}
 use Rattle.round_commands.proofs.Asking.{asked_map, file_map}
 use Rattle.round_commands.specs.Holding.{AreTextsRefused, ForModel, IsDayOf, IsDayRefused, IsOpenedBy, IsOpenedFor, HasBudget, HasWhole, HasPart}
-use Rattle.round_commands.specs.Refusal.{IsDenied, IsDeniedOf, IsEventsRefused, IsFormerRefused, IsUnread}
+use Rattle.run_promise.specs.Refusal.{IsDenied, IsEventsRefused, IsFormerRefused, IsUnread}
 use Rattle.round_commands.specs.Unreadable.{Unreadable}
 use Rattle.round_commands.proofs.Reading.{unread_map}
 use Rattle.round_commands.proofs.Rounds.{round_of}
-use Rattle.round_commands.specs.Recorded.{HasHeld, IsRecorded, IsRoundOf}
+use Rattle.run_promise.specs.Recorded.{HasHeld, IsRecorded, IsRoundOf}
 use Rattle.round_commands.specs.declared.session.Day.{Day}
 use Rattle.round_commands.specs.declared.session.Opened.{Opened}
 
 -- ---- a session that is opened
-
-one_each : (o : Outline) (cs : List Cell) (hs : List (Option ℤ)) → AreCellHints o cs hs → length hs ≡ length cs
-one_each o [] [] h = refl
-one_each o [] (k ∷ hs) h = absurd h
-one_each o (c ∷ cs) [] h = absurd h
-one_each o (c ∷ cs) (k ∷ hs) h = ap suc (one_each o cs hs h.1)
-
-boxes_size : (o : Outline) (cs : List Cell) → length (map (λ (c : Cell). domain_box o c.domain) cs) ≡ length cs
-boxes_size o [] = refl
-boxes_size o (c ∷ cs) = ap suc (boxes_size o cs)
-
--- there is a hint, or none, for each searched variable
-pub as_many_hints : (o : Outline) (ks : List ResolvedConstraint) (gs : List ResolvedGoal) (g : Ground) (hs : List (Option ℤ)) → IsProblemOf o ks gs None g → AreHints o hs → length hs ≡ g.search
-as_many_hints o ks gs g hs p h = one_each o (cells o) hs (hints_lie o hs h) ∙ sym (p.stands.searched ∙ boxes_size o (cells o))
 
 pub opened_situation : (state : Option Standing) (former : List (Option ℤ)) → IsSome state → IfSome state (λ s. s.former ≡ former) → IfSome state (λ s. s.failed ≡ []) → situation_of state ≡ situation former []
 opened_situation None former some f w = absurd cc
@@ -97,8 +80,8 @@ opened_situation_and state g former is f w = opened_situation state former (some
 
 -- ---- what a request asks for
 
-opened_by : (o : Outline) (before bytes : List ℕ) (budget order : ℕ) (x : Opened) (d : Day) → IsDayOf o before bytes d → situation_of x.session.state ≡ situation d.former [] → x.events ≡ d.events → x.budget ≡ budget → IsOpenedBy o before bytes budget order x
-opened_by o before bytes budget order x d h at events within = record {
+opened_by : (o : Outline) (before bytes : List ℕ) (budget : ℕ) (x : Opened) (d : Day) → IsDayOf o before bytes d → situation_of x.session.state ≡ situation d.former [] → x.events ≡ d.events → x.budget ≡ budget → IsOpenedBy o before bytes budget x
+opened_by o before bytes budget x d h at events within = record {
   repair = h.repair;
   former = h.former;
   short = h.short;
@@ -108,16 +91,13 @@ opened_by o before bytes budget order x d h at events within = record {
   budget_is = within;
 }
 
-pub opened_for : (told : Option Files) (q : Request) (o : Outline) (x : Opened) (model former events before bytes : List ℕ) (budget order : ℕ) (d : Day) → q ≡ Session model former events budget order → OfFile told former (λ r. r ≡ before) → OfFile told events (λ r. r ≡ bytes) → IsDayOf o before bytes d →
+pub opened_for : (told : Option Files) (q : Request) (o : Outline) (x : Opened) (model former events before bytes : List ℕ) (budget : ℕ) (order : OrderName) (d : Day) → q ≡ Session model former events budget order → OfFile told former (λ r. r ≡ before) → OfFile told events (λ r. r ≡ bytes) → IsDayOf o before bytes d →
     situation_of x.session.state ≡ situation d.former [] → x.events ≡ d.events → x.budget ≡ budget → OfAsked told q (IsOpenedFor o x)
 opened_for told q o x model former events before bytes budget order d is f e h at evs within =
     subst (λ (r : Request). OfAsked told r (IsOpenedFor o x)) (sym is)
     (file_map told former (λ r. r ≡ before) _ (λ r same.
-    file_map told events (λ r. r ≡ bytes) (λ bs. IsOpenedBy o r bs budget order x) (λ bs equal.
-    subst (λ (a : List ℕ). IsOpenedBy o a bs budget order x) (sym same) (subst (λ (b : List ℕ). IsOpenedBy o before b budget order x) (sym equal) (opened_by o before bytes budget order x d h at evs within))) e) f)
-
-pub has_budget : (q : Request) (model former events : List ℕ) (budget order n : ℕ) → q ≡ Session model former events budget order → n ≡ budget → HasBudget q n
-has_budget q model former events budget order n is within = subst (λ (r : Request). HasBudget r n) (sym is) within
+    file_map told events (λ r. r ≡ bytes) (λ bs. IsOpenedBy o r bs budget x) (λ bs equal.
+    subst (λ (a : List ℕ). IsOpenedBy o a bs budget x) (sym same) (subst (λ (b : List ℕ). IsOpenedBy o before b budget x) (sym equal) (opened_by o before bytes budget x d h at evs within))) e) f)
 
 -- a text that isn't read as an object is refused as a former one
 pub unread_refused : (o : Outline) (f : FormerText) (s : Status) → IsUnread f.bytes s → IsFormerRefused o f s
@@ -128,7 +108,7 @@ unread_refused o f s h = h
 
 -- ---- what is refused
 
-module _ (told : Option Files) (q : Request) (o : Outline) (ks : List ResolvedConstraint) (gs : List ResolvedGoal) (model former events : List ℕ) (budget order : ℕ) (is : q ≡ Session model former events budget order) (s : Status) where
+module _ (told : Option Files) (q : Request) (o : Outline) (ks : List ResolvedConstraint) (gs : List ResolvedGoal) (model former events : List ℕ) (budget : ℕ) (order : OrderName) (is : q ≡ Session model former events budget order) (s : Status) where
   at_request : ((journal : Journal) → IsDenied told (Session model former events budget order) journal s o ks gs) → (journal : Journal) → IsDenied told q journal s o ks gs
   at_request h = λ journal. subst (λ (r : Request). IsDenied told r journal s o ks gs) (sym is) (h journal)
 
@@ -151,8 +131,8 @@ module _ (told : Option Files) (q : Request) (o : Outline) (ks : List ResolvedCo
 
 module _ (o : Outline) (ks : List ResolvedConstraint) (gs : List ResolvedGoal) (os : List Order) (journal : Journal) (x : Opened) where
   -- what was said of the session's situation and events is said of what was asked
-  said_of : (before bytes : List ℕ) (budget order : ℕ) (P : Subject → Situation → List Event → Type 0) → IsOpenedBy o before bytes budget order x → P (subject o ks gs x.budget) (situation_of x.session.state) x.events → IsDay o before bytes (λ p es. P (subject o ks gs budget) p es)
-  said_of before bytes budget order P h said = record {
+  said_of : (before bytes : List ℕ) (budget : ℕ) (P : Subject → Situation → List Event → Type 0) → IsOpenedBy o before bytes budget x → P (subject o ks gs x.budget) (situation_of x.session.state) x.events → IsDay o before bytes (λ p es. P (subject o ks gs budget) p es)
+  said_of before bytes budget P h said = record {
     repair = h.repair;
     former = h.former;
     short = h.short;
@@ -164,7 +144,7 @@ module _ (o : Outline) (ks : List ResolvedConstraint) (gs : List ResolvedGoal) (
   }
 
   whole_answer : (asked : Asked) (end : Status) (text : List ℕ) → IsOpenedFor o x asked → AreHeld (subject o ks gs x.budget) (situation_of x.session.state) x.events journal.rounds end text → IsModelAnswer o ks gs os journal asked end text
-  whole_answer (Held before bytes budget order) end text h a = said_of before bytes budget order (λ s p es. AreHeld s p es journal.rounds end text) h a
+  whole_answer (Held before bytes budget order) end text h a = said_of before bytes budget (λ s p es. AreHeld s p es journal.rounds end text) h a
   whole_answer (Best former budget order) end text h a = absurd h
   whole_answer (Generated n) end text h a = absurd h
   whole_answer (Checked former bytes) end text h a = absurd h
@@ -172,7 +152,7 @@ module _ (o : Outline) (ks : List ResolvedConstraint) (gs : List ResolvedGoal) (
   whole_answer (Blamed budget order) end text h a = absurd h
 
   part_answer : (asked : Asked) (s : Status) (text : List ℕ) → IsOpenedFor o x asked → AreBegun (subject o ks gs x.budget) (situation_of x.session.state) x.events journal.rounds text → IsModelBegun o ks gs os journal asked s text
-  part_answer (Held before bytes budget order) s text h a = said_of before bytes budget order (λ u p es. AreBegun u p es journal.rounds text) h a
+  part_answer (Held before bytes budget order) s text h a = said_of before bytes budget (λ u p es. AreBegun u p es journal.rounds text) h a
   part_answer (Best former budget order) s text h a = absurd h
   part_answer (Generated n) s text h a = absurd h
   part_answer (Checked former bytes) s text h a = absurd h
@@ -268,29 +248,40 @@ module _ (t : Trace) (p : Program) (table o : Outline) (cs : List ResolvedConstr
         )) asked_for;
       }
 
--- ---- results
+-- ---- how a session over a model ends
+
+held_whole : (t : Trace) (p : Program) (s : Status) → IsHeldWhole t p s → EndsModel t p s
+held_whole t p s h =
+    subst (λ g. EndsModelAt g t p s) (sym h.stage) (h.delivers, (h.within, h.prints))
 
 module _ (t : Trace) (o : Outline) (cs : List ResolvedConstraint) (gs : List ResolvedGoal) (x : Opened) (mid : Option (List ℕ)) (same : mid ≡ t.before.printed) (asked_for : OfAsked t.before.files t.request (IsOpenedFor o x)) (budget : HasBudget t.request x.budget) (files : t.now.files ≡ t.before.files) where
-  pub wholes : (res : Result Status WriteError) → IfOk res (λ end. HasWhole o cs gs x t.journal end mid t.now.printed) → IfOk res (λ end. ForModel o cs gs (λ p. IsHeldWhole t p end))
-  wholes (Ok end) h = λ p table objects_are made within. whole_of t p table o cs gs objects_are made within x asked_for budget files end (subst (λ (q : Option (List ℕ)). HasWhole o cs gs x t.journal end q t.now.printed) same h)
-  wholes (Err e) h = tt
+  begun_of : HasPart o cs gs x t.journal mid t.now.printed → ForModel o cs gs (λ p. IsBegun t p)
+  begun_of h = λ p table objects_are made within.
+      part_of t p table o cs gs objects_are made within x asked_for budget files
+      (subst (λ (q : Option (List ℕ)). HasPart o cs gs x t.journal q t.now.printed) same h)
 
-  pub parts : (res : Result Status WriteError) → OnErr res (HasPart o cs gs x t.journal mid t.now.printed) → OnErr res (ForModel o cs gs (λ p. IsBegun t p))
-  parts (Ok end) h = tt
-  parts (Err e) h = λ p table objects_are made within. part_of t p table o cs gs objects_are made within x asked_for budget files (subst (λ (q : Option (List ℕ)). HasPart o cs gs x t.journal q t.now.printed) same h)
+  -- all events were answered
+  pub ends_whole : (end : Status) → HasWhole o cs gs x t.journal end mid t.now.printed → ForModel o cs gs (λ p. EndsModel t p end)
+  ends_whole end h = λ p table objects_are made within.
+      held_whole t p end (whole_of t p table o cs gs objects_are made within x asked_for budget files end
+      (subst (λ (q : Option (List ℕ)). HasWhole o cs gs x t.journal end q t.now.printed) same h))
 
-module _ (t : Trace) (p : Program) (table o : Outline) (cs : List ResolvedConstraint) (gs : List ResolvedGoal) (objects_are : o ≡ table) (made : IsResolved p table cs gs) (within : IsWithin p) where
-  pub model_whole : (res : Result (Result Status WriteError) Status) → IfOk res (λ r. IfOk r (λ end. ForModel o cs gs (λ q. IsHeldWhole t q end))) → IfOk res (λ r. IfOk r (IsHeldWhole t p))
-  model_whole (Ok (Ok end)) h = h p table objects_are made within
-  model_whole (Ok (Err e)) h = tt
-  model_whole (Err s) h = tt
+  -- writing failed
+  pub ends_unwritten : HasRisen t.writes t.writes_now → HasPart o cs gs x t.journal mid t.now.printed → ForModel o cs gs (λ p. EndsModel t p status.WriteFault)
+  ends_unwritten risen h = λ p table objects_are made within.
+      let b = begun_of h p table objects_are made within in
+      (risen, b.begins, (b.within, b.breaks))
 
-  pub model_part : (res : Result (Result Status WriteError) Status) → IfOk res (λ r. OnErr r (ForModel o cs gs (λ q. IsBegun t q))) → IfOk res (λ r. OnErr r (IsBegun t p))
-  model_part (Ok (Ok end)) h = tt
-  model_part (Ok (Err e)) h = h p table objects_are made within
-  model_part (Err s) h = tt
+  -- there was no memory
+  pub ends_lost : HasPart o cs gs x t.journal mid t.now.printed → ForModel o cs gs (λ p. EndsModel t p status.Memory)
+  ends_lost h = λ p table objects_are made within.
+      let b = begun_of h p table objects_are made within in
+      inr (inl (b.begins, (b.within, b.breaks)))
 
-  pub model_denies : (reads reads_now : ℕ) (told : Option Files) (q : Request) (journal : Journal) (res : Result (Result Status WriteError) Status) → IfErr res (λ s. Unreadable reads reads_now s ((j : Journal) → IsDenied told q j s o cs gs)) → IfErr res (λ s. Unreadable reads reads_now s (IsRefusedFor s p ⊎ (IsWithin p × IsDeniedOf told q journal s p)))
-  model_denies reads reads_now told q journal (Ok r) h = tt
-  model_denies reads reads_now told q journal (Err s) h =
-      unread_map reads reads_now s _ _ (λ d. inr (within, at_model p table o cs gs objects_are made (λ y ks hs. IsDenied told q journal s y ks hs) (d journal))) h
+-- a session that wasn't opened leaves everything as it was
+pub ends_denied : (t : Trace) (o : Outline) (cs : List ResolvedConstraint) (gs : List ResolvedGoal) (s : Status) → t.journal.rounds ≡ [] → t.now ≡ t.before → Unreadable t.reads t.reads_now s ((journal : Journal) → IsDenied t.before.files t.request journal s o cs gs) → ForModel o cs gs (λ p. EndsModel t p s)
+ends_denied t o cs gs s none same h = λ p table objects_are made within.
+    model_denied t p s (inl none)
+    (unread_map t.reads t.reads_now s _ _
+    (λ d. inr (within, at_model p table o cs gs objects_are made (λ y ks hs. IsDenied t.before.files t.request t.journal s y ks hs) (d t.journal))) h)
+    same
