@@ -1,18 +1,16 @@
 -- Bins of which flags tell.
-use Rattle.std.proofs.Common.{◌≡◌, ℕ, ◌+◌, ◌<◌, ◌*◌, Bool, true, false, not, ◌&&◌, ◌||◌, cond, List, [], ◌∷◌, ◌++◌, take, get_or, length, ℤ, pos, ◌+ℤ◌, ◌-ℤ◌, ◌*ℤ◌, ◌≤ℤ◌, refl, sym, ap, ◌∙◌, subst, arith}
-use Rattle.std.specs.Prelude.{Contains}
+use Rattle.std.proofs.Common.{◌≡◌, ℕ, zero, suc, max, unsigned_abs, All, ◌≤◌, negsuc, ◌+◌, ◌<◌, ◌*◌, Bool, true, false, not, ◌&&◌, ◌||◌, cond, List, [], ◌∷◌, ◌++◌, take, get_or, length, ℤ, pos, ◌+ℤ◌, ◌-ℤ◌, ◌*ℤ◌, ◌≤ℤ◌, refl, sym, ap, ◌∙◌, subst, arith}
+use Rattle.std.specs.Prelude.{slice_index_or}
 use Rattle.std.specs.Ordering.{int_eq}
-use Rattle.std.proofs.lemmas.Bool.{and_parts}
 use Rattle.std.proofs.lemmas.Int.{ints}
 use Rattle.std.proofs.lemmas.List.{take_more}
-use Rattle.std.proofs.lemmas.List.Elements.{All-push, All-contains}
 use Rattle.std.proofs.Math.IntN.{zero-*ℤ, suc_ℤ-*ℤ, *ℤ_comm}
-use Rattle.signed_clause.specs.Ranges.{Ranges, has, in_range, count_of}
-use Rattle.signed_clause.specs.Clauses.{Boxes}
-use Rattle.ground_form.specs.declared.con.Con.{Con}
-use Rattle.ground_form.specs.declared.con.Con.TheVariants as con
+use Rattle.signed_clause.specs.Ranges.{Ranges, has, in_range, count_of, IsValid}
+use Rattle.signed_clause.specs.Clauses.{Boxes, box_of}
 use Rattle.ground_form.specs.declared.ground.Ground.{Ground}
-use Rattle.ground_form.specs.Meaning.{value_of, bit, parts_true, con_true}
+use Rattle.ground_form.specs.Meaning.{value_of, bit}
+use Rattle.ground_form.specs.Bounds.{low_of, high_of, reach_of}
+use Rattle.ground_form.proofs.Ends.{low_le, le_high}
 use Rattle.form_build.specs.declared.form.Linear.{Linear}
 use Rattle.form_build.specs.Forms.{linear_at}
 use Rattle.form_build.specs.Worlds.{IsWorld, AllHold}
@@ -21,47 +19,14 @@ use Rattle.goal_rows.specs.declared.used.Taken.{Taken}
 use Rattle.goal_rows.specs.declared.hosts.Host.{Host}
 use Rattle.goal_rows.specs.Loads.{sizes_where, size_of}
 use Rattle.goal_rows.specs.Packings.{IsPacking}
-use Rattle.goal_rows.specs.Rows.{Follows}
-use Rattle.goal_rows.specs.Hosts.{NoneAt, IsPartAway, ArePartsAway, StaysAt, StayAt, IsHost, IsTaken}
+use Rattle.stated_facts.specs.Rows.{Follows}
+use Rattle.goal_rows.specs.Hosts.{NoneAt, use_of, StaysAt, StayAt, IsHost, IsTaken}
 use Rattle.goal_rows.proofs.LoadLaws.{split, all_there, set_room}
 use Rattle.goal_rows.proofs.PackingLaws.{bins_used}
 
--- a constraint that stands in the problem
-stands : (g : Ground) (c : Con) (a : List ℤ) → Contains g.cons c → AllHold g a → con_true c a ≡ true
-stands g c a there all = All-contains (λ d. con_true d a ≡ true) g.cons c all there
-
-same_value : (v w : ℤ) → int_eq v w ≡ true → v ≡ w
-same_value v w e = grind (arith, ints)
-
--- ---- parts
-
-all_but_last : (ps : List (ℕ × Bool)) (p : ℕ × Bool) (a : List ℤ) → parts_true (ps ++ p ∷ []) a ≡ true → parts_true ps a ≡ true
-all_but_last [] p a e = refl
-all_but_last (q ∷ ps) p a e =
-    let parts = and_parts (int_eq (value_of a q.0) (bit q.1)) (parts_true (ps ++ p ∷ []) a) e in
-    ap (λ (b : Bool). b && parts_true ps a) parts.0 ∙ all_but_last ps p a parts.1
-
-the_last : (ps : List (ℕ × Bool)) (p : ℕ × Bool) (a : List ℤ) → parts_true (ps ++ p ∷ []) a ≡ true → parts_true (p ∷ []) a ≡ true
-the_last [] p a e = e
-the_last (q ∷ ps) p a e =
-    let parts = and_parts (int_eq (value_of a q.0) (bit q.1)) (parts_true (ps ++ p ∷ []) a) e in
-    the_last ps p a parts.1
-
-pub parts_step : (g : Ground) (bin k : ℕ) (ps : List (ℕ × Bool)) (xs more : List ℕ) (p d : ℕ × Bool) (x : ℕ) → k < length ps → p ≡ get_or ps k d → more ≡ xs ++ x ∷ [] → IsPartAway g p bin x → ArePartsAway g (take k ps) bin xs → ArePartsAway g (take (k + 1) ps) bin more
-parts_step g bin k ps xs more p d x lt at made one h a all e =
-    let next : take (k + 1) ps ≡ take k ps ++ p ∷ [] = take_more ps k d lt ∙ ap (λ (q : ℕ × Bool). take k ps ++ q ∷ []) (sym at) in
-    let whole = ap (λ (z : List (ℕ × Bool)). parts_true z a) (sym next) ∙ e in
-    subst (λ (z : List ℕ). NoneAt bin z a) (sym made)
-    (All-push (λ y. int_eq (value_of a y) (pos bin) ≡ false) xs x (h a all (all_but_last (take k ps) p a whole)) (one a all (the_last (take k ps) p a whole)))
-
--- where the flag isn't 0, all parts have the truths that they want
-flag_true : (b : Bool) (v : ℤ) → v ≡ bit b → has ((pos 0, pos 0) ∷ []) v ≡ false → b ≡ true
-flag_true true v e h = refl
-flag_true false v e h = absurd (grind (arith, ints, e, h))
-
-pub flag_away : (g : Ground) (flag : ℕ) (parts : List (ℕ × Bool)) (bin : ℕ) (xs : List ℕ) → Contains g.cons (con.AndDef flag parts) → ArePartsAway g parts bin xs → (a : List ℤ) → AllHold g a → has ((pos 0, pos 0) ∷ []) (value_of a flag) ≡ false → NoneAt bin xs a
-flag_away g flag parts bin xs there h a all e =
-    h a all (flag_true (parts_true parts a) (value_of a flag) (same_value (value_of a flag) (bit (parts_true parts a)) (stands g (con.AndDef flag parts) a there all)) e)
+-- values that variables don't have, where they are one bin
+pub same_bins : (others : List (ℕ × ℕ)) (bin : ℕ) (a : List ℤ) → All (λ q. q.1 ≡ bin) others → All (λ q. int_eq (value_of a q.0) (pos q.1) ≡ false) others → All (λ q. int_eq (value_of a q.0) (pos bin) ≡ false) others
+same_bins others bin a same h k d lt = subst (λ (n : ℕ). int_eq (value_of a (slice_index_or others k d).0) (pos n) ≡ false) (same k d lt) (h k d lt)
 
 -- ---- what stays
 
@@ -80,9 +45,19 @@ stay_step boxes xs bin k ss s d m n sum lt at made one h a within none =
 
 -- ---- hosts
 
-flag_case : (b : Bool) (P : Type 0) → (b ≡ true → P) → (b ≡ false → P) → P
-flag_case true P used unused = used refl
-flag_case false P used unused = unused refl
+-- a flag's value
+use_cases : (turned : Bool) (v : ℤ) (P : Type 0) → pos 0 ≤ℤ v → v ≤ℤ pos 1 → (v ≡ bit turned → use_of turned v ≡ pos 0 → P) → (use_of turned v ≡ pos 1 → P) → P
+use_cases true (pos zero) P h k unused used = used refl
+use_cases true (pos (suc zero)) P h k unused used = unused refl refl
+use_cases true (pos (suc (suc n))) P h k unused used = absurd (omega (arith, ints, k))
+use_cases true (negsuc n) P h k unused used = absurd (omega (arith, ints, h))
+use_cases false (pos zero) P h k unused used = unused refl refl
+use_cases false (pos (suc zero)) P h k unused used = used refl
+use_cases false (pos (suc (suc n))) P h k unused used = absurd (omega (arith, ints, k))
+use_cases false (negsuc n) P h k unused used = absurd (omega (arith, ints, h))
+
+at_most_one : (low high : ℤ) → max (unsigned_abs low) (unsigned_abs high) ≤ 1 → high ≤ℤ pos 1
+at_most_one low high h = grind (arith, ints)
 
 once : (v : ℤ) → (pos 1 *ℤ v) ≡ v
 once v =
@@ -97,20 +72,27 @@ times_none : (n : ℕ) (v : ℤ) → v ≡ pos 0 → (pos n *ℤ v) ≡ pos 0
 times_none n v e = ap (λ (z : ℤ). pos n *ℤ z) e ∙ *ℤ_comm (pos n) (pos 0) ∙ zero-*ℤ (pos n)
 
 -- what is at the bin, by the flag
-pub host_fits : (g : Ground) (p : Packing) (flag none bin stays more : ℕ) (xs : List ℕ) → IsPacking g p → Contains g.cons (con.MemberDef flag none ((pos 0, pos 0) ∷ [])) →
-    ((a : List ℤ) → AllHold g a → has ((pos 0, pos 0) ∷ []) (value_of a none) ≡ false → NoneAt bin xs a) → StayAt g.domains xs bin p.items.items stays → p.room ≡ more + stays →
-    (a : List ℤ) → IsWorld g a → AllHold g a → pos (sizes_where (λ w. int_eq w (pos bin)) p.items.items a) ≤ℤ (pos stays +ℤ (pos more *ℤ value_of a flag))
-host_fits g p flag none bin stays more xs h there away stay room a w all =
-    let value = same_value (value_of a flag) (bit (has ((pos 0, pos 0) ∷ []) (value_of a none))) (stands g (con.MemberDef flag none ((pos 0, pos 0) ∷ [])) a there all) in
-    flag_case (has ((pos 0, pos 0) ∷ []) (value_of a none)) (pos (sizes_where (λ v. int_eq v (pos bin)) p.items.items a) ≤ℤ (pos stays +ℤ (pos more *ℤ value_of a flag)))
-    (λ in_use.
-    let one = times_one more (value_of a flag) (value ∙ ap bit in_use) in
-    let fits = h.fits a w all (pos bin) in
-    omega (arith, ints, one, fits, room))
-    (λ unused.
-    let nil = times_none more (value_of a flag) (value ∙ ap bit unused) in
-    let fits = stay a w.within (away a all unused) in
+pub host_fits : (g : Ground) (p : Packing) (flag bin stays more : ℕ) (turned : Bool) (xs : List ℕ) → IsPacking g p → All (λ d. IsValid d) g.domains → flag < length g.domains → reach_of (box_of g.domains flag) ≤ 1 → pos 0 ≤ℤ low_of (box_of g.domains flag) →
+    ((a : List ℤ) → IsWorld g a → AllHold g a → value_of a flag ≡ bit turned → NoneAt bin xs a) → StayAt g.domains xs bin p.items.items stays → p.room ≡ more + stays →
+    (a : List ℤ) → IsWorld g a → AllHold g a → pos (sizes_where (λ w. int_eq w (pos bin)) p.items.items a) ≤ℤ (pos stays +ℤ (pos more *ℤ use_of turned (value_of a flag)))
+host_fits g p flag bin stays more turned xs h valid exists near some away stay room a w all =
+    let box = box_of g.domains flag in
+    let v = value_of a flag in
+    let there = w.within flag exists in
+    let own = valid flag [] exists in
+    let low = low_le box v own there in
+    let high = le_high box v own there in
+    let one = at_most_one (low_of box) (high_of box) near in
+    use_cases turned v (pos (sizes_where (λ u. int_eq u (pos bin)) p.items.items a) ≤ℤ (pos stays +ℤ (pos more *ℤ use_of turned v)))
+    (omega (arith, ints, low, some)) (omega (arith, ints, high, one))
+    (λ e unused.
+    let nil = times_none more (use_of turned v) unused in
+    let fits = stay a w.within (away a w all e) in
     omega (arith, ints, nil, fits))
+    (λ used.
+    let full = times_one more (use_of turned v) used in
+    let fits = h.fits a w all (pos bin) in
+    omega (arith, ints, full, fits, room))
 
 -- ---- taken bins
 
@@ -119,7 +101,7 @@ one_less rest left v n e h = grind (arith, ints)
 
 pub taken_more : (g : Ground) (p : Packing) (h : Host) (sum share r : Linear) (rest left : Ranges) → IsPacking g p → IsHost g p h →
     ((a : List ℤ) → IsWorld g a → AllHold g a → pos (size_of p.items.items) ≤ℤ (linear_at sum a +ℤ pos (sizes_where (has rest) p.items.items a))) →
-    ((a : List ℤ) → IsWorld g a → linear_at share a ≡ (pos h.stays +ℤ (pos h.more *ℤ value_of a h.flag))) →
+    ((a : List ℤ) → IsWorld g a → linear_at share a ≡ (pos h.stays +ℤ (pos h.more *ℤ use_of h.turned (value_of a h.flag)))) →
     ((a : List ℤ) → linear_at r a ≡ (linear_at sum a +ℤ linear_at share a)) →
     ((v : ℤ) → has left v ≡ (has rest v && not (in_range (pos h.bin, pos h.bin) v))) →
     (a : List ℤ) → IsWorld g a → AllHold g a → pos (size_of p.items.items) ≤ℤ (linear_at r a +ℤ pos (sizes_where (has left) p.items.items a))

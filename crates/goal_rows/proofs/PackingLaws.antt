@@ -15,7 +15,8 @@ use Rattle.form_build.specs.Worlds.{IsInBoxes, IsWorld, Grows}
 use Rattle.form_build.proofs.Growth.{no_less, box_kept, world_before, all_before}
 use Rattle.goal_rows.specs.declared.packing.Packing.{Packing}
 use Rattle.goal_rows.specs.Loads.{sizes_where}
-use Rattle.goal_rows.specs.Packings.{IsConstant, IsItemOf, AreItemsOf, IsUsed, AreFitting, IsPacking}
+use Rattle.stated_facts.specs.Constants.{IsConstant}
+use Rattle.goal_rows.specs.Packings.{IsItemOf, AreItemsOf, IsUsed, AreFitting, IsPacking}
 use Rattle.goal_rows.proofs.LoadLaws.{AreAt, AreWithin}
 
 -- ---- constants

@@ -1,22 +1,26 @@
 -- Rows that follow.
-use Rattle.std.proofs.Common.{◌≡◌, ℕ, ◌*◌, ◌^◌, ◌≤◌, Bool, true, false, not, ◌&&◌, ◌||◌, List, [], ℤ, pos, ◌+ℤ◌, ◌-ℤ◌, ◌*ℤ◌, ◌≤ℤ◌, int_le, unsigned_abs, All, refl, ap, ◌∙◌, arith}
+use Rattle.std.proofs.Common.{◌≡◌, ℕ, ◌*◌, ◌^◌, ◌≤◌, Bool, true, false, not, ◌&&◌, ◌||◌, List, [], ℤ, pos, ◌+ℤ◌, ◌-ℤ◌, ◌*ℤ◌, unsigned_abs, length, All, refl, sym, ap, ◌∙◌, subst, arith, ◌<◌}
 use Rattle.std.proofs.lemmas.Int.{ints}
-use Rattle.std.proofs.Math.IntN.{zero-*ℤ, *ℤ_comm}
 use Rattle.std.proofs.Math.Nat.{mul-le-mul_left, mul-le-mul_right}
 use Rattle.std.proofs.lemmas.List.Elements.{All-weaker}
-use Rattle.signed_clause.specs.Clauses.{Boxes}
+use Rattle.signed_clause.specs.Clauses.{Boxes, box_of}
+use Rattle.ground_form.specs.Bounds.{reach_of}
 use Rattle.form_build.specs.Sums.{IsLinear, AreNumbersWithin}
 use Rattle.form_build.proofs.Linears.{numbers_within, linear_more}
 use Rattle.signed_clause.specs.Ranges.{Ranges, has, count_of}
 use Rattle.ground_form.specs.declared.ground.Ground.{Ground}
+use Rattle.ground_form.specs.Meaning.{value_of, sum_at}
 use Rattle.form_build.specs.declared.form.Linear.{Linear}
 use Rattle.form_build.specs.Forms.{linear_at}
 use Rattle.form_build.specs.Worlds.{IsWorld, AllHold, Grows, Adds, Defines}
-use Rattle.form_build.proofs.Growth.{world_before, all_before}
+use Rattle.form_build.proofs.Growth.{world_before, all_before, box_kept}
+use Rattle.form_build.proofs.Keeping.{linear_kept}
 use Rattle.goal_rows.specs.declared.packing.Packing.{Packing}
 use Rattle.goal_rows.specs.Loads.{sizes_where}
 use Rattle.goal_rows.specs.Packings.{IsPacking}
-use Rattle.goal_rows.specs.Rows.{Follows, IsNought}
+use Rattle.goal_rows.specs.declared.dividing.Quotient.{Quotient}
+use Rattle.goal_rows.specs.Quotients.{IsGoalBy}
+use Rattle.stated_facts.specs.Rows.{Follows}
 use Rattle.goal_rows.proofs.LoadLaws.{split, none_there, all_there, set_room}
 use Rattle.goal_rows.proofs.PackingLaws.{bins_used}
 
@@ -31,60 +35,46 @@ implied old new says follows added = record {
       );
 }
 
--- ---- growth
-
-pub follows_kept : (old new : Ground) (f : Linear) → Grows old new → Follows old f → Follows new f
-follows_kept old new f g h a w all = h a (world_before old new a g w) (all_before old new a g all)
-
-pub nought_kept : (old new : Ground) (f : Linear) → Grows old new → IsNought old f → IsNought new f
-nought_kept old new f g h a w = h a (world_before old new a g w)
-
--- ---- a row with a multiple of what is 0
-
-none_of : (c v : ℤ) → v ≡ pos 0 → (c *ℤ v) ≡ pos 0
-none_of c v e = ap (λ (z : ℤ). c *ℤ z) e ∙ *ℤ_comm c (pos 0) ∙ zero-*ℤ c
-
-at_most : (x : ℤ) → x ≤ℤ pos 0 → int_le x (pos 0) ≡ true
-at_most x h = grind (arith, ints)
-
-pub row_says : (g : Ground) (row zero more f : Linear) (c : ℤ) → Follows g row → IsNought g zero → ((a : List ℤ) → linear_at more a ≡ (c *ℤ linear_at zero a)) → ((a : List ℤ) → linear_at f a ≡ (linear_at row a +ℤ linear_at more a)) → (a : List ℤ) → IsWorld g a → AllHold g a → int_le (linear_at f a) (pos 0) ≡ true
-row_says g row zero more f c follows nought times plus a w all =
-    let none = none_of c (linear_at zero a) (nought a w) in
-    let multiple = times a in
-    let sum = plus a in
-    let least = follows a w all in
-    at_most (linear_at f a) (omega (arith, ints, none, multiple, sum, least))
-
-small_product : (c n : ℕ) → c ≤ 2 ^ 38 → n ≤ 2 ^ 20 → c * n ≤ 2 ^ 58
-small_product c n h k =
+small_times : (c n : ℕ) → c ≤ 2 ^ 18 → n ≤ 2 ^ 40 → c * n ≤ 2 ^ 58
+small_times c n h k =
     let one = mul-le-mul_left c k in
-    let two = mul-le-mul_right (2 ^ 20) h in
+    let two = mul-le-mul_right (2 ^ 40) h in
     omega (arith, one, two)
 
-pub multiple_linear : (boxes : Boxes) (f : Linear) (c : ℤ) → unsigned_abs c ≤ 2 ^ 38 → IsLinear (unsigned_abs c * 2 ^ 20) boxes f → IsLinear (2 ^ 58) boxes f
-multiple_linear boxes f c h k = linear_more (unsigned_abs c * 2 ^ 20) (2 ^ 58) boxes f (small_product (unsigned_abs c) (2 ^ 20) h (omega arith)) k
+row_numbers : (c : ℕ) (ts : List (ℤ × ℕ)) → c ≤ 2 ^ 18 → All (λ t. 1 * unsigned_abs t.0 ≤ 2 ^ 40) ts → All (λ t. c * unsigned_abs t.0 ≤ 2 ^ 62) ts
+row_numbers c ts h all =
+    All-weaker (λ t. 1 * unsigned_abs t.0 ≤ 2 ^ 40) (λ t. c * unsigned_abs t.0 ≤ 2 ^ 62)
+    (λ t k. let product = small_times c (unsigned_abs t.0) h (omega (arith, k)) in omega (arith, product)) ts all
 
-small_numbers : (c : ℕ) (ts : List (ℤ × ℕ)) → c ≤ 2 ^ 38 → All (λ t. 1 * unsigned_abs t.0 ≤ 2 ^ 20) ts → All (λ t. c * unsigned_abs t.0 ≤ 2 ^ 62) ts
-small_numbers c ts h all =
-    All-weaker (λ t. 1 * unsigned_abs t.0 ≤ 2 ^ 20) (λ t. c * unsigned_abs t.0 ≤ 2 ^ 62)
-    (λ t k. let product = small_product c (unsigned_abs t.0) h (omega (arith, k)) in omega (arith, product)) ts all
-
-pub multiple_numbers : (boxes : Boxes) (f : Linear) (c : ℤ) → unsigned_abs c ≤ 2 ^ 38 → IsLinear (2 ^ 20) boxes f → AreNumbersWithin (unsigned_abs c) (2 ^ 62) f
-multiple_numbers boxes f c h k =
-    let numbers = numbers_within boxes (2 ^ 20) (2 ^ 20) f (omega arith) k in
+-- a row so many times
+pub times_numbers : (boxes : Boxes) (f : Linear) (c : ℤ) → unsigned_abs c ≤ 2 ^ 18 → IsLinear (2 ^ 40) boxes f → AreNumbersWithin (unsigned_abs c) (2 ^ 62) f
+times_numbers boxes f c h k =
+    let numbers = numbers_within boxes (2 ^ 40) (2 ^ 40) f (omega arith) k in
     record {
-      terms = small_numbers (unsigned_abs c) f.terms h numbers.terms;
+      terms = row_numbers (unsigned_abs c) f.terms h numbers.terms;
       offset =
           let one = numbers.offset in
-          let product = small_product (unsigned_abs c) (unsigned_abs f.offset) h (omega (arith, one)) in
+          let product = small_times (unsigned_abs c) (unsigned_abs f.offset) h (omega (arith, one)) in
           omega (arith, product);
     }
+
+pub times_linear : (boxes : Boxes) (f : Linear) (c : ℤ) → unsigned_abs c ≤ 2 ^ 18 → IsLinear (unsigned_abs c * 2 ^ 40) boxes f → IsLinear (2 ^ 58) boxes f
+times_linear boxes f c h k = linear_more (unsigned_abs c * 2 ^ 40) (2 ^ 58) boxes f (small_times (unsigned_abs c) (2 ^ 40) h (omega arith)) k
+
+pub few_signed : (v : ℤ) (n : ℕ) → v ≡ pos n → n ≤ 2 ^ 18 → unsigned_abs v ≤ 2 ^ 18
+few_signed v n e h = let size = ap unsigned_abs e in omega (arith, size, h)
+
+-- a sum by a quotient of its terms
+pub quotient_value : (f whole rest sum : Linear) (n : ℕ) (a : List ℤ) → rest.terms ≡ [] → linear_at whole a ≡ (pos n *ℤ linear_at sum a) → linear_at rest a ≡ (linear_at f a -ℤ linear_at whole a) → linear_at f a ≡ ((pos n *ℤ linear_at sum a) +ℤ rest.offset)
+quotient_value f whole rest sum n a none times less =
+    let nil = ap (λ (z : List (ℤ × ℕ)). sum_at z a) none in
+    omega (arith, ints, nil, times, less)
 
 pub small_signed : (v : ℤ) (n : ℕ) → v ≡ pos n → n ≤ 2 ^ 38 → unsigned_abs v ≤ 2 ^ 38
 small_signed v n e h = let size = ap unsigned_abs e in omega (arith, size, h)
 
-pub once_linear : (boxes : Boxes) (f : Linear) (c : ℤ) → unsigned_abs c ≤ 2 ^ 38 → IsLinear (unsigned_abs c * 1) boxes f → IsLinear (2 ^ 38) boxes f
-once_linear boxes f c h k = linear_more (unsigned_abs c * 1) (2 ^ 38) boxes f (omega (arith, h)) k
+pub twice_linear : (boxes : Boxes) (f : Linear) (c : ℤ) → unsigned_abs c ≤ 2 ^ 38 → IsLinear (unsigned_abs c * 2) boxes f → IsLinear (2 ^ 39) boxes f
+twice_linear boxes f c h k = linear_more (unsigned_abs c * 2) (2 ^ 39) boxes f (omega (arith, h)) k
 
 -- ---- what the items in a set, and those outside it, have room for
 
@@ -115,3 +105,19 @@ outside_follows g p set rest f outside row most h others room inside turned less
     let out = turned a in
     let row_is = less a in
     omega (arith, ints, parts, whole, total, fits, room, value, out, row_is)
+
+-- ---- a goal by a quotient
+
+pub near_kept : (old new : Ground) (x : ℕ) → Grows old new → x < length old.domains → reach_of (box_of old.domains x) ≤ 2 ^ 19 → reach_of (box_of new.domains x) ≤ 2 ^ 19
+near_kept old new x g lt h = subst (λ (z : Ranges). reach_of z ≤ 2 ^ 19) (sym (box_kept old new x g lt)) h
+
+pub goal_kept : (old new : Ground) (goal : ℕ) (q : Quotient) → Grows old new → IsGoalBy old goal q → IsGoalBy new goal q
+goal_kept old new goal q g h = record {
+  linear = linear_kept (2 ^ 19) old new q.sum g h.linear;
+  times = h.times;
+  value = λ a w all. h.value a (world_before old new a g w) (all_before old new a g all);
+}
+
+-- by the variable of the sum
+pub goal_by_own : (g : Ground) (goal own : ℕ) (q : Quotient) → IsGoalBy g goal q → ((a : List ℤ) → IsWorld g a → value_of a own ≡ linear_at q.sum a) → (a : List ℤ) → IsWorld g a → AllHold g a → value_of a goal ≡ ((pos q.times *ℤ value_of a own) +ℤ q.rest)
+goal_by_own g goal own q h is a w all = h.value a w all ∙ ap (λ (v : ℤ). (pos q.times *ℤ v) +ℤ q.rest) (sym (is a w))

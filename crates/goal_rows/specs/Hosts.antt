@@ -1,12 +1,12 @@
 -- Bins that are in use or not. What a reader believes after this file: how much is at a bin at
 -- most, by a flag that tells whether some item is there that may be elsewhere.
-use Rattle.std.specs.Prelude.{◌≡◌, ℕ, ◌^◌, ◌<◌, ◌≤◌, Bool, true, false, cond, List, [], ◌∷◌, ℤ, pos, ◌+ℤ◌, ◌*ℤ◌, ◌≤ℤ◌, length}
+use Rattle.std.specs.Prelude.{◌≡◌, ℕ, ◌^◌, ◌<◌, ◌≤◌, Bool, false, cond, List, ℤ, pos, ◌+ℤ◌, ◌-ℤ◌, ◌*ℤ◌, ◌≤ℤ◌, length}
 use Rattle.std.specs.List.{All}
 use Rattle.std.specs.Ordering.{int_eq}
 use Rattle.signed_clause.specs.Ranges.{has}
 use Rattle.signed_clause.specs.Clauses.{Boxes, box_of}
 use Rattle.ground_form.specs.declared.ground.Ground.{Ground}
-use Rattle.ground_form.specs.Meaning.{value_of, parts_true}
+use Rattle.ground_form.specs.Meaning.{value_of, bit}
 use Rattle.ground_form.specs.Bounds.{reach_of}
 use Rattle.form_build.specs.Forms.{linear_at}
 use Rattle.form_build.specs.Sums.{IsLinear}
@@ -21,21 +21,10 @@ use Rattle.goal_rows.specs.Loads.{sizes_where, size_of}
 abbrev pub NoneAt : ℕ → List ℕ → List ℤ → Type 0
 NoneAt bin xs a = All (λ x. int_eq (value_of a x) (pos bin) ≡ false) xs
 
--- where the part has the truth that it wants, the variable isn't at the bin
-abbrev pub IsPartAway : Ground → ℕ × Bool → ℕ → ℕ → Type 0
-IsPartAway g part bin x =
-    (a : List ℤ) → AllHold g a → parts_true (part ∷ []) a ≡ true → int_eq (value_of a x) (pos bin)
-    ≡ false
-
--- where all parts have the truths that they want, none of the variables is at the bin
-abbrev pub ArePartsAway : Ground → List (ℕ × Bool) → ℕ → List ℕ → Type 0
-ArePartsAway g parts bin xs =
-    (a : List ℤ) → AllHold g a → parts_true parts a ≡ true → NoneAt bin xs a
-
--- where the flag isn't 0, none of the variables is at the bin
-pub record AreAway (g : Ground) (flag : ℕ) (w : Away) : Type 0 where
+-- where the flag has this truth, none of the variables is at the bin
+pub record AreAway (g : Ground) (flag : ℕ) (truth : Bool) (w : Away) : Type 0 where
   pub small : w.bin ≤ 2 ^ 38
-  pub none : (a : List ℤ) → AllHold g a → has ((pos 0, pos 0) ∷ []) (value_of a flag) ≡ false →
+  pub none : (a : List ℤ) → IsWorld g a → AllHold g a → value_of a flag ≡ bit truth →
       NoneAt w.bin w.vars.items a
 
 -- where none of the variables is at the bin, the item adds at most so much there
@@ -50,7 +39,11 @@ StayAt boxes xs bin ss n =
     (a : List ℤ) → IsInBoxes boxes a → NoneAt bin xs a →
     sizes_where (λ w. int_eq w (pos bin)) ss a ≤ n
 
--- at a bin of the packing stands at most what stays there, and more where the flag is 1, up to
+-- the value of a flag, or of one that is turned
+abbrev pub use_of : Bool → ℤ → ℤ
+use_of turned v = cond turned (pos 1 -ℤ v) v
+
+-- at a bin of the packing stands at most what stays there, and more where the bin is in use, up to
 -- the room
 pub record IsHost (g : Ground) (p : Packing) (h : Host) : Type 0 where
   pub exists : h.flag < length g.domains
@@ -60,7 +53,7 @@ pub record IsHost (g : Ground) (p : Packing) (h : Host) : Type 0 where
   pub more : h.more ≤ 2 ^ 38
   pub fits : (a : List ℤ) → IsWorld g a → AllHold g a →
       pos (sizes_where (λ w. int_eq w (pos h.bin)) p.items.items a)
-      ≤ℤ (pos h.stays +ℤ (pos h.more *ℤ value_of a h.flag))
+      ≤ℤ (pos h.stays +ℤ (pos h.more *ℤ use_of h.turned (value_of a h.flag)))
 
 -- all sizes are at most the sum and what is at the bins that are left
 pub record IsTaken (g : Ground) (p : Packing) (t : Taken) : Type 0 where

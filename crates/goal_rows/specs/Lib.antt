@@ -1,4 +1,4 @@
 pub mod Loads
 pub mod Packings
-pub mod Rows
 pub mod Hosts
+pub mod Quotients

@@ -1,19 +1,15 @@
 -- Packings with constant sizes and one room. What a reader believes after this file: where a
 -- packing holds, no bin has more than the room.
-use Rattle.std.specs.Prelude.{◌≡◌, ℕ, ◌^◌, ◌<◌, ◌≤◌, true, List, [], ◌∷◌, ℤ, pos, length}
+use Rattle.std.specs.Prelude.{◌≡◌, ℕ, ◌^◌, ◌<◌, ◌≤◌, true, List, [], ◌∷◌, ℤ, length}
 use Rattle.std.specs.List.{All}
 use Rattle.std.specs.Ordering.{int_eq}
 use Rattle.signed_clause.specs.Ranges.{Ranges, has}
 use Rattle.signed_clause.specs.Clauses.{Boxes, box_of}
 use Rattle.ground_form.specs.declared.ground.Ground.{Ground}
 use Rattle.form_build.specs.Worlds.{IsWorld, AllHold}
+use Rattle.stated_facts.specs.Constants.{IsConstant}
 use Rattle.goal_rows.specs.declared.packing.Packing.{Packing}
 use Rattle.goal_rows.specs.Loads.{sizes_where, size_of}
-
--- the variable has this value alone
-pub record IsConstant (boxes : Boxes) (x k : ℕ) : Type 0 where
-  pub exists : x < length boxes
-  pub box : box_of boxes x ≡ (pos k, pos k) ∷ []
 
 -- the item has this bin, this constant size and this constant room
 pub record IsItemOf (boxes : Boxes) (room : ℕ) (i : ℕ × ℕ × ℕ) (s : ℕ × ℕ) : Type 0 where

@@ -4,19 +4,21 @@ ghost use Rattle.signed_clause.specs.Clauses.{box_of};
 ghost use Rattle.ground_form.specs.Meaning.{value_of};
 ghost use Rattle.ground_form.specs.Bounds.{reach_of, most_sum};
 ghost use Rattle.form_build.specs.Forms.{linear_at};
-ghost use Rattle.form_build.specs.Worlds.{IsWorld, Defines};
+ghost use Rattle.form_build.specs.Worlds.{IsWorld, AllHold, Defines};
 ghost use Rattle.form_build.specs.Sums.{IsLinear};
 ghost use Rattle.goal_rows.specs.Packings.{IsPacking};
-ghost use Rattle.goal_rows.specs.Rows.{IsNought};
+ghost use Rattle.goal_rows.specs.Quotients.{IsGoalBy};
+ghost use Rattle.stated_facts.specs.Rows.{IsNought};
 
-use crate::choice::{factors_of, sets_asked};
-use crate::definitions::definition_indexes;
+use crate::choice::{Aim, aim_of, sets_asked};
+use crate::dividing::{Quotient, goal_quotient, state_link};
 use crate::packing::{Packing, packing_at};
 use crate::shares::add_for_set;
 use crate::used::add_used;
-use crate::weights::{is_near, weighs_within};
+use block_sums::settled_in_blocks;
 use form_build::{Linear, Maker, variable};
 use ground_form::Con;
+use stated_facts::{Nought, is_near, weighs_within, with_rows};
 use std::alloc::AllocError;
 
 /// Whether the numbers of a goal's sum and of the goal are small.
@@ -30,34 +32,27 @@ fn are_small(maker: &Maker, number: &Linear, goal: u32) -> bool
     weighs_within(boxes, number, 1 << 19) && is_near(boxes, goal, 1 << 19)
 }
 
-/// A goal's sum less the goal: in every world it is 0.
-fn difference(maker: &Maker, number: &Linear, goal: u32) -> Result<Linear, AllocError>
+/// A goal's sum less the goal: wherever all constraints hold it is 0.
+fn difference(maker: &Maker, number: &Linear, goal: u32) -> Result<Nought, AllocError>
     requires goal { goal < length maker.now.domains }
     requires number { IsLinear (2 ^ 19) maker.now.domains number.now }
     requires near { reach_of (box_of maker.now.domains goal) ≤ 2 ^ 19 }
-    requires value { (a : List ℤ) → IsWorld maker.now a
+    requires value { (a : List ℤ) → IsWorld maker.now a → AllHold maker.now a
         → value_of a goal ≡ linear_at number.now a }
-    ensures linear { IfOk result (λ z. IsLinear (2 ^ 20) maker.now.domains z) }
-    ensures nought { IfOk result (λ z. IsNought maker.now z) }
+    ensures { IfOk result (λ z. IsNought maker.now z) }
 {
     let own = variable(maker, goal)?;
     let less = own.times(maker.alloc(), -1)?;
-    let zero = number.plus(maker.alloc(), &less)?;
-    Ok(zero)
-}
-
-/// What is known of a goal's sum.
-#[derive(Drop)]
-struct Aim {
-    /// The coefficient of each variable.
-    factors: Vec<i64>,
-    /// Where each flag's definition may stand.
-    indexes: Vec<usize>,
+    let sum = number.plus(maker.alloc(), &less)?;
+    Ok(Nought {
+        sum,
+        adds: true,
+        takes: true,
+    })
 }
 
 /// Adds the rows of a packing for the sets that the goal's flags ask about.
-fn add_for_sets(maker: &mut Maker, zero: &Linear, p: &Packing, aim: &Aim) -> Result<(), AllocError>
-    requires zero { IsLinear (2 ^ 20) maker.old.domains zero.now }
+fn add_for_sets(maker: &mut Maker, zero: &Nought, p: &Packing, aim: &Aim) -> Result<(), AllocError>
     requires nought { IsNought maker.old zero.now }
     requires packing { IsPacking maker.old p.now }
     ensures { OnOk result (Defines maker.old maker.new) }
@@ -72,37 +67,28 @@ fn add_for_sets(maker: &mut Maker, zero: &Linear, p: &Packing, aim: &Aim) -> Res
 /// Adds the rows that follow from a packing.
 fn add_for_packing(
     maker: &mut Maker,
-    zero: &Linear,
+    zero: &Nought,
     p: &Packing,
     aim: &Aim,
-    number: &Linear,
 ) -> Result<(), AllocError>
-    requires zero { IsLinear (2 ^ 20) maker.old.domains zero.now }
     requires nought { IsNought maker.old zero.now }
     requires packing { IsPacking maker.old p.now }
     ensures { OnOk result (Defines maker.old maker.new) }
 {
-    add_used(maker, zero, p, aim.indexes.as_slice(), number, true)?;
-    add_used(maker, zero, p, aim.indexes.as_slice(), number, false)?;
+    add_used(maker, zero, p, aim, true)?;
+    add_used(maker, zero, p, aim, false)?;
     add_for_sets(maker, zero, p, aim)?;
     Ok(())
 }
 
 /// Adds the rows that follow from constraint k, where it is a packing.
-fn add_for(
-    maker: &mut Maker,
-    zero: &Linear,
-    aim: &Aim,
-    number: &Linear,
-    k: usize,
-) -> Result<(), AllocError>
-    requires zero { IsLinear (2 ^ 20) maker.old.domains zero.now }
+fn add_for(maker: &mut Maker, zero: &Nought, aim: &Aim, k: usize) -> Result<(), AllocError>
     requires nought { IsNought maker.old zero.now }
     ensures { OnOk result (Defines maker.old maker.new) }
 {
     match packing_at(maker, k)? {
         Some(p) => {
-            add_for_packing(maker, zero, &p, aim, number)?;
+            add_for_packing(maker, zero, &p, aim)?;
             Ok(())
         }
         None => Ok(()),
@@ -110,25 +96,19 @@ fn add_for(
 }
 
 /// Adds the rows that follow from each constraint that is a packing.
-fn add_for_all(
-    maker: &mut Maker,
-    zero: &Linear,
-    aim: &Aim,
-    number: &Linear,
-) -> Result<(), AllocError>
-    requires zero { IsLinear (2 ^ 20) maker.old.domains zero.now }
+fn add_for_all(maker: &mut Maker, zero: &Nought, aim: &Aim) -> Result<(), AllocError>
     requires nought { IsNought maker.old zero.now }
     ensures { OnOk result (Defines maker.old maker.new) }
 {
     let count = maker.cons().len();
     for k in 0..count {
-        add_for(maker, zero, aim, number, k)?;
+        add_for(maker, zero, aim, k)?;
     }
     Ok(())
 }
 
 /// Whether some constraint is a packing.
-fn has_packing(maker: &Maker) -> bool {
+pub fn has_packing(maker: &Maker) -> bool {
     for con in maker.cons() {
         if let Con::Pack { .. } = con {
             return true;
@@ -137,12 +117,59 @@ fn has_packing(maker: &Maker) -> bool {
     false
 }
 
+/// Adds the rows that follow from what is 0, a goal's sum less the goal.
+fn add_by(maker: &mut Maker, zero: &Nought) -> Result<(), AllocError>
+    requires nought { IsNought maker.old zero.now }
+    ensures { OnOk result (Defines maker.old maker.new) }
+{
+    let aim = aim_of(maker, zero)?;
+    add_for_all(maker, zero, &aim)?;
+    Ok(())
+}
+
+/// Whether the values of a variable are small.
+fn has_small_values(maker: &Maker, x: u32) -> bool
+    requires { x < length maker.now.domains }
+    ensures { result ≡ true → reach_of (box_of maker.now.domains x) ≤ 2 ^ 19 }
+{
+    is_near(maker.domains(), x, 1 << 19)
+}
+
+/// Adds the rows of a sum whose variable this is.
+fn add_for_sum(maker: &mut Maker, sum: &Linear, own: u32) -> Result<(), AllocError>
+    requires own { own < length maker.old.domains }
+    requires sum { IsLinear (2 ^ 19) maker.old.domains sum.now }
+    requires value { (a : List ℤ) → IsWorld maker.old a → AllHold maker.old a
+        → value_of a own ≡ linear_at sum.now a }
+    ensures { OnOk result (Defines maker.old maker.new) }
+{
+    if !has_small_values(maker, own) {
+        return Ok(());
+    }
+    let zero = difference(maker, sum, own)?;
+    add_by(maker, &zero)?;
+    Ok(())
+}
+
+/// Adds the rows of a goal by its sum without a factor, for which a variable is made.
+fn add_divided(maker: &mut Maker, q: &Quotient, goal: u32) -> Result<(), AllocError>
+    requires goal { goal < length maker.old.domains }
+    requires near { reach_of (box_of maker.old.domains goal) ≤ 2 ^ 19 }
+    requires quotient { IsGoalBy maker.old goal q.now }
+    ensures { OnOk result (Defines maker.old maker.new) }
+{
+    let own = settled_in_blocks(maker, &q.sum)?;
+    state_link(maker, q, own, goal)?;
+    add_for_sum(maker, &q.sum, own)?;
+    Ok(())
+}
+
 /// Adds rows that follow from the packings of a problem and from what a goal is, so that bounds
 /// alone give what the linear relaxation gives. Nothing new is said.
 pub fn add_goal_sums(maker: &mut Maker, number: &Linear, goal: u32) -> Result<(), AllocError>
     requires goal { goal < length maker.old.domains }
     requires number { IsLinear most_sum maker.old.domains number.now }
-    requires value { (a : List ℤ) → IsWorld maker.old a
+    requires value { (a : List ℤ) → IsWorld maker.old a → AllHold maker.old a
         → value_of a goal ≡ linear_at number.now a }
     ensures adds { OnOk result (Defines maker.old maker.new) }
 {
@@ -150,10 +177,15 @@ pub fn add_goal_sums(maker: &mut Maker, number: &Linear, goal: u32) -> Result<()
         return Ok(());
     }
     let zero = difference(maker, number, goal)?;
-    let aim = Aim {
-        factors: factors_of(maker, number)?,
-        indexes: definition_indexes(maker)?,
-    };
-    add_for_all(maker, &zero, &aim, number)?;
-    Ok(())
+    let zero = with_rows(maker, zero, number)?;
+    match goal_quotient(maker, &zero, goal)? {
+        Some(q) => {
+            add_divided(maker, &q, goal)?;
+            Ok(())
+        }
+        None => {
+            add_by(maker, &zero)?;
+            Ok(())
+        }
+    }
 }

@@ -5,15 +5,8 @@ ghost use Rattle.form_build.specs.Forms.{linear_at};
 ghost use Rattle.form_build.specs.Sums.{IsSum, IsLinear};
 
 use form_build::{Linear, Maker};
+use stated_facts::signed;
 use std::alloc::{AllocError, Global};
-
-/// A size as a number with a sign.
-pub(crate) fn signed(size: u64) -> i64
-    requires { size ≤ 2 ^ 38 }
-    ensures { result ≡ pos size }
-{
-    size as i64
-}
 
 /// A size as a sum.
 pub(crate) fn amount(alloc: Global, size: u64) -> Linear

@@ -1,11 +1,14 @@
-//! Variables that don't have a value where a flag is 1.
-ghost use Rattle.std.specs.Prelude.{◌≡◌, ◌≤◌, ◌^◌, IfOk, IfSome};
-ghost use Rattle.goal_rows.specs.Hosts.{IsPartAway, ArePartsAway, AreAway};
+//! Variables that don't have a value where a flag has a truth.
+ghost use Rattle.std.specs.Prelude.{◌≡◌, ◌≤◌, ◌^◌, ℕ, ℤ, List, false, pos, IfOk, IfSome};
+ghost use Rattle.std.specs.List.{All};
+ghost use Rattle.std.specs.Ordering.{int_eq};
+ghost use Rattle.ground_form.specs.Meaning.{value_of};
+ghost use Rattle.goal_rows.specs.Hosts.{NoneAt, AreAway};
 
-use crate::definitions::{parts_of, question};
 use crate::packing::HEAVIEST;
 use form_build::Maker;
-use std::alloc::AllocError;
+use stated_facts::{bit_of, claims_of};
+use std::alloc::{AllocError, Global};
 
 /// Variables, and a bin at which they aren't.
 #[derive(Drop)]
@@ -16,67 +19,58 @@ pub(crate) struct Away {
     pub vars: Vec<u32>,
 }
 
-/// The variable that isn't at the bin where the part has the truth that it wants.
-fn var_of(maker: &Maker, indexes: &[usize], part: (u32, bool), bin: u64) -> Option<u32>
-    ensures { IfSome result (λ x. IsPartAway maker.now part bin x) }
+/// The value that the variables are said not to have, where it is one.
+fn only_bin(others: &[(u32, u64)]) -> Option<u64>
+    ensures all { IfSome result (λ bin. All (λ q. q.1 ≡ bin) others.now) }
+    ensures small { IfSome result (λ bin. bin ≤ 2 ^ 38) }
 {
-    let q = question(maker, indexes, part.0)?;
-    if !part.1 && q.1 == bin {
-        Some(q.0)
-    } else {
-        None
-    }
-}
-
-/// The variables that aren't at the bin where all parts have the truths that they want, one for
-/// each part.
-fn vars_of(
-    maker: &Maker,
-    indexes: &[usize],
-    parts: &[(u32, bool)],
-    bin: u64,
-) -> Result<Option<Vec<u32>>, AllocError>
-    ensures { IfOk result (λ o. IfSome o (λ xs. ArePartsAway maker.now parts.now bin xs.items)) }
-{
-    let mut vars = Vec::new(maker.alloc());
-    for part in parts {
-        match var_of(maker, indexes, *part, bin) {
-            Some(x) => vars.push(x)?,
-            None => return Ok(None),
+    let bin = others.first()?.1;
+    for q in others {
+        if q.1 != bin {
+            return None;
         }
     }
-    Ok(Some(vars))
+    if bin <= HEAVIEST { Some(bin) } else { None }
 }
 
-/// The bin that the first part asks about.
-fn first_bin(maker: &Maker, indexes: &[usize], parts: &[(u32, bool)]) -> Option<u64>
-    ensures { IfSome result (λ v. v ≤ 2 ^ 38) }
+/// The variables that are said not to have a value.
+fn listed(alloc: Global, others: &[(u32, u64)]) -> Result<Vec<u32>, AllocError>
+    ensures { IfOk result (λ xs. (bin : ℕ) (a : List ℤ)
+        → All (λ q. int_eq (value_of a q.0) (pos bin) ≡ false) others.now
+        → NoneAt bin xs.items a) }
 {
-    match parts {
-        [part, ..] => {
-            let q = question(maker, indexes, part.0)?;
-            if q.1 <= HEAVIEST { Some(q.1) } else { None }
-        }
-        _ => None,
+    let mut vars = Vec::new(alloc);
+    for q in others {
+        vars.push(q.0)?;
     }
+    Ok(vars)
 }
 
-/// The variables that aren't at a bin, where the flag is 1.
+/// They in their order.
+fn sorted(vars: Vec<u32>) -> Vec<u32>
+    ensures { (bin : ℕ) (a : List ℤ) → NoneAt bin vars.items a → NoneAt bin result.items a }
+{
+    let mut vars = vars;
+    vars.sort_unstable();
+    vars
+}
+
+/// The variables that aren't at a bin, where the flag has this truth.
 pub(crate) fn away_from(
     maker: &Maker,
     indexes: &[usize],
     flag: u32,
+    truth: bool,
 ) -> Result<Option<Away>, AllocError>
-    ensures { IfOk result (λ o. IfSome o (λ w. AreAway maker.now flag w)) }
+    ensures { IfOk result (λ o. IfSome o (λ w. AreAway maker.now flag truth w)) }
 {
-    let Some(parts) = parts_of(maker, indexes, flag) else {
+    let Some(claims) = claims_of(maker, indexes, flag, bit_of(truth))? else {
         return Ok(None);
     };
-    let Some(bin) = first_bin(maker, indexes, parts) else {
+    let Some(bin) = only_bin(claims.others.as_slice()) else {
         return Ok(None);
     };
-    match vars_of(maker, indexes, parts, bin)? {
-        Some(vars) => Ok(Some(Away { bin, vars })),
-        None => Ok(None),
-    }
+    let list = listed(maker.alloc(), claims.others.as_slice())?;
+    let vars = sorted(list);
+    Ok(Some(Away { bin, vars }))
 }

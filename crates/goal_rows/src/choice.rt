@@ -3,53 +3,48 @@
 //! No promise rests on what is chosen here: what follows for one set follows for each, and so with
 //! each multiple.
 use crate::packing::Packing;
-use form_build::{Linear, Maker};
+use crate::rows::Multiple;
+use form_build::Maker;
 use ground_form::Con;
 use signed_clause::IntSet;
+use stated_facts::{MOST_TIMES, Nought, definition_indexes, factor_at, factors_of};
 use std::alloc::{AllocError, Global};
 
 /// How many sets are looked at.
-const MOST_SETS: usize = 2;
+const MOST_SETS: usize = 4;
 
 /// How many multiples are added.
 const MOST_MULTIPLES: usize = 16;
+
+/// What is known of a goal's sum.
+#[derive(Drop)]
+pub(crate) struct Aim {
+    /// The coefficient of each variable.
+    pub factors: Vec<i64>,
+    /// The terms.
+    pub terms: Vec<(i64, u32)>,
+    /// Where each flag's definition may stand.
+    pub indexes: Vec<usize>,
+}
+
+/// What is known of the goal's sum in what is 0.
+pub(crate) fn aim_of(maker: &Maker, zero: &Nought) -> Result<Aim, AllocError> {
+    Ok(Aim {
+        factors: factors_of(maker, &zero.sum)?,
+        terms: Vec::from_slice(maker.alloc(), zero.sum.terms.items())?,
+        indexes: definition_indexes(maker)?,
+    })
+}
 
 /// A set that flags of a goal ask about.
 #[derive(Drop)]
 pub(crate) struct Asked {
     /// The set.
     pub set: IntSet,
-    /// Whether a flag adds 1 to the goal's sum, and doesn't take 1 away.
+    /// How much a flag adds to the goal's sum, or takes away.
+    pub factor: u64,
+    /// Whether it adds so much.
     pub rises: bool,
-}
-
-/// The coefficient of a flag that adds 1 to a sum, or takes 1 away.
-pub(crate) fn factor(rises: bool) -> i64 {
-    if rises { 1 } else { -1 }
-}
-
-/// The coefficient of each variable in a sum, 0 where it has none.
-pub(crate) fn factors_of(maker: &Maker, f: &Linear) -> Result<Vec<i64>, AllocError> {
-    let mut factors = Vec::new(maker.alloc());
-    factors.resize(maker.domains().len(), 0)?;
-    for t in f.terms.items() {
-        set_factor(&mut factors, *t);
-    }
-    Ok(factors)
-}
-
-/// Notes the coefficient of a term.
-fn set_factor(factors: &mut [i64], t: (i64, u32)) {
-    let x = t.1 as usize;
-    if x < factors.len() {
-        factors[x] = t.0;
-    }
-}
-
-/// The coefficient of a variable.
-fn factor_at(factors: &[i64], x: u32) -> i64 {
-    let x = x as usize;
-    if x < factors.len() { factors[x] } else { 0 }
 }
 
 /// For each variable whether it is the bin of an item.
@@ -76,14 +71,19 @@ fn is_marked(marks: &[bool], x: u32) -> bool {
     x < marks.len() && marks[x]
 }
 
-/// Whether the set is one of them.
-fn is_asked(asked: &[Asked], set: &IntSet) -> bool {
+/// Whether it is one of them that flags with this coefficient ask about the set.
+fn is_asked(asked: &[Asked], set: &IntSet, own: i64) -> bool {
     for one in asked {
-        if one.set.same(set) {
+        if one.factor == own.unsigned_abs() && one.rises == (own > 0) && one.set.same(set) {
             return true;
         }
     }
     false
+}
+
+/// Whether a flag with this coefficient counts.
+fn is_counted(own: i64) -> bool {
+    own != 0 && own.unsigned_abs() <= MOST_TIMES
 }
 
 /// Adds the set that the constraint asks about of a bin, where it defines a flag of the sum.
@@ -95,10 +95,10 @@ fn note(
 ) -> Result<(), AllocError> {
     if let Con::MemberDef { flag, var, set } = con {
         let own = factor_at(factors, *flag);
-        let rises = own == 1;
-        if own == factor(rises) && is_marked(marks, *var) && !is_asked(asked, set) {
+        if is_counted(own) && is_marked(marks, *var) && !is_asked(asked, set, own) {
             let set = set.copy()?;
-            asked.push(Asked { set, rises })?;
+            let (factor, rises) = (own.unsigned_abs(), own > 0);
+            asked.push(Asked { set, factor, rises })?;
         }
     }
     Ok(())
@@ -139,23 +139,35 @@ fn open_sizes(maker: &Maker, p: &Packing, set: &IntSet) -> Result<Vec<u64>, Allo
     Ok(sizes)
 }
 
-/// The distinct numbers among these, which are in order, but for 0 and those that are too many.
-pub(crate) fn distinct(alloc: Global, numbers: &[u64]) -> Result<Vec<u64>, AllocError> {
+/// The distinct ones among these multiples, of which those that are the same stand together, but
+/// for those that are too many.
+pub(crate) fn distinct(alloc: Global, all: &[Multiple]) -> Result<Vec<Multiple>, AllocError> {
     let mut out = Vec::new(alloc);
-    let mut last = 0;
-    for n in numbers {
-        if *n != last && out.len() < MOST_MULTIPLES {
-            out.push(*n)?;
+    let mut last = Multiple { row: 0, zero: 0 };
+    for m in all {
+        if *m != last && out.len() < MOST_MULTIPLES {
+            out.push(*m)?;
         }
-        last = *n;
+        last = *m;
     }
     Ok(out)
 }
 
-/// The multiples that are added for a set: the distinct sizes of the items of which it is open
+/// The multiples that are added for a set: by the distinct sizes of the items of which it is open
 /// whether they are in it.
-pub(crate) fn multiples(maker: &Maker, p: &Packing, set: &IntSet) -> Result<Vec<u64>, AllocError> {
-    let sizes = open_sizes(maker, p, set)?;
-    let out = distinct(maker.alloc(), sizes.as_slice())?;
+pub(crate) fn multiples(
+    maker: &Maker,
+    p: &Packing,
+    asked: &Asked,
+) -> Result<Vec<Multiple>, AllocError> {
+    let sizes = open_sizes(maker, p, &asked.set)?;
+    let mut all = Vec::new(maker.alloc());
+    for zero in sizes.as_slice() {
+        all.push(Multiple {
+            row: asked.factor,
+            zero: *zero,
+        })?;
+    }
+    let out = distinct(maker.alloc(), all.as_slice())?;
     Ok(out)
 }

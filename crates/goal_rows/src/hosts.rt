@@ -1,19 +1,18 @@
 //! Bins of which a flag tells whether some item is there that may be elsewhere.
-ghost use Rattle.std.specs.Prelude.{◌≡◌, ◌<◌, ◌≤◌, ◌+◌, ◌^◌, [], ◌∷◌, pos, true, length, Contains, IfOk, IfSome};
+ghost use Rattle.std.specs.Prelude.{◌≡◌, ◌<◌, ◌≤◌, ◌+◌, ◌^◌, ◌≤ℤ◌, pos, true, length, Contains, IfOk, IfSome};
 ghost use Rattle.std.specs.List.{All};
+ghost use Rattle.signed_clause.specs.Ranges.{IsValid};
 ghost use Rattle.signed_clause.specs.Clauses.{box_of};
-ghost use Rattle.ground_form.specs.Bounds.{reach_of};
-ghost use Rattle.ground_form.specs.declared.con.Con.TheVariants as con;
+ghost use Rattle.ground_form.specs.Bounds.{low_of, reach_of};
 ghost use Rattle.goal_rows.specs.Hosts.{StaysAt, StayAt, AreAway, IsHost};
 ghost use Rattle.goal_rows.specs.Packings.{IsPacking};
 
-use crate::amounts::signed;
 use crate::away::{Away, away_from};
-use crate::definitions::question;
 use crate::packing::{HEAVIEST, Packing};
-use crate::weights::is_near;
 use form_build::Maker;
+use ground_form::ends_of;
 use signed_clause::IntSet;
+use stated_facts::{is_near, signed};
 use std::alloc::AllocError;
 
 /// A bin, and the flag that tells whether some item is there that may be elsewhere.
@@ -21,6 +20,8 @@ use std::alloc::AllocError;
 pub(crate) struct Host {
     /// The flag.
     pub flag: u32,
+    /// Whether the flag tells that none is there.
+    pub turned: bool,
     /// The bin.
     pub bin: u64,
     /// The sizes that are there in any case.
@@ -88,13 +89,15 @@ fn stays_in(maker: &Maker, p: &Packing, w: &Away) -> Option<u64>
     )
 }
 
-/// Whether the variable exists and has no other values than -1, 0 and 1.
+/// Whether the variable exists and has no other values than 0 and 1.
 fn is_flag(maker: &Maker, x: u32) -> bool
     ensures exists { result ≡ true → x < length maker.now.domains }
     ensures near { result ≡ true → reach_of (box_of maker.now.domains x) ≤ 1 }
+    ensures some { result ≡ true → pos 0 ≤ℤ low_of (box_of maker.now.domains x) }
+    ensures valid { All (λ d. IsValid d) maker.now.domains }
 {
     let boxes = maker.domains();
-    (x as usize) < boxes.len() && is_near(boxes, x, 1)
+    (x as usize) < boxes.len() && is_near(boxes, x, 1) && ends_of(&boxes[x as usize]).0 >= 0
 }
 
 /// What is left of the room besides what stays, where both are small enough.
@@ -110,20 +113,10 @@ fn room_besides(room: u64, stays: u64) -> Option<u64>
     }
 }
 
-/// The flag that is 0 exactly where this one is 1.
-fn opposite(maker: &Maker, indexes: &[usize], flag: u32) -> Option<u32>
-    ensures { IfSome result (λ x. Contains maker.now.cons
-        (con.MemberDef flag x ((pos 0, pos 0) ∷ []))) }
-{
-    let q = question(maker, indexes, flag)?;
-    if q.1 == 0 { Some(q.0) } else { None }
-}
-
-/// The bin of a packing from which these variables are away, where the opposite flag isn't 0.
-fn host_from(maker: &Maker, p: &Packing, flag: u32, none: u32, w: &Away) -> Option<Host>
+/// The bin of a packing from which these variables are away where the flag has this truth.
+fn host_from(maker: &Maker, p: &Packing, flag: u32, turned: bool, w: &Away) -> Option<Host>
     requires packing { IsPacking maker.now p.now }
-    requires flag { Contains maker.now.cons (con.MemberDef flag none ((pos 0, pos 0) ∷ [])) }
-    requires away { AreAway maker.now none w.now }
+    requires away { AreAway maker.now flag turned w.now }
     ensures { IfSome result (λ h. IsHost maker.now p.now h) }
 {
     if !is_flag(maker, flag) {
@@ -133,10 +126,28 @@ fn host_from(maker: &Maker, p: &Packing, flag: u32, none: u32, w: &Away) -> Opti
     let more = room_besides(p.room, stays)?;
     Some(Host {
         flag,
+        turned,
         bin: w.bin,
         stays,
         more,
     })
+}
+
+/// The bin of a packing at which no item is that may be elsewhere, where the flag has this truth.
+fn host_by(
+    maker: &Maker,
+    indexes: &[usize],
+    p: &Packing,
+    flag: u32,
+    turned: bool,
+) -> Result<Option<Host>, AllocError>
+    requires packing { IsPacking maker.now p.now }
+    ensures { IfOk result (λ o. IfSome o (λ h. IsHost maker.now p.now h)) }
+{
+    match away_from(maker, indexes, flag, turned)? {
+        Some(w) => Ok(host_from(maker, p, flag, turned, &w)),
+        None => Ok(None),
+    }
 }
 
 /// The bin of a packing of which the flag tells whether some item is there.
@@ -149,11 +160,9 @@ pub(crate) fn host_of(
     requires packing { IsPacking maker.now p.now }
     ensures { IfOk result (λ o. IfSome o (λ h. IsHost maker.now p.now h)) }
 {
-    let Some(none) = opposite(maker, indexes, flag) else {
-        return Ok(None);
-    };
-    match away_from(maker, indexes, none)? {
-        Some(w) => Ok(host_from(maker, p, flag, none, &w)),
-        None => Ok(None),
+    if let Some(h) = host_by(maker, indexes, p, flag, false)? {
+        return Ok(Some(h));
     }
+    let h = host_by(maker, indexes, p, flag, true)?;
+    Ok(h)
 }

@@ -7,10 +7,10 @@ ghost use Rattle.ground_form.specs.declared.con.Con.TheVariants as con;
 ghost use Rattle.goal_rows.specs.Loads.{size_of};
 ghost use Rattle.goal_rows.specs.Packings.{IsItemOf, AreItemsOf, IsUsed, AreFitting, IsPacking};
 
-use crate::constants::constant;
 use form_build::Maker;
 use ground_form::Con;
 use signed_clause::IntSet;
+use stated_facts::constant;
 use std::alloc::{AllocError, Global};
 
 /// The greatest sum of sizes that is looked at.

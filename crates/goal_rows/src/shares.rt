@@ -6,16 +6,16 @@ ghost use Rattle.form_build.specs.Worlds.{IsWorld, Defines};
 ghost use Rattle.form_build.specs.Sums.{IsLinear};
 ghost use Rattle.goal_rows.specs.Loads.{sizes_where};
 ghost use Rattle.goal_rows.specs.Packings.{IsPacking};
-ghost use Rattle.goal_rows.specs.Rows.{IsNought};
+ghost use Rattle.stated_facts.specs.Rows.{IsNought};
 
 use crate::amounts::{amount_less, less_amount};
 use crate::choice::{Asked, multiples};
 use crate::inside::sizes_inside;
 use crate::packing::{HEAVIEST, Packing};
 use crate::rows::state_multiples;
-use crate::weights::is_light;
 use form_build::{Linear, Maker};
 use signed_clause::IntSet;
+use stated_facts::{Nought, is_light};
 use std::alloc::AllocError;
 
 /// How much the bins in a set have room for. None where all items fit there, so that nothing
@@ -35,12 +35,11 @@ pub(crate) fn room_in(p: &Packing, set: &IntSet) -> Option<u64>
 /// States that the items in the set fit there, with multiples of what is 0.
 fn state_inside(
     maker: &mut Maker,
-    zero: &Linear,
+    zero: &Nought,
     p: &Packing,
     asked: &Asked,
     f: &Linear,
 ) -> Result<(), AllocError>
-    requires zero { IsLinear (2 ^ 20) maker.old.domains zero.now }
     requires nought { IsNought maker.old zero.now }
     requires packing { IsPacking maker.old p.now }
     requires inside { IsLinear (2 ^ 39) maker.old.domains f.now }
@@ -53,7 +52,7 @@ fn state_inside(
         return Ok(());
     };
     let row = less_amount(maker, f, most)?;
-    let sizes = multiples(maker, p, &asked.set)?;
+    let sizes = multiples(maker, p, asked)?;
     state_multiples(maker, &row, zero, sizes.as_slice(), !asked.rises)?;
     Ok(())
 }
@@ -61,12 +60,11 @@ fn state_inside(
 /// States that the items outside the set fit there, with multiples of what is 0.
 fn state_outside(
     maker: &mut Maker,
-    zero: &Linear,
+    zero: &Nought,
     p: &Packing,
     asked: &Asked,
     f: &Linear,
 ) -> Result<(), AllocError>
-    requires zero { IsLinear (2 ^ 20) maker.old.domains zero.now }
     requires nought { IsNought maker.old zero.now }
     requires packing { IsPacking maker.old p.now }
     requires inside { IsLinear (2 ^ 39) maker.old.domains f.now }
@@ -80,7 +78,7 @@ fn state_outside(
     };
     let outside = amount_less(maker, p.whole, f)?;
     let row = less_amount(maker, &outside, most)?;
-    let sizes = multiples(maker, p, &asked.set)?;
+    let sizes = multiples(maker, p, asked)?;
     state_multiples(maker, &row, zero, sizes.as_slice(), asked.rises)?;
     Ok(())
 }
@@ -88,12 +86,11 @@ fn state_outside(
 /// States both.
 fn state_both(
     maker: &mut Maker,
-    zero: &Linear,
+    zero: &Nought,
     p: &Packing,
     asked: &Asked,
     f: &Linear,
 ) -> Result<(), AllocError>
-    requires zero { IsLinear (2 ^ 20) maker.old.domains zero.now }
     requires nought { IsNought maker.old zero.now }
     requires packing { IsPacking maker.old p.now }
     requires inside { IsLinear (2 ^ 39) maker.old.domains f.now }
@@ -109,11 +106,10 @@ fn state_both(
 /// Adds the rows of a packing for a set that the goal's flags ask about.
 pub(crate) fn add_for_set(
     maker: &mut Maker,
-    zero: &Linear,
+    zero: &Nought,
     p: &Packing,
     asked: &Asked,
 ) -> Result<(), AllocError>
-    requires zero { IsLinear (2 ^ 20) maker.old.domains zero.now }
     requires nought { IsNought maker.old zero.now }
     requires packing { IsPacking maker.old p.now }
     ensures { OnOk result (Defines maker.old maker.new) }

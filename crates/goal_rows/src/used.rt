@@ -8,19 +8,19 @@ ghost use Rattle.ground_form.specs.Bounds.{reach_of};
 ghost use Rattle.form_build.specs.Forms.{linear_at};
 ghost use Rattle.form_build.specs.Worlds.{IsWorld, Defines};
 ghost use Rattle.form_build.specs.Sums.{IsLinear};
-ghost use Rattle.goal_rows.specs.Hosts.{IsHost, IsTaken};
+ghost use Rattle.goal_rows.specs.Hosts.{use_of, IsHost, IsTaken};
 ghost use Rattle.goal_rows.specs.Packings.{IsPacking};
-ghost use Rattle.goal_rows.specs.Rows.{IsNought};
+ghost use Rattle.stated_facts.specs.Rows.{IsNought};
 
-use crate::amounts::{amount, amount_less, less_amount, signed};
-use crate::choice::{distinct, factor};
+use crate::amounts::{amount, amount_less, less_amount};
+use crate::choice::{Aim, distinct};
 use crate::hosts::{Host, host_of};
 use crate::packing::Packing;
-use crate::rows::state_multiples;
+use crate::rows::{Multiple, state_multiples};
 use crate::shares::room_in;
-use crate::weights::is_light;
 use form_build::{Linear, Maker, variable};
 use signed_clause::IntSet;
+use stated_facts::{Nought, factor_at, is_light, signed};
 use std::alloc::AllocError;
 
 /// What bins have room for, and the bins that are left.
@@ -32,6 +32,22 @@ pub(crate) struct Taken {
     pub rest: IntSet,
 }
 
+/// Whether a bin is in use, as a sum.
+fn use_of(maker: &Maker, h: &Host) -> Result<Linear, AllocError>
+    requires exists { h.now.flag < length maker.now.domains }
+    requires near { reach_of (box_of maker.now.domains h.now.flag) ≤ 1 }
+    ensures value { IfOk result (λ r. (a : List ℤ) → IsWorld maker.now a → linear_at r a
+        ≡ use_of h.now.turned (value_of a h.now.flag)) }
+    ensures linear { IfOk result (λ r. IsLinear 2 maker.now.domains r) }
+{
+    let own = variable(maker, h.flag)?;
+    if !h.turned {
+        return Ok(own);
+    }
+    let r = amount_less(maker, 1, &own)?;
+    Ok(r)
+}
+
 /// What a bin has room for, by its flag.
 fn share_of(maker: &Maker, h: &Host) -> Result<Linear, AllocError>
     requires exists { h.now.flag < length maker.now.domains }
@@ -39,11 +55,11 @@ fn share_of(maker: &Maker, h: &Host) -> Result<Linear, AllocError>
     requires stays { h.now.stays ≤ 2 ^ 38 }
     requires more { h.now.more ≤ 2 ^ 38 }
     ensures value { IfOk result (λ r. (a : List ℤ) → IsWorld maker.now a → linear_at r a
-        ≡ pos h.now.stays +ℤ (pos h.now.more *ℤ value_of a h.now.flag)) }
-    ensures linear { IfOk result (λ r. IsLinear (2 ^ 39) maker.now.domains r) }
+        ≡ pos h.now.stays +ℤ (pos h.now.more *ℤ use_of h.now.turned (value_of a h.now.flag))) }
+    ensures linear { IfOk result (λ r. IsLinear (2 ^ 40) maker.now.domains r) }
 {
     let stays = amount(maker.alloc(), h.stays);
-    let own = variable(maker, h.flag)?;
+    let own = use_of(maker, h)?;
     let more = own.times(maker.alloc(), signed(h.more))?;
     let r = more.plus(maker.alloc(), &stays)?;
     Ok(r)
@@ -104,66 +120,70 @@ fn take_all(maker: &Maker, p: &Packing, hosts: &[Host]) -> Result<Option<Taken>,
     Ok(Some(t))
 }
 
-/// The bins of which flags tell that are terms of the sum, with this coefficient.
-fn hosts_of(
-    maker: &Maker,
-    indexes: &[usize],
-    p: &Packing,
-    number: &Linear,
-    rises: bool,
-) -> Result<Vec<Host>, AllocError>
+/// The bins of which flags tell that are terms of the sum, where use of a bin raises it, or where
+/// use lowers it.
+fn hosts_of(maker: &Maker, p: &Packing, aim: &Aim, rises: bool) -> Result<Vec<Host>, AllocError>
     requires { IsPacking maker.now p.now }
     ensures { IfOk result (λ hosts. All (IsHost maker.now p.now) hosts.items) }
 {
     let mut hosts = Vec::new(maker.alloc());
-    for t in number.terms.items() {
-        if t.0 == factor(rises) {
-            push_host(maker, indexes, p, &mut hosts, t.1)?;
-        }
+    for t in aim.terms.as_slice() {
+        push_host(maker, p, aim, &mut hosts, *t, rises)?;
     }
     Ok(hosts)
 }
 
-/// Adds the bin of which the flag tells, where it is one.
+/// Adds the bin of which a term's flag tells, where it is one, and its use raises the sum, or
+/// lowers it.
 fn push_host(
     maker: &Maker,
-    indexes: &[usize],
     p: &Packing,
+    aim: &Aim,
     hosts: &mut Vec<Host>,
-    flag: u32,
+    t: (i64, u32),
+    rises: bool,
 ) -> Result<(), AllocError>
     requires packing { IsPacking maker.now p.now }
     requires hosts { All (IsHost maker.now p.now) hosts.old.items }
     ensures { OnOk result (All (IsHost maker.now p.now) hosts.new.items) }
 {
-    if let Some(h) = host_of(maker, indexes, p, flag)? {
+    if let Some(h) = host_of(maker, aim.indexes.as_slice(), p, t.1)?
+        && ((t.0 > 0) != h.turned) == rises
+    {
         hosts.push(h)?;
     }
     Ok(())
 }
 
-/// The multiples that are added for bins: the distinct numbers of what they have room for
-/// besides.
-fn multiples(maker: &Maker, hosts: &[Host]) -> Result<Vec<u64>, AllocError> {
-    let mut numbers = Vec::new(maker.alloc());
+/// The multiples that are added for bins: by the distinct pairs of what they have room for besides
+/// and of what their flags count.
+fn multiples(maker: &Maker, hosts: &[Host], aim: &Aim) -> Result<Vec<Multiple>, AllocError> {
+    let mut pairs = Vec::new(maker.alloc());
     for h in hosts {
-        numbers.push(h.more)?;
+        let own = factor_at(&aim.factors, h.flag);
+        pairs.push((own.unsigned_abs(), h.more))?;
     }
-    numbers.sort_unstable();
-    let out = distinct(maker.alloc(), numbers.as_slice())?;
+    pairs.sort_unstable();
+    let mut all = Vec::new(maker.alloc());
+    for p in pairs.as_slice() {
+        all.push(Multiple {
+            row: p.0,
+            zero: p.1,
+        })?;
+    }
+    let out = distinct(maker.alloc(), all.as_slice())?;
     Ok(out)
 }
 
 /// States that all items fit into the bins, with multiples of what is 0.
 fn state_used(
     maker: &mut Maker,
-    zero: &Linear,
+    zero: &Nought,
     p: &Packing,
     t: &Taken,
-    sizes: &[u64],
+    sizes: &[Multiple],
     rises: bool,
 ) -> Result<(), AllocError>
-    requires zero { IsLinear (2 ^ 20) maker.old.domains zero.now }
     requires nought { IsNought maker.old zero.now }
     requires packing { IsPacking maker.old p.now }
     requires taken { IsTaken maker.old p.now t.now }
@@ -181,22 +201,20 @@ fn state_used(
 /// Adds the rows of a packing for the bins of which flags tell that are terms of the goal's sum.
 pub(crate) fn add_used(
     maker: &mut Maker,
-    zero: &Linear,
+    zero: &Nought,
     p: &Packing,
-    indexes: &[usize],
-    number: &Linear,
+    aim: &Aim,
     rises: bool,
 ) -> Result<(), AllocError>
-    requires zero { IsLinear (2 ^ 20) maker.old.domains zero.now }
     requires nought { IsNought maker.old zero.now }
     requires packing { IsPacking maker.old p.now }
     ensures { OnOk result (Defines maker.old maker.new) }
 {
-    let hosts = hosts_of(maker, indexes, p, number, rises)?;
+    let hosts = hosts_of(maker, p, aim, rises)?;
     if hosts.is_empty() {
         return Ok(());
     }
-    let sizes = multiples(maker, hosts.as_slice())?;
+    let sizes = multiples(maker, hosts.as_slice(), aim)?;
     let Some(t) = take_all(maker, p, hosts.as_slice())? else {
         return Ok(());
     };

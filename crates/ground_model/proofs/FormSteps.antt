@@ -1,5 +1,5 @@
 -- From the form of an expression to what is required of it, and to the variable that it is.
-use Rattle.std.proofs.Common.{◌≡◌, ℕ, ◌^◌, true, List, [], ℤ, Option, take, sym, ap, ◌∙◌, subst, arith}
+use Rattle.std.proofs.Common.{◌≡◌, ℕ, ◌^◌, true, List, [], ℤ, Option, None, take, sym, ap, ◌∙◌, subst, arith}
 use Rattle.class_table.specs.Outline.{Outline}
 use Rattle.conf_types.specs.Trees.{Tree}
 use Rattle.conf_eval.specs.Meaning.{value, truth_of, int_of}
@@ -9,8 +9,8 @@ use Rattle.ground_form.specs.Meaning.{value_of}
 use Rattle.form_build.specs.declared.form.Linear.{Linear}
 use Rattle.form_build.specs.Forms.{linear_at}
 use Rattle.form_build.specs.Sums.{IsLinear}
-use Rattle.form_build.specs.Worlds.{IsWorld, AreKnown, Defines}
-use Rattle.form_build.proofs.Growth.{world_before, adds_same}
+use Rattle.form_build.specs.Worlds.{IsWorld, AllHold, AreKnown, Defines}
+use Rattle.form_build.proofs.Growth.{world_before, all_before, adds_same}
 use Rattle.form_build.proofs.Linears.{linear_more}
 use Rattle.expr_forms.specs.declared.form.Form.{Form}
 use Rattle.expr_forms.specs.FormBounds.{IsGroundForm}
@@ -18,6 +18,7 @@ use Rattle.expr_forms.specs.FormValues.{number_part}
 use Rattle.ground_expr.proofs.Nodes.{number_stands}
 use Rattle.expr_forms.specs.Standing.{is_wanted}
 use Rattle.ground_expr.specs.Stated.{Says}
+use Rattle.ground_model.specs.Known.{AreFixed}
 use Rattle.ground_model.specs.Requiring.{Requires}
 
 no_known : (a : List ℤ) → AreKnown [] a
@@ -39,3 +40,11 @@ pub tree_number : (o : Outline) (t : Tree) (this : Option ℕ) (f : Form) (mid n
 tree_number o t this f mid new n x made e d value_is a w =
     value_is a w ∙ ap (λ (z : Linear). linear_at z a) e ∙ sym (number_stands o mid [] this [] t f a made (world_before mid new a d.grows w) (no_known a))
     ∙ ap (λ (k : ℕ). int_of (value t (setting o (take k a) this))) (sym d.grows.search)
+
+-- the same where cells are known, wherever all constraints hold
+pub known_number : (o : Outline) (known : List (ℕ × ℤ)) (t : Tree) (f : Form) (old mid : Ground) (n : Linear) (x : ℕ) → IsGroundForm o mid known t None [] f → n ≡ number_part f → Defines old mid → AreFixed known old →
+    ((a : List ℤ) → IsWorld old a → value_of a x ≡ int_of (value t (setting o (take old.search a) None))) → (a : List ℤ) → IsWorld mid a → AllHold mid a → value_of a x ≡ linear_at n a
+known_number o known t f old mid n x made e d fixed value_is a w all =
+    let before = world_before old mid a d.grows w in
+    value_is a before ∙ ap (λ (k : ℕ). int_of (value t (setting o (take k a) None))) (sym d.grows.search)
+    ∙ number_stands o mid known None [] t f a made w (fixed a before (all_before old mid a d.grows all)) ∙ ap (λ (z : Linear). linear_at z a) (sym e)

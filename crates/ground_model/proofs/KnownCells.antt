@@ -28,10 +28,10 @@ use Rattle.form_build.specs.Forms.{truth_at}
 use Rattle.ground_expr.specs.Asked.{holds_of}
 use Rattle.ground_model.specs.Fixing.{holds_in}
 use Rattle.form_build.specs.Worlds.{AllHold, AreKnown, AreSome, Grows, IsWorld, IsInBoxes, Adds}
-use Rattle.form_build.proofs.Growth.{box_kept, world_before, adds_known}
+use Rattle.form_build.proofs.Growth.{box_kept, world_before, all_before, adds_known}
 use Rattle.expr_forms.specs.Standing.{HasCells}
 use Rattle.expr_forms.proofs.Configured.{front_value, cell_box, cells_still, cells_exist, world_configuration}
-use Rattle.ground_model.specs.Known.{IsKnownCell, HasKnown, IsSingle, IsValueOfCell, have_values}
+use Rattle.ground_model.specs.Known.{IsKnownCell, HasKnown, AreFixed, IsSingle, IsValueOfCell, have_values}
 use Rattle.ground_model.specs.Requiring.{Requires}
 use Rattle.ground_model.proofs.Steps.{requires_more, requires_from, requires_none, requires_next, both_passes}
 
@@ -44,6 +44,9 @@ known_still o known old new g h = record {
     lies = subst (λ (z : Ranges). has z k.1 ≡ true) (sym (box_kept old new k.0 g (cells_exist o old k.0 h.cells is.searched))) is.lies;
   }) known h.are_known;
 }
+
+pub fixed_still : (known : List (ℕ × ℤ)) (old new : Ground) → Grows old new → AreFixed known old → AreFixed known new
+fixed_still known old new g h a w all = h a (world_before old new a g w) (all_before old new a g all)
 
 -- ---- the root boxes of a problem that stands for a test
 
@@ -145,6 +148,11 @@ requires_by_values o known old mid new test cells low follow first second =
     let point : IsPoint (cell_boxes o) t = (cells_agree o t).1 (world_configuration o new a (cells_still o old new both.grows cells) w) in
     ap (λ (z : List ℤ). says z && test z) (sym at) ∙ only_test (says t) (test t) (λ passes. have_from t known (follow t point passes)))
     both
+
+-- the values that were stated stay fixed
+pub values_fixed : (known : List (ℕ × ℤ)) (old mid new : Ground) → All (λ k. k.0 < old.search) known → Requires [] old mid (λ values. have_values values known) → Grows mid new → AreFixed known new
+values_fixed known old mid new low first g a w all =
+    known_behind old.search a known low (known_from (take old.search a) known ((first.holds a (world_before mid new a g w) (no_known a)).0 (all_before mid new a g all)).1)
 
 -- ---- from the values to what is asked of them
 

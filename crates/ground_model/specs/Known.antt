@@ -8,6 +8,7 @@ use Rattle.signed_clause.specs.Ranges.{has}
 use Rattle.signed_clause.specs.Clauses.{Boxes, box_of}
 use Rattle.ground_form.specs.declared.ground.Ground.{Ground}
 use Rattle.ground_form.specs.Meaning.{value_of}
+use Rattle.form_build.specs.Worlds.{IsWorld, AllHold, AreKnown}
 use Rattle.ground_cells.specs.CellBoxes.{cell_boxes}
 use Rattle.expr_forms.specs.Standing.{HasCells}
 
@@ -19,6 +20,10 @@ pub record IsKnownCell (g : Ground) (k : ℕ × ℤ) : Type 0 where
 pub record HasKnown (o : Outline) (known : List (ℕ × ℤ)) (g : Ground) : Type 0 where
   pub cells : HasCells o g
   pub are_known : All (IsKnownCell g) known
+
+-- where all constraints hold the known cells have their values
+abbrev pub AreFixed : List (ℕ × ℤ) → Ground → Type 0
+AreFixed known g = (a : List ℤ) → IsWorld g a → AllHold g a → AreKnown known a
 
 -- the box of one of the first n variables has this value alone
 pub record IsSingle (boxes : Boxes) (n : ℕ) (k : ℕ × ℤ) : Type 0 where

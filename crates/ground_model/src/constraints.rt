@@ -1,11 +1,11 @@
 //! The constraints of a model, each required for each object for which it is stated.
-ghost use Rattle.std.specs.Prelude.{◌≡◌, ◌<◌, ℕ, [], true, false, Some, length, slice_index_or, OnOk};
+ghost use Rattle.std.specs.Prelude.{◌≡◌, ◌<◌, ℕ, [], true, false, Some, length, slice_index_or, IfOk, OnOk};
 ghost use Rattle.std.specs.List.{All, list_all};
 ghost use Rattle.object_alloc.specs.Cells.{extent};
 ghost use Rattle.expr_forms.specs.Standing.{HasCells};
 ghost use Rattle.ground_expr.specs.Asked.{holds_for, holds_of};
 ghost use Rattle.ground_model.specs.Fixing.{holds_in};
-ghost use Rattle.ground_model.specs.Known.{HasKnown};
+ghost use Rattle.ground_model.specs.Known.{HasKnown, AreFixed};
 ghost use Rattle.ground_model.specs.Requiring.{Requires};
 ghost use Rattle.ground_model.specs.Stated.{IsReady, IsReadyConstraint};
 
@@ -213,21 +213,23 @@ fn require_both_passes(
 }
 
 /// States that all of these constraints hold. Cells whose values follow from those that may give
-/// cells their values are taken as known.
+/// cells their values are taken as known, and answered.
 pub(crate) fn require_constraints(
     maker: &mut Maker,
     objects: &Objects<'_>,
     list: &[Constraint],
     origins: &mut Origins,
-) -> Result<(), AllocError>
+) -> Result<Vec<(u32, i64)>, AllocError>
     requires ready { All (IsReadyConstraint objects.now) list.now }
     requires cells { HasCells objects.now maker.old }
-    ensures says { OnOk result (Requires [] maker.old maker.new
+    ensures says { IfOk result (λ known. Requires [] maker.old maker.new
         (λ values. list_all (holds_of objects.now values) list.now)) }
+    ensures known { IfOk result (λ known. HasKnown objects.now known.items maker.new) }
+    ensures fixed { IfOk result (λ known. AreFixed known.items maker.new) }
 {
     let _some = maker.domains();
     let known = known_cells(maker.alloc(), objects, list, origins)?;
     require_values(maker, known.as_slice())?;
     require_both_passes(maker, objects, known.as_slice(), list, origins)?;
-    Ok(())
+    Ok(known)
 }

@@ -14,6 +14,7 @@ ghost use Rattle.form_build.specs.Worlds.{Defines};
 ghost use Rattle.ground_cells.specs.CellBoxes.{cell_boxes};
 ghost use Rattle.expr_forms.specs.Standing.{HasCells};
 ghost use Rattle.ground_expr.specs.Asked.{satisfied_by, functions};
+ghost use Rattle.ground_model.specs.Known.{HasKnown, AreFixed};
 ghost use Rattle.ground_model.specs.Requiring.{Requires};
 ghost use Rattle.ground_model.specs.Allowance.{HasAtMost, allowance};
 ghost use Rattle.ground_model.specs.Stated.{IsReadyModel};
@@ -30,6 +31,8 @@ use ground_cells::cell_boxes;
 use ground_form::Ground;
 use object_alloc::Objects;
 use signed_clause::IntSet;
+use stated_cases::tabulate_stated;
+use stated_pairs::differ_stated;
 use stated_rows::pack_stated;
 use std::alloc::{AllocError, Global};
 
@@ -61,29 +64,35 @@ fn idle_problem(alloc: Global, builder: Builder, model: &TypedModel) -> Result<G
     Ok(g)
 }
 
-/// States what a model asks of its configurations: the sizes of sets, and the constraints.
+/// States what a model asks of its configurations: the sizes of sets, and the constraints. Answers
+/// the cells that are known.
 fn require_model(
     maker: &mut Maker,
     model: &TypedModel,
     objects: &Objects<'_>,
     origins: &mut Origins,
-) -> Result<(), AllocError>
+) -> Result<Vec<(u32, i64)>, AllocError>
     requires ready { IsReadyModel objects.now model.now.constraints model.now.goals }
     requires cells { HasCells objects.now maker.old }
-    ensures says { OnOk result (Requires [] maker.old maker.new
+    ensures says { IfOk result (λ known. Requires [] maker.old maker.new
         (satisfied_by objects.now model.now.constraints)) }
+    ensures known { IfOk result (λ known. HasKnown objects.now known.items maker.new) }
+    ensures fixed { IfOk result (λ known. AreFixed known.items maker.new) }
 {
     require_full_sets(maker, objects)?;
-    require_constraints(maker, objects, model.constraints(), origins)?;
-    Ok(())
+    let known = require_constraints(maker, objects, model.constraints(), origins)?;
+    Ok(known)
 }
 
-/// Adds the packings that follow from what is stated, where they are wanted.
+/// Adds the packings, the bounds of tables and the differences that follow from what is stated,
+/// where they are wanted.
 fn add_packings(maker: &mut Maker, wanted: bool) -> Result<(), AllocError>
     ensures { OnOk result (Defines maker.old maker.new) }
 {
     if wanted {
         pack_stated(maker)?;
+        tabulate_stated(maker)?;
+        differ_stated(maker)?;
     }
     Ok(())
 }
@@ -104,9 +113,9 @@ fn whole_problem(
         (functions objects.now model.now.goals)) }
 {
     let mut maker = maker;
-    require_model(&mut maker, model, objects, origins)?;
+    let known = require_model(&mut maker, model, objects, origins)?;
     add_packings(&mut maker, packings)?;
-    let goals = goals_of(&mut maker, objects, model.goals())?;
+    let goals = goals_of(&mut maker, objects, known.as_slice(), model.goals())?;
     let g = maker.into_builder().finish(goals);
     Ok(g)
 }

@@ -8,10 +8,10 @@ ghost use Rattle.stated_rows.specs.Following.{FollowsIn};
 use crate::finding::rows_stated;
 use crate::groups::{Group, Planned, groups_of, packing_of};
 use form_build::Maker;
-use goal_rows::definition_indexes;
 use ground_form::{Con, Number};
 use packed_rows::{Row, pack_rows};
 use signed_clause::IntSet;
+use stated_facts::definition_indexes;
 use std::alloc::AllocError;
 
 // ---- rows that follow from others

@@ -10,8 +10,8 @@ ghost use Rattle.stated_rows.specs.declared.shares.Share.TheVariants.{Load, Leas
 ghost use Rattle.stated_rows.specs.Following.{IsShareOf};
 
 use form_build::Maker;
-use goal_rows::{definition, question};
 use ground_form::{Con, Number, ends_of};
+use stated_facts::{definition, question};
 
 /// What a term adds to a bin at least.
 #[derive(Clone, Copy)]

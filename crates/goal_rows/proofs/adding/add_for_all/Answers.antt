@@ -1,12 +1,10 @@
-use Rattle.std.proofs.Common.{[], ◌^◌}
+use Rattle.std.proofs.Common.{[]}
 use Rattle.form_build.proofs.Growth.{adds_nothing, defines_more}
-use Rattle.form_build.proofs.Keeping.{linear_kept}
-use Rattle.goal_rows.proofs.RowLaws.{nought_kept}
+use Rattle.stated_facts.proofs.NoughtLaws.{nought_kept}
 use Rattle.goal_rows.proofs.adding.add_for_all.Goals as goal
 
 pub loop-k-init : goal.loop-k-init
 loop-k-init c = record {
-  zero = c.requires.zero;
   nought = c.requires.nought;
   adds = adds_nothing [] c.args.maker.now;
 }
@@ -18,7 +16,6 @@ loop-k-preserved c =
     let old = c.loop-k.maker in
     let new = c.add_for.new.maker in
     record {
-      zero = linear_kept (2 ^ 20) old new c.args.zero.now more.grows there.zero;
       nought = nought_kept old new c.args.zero.now more.grows there.nought;
       adds = defines_more c.args.maker.now old new there.adds more;
     }

@@ -1,13 +1,11 @@
-use Rattle.std.proofs.Common.{[], ◌^◌}
+use Rattle.std.proofs.Common.{[]}
 use Rattle.form_build.proofs.Growth.{adds_nothing, defines_more}
-use Rattle.form_build.proofs.Keeping.{linear_kept}
 use Rattle.goal_rows.proofs.PackingLaws.{packing_kept}
-use Rattle.goal_rows.proofs.RowLaws.{nought_kept}
+use Rattle.stated_facts.proofs.NoughtLaws.{nought_kept}
 use Rattle.goal_rows.proofs.adding.add_for_sets.Goals as goal
 
 pub loop-one-init : goal.loop-one-init
 loop-one-init c = record {
-  zero = c.requires.zero;
   nought = c.requires.nought;
   packing = c.requires.packing;
   adds = adds_nothing [] c.args.maker.now;
@@ -20,7 +18,6 @@ loop-one-preserved c =
     let old = c.loop-one.maker in
     let new = c.add_for_set.new.maker in
     record {
-      zero = linear_kept (2 ^ 20) old new c.args.zero.now more.grows there.zero;
       nought = nought_kept old new c.args.zero.now more.grows there.nought;
       packing = packing_kept old new c.args.p.now more.grows there.packing;
       adds = defines_more c.args.maker.now old new there.adds more;

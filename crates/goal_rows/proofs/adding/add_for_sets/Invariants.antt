@@ -1,13 +1,10 @@
-use Rattle.std.proofs.Common.{◌^◌}
 use Rattle.form_build.specs.Worlds.{Defines}
-use Rattle.form_build.specs.Sums.{IsLinear}
 use Rattle.goal_rows.specs.Packings.{IsPacking}
-use Rattle.goal_rows.specs.Rows.{IsNought}
+use Rattle.stated_facts.specs.Rows.{IsNought}
 use Rattle.goal_rows.proofs.adding.add_for_sets.Given as goal
 
 abbrev pub invariant-loop-one : goal.invariant-loop-one
 invariant-loop-one l = record {
-  zero : IsLinear (2 ^ 20) l.maker.domains l.zero;
   nought : IsNought l.maker l.zero;
   packing : IsPacking l.maker l.p;
   adds : Defines l.fn.maker l.maker;

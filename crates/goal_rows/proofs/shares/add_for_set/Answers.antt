@@ -1,12 +1,7 @@
-use Rattle.std.proofs.Common.{◌^◌}
 use Rattle.form_build.proofs.Growth.{defines_more}
-use Rattle.form_build.proofs.Keeping.{linear_kept}
 use Rattle.goal_rows.proofs.PackingLaws.{packing_kept}
-use Rattle.goal_rows.proofs.RowLaws.{nought_kept}
+use Rattle.stated_facts.proofs.NoughtLaws.{nought_kept}
 use Rattle.goal_rows.proofs.shares.add_for_set.Goals as goal
-
-pub state_both-requires-clause-zero : goal.state_both-requires-clause-zero
-state_both-requires-clause-zero c = linear_kept (2 ^ 20) c.args.maker.now c.sizes_inside.new.maker c.args.zero.now c.in_ok-f.ensures.adds.grows c.requires.zero
 
 pub state_both-requires-clause-nought : goal.state_both-requires-clause-nought
 state_both-requires-clause-nought c = nought_kept c.args.maker.now c.sizes_inside.new.maker c.args.zero.now c.in_ok-f.ensures.adds.grows c.requires.nought

@@ -2,11 +2,8 @@ use Rattle.std.proofs.Common.{◌^◌}
 use Rattle.form_build.proofs.Growth.{world_before, defines_more}
 use Rattle.form_build.proofs.Keeping.{linear_kept}
 use Rattle.goal_rows.proofs.PackingLaws.{packing_kept}
-use Rattle.goal_rows.proofs.RowLaws.{nought_kept}
+use Rattle.stated_facts.proofs.NoughtLaws.{nought_kept}
 use Rattle.goal_rows.proofs.shares.state_both.Goals as goal
-
-pub state_outside-requires-clause-zero : goal.state_outside-requires-clause-zero
-state_outside-requires-clause-zero c = linear_kept (2 ^ 20) c.args.maker.now c.state_inside.new.maker c.args.zero.now c.in_ok-state_inside.ensures.grows c.requires.zero
 
 pub state_outside-requires-clause-nought : goal.state_outside-requires-clause-nought
 state_outside-requires-clause-nought c = nought_kept c.args.maker.now c.state_inside.new.maker c.args.zero.now c.in_ok-state_inside.ensures.grows c.requires.nought

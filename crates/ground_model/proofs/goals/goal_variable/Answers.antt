@@ -1,40 +1,28 @@
-use Rattle.std.proofs.Common.{◌^◌, [], None, ◌∙◌, ap, take, arith}
-use Rattle.std.proofs.lemmas.List.Elements.{All-nil}
-use Rattle.conf_types.specs.Resolved.{ResolvedGoal}
-use Rattle.conf_types.specs.Trees.{tree_of}
+use Rattle.std.proofs.Common.{◌∙◌, ℕ, sym, ap, take, arith}
 use Rattle.conf_eval.specs.Satisfying.{objective}
 use Rattle.form_build.proofs.Growth.{defines_more, no_less, world_before}
-use Rattle.form_build.proofs.Keeping.{linear_kept}
-use Rattle.ground_model.specs.Known.{IsKnownCell}
-use Rattle.ground_model.proofs.FormSteps.{tree_number, number_linear}
+use Rattle.ground_model.proofs.KnownCells.{known_still, fixed_still}
 use Rattle.ground_model.proofs.goals.goal_variable.Goals as goal
 
-pub form_of-requires-clause-known : goal.form_of-requires-clause-known
-form_of-requires-clause-known c = record { cells = c.requires.cells; are_known = All-nil (IsKnownCell c.args.maker.now) }
+pub objective_variable-requires-clause-cells : goal.objective_variable-requires-clause-cells
+objective_variable-requires-clause-cells c = c.requires.known.cells
 
-pub settled_in_blocks-requires : goal.settled_in_blocks-requires
-settled_in_blocks-requires c = record {
-  linear = number_linear c.args.objects.now [] (tree_of c.goal.inside.expr) None c.in_ok-f.f c.args.maker.now c.form_of.new.maker c.form_of.new.maker c.in_ok-f.ensures.form c.number_of-number.result c.number_of-number.ensures.number;
-}
+pub add_rows-requires-clause-known : goal.add_rows-requires-clause-known
+add_rows-requires-clause-known c = known_still c.args.objects.now c.args.known.now c.args.maker.now c.objective_variable.new.maker c.in_ok-x.ensures.adds.grows c.requires.known
 
-pub add_goal_sums-requires-clause-number : goal.add_goal_sums-requires-clause-number
-add_goal_sums-requires-clause-number c =
-    linear_kept (2 ^ 60) c.form_of.new.maker c.settled_in_blocks.new.b c.number_of-number.result c.in_ok-x.ensures.adds.grows
-    (number_linear c.args.objects.now [] (tree_of c.goal.inside.expr) None c.in_ok-f.f c.args.maker.now c.form_of.new.maker c.form_of.new.maker c.in_ok-f.ensures.form c.number_of-number.result c.number_of-number.ensures.number)
+pub add_rows-requires-clause-fixed : goal.add_rows-requires-clause-fixed
+add_rows-requires-clause-fixed c = fixed_still c.args.known.now c.args.maker.now c.objective_variable.new.maker c.in_ok-x.ensures.adds.grows c.requires.fixed
 
-pub returns-clause-exists : goal.returns-clause-exists
-returns-clause-exists c =
-    let less = no_less c.settled_in_blocks.new.b c.add_goal_sums.new.maker c.in_ok-add_goal_sums.ensures.adds.grows in
+pub returns-in_ok-add_rows-clause-exists : goal.returns-in_ok-add_rows-clause-exists
+returns-in_ok-add_rows-clause-exists c =
+    let less = no_less c.objective_variable.new.maker c.add_rows.new.maker c.in_ok-add_rows.ensures.adds.grows in
     omega (arith, less, c.in_ok-x.ensures.exists)
 
-pub returns-clause-value : goal.returns-clause-value
-returns-clause-value c a w =
-    tree_number c.args.objects.now (tree_of c.goal.inside.expr) None c.in_ok-f.f c.form_of.new.maker c.add_goal_sums.new.maker c.number_of-number.result c.in_ok-x.x c.in_ok-f.ensures.form c.number_of-number.ensures.number
-    (defines_more c.form_of.new.maker c.settled_in_blocks.new.b c.add_goal_sums.new.maker c.in_ok-x.ensures.adds c.in_ok-add_goal_sums.ensures.adds)
-    (λ b v. c.in_ok-x.ensures.value b (world_before c.settled_in_blocks.new.b c.add_goal_sums.new.maker b c.in_ok-add_goal_sums.ensures.adds.grows v)) a w
-    ∙ ap (λ (g : ResolvedGoal). objective c.args.objects.now (take c.add_goal_sums.new.maker.search a) g) c.goal.view_is
+pub returns-in_ok-add_rows-clause-value : goal.returns-in_ok-add_rows-clause-value
+returns-in_ok-add_rows-clause-value c a w =
+    let grows = c.in_ok-add_rows.ensures.adds.grows in
+    c.in_ok-x.ensures.value a (world_before c.objective_variable.new.maker c.add_rows.new.maker a grows w) ∙ ap (λ (k : ℕ). objective c.args.objects.now (take k a) c.args.goal.now) (sym grows.search)
 
-pub returns-clause-adds : goal.returns-clause-adds
-returns-clause-adds c =
-    defines_more c.args.maker.now c.form_of.new.maker c.add_goal_sums.new.maker c.in_ok-f.ensures.adds
-    (defines_more c.form_of.new.maker c.settled_in_blocks.new.b c.add_goal_sums.new.maker c.in_ok-x.ensures.adds c.in_ok-add_goal_sums.ensures.adds)
+pub returns-in_ok-add_rows-clause-adds : goal.returns-in_ok-add_rows-clause-adds
+returns-in_ok-add_rows-clause-adds c =
+    defines_more c.args.maker.now c.objective_variable.new.maker c.add_rows.new.maker c.in_ok-x.ensures.adds c.in_ok-add_rows.ensures.adds

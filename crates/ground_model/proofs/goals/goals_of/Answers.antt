@@ -5,8 +5,8 @@ use Rattle.ground_expr.specs.Asked.{functions}
 use Rattle.form_build.proofs.Growth.{adds_nothing}
 use Rattle.ground_form.specs.declared.ground.GroundGoal.{GroundGoal}
 use Rattle.conf_eval.proofs.CallLaws.{nth_of_all}
-use Rattle.expr_forms.proofs.Configured.{cells_still}
 use Rattle.ground_model.specs.Stated.{IsReadyGoal}
+use Rattle.ground_model.proofs.KnownCells.{known_still, fixed_still}
 use Rattle.ground_model.proofs.GoalSteps.{AreGoalsUpTo, no_goals, goals_next, goals_all, goals_count}
 use Rattle.ground_model.proofs.goals.goals_of.Goals as goal
 
@@ -17,8 +17,11 @@ loop-goal-init c =
 pub goal_variable-requires-clause-ready : goal.goal_variable-requires-clause-ready
 goal_variable-requires-clause-ready c = nth_of_all (IsReadyGoal c.args.objects.now) c.args.list.now c.loop-goal.goal-index c.goal-item.result c.loop-goal-test.true c.goal-item.is c.requires.ready
 
-pub goal_variable-requires-clause-cells : goal.goal_variable-requires-clause-cells
-goal_variable-requires-clause-cells c = cells_still c.args.objects.now c.args.maker.now c.loop-goal.maker c.loop-goal.invariant.adds.grows c.requires.cells
+pub goal_variable-requires-clause-known : goal.goal_variable-requires-clause-known
+goal_variable-requires-clause-known c = known_still c.args.objects.now c.args.known.now c.args.maker.now c.loop-goal.maker c.loop-goal.invariant.adds.grows c.requires.known
+
+pub goal_variable-requires-clause-fixed : goal.goal_variable-requires-clause-fixed
+goal_variable-requires-clause-fixed c = fixed_still c.args.known.now c.args.maker.now c.loop-goal.maker c.loop-goal.invariant.adds.grows c.requires.fixed
 
 pub loop-goal-preserved : goal.loop-goal-preserved
 loop-goal-preserved c =

@@ -14,10 +14,8 @@ require_constraints-requires-clause-ready c = subst (λ (z : List ResolvedConstr
 pub require_constraints-requires-clause-cells : goal.require_constraints-requires-clause-cells
 require_constraints-requires-clause-cells c = cells_still c.args.objects.now c.args.maker.now c.require_full_sets.new.maker c.in_ok-require_full_sets.ensures.says.grows c.requires.cells
 
-pub returns : goal.returns
-returns c =
+pub returns-clause-says : goal.returns-clause-says
+returns-clause-says c =
     let o = c.args.objects.now in
-    record {
-      says = requires_more [] c.args.maker.now c.require_full_sets.new.maker c.require_constraints.new.maker (λ values. are_full o values) (λ values. list_all (holds_of o values) c.args.model.now.constraints) c.in_ok-require_full_sets.ensures.says
-          (subst (λ (z : List ResolvedConstraint). Requires [] c.require_full_sets.new.maker c.require_constraints.new.maker (λ values. list_all (holds_of o values) z)) c.constraints.ensures.constraints c.in_ok-require_constraints.ensures.says);
-    }
+    requires_more [] c.args.maker.now c.require_full_sets.new.maker c.require_constraints.new.maker (λ values. are_full o values) (λ values. list_all (holds_of o values) c.args.model.now.constraints) c.in_ok-require_full_sets.ensures.says
+    (subst (λ (z : List ResolvedConstraint). Requires [] c.require_full_sets.new.maker c.require_constraints.new.maker (λ values. list_all (holds_of o values) z)) c.constraints.ensures.constraints c.in_ok-known.ensures.says)

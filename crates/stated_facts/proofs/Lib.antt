@@ -1,0 +1,3 @@
+pub mod ClaimLaws
+pub mod EqualLaws
+pub mod NoughtLaws
