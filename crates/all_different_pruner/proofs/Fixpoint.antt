@@ -84,6 +84,16 @@ count_below a b x (y ∷ ys) boxes h k =
       | inr e ↦ let more = count_below a b x ys boxes e k in grind arith
     ]
 
+-- where the box of one of them lies within, one does
+pub lies_once : (a b : ℤ) (x : ℕ) (xs : List ℕ) (boxes : Boxes) → has_number x xs ≡ true → lies_in a b (box_of boxes x) ≡ true → 1 ≤ count_in a b xs boxes
+lies_once a b x [] boxes h k = absurd (grind arith)
+lies_once a b x (y ∷ ys) boxes h k =
+    elim (or_cases (y == x) (has_number x ys) h) [
+      | inl e ↦ let same : y ≡ x = grind (arith, nat_tests) in
+          let here : lies_in a b (box_of boxes y) ≡ true = subst (λ (z : ℕ). lies_in a b (box_of boxes z) ≡ true) (sym same) k in rw here (omega arith)
+      | inr e ↦ let more = lies_once a b x ys boxes e k in grind arith
+    ]
+
 -- where each box of the first boxes that lies within is one of the second
 pub count_more : (a b : ℤ) (xs : List ℕ) (one two : Boxes) → ((x : ℕ) → lies_in a b (box_of one x) ≡ true → lies_in a b (box_of two x) ≡ true) → count_in a b xs one ≤ count_in a b xs two
 count_more a b [] one two h = omega arith

@@ -15,6 +15,7 @@ ghost use Rattle.all_different_pruner.specs.Sweeps.{ReachesEnd, IsFixpointBehind
 
 use crate::counters::{count_ends, count_starts, with_slot};
 use crate::interval::{Finding, intruder, is_narrow};
+use crate::single_values::find_single;
 use box_view::ends_in_order;
 use ground_form::Number;
 use signed_clause::IntSet;
@@ -232,9 +233,8 @@ fn look_at(
     }
 }
 
-/// What is found of the variables: nothing where they are at a fixpoint. It takes no memory where
-/// no box is narrow.
-pub fn find(
+/// What is found from where narrow boxes begin. It takes no memory where no box is narrow.
+fn sweep(
     alloc: Global,
     counters: &mut Counters,
     vars: &[u32],
@@ -252,4 +252,23 @@ pub fn find(
         }
     }
     Ok(None)
+}
+
+/// What is found of the variables: nothing where they are at a fixpoint.
+pub fn find(
+    alloc: Global,
+    counters: &mut Counters,
+    vars: &[u32],
+    boxes: &[IntSet],
+) -> Result<Option<Finding>, AllocError>
+    requires named { All (λ x. x < length boxes.now) vars.now }
+    requires sets { All (λ s. IsValid s) boxes.now }
+    ensures some { IfOk result (λ r. IfSome r (λ f. IsFinding f vars.now boxes.now)) }
+    ensures none { IfOk result (λ r. IfNone r (AreAtFixpoint vars.now vars.now boxes.now)) }
+{
+    let single = find_single(alloc, vars, boxes);
+    if single.is_some() {
+        return Ok(single);
+    }
+    sweep(alloc, counters, vars, boxes)
 }

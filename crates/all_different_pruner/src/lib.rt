@@ -13,6 +13,7 @@
 //!
 //! - `prune`: `AllDifferent`, what it answers, and what it keeps between calls.
 //! - `hall_intervals`: finds crowded and full intervals with the counters of `counters`.
+//! - `single_values`: values that a variable has alone, which is looked for first.
 //! - `explain`: says why, by the boxes within them. `interval`: answers small questions.
 #![tactic(auto)]
 
@@ -21,5 +22,6 @@ mod explain;
 mod hall_intervals;
 mod interval;
 mod prune;
+mod single_values;
 
 pub use prune::AllDifferent;

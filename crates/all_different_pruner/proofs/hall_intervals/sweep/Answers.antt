@@ -1,6 +1,6 @@
 use Rattle.std.proofs.Common.{get_or, refl, sym, ◌∙◌}
 use Rattle.all_different_pruner.proofs.Behind.{fixpoint_step, none_holds}
-use Rattle.all_different_pruner.proofs.hall_intervals.find.Goals as goal
+use Rattle.all_different_pruner.proofs.hall_intervals.sweep.Goals as goal
 
 pub loop-x-preserved : goal.loop-x-preserved
 loop-x-preserved c rest =
