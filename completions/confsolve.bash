@@ -85,7 +85,7 @@ _confsolve() {
 _confsolve_view() {
     local _confsolve_current _confsolve_option _confsolve_plain _confsolve_named
     COMPREPLY=()
-    _confsolve_read --failed
+    _confsolve_read --failed --only --weights
     [ -z "$_confsolve_option" ] || return
     case ${_confsolve_plain[0]-}:${#_confsolve_plain[@]} in
         :0)
@@ -93,7 +93,8 @@ _confsolve_view() {
             [[ $_confsolve_current != -* ]] || _confsolve_words --help --version --prove
             ;;
         plan:1 | plan:2 | picture:1 | steps:1 | steps:2) _confsolve_files .json ;;
-        picture:*) [[ $_confsolve_current != -* ]] || _confsolve_words --svg --failed ;;
+        plan:*) [[ $_confsolve_current != -* ]] || _confsolve_words --only --weights --table ;;
+        picture:*) [[ $_confsolve_current != -* ]] || _confsolve_words --svg --table --failed ;;
         steps:*) [[ $_confsolve_current != -* ]] || _confsolve_words --failed ;;
     esac
 }

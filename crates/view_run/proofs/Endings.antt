@@ -1,14 +1,13 @@
 -- From the steps of a run to what its status says.
-use Rattle.std.proofs.Common.{arith, ◌≡◌, ◌≤◌, ◌+◌, ◌-◌, ◌^◌, min, ℕ, List, Bool, true, false, Option, Some, None, sym, ap, ◌∙◌, subst}
+use Rattle.std.proofs.Common.{arith, ◌≡◌, ◌≤◌, ℕ, List, Bool, true, false, Option, Some, sym, subst}
 use Rattle.std.proofs.lemmas.Grind.{common_steps}
 use Rattle.std.specs.Prelude.{Result, Ok, Err, IfOk, IfErr}
 use Rattle.desk_io.specs.Desk.{Files, OfFile, with_printed}
 use Rattle.desk_io.specs.Fault.{HasRisen}
-use Rattle.desk_io.specs.Whole.{PrintsFront}
 use Rattle.serde_json.specs.Data.{Data}
 use Rattle.view_leaves.specs.Reading.{text_json}
 use Rattle.view_run.specs.Answers.{IsPlanText}
-use Rattle.view_run.specs.Ending.{Trace, IsAsked, IsAnswered, IsCutOff, PlanEnds, IsFaulty, IsDenied, IsDelivered, IsPictured, PictureEnds, IsUndrawn, IsHandedOut, IsLedOut, StepsEnds, IsUnordered, IsSentOut, two_files}
+use Rattle.view_run.specs.Ending.{Trace, IsAsked, IsAnswered, PlanEnds, IsFaulty, IsDenied, IsDelivered, PictureEnds, IsUndrawn, IsHandedOut, IsLedOut, StepsEnds, IsUnordered, IsSentOut, two_files}
 use Rattle.view_run.specs.Pictured.{IsPicture, IsBlank, IsDrawn}
 use Rattle.view_run.specs.Stepped.{IsStepped, IsUnstepped, IsOrdered, LacksSteps, HasSetAmong, has_known, has_failed}
 use Rattle.view_run.specs.Words.{PlanAsked, PictureAsked, StepsAsked}
@@ -20,7 +19,7 @@ use Rattle.view_run.specs.declared.status.Status.TheVariants.{Same, Differs, Sho
 -- both files were read, and the plan between them made
 pub is_asked : (files later : Option Files) (a : PlanAsked) (d e : Data) (text : List ℕ) (b : Bool)
     → later ≡ files → OfFile files a.former (λ bytes. text_json bytes ≡ Some d)
-    → OfFile later a.new (λ bytes. text_json bytes ≡ Some e) → IsPlanText d e text b
+    → OfFile later a.new (λ bytes. text_json bytes ≡ Some e) → IsPlanText d e a.options text b
     → IsAsked files a text b
 is_asked files later a d e text b same former new planned = record {
   before = d;

@@ -41,7 +41,7 @@ pub record IsAsked (files : Option Files) (asked : PlanAsked) (text : List ℕ) 
   pub behind : Data
   pub former : OfFile files asked.former (λ bytes. text_json bytes ≡ Some before)
   pub new : OfFile files asked.new (λ bytes. text_json bytes ≡ Some behind)
-  pub planned : IsPlanText before behind text differs
+  pub planned : IsPlanText before behind asked.options text differs
 
 -- that text was printed, and nothing else
 pub record IsAnswered (files : Option Files) (asked : PlanAsked) (differs : Bool) (t : Trace) : Type 0 where
@@ -223,7 +223,7 @@ pub record IsBrokenOff (files : Option Files) (asked : StepsAsked) (t : Trace) :
 
 -- the files that steps are asked of, as those of a plan
 abbrev pub two_files : StepsAsked → PlanAsked
-two_files asked = record { former = asked.former; new = asked.new }
+two_files asked = record { former = asked.former; new = asked.new; options = asked.options }
 
 -- why there are no steps
 abbrev pub IsUnordered : Option Files → StepsAsked → ℕ → ℕ → Ended → Type 0

@@ -1,6 +1,7 @@
--- The words behind the file and the attribute of a picture: sizes, as `cpu` or `cpu=room`, the word
--- `--svg`, and `--failed` with a path behind it.
-use Rattle.std.specs.Prelude.{ℕ, Bool, true, false, not, ◌==◌, if◌then◌else◌, nat_eq, nat_lt, List, [], ◌∷◌, codes, bytes_eq, length}
+-- The words behind the file and the attribute of a picture: sizes, as `cpu` or `cpu=room`, the words
+-- `--svg` and `--table`, and `--failed` with a path behind it; and those behind the files of a plan:
+-- `--table`, and `--only` and `--weights`, each with a name behind it.
+use Rattle.std.specs.Prelude.{ℕ, Bool, true, false, not, ◌&&◌, ◌||◌, ◌==◌, if◌then◌else◌, nat_eq, nat_lt, List, [], ◌∷◌, ◌++◌, codes, bytes_eq, length}
 use Rattle.std.specs.List.{starts_with, before_first, after_first, position_or_len}
 use Rattle.view_picture.specs.Picture.{PictureSize}
 
@@ -11,8 +12,15 @@ is_option word = starts_with nat_eq word (codes "-")
 abbrev pub is_svg : List ℕ → Bool
 is_svg word = bytes_eq word (codes "--svg")
 
+abbrev pub is_table : List ℕ → Bool
+is_table word = bytes_eq word (codes "--table")
+
 abbrev pub is_failed : List ℕ → Bool
 is_failed word = bytes_eq word (codes "--failed")
+
+-- a word that is no size, and none of the words that stand alone
+abbrev pub is_wrong : List ℕ → Bool
+is_wrong word = is_option word && not (is_svg word) && not (is_table word)
 
 -- whether words are options; the first is a path where one is waited for
 abbrev pub are_options : Bool → List (List ℕ) → Bool
@@ -20,8 +28,7 @@ are_options waits [] = not waits
 are_options true (w ∷ ws) = are_options false ws
 are_options false (w ∷ ws) =
     if is_failed w then are_options true ws
-    else if is_svg w then are_options false ws
-    else if is_option w then false else are_options false ws
+    else if is_wrong w then false else are_options false ws
 
 -- a name, or two with `=` between them
 abbrev pub is_equals : ℕ → Bool
@@ -46,8 +53,54 @@ failed_of waits [] = []
 failed_of true (w ∷ ws) = w ∷ failed_of false ws
 failed_of false (w ∷ ws) = failed_of (is_failed w) ws
 
+-- whether a table is asked for
+abbrev pub wants_table : Bool → List (List ℕ) → Bool
+wants_table waits [] = false
+wants_table true (w ∷ ws) = wants_table false ws
+wants_table false (w ∷ ws) = if is_table w then true else wants_table (is_failed w) ws
+
 -- whether SVG is asked for
 abbrev pub wants_svg : Bool → List (List ℕ) → Bool
 wants_svg waits [] = false
 wants_svg true (w ∷ ws) = wants_svg false ws
 wants_svg false (w ∷ ws) = if is_svg w then true else wants_svg (is_failed w) ws
+
+-- ---- plans
+
+-- a word that has a name behind it
+abbrev pub takes_name : List ℕ → Bool
+takes_name word = bytes_eq word (codes "--only") || bytes_eq word (codes "--weights")
+
+-- whether words are the options of a plan; the first is a name where one is waited for
+abbrev pub are_choices : Bool → List (List ℕ) → Bool
+are_choices waits [] = not waits
+are_choices true (w ∷ ws) = are_choices false ws
+are_choices false (w ∷ ws) =
+    if takes_name w then are_choices true ws
+    else if is_table w then are_choices false ws else false
+
+-- the names behind this word; whether one is waited for, and whether by it
+abbrev pub names_behind : List ℕ → Bool → Bool → List (List ℕ) → List (List ℕ)
+names_behind word waits wanted [] = []
+names_behind word true wanted (w ∷ ws) =
+    (if wanted then w ∷ [] else []) ++ names_behind word false false ws
+names_behind word false wanted (w ∷ ws) = names_behind word (takes_name w) (bytes_eq w word) ws
+
+abbrev pub only_of : List (List ℕ) → List (List ℕ)
+only_of words = names_behind (codes "--only") false false words
+
+abbrev pub weights_of : List (List ℕ) → List (List ℕ)
+weights_of words = names_behind (codes "--weights") false false words
+
+-- whether weights are asked for
+abbrev pub has_weights : Bool → List (List ℕ) → Bool
+has_weights waits [] = false
+has_weights true (w ∷ ws) = has_weights false ws
+has_weights false (w ∷ ws) =
+    if bytes_eq w (codes "--weights") then true else has_weights (takes_name w) ws
+
+-- whether a plan is asked for as a table
+abbrev pub lists_table : Bool → List (List ℕ) → Bool
+lists_table waits [] = false
+lists_table true (w ∷ ws) = lists_table false ws
+lists_table false (w ∷ ws) = if is_table w then true else lists_table (takes_name w) ws

@@ -1,5 +1,7 @@
 -- What is printed as the picture of a configuration, and why there is none.
 use Rattle.std.specs.Prelude.{ℕ, ◌≡◌, Bool, true, false, if◌then◌else◌, List, Option, Some, ⊤}
+use Rattle.std.specs.List.{flat_map}
+use Rattle.csv.specs.Writing.{default_writer, row_text}
 use Rattle.desk_io.specs.Desk.{Files, OfFile}
 use Rattle.serde_json.specs.Data.{Data}
 use Rattle.view_drawing.specs.Sheet.{sheet_text}
@@ -8,8 +10,9 @@ use Rattle.view_leaves.specs.Leaves.{leaves}
 use Rattle.view_leaves.specs.Reading.{text_json}
 use Rattle.view_picture.specs.Named.{has_attribute, are_parts}
 use Rattle.view_picture.specs.Picture.{PictureHolding, holdings}
-use Rattle.view_run.specs.Options.{sizes_of, failed_of, wants_svg}
+use Rattle.view_run.specs.Options.{sizes_of, failed_of, wants_svg, wants_table}
 use Rattle.view_run.specs.Words.{PictureAsked}
+use Rattle.view_tables.specs.Cells.{picture_rows}
 use Rattle.view_run.specs.declared.status.Status.{Status as Ended}
 use Rattle.view_run.specs.declared.status.Status.TheVariants.{Same, Differs, Shown, Stuck, Usage, Unreadable, TooLong, NotJson, NotObject, NoAttribute, NoPart, MovesSets, WriteFault, Memory}
 
@@ -21,6 +24,8 @@ abbrev pub picture_text : Data → PictureAsked → List ℕ
 picture_text d a =
     if wants_svg false a.options
     then svg_text (failed_of false a.options) (pictured d a)
+    else if wants_table false a.options
+    then flat_map (row_text default_writer) (picture_rows (failed_of false a.options) (sizes_of false a.options) (pictured d a))
     else sheet_text (failed_of false a.options) (pictured d a)
 
 -- whether some leaf is such an attribute, and what is said to have failed is there

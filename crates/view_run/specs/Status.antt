@@ -1,6 +1,5 @@
 -- The numbers and the lines of statuses.
 use Rattle.std.specs.Prelude.{ℕ, List, [], codes}
-use Rattle.view_run.specs.declared.status.Source.{Source}
 use Rattle.view_run.specs.declared.status.Source.TheVariants.{Former, New, Config}
 use Rattle.view_run.specs.declared.status.Status.{Status as Ended}
 use Rattle.view_run.specs.declared.status.Status.TheVariants.{Same, Differs, Shown, Stuck, Usage, Unreadable, TooLong, NotJson, NotObject, NoAttribute, NoPart, MovesSets, WriteFault, Memory}
@@ -27,7 +26,7 @@ line_of Differs = []
 line_of Shown = []
 line_of Stuck = codes "stuck"
 line_of Usage =
-    codes "usage: confsolve-view plan FORMER NEW, picture CONFIG .., or steps FORMER NEW .."
+    codes "usage: confsolve-view plan FORMER NEW .., picture CONFIG .., steps FORMER NEW .."
 line_of (Unreadable Former) = codes "former unreadable"
 line_of (Unreadable New) = codes "new unreadable"
 line_of (Unreadable Config) = codes "configuration unreadable"

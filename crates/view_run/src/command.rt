@@ -33,7 +33,7 @@ fn plan_asked<D: Desk>(
 {
     let former = source_json(alloc, desk, request.former, Source::Former)?;
     let new = source_json(alloc, desk, request.new, Source::New)?;
-    let plan = plan_between(alloc, &former, &new)?;
+    let plan = plan_between(alloc, &former, &new, request.options)?;
     Ok(plan)
 }
 

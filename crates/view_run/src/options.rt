@@ -1,7 +1,7 @@
-//! The options of a picture.
-ghost use Rattle.std.specs.Prelude.{◌≡◌, false, map, string_bytes, IfOk};
+//! The options of a picture, and those of a plan.
+ghost use Rattle.std.specs.Prelude.{◌≡◌, ◌++◌, ◌∷◌, [], if◌then◌else◌, false, map, string_bytes, IfOk, OnOk};
 ghost use Rattle.view_picture.specs.PictureViews.{size_seen};
-ghost use Rattle.view_run.specs.Options.{size_of, sizes_of, failed_of, wants_svg};
+ghost use Rattle.view_run.specs.Options.{size_of, sizes_of, failed_of, wants_svg, wants_table, takes_name, names_behind, only_of, weights_of, lists_table};
 
 use crate::request::is_option;
 use std::alloc::{AllocError, Global};
@@ -69,6 +69,99 @@ pub(crate) fn wants_svg(words: &[String]) -> bool
             return true;
         } else {
             waits = word.as_str() == "--failed";
+        }
+    }
+    false
+}
+
+/// Whether a table is asked for, among the options of a picture.
+pub(crate) fn wants_table(words: &[String]) -> bool
+    ensures { result ≡ wants_table false (map string_bytes words.now) }
+{
+    let mut waits = false;
+    for word in words {
+        if waits {
+            waits = false;
+        } else if word.as_str() == "--table" {
+            return true;
+        } else {
+            waits = word.as_str() == "--failed";
+        }
+    }
+    false
+}
+
+/// Whether a word has a name behind it, among the options of a plan.
+pub(crate) fn takes_name(word: &str) -> bool
+    ensures { result ≡ takes_name word.now }
+{
+    word == "--only" || word == "--weights"
+}
+
+/// Takes a name where it is wanted.
+fn take_name<'a>(names: &mut Vec<&'a str>, name: &'a str, wanted: bool) -> Result<(), AllocError>
+    ensures { OnOk result (map (λ w. w.now) names.new.items ≡ map (λ w. w.now) names.old.items
+        ++ (if wanted then name.now ∷ [] else [])) }
+{
+    if wanted {
+        names.push(name)?;
+    }
+    Ok(())
+}
+
+/// The names behind this option of a plan.
+fn names_behind<'a>(
+    alloc: Global,
+    words: &'a [String],
+    option: &str,
+) -> Result<Vec<&'a str>, AllocError>
+    ensures { IfOk result (λ names. map (λ w. w.now) names.items
+        ≡ names_behind option.now false false (map string_bytes words.now)) }
+{
+    let mut names = Vec::new(alloc);
+    let mut waits = false;
+    let mut wanted = false;
+    for word in words {
+        if waits {
+            take_name(&mut names, word.as_str(), wanted)?;
+            waits = false;
+            wanted = false;
+        } else {
+            waits = takes_name(word);
+            wanted = word.as_str() == option;
+        }
+    }
+    Ok(names)
+}
+
+/// The names whose leaves alone are asked for; none where all are.
+pub(crate) fn only_of(alloc: Global, words: &[String]) -> Result<Vec<&str>, AllocError>
+    ensures { IfOk result (λ names. map (λ w. w.now) names.items
+        ≡ only_of (map string_bytes words.now)) }
+{
+    names_behind(alloc, words, "--only")
+}
+
+/// The names by which weights are asked for.
+pub(crate) fn weights_of(alloc: Global, words: &[String]) -> Result<Vec<&str>, AllocError>
+    ensures { IfOk result (λ names. map (λ w. w.now) names.items
+        ≡ weights_of (map string_bytes words.now)) }
+{
+    names_behind(alloc, words, "--weights")
+}
+
+/// Whether a table is asked for, among the options of a plan.
+pub(crate) fn lists_table(words: &[String]) -> bool
+    ensures { result ≡ lists_table false (map string_bytes words.now) }
+{
+    let mut waits = false;
+    for word in words {
+        if waits {
+            waits = false;
+        } else if word.as_str() == "--table" {
+            return true;
+        } else {
+            waits = takes_name(word);
         }
     }
     false

@@ -4,7 +4,7 @@ ghost use Rattle.serde_json.specs.View.{view};
 ghost use Rattle.view_run.specs.Pictured.{IsPicture, IsBlank};
 ghost use Rattle.view_run.specs.Words.{picture_seen};
 
-use crate::options::{failed_of, sizes_of, wants_svg};
+use crate::options::{failed_of, sizes_of, wants_svg, wants_table};
 use crate::request::PictureRequest;
 use crate::status::Status;
 use serde_json::Value;
@@ -12,6 +12,7 @@ use std::alloc::Global;
 use view_drawing::{lines_of, svg_of};
 use view_leaves::leaves_of;
 use view_picture::{are_parts, has_attribute, holdings};
+use view_tables::picture_table;
 
 /// The picture of a configuration.
 pub(crate) fn picture_of(
@@ -35,6 +36,8 @@ pub(crate) fn picture_of(
     let held = holdings(alloc, whole, &leaves, request.attribute, &sizes)?;
     if wants_svg(request.options) {
         Ok(svg_of(alloc, &failed, &held)?)
+    } else if wants_table(request.options) {
+        Ok(picture_table(alloc, &failed, &sizes, &held)?)
     } else {
         Ok(lines_of(alloc, &failed, &held)?)
     }

@@ -1,17 +1,19 @@
 //! What the words ask for.
 ghost use Rattle.std.specs.Prelude.{◌≡◌, false, map, string_bytes, option_map};
-ghost use Rattle.view_run.specs.Options.{is_option, are_options};
-ghost use Rattle.view_run.specs.Words.{asked, plan_asked, picture_asked, are_sizes, steps_asked, request_seen};
+ghost use Rattle.view_run.specs.Options.{is_option, is_wrong, are_options, are_choices, has_weights};
+ghost use Rattle.view_run.specs.Words.{asked, plan_asked, is_choice, picture_asked, are_drawn, are_sizes, steps_asked, request_seen};
 
-use crate::options::wants_svg;
+use crate::options::{lists_table, takes_name, wants_svg, wants_table};
 
-/// The files that a plan is asked of.
+/// What a plan is asked of.
 #[derive(Clone, Copy)]
 pub struct PlanRequest<'a> {
     /// The file of the former configuration.
     pub former: &'a str,
     /// The file of the new one.
     pub new: &'a str,
+    /// The words behind: `--only`, `--weights` and `--table`.
+    pub options: &'a [String],
 }
 
 /// What a picture is asked of.
@@ -21,7 +23,7 @@ pub struct PictureRequest<'a> {
     pub config: &'a str,
     /// The attribute by which guests refer to holders.
     pub attribute: &'a str,
-    /// The words behind: sizes, `--svg` and `--failed`.
+    /// The words behind: sizes, `--svg`, `--table` and `--failed`.
     pub options: &'a [String],
 }
 
@@ -56,6 +58,13 @@ pub(crate) fn is_option(word: &str) -> bool
     word.as_bytes().starts_with(b"-")
 }
 
+/// Whether a word is no size, and none of the options of a picture that stand alone.
+fn is_wrong(word: &str) -> bool
+    ensures { result ≡ is_wrong word.now }
+{
+    is_option(word) && word != "--svg" && word != "--table"
+}
+
 /// Whether words are the options of a picture.
 fn are_options(words: &[String]) -> bool
     ensures { result ≡ are_options false (map string_bytes words.now) }
@@ -66,11 +75,52 @@ fn are_options(words: &[String]) -> bool
             waits = false;
         } else if word.as_str() == "--failed" {
             waits = true;
-        } else if word.as_str() != "--svg" && is_option(word) {
+        } else if is_wrong(word) {
             return false;
         }
     }
     !waits
+}
+
+/// Whether words are the options of a plan.
+fn are_choices(words: &[String]) -> bool
+    ensures { result ≡ are_choices false (map string_bytes words.now) }
+{
+    let mut waits = false;
+    for word in words {
+        if waits {
+            waits = false;
+        } else if takes_name(word) {
+            waits = true;
+        } else if word.as_str() != "--table" {
+            return false;
+        }
+    }
+    !waits
+}
+
+/// Whether some of the options of a plan asks for weights.
+fn has_weights(words: &[String]) -> bool
+    ensures { result ≡ has_weights false (map string_bytes words.now) }
+{
+    let mut waits = false;
+    for word in words {
+        if waits {
+            waits = false;
+        } else if word.as_str() == "--weights" {
+            return true;
+        } else {
+            waits = takes_name(word);
+        }
+    }
+    false
+}
+
+/// Whether words are the options of a plan, and ask for a table or for weights, not for both.
+fn is_choice(words: &[String]) -> bool
+    ensures { result ≡ is_choice (map string_bytes words.now) }
+{
+    are_choices(words) && !(lists_table(words) && has_weights(words))
 }
 
 /// What the words behind `plan` ask for.
@@ -78,17 +128,27 @@ fn plan_asked(words: &[String]) -> Option<Request<'_>>
     ensures { option_map request_seen result ≡ plan_asked (map string_bytes words.now) }
 {
     match words {
-        [former, new] => {
-            if !is_option(former) && !is_option(new) {
-                Some(Request::Plan(PlanRequest { former, new }))
+        [former, new, options @ ..] => {
+            if !is_option(former) && !is_option(new) && is_choice(options) {
+                Some(Request::Plan(PlanRequest {
+                    former,
+                    new,
+                    options,
+                }))
             } else {
                 None
             }
         }
         [] => None,
         [_] => None,
-        [_, _, _, ..] => None,
     }
+}
+
+/// Whether words are the options of a picture, of SVG or of a table, not of both.
+fn are_drawn(words: &[String]) -> bool
+    ensures { result ≡ are_drawn (map string_bytes words.now) }
+{
+    are_options(words) && !(wants_svg(words) && wants_table(words))
 }
 
 /// What the words behind `picture` ask for.
@@ -97,7 +157,7 @@ fn picture_asked(words: &[String]) -> Option<Request<'_>>
 {
     match words {
         [config, attribute, options @ ..] => {
-            if !is_option(config) && !is_option(attribute) && are_options(options) {
+            if !is_option(config) && !is_option(attribute) && are_drawn(options) {
                 Some(Request::Picture(PictureRequest {
                     config,
                     attribute,
@@ -116,7 +176,7 @@ fn picture_asked(words: &[String]) -> Option<Request<'_>>
 fn are_sizes(words: &[String]) -> bool
     ensures { result ≡ are_sizes (map string_bytes words.now) }
 {
-    are_options(words) && !wants_svg(words)
+    are_options(words) && !wants_svg(words) && !wants_table(words)
 }
 
 /// What the words behind `steps` ask for.

@@ -85,7 +85,7 @@ impl Status {
             Status::Same | Status::Differs | Status::Shown => "",
             Status::Stuck => "stuck",
             Status::Usage =>
-                "usage: confsolve-view plan FORMER NEW, picture CONFIG .., or steps FORMER NEW ..",
+                "usage: confsolve-view plan FORMER NEW .., picture CONFIG .., steps FORMER NEW ..",
             Status::Unreadable(Source::Former) => "former unreadable",
             Status::Unreadable(Source::New) => "new unreadable",
             Status::Unreadable(Source::Config) => "configuration unreadable",

@@ -1,9 +1,10 @@
 //! Tests of `confsolve-view`: the cases of its plans, pictures and steps. The program runs those of
-//! `data/plan.cases`, `data/picture.cases` and `data/steps.cases`, and prints how many came out as
-//! they say.
+//! `data/plan.cases`, `data/lists.cases`, `data/picture.cases` and `data/steps.cases`, and prints
+//! how many came out as they say.
 //!
 //! - `given TEXT` and `more TEXT`: the text of the former configuration.
 //! - `plan TEXT`: a plan to this text: what is printed, the status's number, and its line.
+//! - `lists WORDS TEXT`: a plan to this text, by these words.
 //! - `picture WORDS`: a picture of it, by these words.
 //! - `steps WORDS TEXT`: the steps from it to this text, by these words.
 //! - `words TEXT`: a run of these words where there are no files.
@@ -92,10 +93,15 @@ fn parted(text: &[u8]) -> (&[u8], &[u8]) {
     }
 }
 
-/// The steps from one text to another, by words before the second.
-fn stepped(alloc: Global, former: &[u8], text: &[u8]) -> Result<String, AllocError> {
+/// A plan or the steps from one text to another, by words before the second.
+fn compared(
+    alloc: Global,
+    command: &str,
+    former: &[u8],
+    text: &[u8],
+) -> Result<String, AllocError> {
     let (more, new) = parted(text);
-    let mut words = owned(alloc, &["steps", "former", "new"])?;
+    let mut words = owned(alloc, &[command, "former", "new"])?;
     for word in words_of(alloc, more)? {
         words.push(String::from_str(alloc, word)?)?;
     }
@@ -122,7 +128,8 @@ impl Subject for Runs {
         match case.ask {
             "plan" => planned(alloc, &case.given, &case.text, Vec::new(alloc), 0),
             "picture" => pictured(alloc, &case.given, &case.text),
-            "steps" => stepped(alloc, &case.given, &case.text),
+            "lists" => compared(alloc, "plan", &case.given, &case.text),
+            "steps" => compared(alloc, "steps", &case.given, &case.text),
             "words" => {
                 let words = owned(alloc, &words_of(alloc, &case.text)?)?;
                 let desk = MemoryDesk::new(alloc, Vec::new(alloc), Vec::new(alloc));
@@ -148,7 +155,7 @@ impl Subject for Runs {
 }
 
 fn main(rt: HostRuntime) -> ExitCode {
-    for file in ["plan.cases", "picture.cases", "steps.cases"] {
+    for file in ["plan.cases", "lists.cases", "picture.cases", "steps.cases"] {
         if run_file(&rt, file, &mut Runs).is_err() {
             return ExitCode::from(12);
         }

@@ -1,4 +1,4 @@
-use Rattle.std.proofs.Common.{◌≡◌, ◌++◌, false, drop, map, string_bytes}
+use Rattle.std.proofs.Common.{◌≡◌, false, drop, map, string_bytes}
 use Rattle.view_run.specs.Options.{wants_svg}
 use Rattle.view_run.proofs.options.wants_svg.Given as goal
 

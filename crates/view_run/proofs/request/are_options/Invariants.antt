@@ -1,4 +1,4 @@
-use Rattle.std.proofs.Common.{◌≡◌, ◌++◌, false, drop, map, string_bytes}
+use Rattle.std.proofs.Common.{◌≡◌, false, drop, map, string_bytes}
 use Rattle.view_run.specs.Options.{are_options}
 use Rattle.view_run.proofs.request.are_options.Given as goal
 

@@ -1,0 +1,4 @@
+pub mod Cells
+pub mod Chosen
+pub mod Rows
+pub mod Weights
