@@ -20,8 +20,11 @@ use Rattle.proof_log.specs.Rounds.{Journal}
 use Rattle.run_law.specs.Replay as replay
 use Rattle.run_law.specs.Replay.{Going, is_split, is_run}
 use Rattle.run_law.specs.Ordered.{IsDecidedBy, IsOrdered}
-use Rattle.run_law.specs.Decisions.{MayDecide}
+use Rattle.run_law.specs.Decisions.{decisions, MayDecide}
 use Rattle.bound_search.specs.declared.engine.Engine.{Engine}
+use Rattle.bound_search.specs.declared.solving.Ended.{Ended}
+use Rattle.bound_search.specs.declared.solving.Ended.TheVariants as ended
+use Rattle.bound_search.specs.Ends.{EndsOf}
 use Rattle.bound_search.specs.Standing.{IsDecision}
 use Rattle.bound_search.specs.Engines.{added_of, Shows, IsDue, IsKeptBy}
 use Rattle.bound_search.proofs.MoreLines.{boxes_at}
@@ -157,11 +160,21 @@ empty_made : (g : Ground) (x : ℕ) → has_empty (made g (Empty x ∷ [])).clau
 unfolding acceptance.after
 empty_made g x = refl
 
-pub empty_closes : (g : Ground) (old new : Journal) (x : ℕ) → old.lines ≡ [] →
-    new.lines ≡ old.lines ++ Empty x ∷ [] → has_empty (made g new.lines).clauses ≡ true
-empty_closes g old new x none l =
+pub empty_closes : (g : Ground) (old new : Journal) (x budget : ℕ) → old.lines ≡ [] →
+    new.lines ≡ old.lines ++ Empty x ∷ [] →
+    (has_empty (made g new.lines).clauses ≡ true) × (decisions new.lines ≤ budget)
+empty_closes g old new x budget none l =
     let is : new.lines ≡ Empty x ∷ [] = l ∙ ap (λ (ls : List Line). ls ++ Empty x ∷ []) none in
-    subst (λ (ls : List Line). has_empty (made g ls).clauses ≡ true) (sym is) (empty_made g x)
+    let few : decisions new.lines ≡ 0 = ap decisions is in (
+      subst (λ (ls : List Line). has_empty (made g ls).clauses ≡ true) (sym is) (empty_made g x),
+      omega (arith, few),
+    )
+
+-- an ended search took no more decisions than it may
+pub ended_within : (g : Ground) (budget : ℕ) (ls : List Line) (r : Ended) → EndsOf g budget ls r →
+    decisions ls ≤ budget
+ended_within g budget ls ended.Closed h = h.1
+ended_within g budget ls ended.Spent h = let all = h.0 in omega (arith, all)
 
 pub ordered_first : (g : Ground) (order : Order) (hints : Hints) (ls : List Line) → ls ≡ [] →
     IsOrdered g order hints ls

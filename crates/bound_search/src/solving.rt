@@ -201,6 +201,7 @@ pub fn search(
         → has_empty (made g.now journal.new.lines).clauses ≡ true) }
     ensures spent { IfOk result (λ r. r ≡ Ended.Spent
         → (decisions journal.new.lines ≡ limits.budget) × MayDecide g.now journal.new.lines) }
+    ensures within { OnOk result (decisions journal.new.lines ≤ limits.budget) }
     ensures problem { journal.new.ground ≡ journal.old.ground }
     ensures rounds { journal.new.rounds ≡ journal.old.rounds }
 {

@@ -14,25 +14,25 @@ use Rattle.conf_core.specs.declared.narrowing.Settled.{Settled}
 use Rattle.conf_eval.specs.Best.{HasNone}
 use Rattle.conf_eval.specs.Satisfying.{Satisfies, Holds}
 use Rattle.conf_types.specs.Programs.{ResolvedConstraint, constraint_at}
-use Rattle.model_rounds.specs.Rounds.{told_by, end_of}
-use Rattle.model_rounds.specs.Findings.{Tells}
-use Rattle.model_rounds.specs.Finding.{Finding}
-use Rattle.model_rounds.specs.Finding.TheVariants as findings
+use Rattle.model_search.specs.Rounds.{told_by, end_of}
+use Rattle.model_search.specs.Findings.{Tells}
+use Rattle.model_search.specs.declared.finding.Finding.{Finding}
+use Rattle.model_search.specs.declared.finding.Finding.TheVariants as findings
 use Rattle.object_alloc.specs.Configurations.{IsConfiguration}
 use Rattle.proof_log.specs.declared.journal.Round.{Round}
-use Rattle.run_finder.specs.declared.outcome.Outcome.{Outcome}
-use Rattle.run_finder.specs.declared.outcome.Outcome.TheVariants as outcomes
+use Rattle.log_check.specs.declared.verdict.VerdictKind.{VerdictKind}
+use Rattle.log_check.specs.declared.verdict.VerdictKind.TheVariants as kinds
 
 -- ---- what a round tells of its part
 
 none_told : (o : Outline) (ks : List ResolvedConstraint) (told : Finding) →
-    end_of told ≡ outcomes.NoSolution → Tells o ks [] None told → HasNone o ks
+    end_of told ≡ kinds.NoSolution → Tells o ks [] None told → HasNone o ks
 none_told o ks (findings.Best t) e h = absurd cc
 none_told o ks findings.NoneExists e h = h
 none_told o ks (findings.Open last) e h = absurd cc
 
 best_told : (o : Outline) (ks : List ResolvedConstraint) (told : Finding) →
-    end_of told ≡ outcomes.Best → Tells o ks [] None told →
+    end_of told ≡ kinds.Best → Tells o ks [] None told →
     (t : List ℤ) × IsConfiguration o t × Satisfies o ks t
 best_told o ks (findings.Best t) e h = (t, h.0, h.1)
 best_told o ks findings.NoneExists e h = absurd cc
@@ -74,41 +74,41 @@ later_unsure s ss c at =
       | false ↦ at
     ]
 
-module _ (P : ℕ → Outcome → Type 0) where
+module _ (P : ℕ → VerdictKind → Type 0) where
   settled_sure : (s : Settled) (ss : List Settled) (c : ℕ) → s.index ≡ c →
-      P s.index (end_without s) → (Contains (unsure_of (s ∷ ss)) c → ⊥) → P s.index outcomes.Best
+      P s.index (end_without s) → (Contains (unsure_of (s ∷ ss)) c → ⊥) → P s.index kinds.Best
   settled_sure s ss c is first none =
-      elim (s.unsure) as (λ b. P s.index (cond b outcomes.Spent outcomes.Best)
-      → (Contains (unsure_with s ss b) c → ⊥) → P s.index outcomes.Best) [
+      elim (s.unsure) as (λ b. P s.index (cond b kinds.Open kinds.Best)
+      → (Contains (unsure_with s ss b) c → ⊥) → P s.index kinds.Best) [
         | true ↦ λ p lack. absurd (lack (0, omega arith, is))
         | false ↦ λ p lack. p
       ] first none
 
   first_undecided : (s : Settled) (ss : List Settled) → P s.index (end_without s) →
-      All (λ c. P c outcomes.Spent) (unsure_of ss) →
-      All (λ c. P c outcomes.Spent) (unsure_of (s ∷ ss))
+      All (λ c. P c kinds.Open) (unsure_of ss) →
+      All (λ c. P c kinds.Open) (unsure_of (s ∷ ss))
   first_undecided s ss first rest =
-      elim (s.unsure) as (λ b. P s.index (cond b outcomes.Spent outcomes.Best)
-      → All (λ c. P c outcomes.Spent) (unsure_with s ss b)) [
-        | true ↦ λ p. All-cons (λ c. P c outcomes.Spent) s.index (unsure_of ss) p rest
+      elim (s.unsure) as (λ b. P s.index (cond b kinds.Open kinds.Best)
+      → All (λ c. P c kinds.Open) (unsure_with s ss b)) [
+        | true ↦ λ p. All-cons (λ c. P c kinds.Open) s.index (unsure_of ss) p rest
         | false ↦ λ p. rest
       ] first
 
   needed : (settled : List Settled) → All (λ (s : Settled). P s.index (end_without s)) settled →
       (c : ℕ) → Contains (indexes_of settled) c → (Contains (unsure_of settled) c → ⊥) →
-      P c outcomes.Best
+      P c kinds.Best
   needed [] h c at none = absurd (let there = at.1 in omega (arith, there))
   needed (s ∷ ss) h c (zero, there, is) none =
       let first = All-head (λ (s : Settled). P s.index (end_without s)) s ss h in
-      subst (λ n. P n outcomes.Best) is (settled_sure s ss c is first none)
+      subst (λ n. P n kinds.Best) is (settled_sure s ss c is first none)
   needed (s ∷ ss) h c (suc k, there, is) none =
       needed ss (All-tail (λ (s : Settled). P s.index (end_without s)) s ss h) c
       (k, omega (arith, there), is) (λ at. none (later_unsure s ss c at))
 
   undecided : (settled : List Settled) →
       All (λ (s : Settled). P s.index (end_without s)) settled →
-      All (λ c. P c outcomes.Spent) (unsure_of settled)
-  undecided [] h = All-nil (λ c. P c outcomes.Spent)
+      All (λ c. P c kinds.Open) (unsure_of settled)
+  undecided [] h = All-nil (λ c. P c kinds.Open)
   undecided (s ∷ ss) h =
       let first = All-head (λ (s : Settled). P s.index (end_without s)) s ss h in
       let rest = undecided ss (All-tail (λ (s : Settled). P s.index (end_without s)) s ss h) in
@@ -116,7 +116,7 @@ module _ (P : ℕ → Outcome → Type 0) where
 
 module _ (o : Outline) (ks : List ResolvedConstraint) (budget : ℕ) (rounds : List Round)
     (are : ArePartRounds o ks budget rounds) where
-  impossible : (keep : List ℕ) → HasRound rounds (λ part. part ≡ keep) outcomes.NoSolution →
+  impossible : (keep : List ℕ) → HasRound rounds (λ part. part ≡ keep) kinds.NoSolution →
       HasNone o (part_of ks keep)
   impossible keep h =
       let is = All-contains (IsPartRound o ks budget) rounds h.round are h.there in
@@ -144,7 +144,7 @@ module _ (o : Outline) (ks : List ResolvedConstraint) (budget : ℕ) (rounds : L
             (λ m at. All-contains (λ n. Holds o t (constraint_at ks n)) part m each at) there);
       }
 
-  possible : (keep : List ℕ) (c : ℕ) → HasRound rounds (IsWithout keep c) outcomes.Best →
+  possible : (keep : List ℕ) (c : ℕ) → HasRound rounds (IsWithout keep c) kinds.Best →
       (t : List ℤ) × IsConfiguration o t × Satisfies o (part_of ks (without c keep)) t
   possible keep c h =
       let is = All-contains (IsPartRound o ks budget) rounds h.round are h.there in
@@ -159,11 +159,11 @@ module _ (o : Outline) (ks : List ResolvedConstraint) (budget : ℕ) (rounds : L
   -- ---- the core
 
   kept_core : (settled : List Settled) (keep : List ℕ) → indexes_of settled ≡ keep →
-      IsPart ks keep → HasRound rounds (λ part. part ≡ keep) outcomes.NoSolution →
+      IsPart ks keep → HasRound rounds (λ part. part ≡ keep) kinds.NoSolution →
       All (λ (s : Settled). HasRound rounds (IsWithout keep s.index) (end_without s)) settled →
       IsCore o ks rounds keep (unsure_of settled)
   kept_core settled keep e part shown tried =
-      let P = λ (c : ℕ) (end : Outcome). HasRound rounds (IsWithout keep c) end in
+      let P = λ (c : ℕ) (end : VerdictKind). HasRound rounds (IsWithout keep c) end in
       let need = λ (c : ℕ) (at : Contains keep c) (none : Contains (unsure_of settled) c → ⊥).
       needed P settled tried c (subst (λ ns. Contains ns c) (sym e) at) none in
       record {
@@ -184,7 +184,7 @@ module _ (o : Outline) (ks : List ResolvedConstraint) (budget : ℕ) (rounds : L
   core_is settled h =
       let is = append-nil (indexes_of settled) in
       kept_core settled (indexes_of settled) refl (subst (λ ns. IsPart ks ns) is h.part)
-      (subst (λ ns. HasRound rounds (λ part. part ≡ ns) outcomes.NoSolution) is h.shown)
+      (subst (λ ns. HasRound rounds (λ part. part ≡ ns) kinds.NoSolution) is h.shown)
       (subst (λ ns. All (λ (s : Settled). HasRound rounds (IsWithout ns s.index) (end_without s))
       settled) is h.tried)
 

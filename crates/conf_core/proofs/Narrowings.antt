@@ -12,8 +12,8 @@ use Rattle.conf_core.specs.Searching.{HasGrown, IsNarrowed, indexes_of, end_with
 use Rattle.conf_core.specs.declared.narrowing.Settled.{Settled}
 use Rattle.conf_types.specs.Programs.{ResolvedConstraint}
 use Rattle.proof_log.specs.declared.journal.Round.{Round}
-use Rattle.run_finder.specs.declared.outcome.Outcome.{Outcome}
-use Rattle.run_finder.specs.declared.outcome.Outcome.TheVariants as outcomes
+use Rattle.log_check.specs.declared.verdict.VerdictKind.{VerdictKind}
+use Rattle.log_check.specs.declared.verdict.VerdictKind.TheVariants as kinds
 
 -- ---- parts
 
@@ -41,7 +41,7 @@ without_cut xs n ys c part h =
       others = cut (λ k. (k ≡ c → ⊥) → Contains part k) xs n ys h.others;
     }
 
-round_as : (rounds : List Round) (P Q : List ℕ → Type 0) (end : Outcome) →
+round_as : (rounds : List Round) (P Q : List ℕ → Type 0) (end : VerdictKind) →
     ((part : List ℕ) → P part → Q part) → HasRound rounds P end → HasRound rounds Q end
 round_as rounds P Q end f h =
     record { round = h.round; there = h.there; part = f h.round.part h.part; ended = h.ended }
@@ -49,7 +49,7 @@ round_as rounds P Q end f h =
 -- ---- steps
 
 pub narrowed_first : (ks : List ResolvedConstraint) (rounds : List Round) (list : List ℕ) →
-    IsPart ks list → HasRound rounds (λ part. part ≡ list) outcomes.NoSolution →
+    IsPart ks list → HasRound rounds (λ part. part ≡ list) kinds.NoSolution →
     IsNarrowed ks rounds [] list
 narrowed_first ks rounds list p h =
     record {
@@ -59,9 +59,15 @@ narrowed_first ks rounds list p h =
     }
 
 -- a search over the list tells so
+pub round_narrowed : (ks : List ResolvedConstraint) (list : List ℕ) (rounds : List Round)
+    (end : VerdictKind) → IsPart ks list → HasRound rounds (λ part. part ≡ list) end →
+    end ≡ kinds.NoSolution → IsNarrowed ks rounds [] list
+round_narrowed ks list rounds end p h e =
+    narrowed_first ks rounds list p (subst (λ x. HasRound rounds (λ part. part ≡ list) x) e h)
+
 pub tried_narrowed : (o : Outline) (ks : List ResolvedConstraint) (budget : ℕ) (list : List ℕ)
-    (rounds now : List Round) (end : Outcome) → IsPart ks list →
-    HasTried o ks budget list rounds now end → end ≡ outcomes.NoSolution →
+    (rounds now : List Round) (end : VerdictKind) → IsPart ks list →
+    HasTried o ks budget list rounds now end → end ≡ kinds.NoSolution →
     IsNarrowed ks now [] list
 tried_narrowed o ks budget list rounds now end p h e =
     narrowed_first ks now list p
@@ -70,8 +76,8 @@ tried_narrowed o ks budget list rounds now end p h e =
 
 -- a search over all constraints tells so
 pub tried_all : (o : Outline) (ks : List ResolvedConstraint) (budget : ℕ) (list : List ℕ)
-    (rounds now : List Round) (end : Outcome) → HasTried o ks budget list rounds now end →
-    list ≡ range_with_len 0 (length ks) → end ≡ outcomes.NoSolution →
+    (rounds now : List Round) (end : VerdictKind) → HasTried o ks budget list rounds now end →
+    list ≡ range_with_len 0 (length ks) → end ≡ kinds.NoSolution →
     IsNarrowed ks now [] (range_with_len 0 (length ks))
 tried_all o ks budget list rounds now end h is e =
     subst (λ ns. IsNarrowed ks now [] ns) is
@@ -87,7 +93,7 @@ narrowed_grown o ks budget rounds now settled rest g h =
     let keep = indexes_of settled ++ rest in
     record {
       part = h.part;
-      shown = grown_round o ks budget rounds now (λ part. part ≡ keep) outcomes.NoSolution g h.shown;
+      shown = grown_round o ks budget rounds now (λ part. part ≡ keep) kinds.NoSolution g h.shown;
       tried = all_as (λ (s : Settled). HasRound rounds (IsWithout keep s.index) (end_without s))
           (λ (s : Settled). HasRound now (IsWithout keep s.index) (end_without s)) settled
           (λ s t. grown_round o ks budget rounds now (IsWithout keep s.index) (end_without s) g t)
@@ -98,7 +104,7 @@ narrowed_grown o ks budget rounds now settled rest g h =
 pub narrowed_cut : (ks : List ResolvedConstraint) (rounds : List Round) (settled : List Settled)
     (rest : List ℕ) (n : ℕ) (others : List ℕ) → others ≡ drop n rest →
     IsNarrowed ks rounds settled rest →
-    HasRound rounds (λ part. part ≡ indexes_of settled ++ others) outcomes.NoSolution →
+    HasRound rounds (λ part. part ≡ indexes_of settled ++ others) kinds.NoSolution →
     IsNarrowed ks rounds settled others
 narrowed_cut ks rounds settled rest n others e h shown =
     let xs = indexes_of settled in
@@ -139,7 +145,7 @@ settle_one ks rounds settled s more h t =
     (λ part e. subst (λ p. IsWithout keep c p) (sym e) (record { lacks = lack; others = stay })) t in
     record {
       part = subst (λ ns. IsPart ks ns) (sym is) h.part;
-      shown = subst (λ ns. HasRound rounds (λ part. part ≡ ns) outcomes.NoSolution) (sym is)
+      shown = subst (λ ns. HasRound rounds (λ part. part ≡ ns) kinds.NoSolution) (sym is)
           h.shown;
       tried = subst (λ ns. All (λ (r : Settled). HasRound rounds (IsWithout ns r.index)
           (end_without r)) (settled ++ s ∷ [])) (sym is)

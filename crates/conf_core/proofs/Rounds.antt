@@ -14,10 +14,11 @@ use Rattle.conf_limits.proofs.PartLaws.{part_passes}
 use Rattle.conf_types.specs.Programs.{ResolvedConstraint, ResolvedGoal, constraint_at}
 use Rattle.ground_form.specs.declared.ground.Ground.{Ground}
 use Rattle.log_form.specs.Acceptance.{accepted}
-use Rattle.model_rounds.specs.Rounds.{journal_of, told_by, end_of}
-use Rattle.model_rounds.specs.Runs.{HasRun}
+use Rattle.model_search.specs.Rounds.{journal_of, told_by, end_of}
+use Rattle.model_search.specs.Runs.{HasRun}
 use Rattle.proof_log.specs.declared.journal.Round.{Round}
-use Rattle.run_finder.specs.declared.outcome.Outcome.{Outcome}
+use Rattle.log_check.specs.Verdicts.{Ending}
+use Rattle.log_check.specs.declared.verdict.VerdictKind.{VerdictKind}
 
 -- ---- a part is within the limits
 
@@ -33,11 +34,12 @@ part_narrow o ks gs part h p =
 
 -- a round that was closed is over the part
 pub tried_of : (o : Outline) (ks : List ResolvedConstraint) (budget : ℕ) (part : List ℕ)
-    (rounds now : List Round) (round : Round) (end : Outcome) → IsPart ks part →
-    (c : HasClosed o (part_of ks part) budget part rounds now end) → round ≡ c.round →
+    (rounds now : List Round) (round : Round) (verdict : Ending) (end : VerdictKind) →
+    IsPart ks part → (c : HasClosed o (part_of ks part) budget part rounds now verdict) →
+    round ≡ c.round →
     HasRun o (part_of ks part) [] None orders.Own budget (journal_of round) (told_by round) →
     end_of (told_by round) ≡ end → HasTried o ks budget part rounds now end
-tried_of o ks budget part rounds now round end p c same run ended =
+tried_of o ks budget part rounds now round verdict end p c same run ended =
     let whole = subst (λ r. HasRun o (part_of ks part) [] None orders.Own budget (journal_of r)
     (told_by r)) same run in
     record {
@@ -54,7 +56,7 @@ tried_of o ks budget part rounds now round end p c same run ended =
     }
 
 pub tried_round : (o : Outline) (ks : List ResolvedConstraint) (budget : ℕ) (part : List ℕ)
-    (rounds now : List Round) (end : Outcome) → HasTried o ks budget part rounds now end →
+    (rounds now : List Round) (end : VerdictKind) → HasTried o ks budget part rounds now end →
     HasRound now (λ p. p ≡ part) end
 tried_round o ks budget part rounds now end h =
     record {
@@ -65,7 +67,7 @@ tried_round o ks budget part rounds now end h =
     }
 
 pub tried_grown : (o : Outline) (ks : List ResolvedConstraint) (budget : ℕ) (part : List ℕ)
-    (rounds now : List Round) (end : Outcome) → HasTried o ks budget part rounds now end →
+    (rounds now : List Round) (end : VerdictKind) → HasTried o ks budget part rounds now end →
     HasGrown o ks budget rounds now
 tried_grown o ks budget part rounds now end h =
     record {
@@ -78,7 +80,7 @@ some_same : (g h : Ground) → Some g ≡ Some h → g ≡ h
 some_same g h e = cc
 
 pub tried_accepted : (o : Outline) (ks : List ResolvedConstraint) (budget : ℕ) (part : List ℕ)
-    (rounds now : List Round) (end : Outcome) → HasTried o ks budget part rounds now end →
+    (rounds now : List Round) (end : VerdictKind) → HasTried o ks budget part rounds now end →
     EndsAccepted now
 tried_accepted o ks budget part rounds now end h =
     let run = h.is.run in
@@ -92,7 +94,7 @@ tried_accepted o ks budget part rounds now end h =
     }
 
 pub tried_begins : (o : Outline) (ks : List ResolvedConstraint) (budget : ℕ) (part : List ℕ)
-    (rounds now : List Round) (end : Outcome) → HasTried o ks budget part rounds now end →
+    (rounds now : List Round) (end : VerdictKind) → HasTried o ks budget part rounds now end →
     rounds ≡ [] → part ≡ range_with_len 0 (length ks) → BeginsSo ks now end
 tried_begins o ks budget part rounds now end h none all =
     record {
@@ -104,7 +106,7 @@ tried_begins o ks budget part rounds now end h none all =
     }
 
 pub tried_parts : (o : Outline) (ks : List ResolvedConstraint) (budget : ℕ) (part : List ℕ)
-    (rounds now : List Round) (end : Outcome) → HasTried o ks budget part rounds now end →
+    (rounds now : List Round) (end : VerdictKind) → HasTried o ks budget part rounds now end →
     rounds ≡ [] → ArePartRounds o ks budget now
 tried_parts o ks budget part rounds now end h none =
     subst (λ rs. All (IsPartRound o ks budget) rs)
@@ -134,7 +136,7 @@ grown_more o ks budget rounds now next g h =
     }
 
 pub grown_round : (o : Outline) (ks : List ResolvedConstraint) (budget : ℕ)
-    (rounds now : List Round) (P : List ℕ → Type 0) (end : Outcome) →
+    (rounds now : List Round) (P : List ℕ → Type 0) (end : VerdictKind) →
     HasGrown o ks budget rounds now → HasRound rounds P end → HasRound now P end
 grown_round o ks budget rounds now P end g h =
     record {
@@ -146,7 +148,7 @@ grown_round o ks budget rounds now P end g h =
     }
 
 pub grown_begins : (o : Outline) (ks : List ResolvedConstraint) (budget : ℕ)
-    (rounds now : List Round) (end : Outcome) → HasGrown o ks budget rounds now →
+    (rounds now : List Round) (end : VerdictKind) → HasGrown o ks budget rounds now →
     BeginsSo ks rounds end → BeginsSo ks now end
 grown_begins o ks budget rounds now end g h =
     record {

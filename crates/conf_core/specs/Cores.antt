@@ -9,16 +9,16 @@ use Rattle.conf_core.specs.declared.answer.CoreAnswer.TheVariants as answers
 use Rattle.conf_eval.specs.Best.{HasNone}
 use Rattle.conf_eval.specs.Satisfying.{Satisfies}
 use Rattle.conf_types.specs.Programs.{ResolvedConstraint}
-use Rattle.model_rounds.specs.Rounds.{told_by, end_of}
+use Rattle.model_search.specs.Rounds.{told_by, end_of}
 use Rattle.object_alloc.specs.Configurations.{IsConfiguration}
 use Rattle.proof_log.specs.declared.journal.Round.{Round}
-use Rattle.run_finder.specs.declared.outcome.Outcome.{Outcome}
-use Rattle.run_finder.specs.declared.outcome.Outcome.TheVariants as outcomes
+use Rattle.log_check.specs.declared.verdict.VerdictKind.{VerdictKind}
+use Rattle.log_check.specs.declared.verdict.VerdictKind.TheVariants as kinds
 
 -- ---- which searches there were
 
 -- one of the rounds is over a part for which P holds, and its search ended so
-pub record HasRound (rounds : List Round) (P : List ℕ → Type 0) (end : Outcome) : Type 0 where
+pub record HasRound (rounds : List Round) (P : List ℕ → Type 0) (end : VerdictKind) : Type 0 where
   pub round : Round
   pub there : Contains rounds round
   pub part : P round.part
@@ -42,18 +42,18 @@ pub record IsCore (o : Outline) (ks : List ResolvedConstraint) (rounds : List Ro
     (keep unsure : List ℕ) : Type 0 where
   pub part : IsPart ks keep
   pub impossible : HasNone o (part_of ks keep)
-  pub shown : HasRound rounds (λ part. part ≡ keep) outcomes.NoSolution
+  pub shown : HasRound rounds (λ part. part ≡ keep) kinds.NoSolution
   pub ascend : AllPairs ◌<◌ unsure
   pub within : All (λ c. Contains keep c) unsure
   pub needed : (c : ℕ) → Contains keep c → (Contains unsure c → ⊥)
-      → HasRound rounds (IsWithout keep c) outcomes.Best
+      → HasRound rounds (IsWithout keep c) kinds.Best
   pub possible : (c : ℕ) → Contains keep c → (Contains unsure c → ⊥)
       → (t : List ℤ) × IsConfiguration o t × Satisfies o (part_of ks (without c keep)) t
-  pub undecided : All (λ c. HasRound rounds (IsWithout keep c) outcomes.Spent) unsure
+  pub undecided : All (λ c. HasRound rounds (IsWithout keep c) kinds.Open) unsure
 
 -- the first round is over all constraints, and its search ended so
 pub record BeginsSo (ks : List ResolvedConstraint) (rounds : List Round)
-    (end : Outcome) : Type 0 where
+    (end : VerdictKind) : Type 0 where
   pub first : Round
   pub rest : List Round
   pub rounds_are : rounds ≡ first ∷ rest
@@ -62,7 +62,7 @@ pub record BeginsSo (ks : List ResolvedConstraint) (rounds : List Round)
 
 -- what is answered is so of the model, and the rounds show it
 abbrev pub IsAnswered : Outline → List ResolvedConstraint → List Round → CoreAnswer → Type 0
-IsAnswered o ks rounds answers.Solvable = BeginsSo ks rounds outcomes.Best
-IsAnswered o ks rounds answers.Undecided = BeginsSo ks rounds outcomes.Spent
+IsAnswered o ks rounds answers.Solvable = BeginsSo ks rounds kinds.Best
+IsAnswered o ks rounds answers.Undecided = BeginsSo ks rounds kinds.Open
 IsAnswered o ks rounds (answers.Core keep unsure) =
-    BeginsSo ks rounds outcomes.NoSolution × IsCore o ks rounds keep unsure
+    BeginsSo ks rounds kinds.NoSolution × IsCore o ks rounds keep unsure

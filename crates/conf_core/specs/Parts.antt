@@ -6,10 +6,10 @@ use Rattle.branch_choice.specs.declared.split.Order.TheVariants as orders
 use Rattle.class_table.specs.Outline.{Outline}
 use Rattle.conf_types.specs.Programs.{ResolvedConstraint, constraint_at}
 use Rattle.ground_form.specs.WellMade.{IsWellMade}
-use Rattle.model_rounds.specs.Rounds.{journal_of, told_by, end_of}
-use Rattle.model_rounds.specs.Runs.{HasRun}
+use Rattle.model_search.specs.Rounds.{journal_of, told_by, end_of}
+use Rattle.model_search.specs.Runs.{HasRun}
 use Rattle.proof_log.specs.declared.journal.Round.{Round}
-use Rattle.run_finder.specs.declared.outcome.Outcome.{Outcome}
+use Rattle.log_check.specs.declared.verdict.VerdictKind.{VerdictKind}
 
 -- the constraints with these indexes
 abbrev pub part_of : List ResolvedConstraint → List ℕ → List ResolvedConstraint
@@ -35,7 +35,7 @@ ArePartRounds o ks budget rounds = All (IsPartRound o ks budget) rounds
 
 -- the rounds have one more, over this part, and its search ended so
 pub record HasTried (o : Outline) (ks : List ResolvedConstraint) (budget : ℕ) (part : List ℕ)
-    (rounds now : List Round) (end : Outcome) : Type 0 where
+    (rounds now : List Round) (end : VerdictKind) : Type 0 where
   pub round : Round
   pub more : now ≡ rounds ++ round ∷ []
   pub is : IsPartRound o ks budget round

@@ -11,24 +11,23 @@ use Rattle.conf_core.specs.declared.narrowing.Settled.{Settled}
 use Rattle.conf_types.specs.Programs.{ResolvedConstraint}
 use Rattle.ground_form.specs.WellMade.{IsWellMade}
 use Rattle.log_form.specs.Acceptance.{accepted}
-use Rattle.model_rounds.specs.Problems.{IsProblemOf}
+use Rattle.model_search.specs.Problems.{IsProblemOf}
 use Rattle.proof_log.specs.Rounds.{Journal}
 use Rattle.proof_log.specs.declared.journal.Round.{Round}
-use Rattle.run_finder.specs.Outcomes.{OutcomeOf}
-use Rattle.run_finder.specs.declared.outcome.Outcome.{Outcome}
-use Rattle.run_finder.specs.declared.outcome.Outcome.TheVariants as outcomes
-use Rattle.run_law.specs.Replay.{is_run}
+use Rattle.run_finder.specs.Searched.{HasSearched}
+use Rattle.log_check.specs.Verdicts.{Ending}
+use Rattle.log_check.specs.declared.verdict.VerdictKind.{VerdictKind}
+use Rattle.log_check.specs.declared.verdict.VerdictKind.TheVariants as kinds
 
--- the rounds have one more, over the problem of these constraints, by a run that ended so
+-- the rounds have one more, over the problem of these constraints, by a search with this verdict
 pub record HasClosed (o : Outline) (ks : List ResolvedConstraint) (budget : ℕ) (part : List ℕ)
-    (rounds now : List Round) (end : Outcome) : Type 0 where
+    (rounds now : List Round) (verdict : Ending) : Type 0 where
   pub round : Round
   pub more : now ≡ rounds ++ round ∷ []
   pub part_is : round.part ≡ part
   pub problem : IsProblemOf o ks [] None round.ground
   pub well_made : IsWellMade round.ground
-  pub run : is_run round.ground round.lines ≡ true
-  pub outcome_is : OutcomeOf round.ground budget round.lines end
+  pub searched : HasSearched round.ground budget round.lines verdict
 
 -- further searches over parts were made
 pub record HasGrown (o : Outline) (ks : List ResolvedConstraint) (budget : ℕ)
@@ -48,8 +47,8 @@ pub record EndsAccepted (rounds : List Round) : Type 0 where
 -- ---- on the way to a core
 
 -- how the search ended without a constraint that was settled
-abbrev pub end_without : Settled → Outcome
-end_without s = cond s.unsure outcomes.Spent outcomes.Best
+abbrev pub end_without : Settled → VerdictKind
+end_without s = cond s.unsure kinds.Open kinds.Best
 
 abbrev pub indexes_of : List Settled → List ℕ
 indexes_of ss = map (λ (s : Settled). s.index) ss
@@ -62,7 +61,7 @@ unsure_of ss = map (λ (s : Settled). s.index) (filter (λ (s : Settled). s.unsu
 pub record IsNarrowed (ks : List ResolvedConstraint) (rounds : List Round)
     (settled : List Settled) (rest : List ℕ) : Type 0 where
   pub part : IsPart ks (indexes_of settled ++ rest)
-  pub shown : HasRound rounds (λ part. part ≡ indexes_of settled ++ rest) outcomes.NoSolution
+  pub shown : HasRound rounds (λ part. part ≡ indexes_of settled ++ rest) kinds.NoSolution
   pub tried : All (λ (s : Settled). HasRound rounds
       (IsWithout (indexes_of settled ++ rest) s.index) (end_without s)) settled
 

@@ -9,7 +9,7 @@ use conf_types::Constraint;
 use ground_model::Origins;
 use log_check::trim;
 use log_form::Line;
-use model_rounds::last_round;
+use model_search::last_round;
 use proof_log::Journal;
 use std::alloc::{AllocError, Global};
 

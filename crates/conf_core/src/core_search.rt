@@ -8,23 +8,24 @@ ghost use Rattle.conf_core.specs.Searching.{EndsAccepted, HasGrown, IsCoreAnswer
 ghost use Rattle.conf_limits.specs.Measures.{model_narrow};
 ghost use Rattle.conf_types.specs.Typing.{IsTypedModel};
 ghost use Rattle.proof_log.specs.Rounds.{empty};
-ghost use Rattle.run_finder.specs.declared.outcome.Outcome.TheVariants as outcomes;
+ghost use Rattle.log_check.specs.declared.verdict.VerdictKind.TheVariants as kinds;
 
 use crate::answer::CoreAnswer;
 use crate::blame::blamed_by;
 use crate::indexes::all_indexes;
 use crate::narrowing::{Settled, indexes, narrowed, unsure};
-use crate::part_search::{Subject, Tried, try_part};
+use crate::part_search::{Subject, Tried, decide_part, try_part};
 use conf_types::TypedModel;
 use ground_model::Origins;
+use log_check::VerdictKind;
 use log_form::Indexes;
 use object_alloc::Objects;
 use proof_log::Journal;
-use run_finder::{Finder, Outcome};
+use run_finder::Finder;
 use std::alloc::{AllocError, Global};
 
 /// Whether no configuration satisfies these constraints either: a search over them tells.
-#[tactic(auto, using(crate::proofs::Rounds::tried_grown, crate::proofs::Rounds::same_grown, crate::proofs::Narrowings::tried_narrowed))]
+#[tactic(auto, using(crate::proofs::Narrowings::round_narrowed))]
 fn are_impossible<F: Finder>(
     with: Subject<'_>,
     list: &[u32],
@@ -47,8 +48,8 @@ fn are_impossible<F: Finder>(
     ensures lines { OnOk result (journal.new.lines ≡ []) }
     ensures budget { F.allowed finder.new ≡ F.allowed finder.old }
 {
-    let tried = try_part(with, list.to_vec(with.alloc)?, finder, journal)?;
-    Ok(tried.end == Outcome::NoSolution)
+    let end = decide_part(with, list, finder, journal)?;
+    Ok(end == VerdictKind::NoSolution)
 }
 
 /// Constraints that no configuration satisfies, and how many of them are left out first.
@@ -209,7 +210,7 @@ fn first_search<F: Finder>(
     ensures parts { IfOk result (λ t. ArePartRounds with.entry.objects.now
         with.entry.model.now.constraints with.entry.budget journal.new.rounds) }
     ensures accepted { IfOk result (λ t. EndsAccepted journal.new.rounds) }
-    ensures all { IfOk result (λ t. t.end ≡ outcomes.NoSolution
+    ensures all { IfOk result (λ t. t.end ≡ kinds.NoSolution
         → IsNarrowed with.entry.model.now.constraints journal.new.rounds []
         (range_with_len 0 (length with.entry.model.now.constraints))) }
     ensures none { OnErr result (journal.new.rounds ≡ []) }
@@ -247,7 +248,7 @@ pub fn find_core<F: Finder>(
     ensures rounds { ArePartRounds objects.now model.now.constraints (F.allowed finder.old)
         journal.new.rounds }
     ensures begun { OnErr result ((journal.new.rounds ≡ [])
-        ⊎ BeginsSo model.now.constraints journal.new.rounds outcomes.NoSolution) }
+        ⊎ BeginsSo model.now.constraints journal.new.rounds kinds.NoSolution) }
     ensures ground { OnOk result (journal.new.ground ≡ None) }
     ensures lines { OnOk result (journal.new.lines ≡ []) }
     ensures budget { F.allowed finder.new ≡ F.allowed finder.old }
@@ -260,9 +261,9 @@ pub fn find_core<F: Finder>(
     };
     let tried = first_search(with, finder, journal)?;
     match tried.end {
-        Outcome::Best => Ok(CoreAnswer::Solvable),
-        Outcome::Spent => Ok(CoreAnswer::Undecided),
-        Outcome::NoSolution => {
+        VerdictKind::Best => Ok(CoreAnswer::Solvable),
+        VerdictKind::Open => Ok(CoreAnswer::Undecided),
+        VerdictKind::NoSolution => {
             let answer = blame(with, &tried.origins, finder, journal)?;
             Ok(answer)
         }

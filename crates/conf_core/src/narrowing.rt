@@ -11,11 +11,12 @@ ghost use Rattle.conf_limits.specs.Measures.{model_narrow};
 ghost use Rattle.conf_types.specs.Programs.{ResolvedConstraint};
 ghost use Rattle.conf_types.specs.Typing.{IsTypedModel};
 ghost use Rattle.proof_log.specs.declared.journal.Round.{Round as ARound};
-ghost use Rattle.run_finder.specs.declared.outcome.Outcome.TheVariants as outcomes;
+ghost use Rattle.log_check.specs.declared.verdict.VerdictKind.TheVariants as kinds;
 
-use crate::part_search::{Subject, try_part};
+use crate::part_search::{Subject, decide_part};
+use log_check::VerdictKind;
 use proof_log::Journal;
-use run_finder::{Finder, Outcome};
+use run_finder::Finder;
 use std::alloc::{AllocError, Global};
 
 /// A constraint without which the others have a configuration, or aren't decided.
@@ -67,14 +68,14 @@ fn part_with(alloc: Global, settled: &[Settled], others: &[u32]) -> Result<Vec<u
 }
 
 /// Searches with the settled constraints and these others, which are the rest but for the first.
-#[tactic(auto, using(crate::proofs::Rounds::tried_round, crate::proofs::Rounds::tried_grown, crate::proofs::Rounds::same_grown))]
+#[tactic(auto, using(crate::proofs::Rounds::same_grown))]
 fn tried_with<F: Finder>(
     with: Subject<'_>,
     n: &Narrowing,
     others: &[u32],
     finder: &mut F,
     journal: &mut Journal,
-) -> Result<Outcome, AllocError>
+) -> Result<VerdictKind, AllocError>
     requires typed { IsTypedModel with.objects.now with.model.now.constraints
         with.model.now.goals }
     requires narrow { model_narrow with.objects.now with.model.now.constraints
@@ -93,8 +94,8 @@ fn tried_with<F: Finder>(
     ensures budget { F.allowed finder.new ≡ F.allowed finder.old }
 {
     let part = part_with(with.alloc, &n.settled, others)?;
-    let tried = try_part(with, part, finder, journal)?;
-    Ok(tried.end)
+    let end = decide_part(with, &part, finder, journal)?;
+    Ok(end)
 }
 
 /// The first of them.
@@ -112,7 +113,7 @@ fn with_settled(n: Narrowing, others: Vec<u32>, unsure: bool) -> Result<Narrowin
     ensures narrowed { IfOk result (λ new. (ks : List ResolvedConstraint) (rounds : List ARound)
         → IsNarrowed ks rounds n.settled.items n.rest.items
         → HasRound rounds (λ part. part ≡ indexes_of n.settled.items ++ others.items)
-        (cond unsure outcomes.Spent outcomes.Best)
+        (cond unsure kinds.Open kinds.Best)
         → IsNarrowed ks rounds new.settled.items new.rest.items) }
     ensures rest { IfOk result (λ new. new.rest.items ≡ others.items) }
     ensures chunk { IfOk result (λ new. new.chunk ≡ 1) }
@@ -137,7 +138,7 @@ fn kept(n: Narrowing, others: Vec<u32>, size: usize, unsure: bool) -> Result<Nar
     ensures narrowed { IfOk result (λ new. (ks : List ResolvedConstraint) (rounds : List ARound)
         → IsNarrowed ks rounds n.settled.items n.rest.items
         → HasRound rounds (λ part. part ≡ indexes_of n.settled.items ++ others.items)
-        (cond unsure outcomes.Spent outcomes.Best)
+        (cond unsure kinds.Open kinds.Best)
         → IsNarrowed ks rounds new.settled.items new.rest.items) }
     ensures some { IfOk result (λ new. 1 ≤ new.chunk) }
     ensures less { IfOk result (λ new. 3 * length new.rest.items + new.chunk
@@ -159,7 +160,7 @@ fn behind(
     n: Narrowing,
     others: Vec<u32>,
     size: usize,
-    end: Outcome,
+    end: VerdictKind,
 ) -> Result<Narrowing, AllocError>
     requires some { 1 ≤ size }
     requires chunk { size ≤ n.chunk }
@@ -174,13 +175,13 @@ fn behind(
         < 3 * length n.rest.items + n.chunk) }
 {
     match end {
-        Outcome::NoSolution => Ok(Narrowing {
+        VerdictKind::NoSolution => Ok(Narrowing {
             settled: n.settled,
             rest: others,
             chunk: size.saturating_mul(2),
         }),
-        Outcome::Best => kept(n, others, size, false),
-        Outcome::Spent => kept(n, others, size, true),
+        VerdictKind::Best => kept(n, others, size, false),
+        VerdictKind::Open => kept(n, others, size, true),
     }
 }
 

@@ -1,19 +1,21 @@
 //! A search over a part of a model, which is a round of the journal.
 ghost use Rattle.std.specs.Prelude.{◌≡◌, [], true, None, IfOk, OnOk, OnErr};
 ghost use Rattle.conf_core.specs.Parts.{IsPart, HasTried};
-ghost use Rattle.conf_core.specs.Searching.{HasClosed};
+ghost use Rattle.conf_core.specs.Cores.{HasRound};
+ghost use Rattle.conf_core.specs.Searching.{HasClosed, HasGrown};
 ghost use Rattle.conf_limits.specs.Measures.{model_narrow};
 ghost use Rattle.conf_types.specs.Typing.{IsTypedModel};
 ghost use Rattle.ground_form.specs.WellMade.{IsWellMade};
-ghost use Rattle.model_rounds.specs.Problems.{IsProblemOf};
+ghost use Rattle.model_search.specs.Problems.{IsProblemOf};
 
 use conf_types::TypedModel;
 use ground_form::Ground;
 use ground_model::{Origins, ground_with_origins};
-use model_rounds::{Question, last_round, no_hints, round_is_run};
+use log_check::{Verdict, VerdictKind};
+use model_search::{Question, last_round, no_hints, round_is_run};
 use object_alloc::Objects;
 use proof_log::Journal;
-use run_finder::{Finder, Outcome};
+use run_finder::Finder;
 use std::alloc::{AllocError, Global};
 
 /// A model whose parts are searched, with its objects, and how many decisions a search may take.
@@ -29,7 +31,7 @@ pub(crate) struct Subject<'a> {
 /// stated.
 #[derive(Drop)]
 pub(crate) struct Tried {
-    pub end: Outcome,
+    pub end: VerdictKind,
     pub origins: Origins,
 }
 
@@ -62,22 +64,23 @@ fn problem_of(
     Ok(g)
 }
 
-/// Searches the problem of a part, without objectives, and closes the round.
+/// Searches the problem of a part, without objectives, and closes the round. With the verdict comes
+/// for which constraints of the part each of the problem's was stated.
 fn closed_round<F: Finder>(
     with: Subject<'_>,
     model: &TypedModel,
     part: Vec<u32>,
     finder: &mut F,
     journal: &mut Journal,
-) -> Result<Tried, AllocError>
+) -> Result<(Verdict, Origins), AllocError>
     requires typed { IsTypedModel with.objects.now model.now.constraints model.now.goals }
     requires narrow { model_narrow with.objects.now model.now.constraints model.now.goals ≡ true }
     requires goals { model.now.goals ≡ [] }
     requires budget { F.allowed finder.old ≡ with.budget }
     requires ground { journal.old.ground ≡ None }
     requires lines { journal.old.lines ≡ [] }
-    ensures closed { IfOk result (λ t. HasClosed with.entry.objects.now model.now.constraints
-        with.entry.budget part.items journal.old.rounds journal.new.rounds t.end) }
+    ensures closed { IfOk result (λ r. HasClosed with.entry.objects.now model.now.constraints
+        with.entry.budget part.items journal.old.rounds journal.new.rounds r.0) }
     ensures rounds { OnErr result (journal.new.rounds ≡ journal.old.rounds) }
     ensures ground { OnOk result (journal.new.ground ≡ None) }
     ensures lines { OnOk result (journal.new.lines ≡ []) }
@@ -86,9 +89,9 @@ fn closed_round<F: Finder>(
     let mut origins = Origins::new(with.alloc);
     let g = problem_of(with, model, &mut origins)?;
     let hints = no_hints(with.alloc, g.search)?;
-    let end = finder.find(g, &hints, journal)?;
+    let verdict = finder.find(g, &hints, journal)?;
     journal.close_part(part)?;
-    Ok(Tried { end, origins })
+    Ok((verdict, origins))
 }
 
 /// Searches a part of the model, which is then the journal's last round.
@@ -118,13 +121,87 @@ pub(crate) fn try_part<F: Finder>(
     ensures budget { F.allowed finder.new ≡ F.allowed finder.old }
 {
     let model = with.model.only(with.alloc, &part)?;
-    let tried = closed_round(with, &model, part, finder, journal)?;
+    let (verdict, origins) = closed_round(with, &model, part, finder, journal)?;
     let round = last_round(journal);
     round_is_run(
         question_about(&model, with.objects),
         round,
-        tried.end,
+        &verdict,
         with.budget,
     );
-    Ok(tried)
+    let end = verdict.kind();
+    Ok(Tried { end, origins })
+}
+
+/// How the search over a part ended, which is then the journal's last round.
+#[tactic(auto, using(crate::proofs::Rounds::tried_round, crate::proofs::Rounds::tried_grown, crate::proofs::Rounds::same_grown))]
+fn part_end<F: Finder>(
+    with: Subject<'_>,
+    part: &[u32],
+    finder: &mut F,
+    journal: &mut Journal,
+) -> Result<VerdictKind, AllocError>
+    requires typed { IsTypedModel with.objects.now with.model.now.constraints
+        with.model.now.goals }
+    requires narrow { model_narrow with.objects.now with.model.now.constraints
+        with.model.now.goals ≡ true }
+    requires part { IsPart with.model.now.constraints part.now }
+    requires budget { F.allowed finder.old ≡ with.budget }
+    requires ground { journal.old.ground ≡ None }
+    requires lines { journal.old.lines ≡ [] }
+    ensures tried { IfOk result (λ end. HasRound journal.new.rounds (λ p. p ≡ part.now) end) }
+    ensures grown { HasGrown with.entry.objects.now with.entry.model.now.constraints
+        with.entry.budget journal.old.rounds journal.new.rounds }
+    ensures ground { OnOk result (journal.new.ground ≡ None) }
+    ensures lines { OnOk result (journal.new.lines ≡ []) }
+    ensures budget { F.allowed finder.new ≡ F.allowed finder.old }
+{
+    let tried = try_part(with, part.to_vec(with.alloc)?, finder, journal)?;
+    Ok(tried.end)
+}
+
+/// Whether the finder decides by another order from now on: where a search was undecided, and it
+/// has one.
+fn turned<F: Finder>(end: VerdictKind, finder: &mut F) -> bool
+    ensures budget { F.allowed finder.new ≡ F.allowed finder.old }
+{
+    match end {
+        VerdictKind::Open => finder.next_order(),
+        _ => false,
+    }
+}
+
+/// How the search over a part ended. Where it is undecided the part is searched once more by
+/// another order, if the finder has one. It goes on by the order that decided.
+///
+/// # Errors
+/// Want of memory.
+pub(crate) fn decide_part<F: Finder>(
+    with: Subject<'_>,
+    part: &[u32],
+    finder: &mut F,
+    journal: &mut Journal,
+) -> Result<VerdictKind, AllocError>
+    requires typed { IsTypedModel with.objects.now with.model.now.constraints
+        with.model.now.goals }
+    requires narrow { model_narrow with.objects.now with.model.now.constraints
+        with.model.now.goals ≡ true }
+    requires part { IsPart with.model.now.constraints part.now }
+    requires budget { F.allowed finder.old ≡ with.budget }
+    requires ground { journal.old.ground ≡ None }
+    requires lines { journal.old.lines ≡ [] }
+    ensures tried { IfOk result (λ end. HasRound journal.new.rounds (λ p. p ≡ part.now) end) }
+    ensures grown { HasGrown with.entry.objects.now with.entry.model.now.constraints
+        with.entry.budget journal.old.rounds journal.new.rounds }
+    ensures ground { OnOk result (journal.new.ground ≡ None) }
+    ensures lines { OnOk result (journal.new.lines ≡ []) }
+    ensures budget { F.allowed finder.new ≡ F.allowed finder.old }
+{
+    let end = part_end(with, part, finder, journal)?;
+    if !turned(end, finder) {
+        return Ok(end);
+    }
+    let again = part_end(with, part, finder, journal)?;
+    let _back = turned(again, finder);
+    Ok(again)
 }

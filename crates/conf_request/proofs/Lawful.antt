@@ -3,25 +3,22 @@ use Rattle.std.proofs.Common.{ℕ, ◌≡◌, ◌≤◌, Bool, true, false, if�
 use Rattle.std.proofs.Common.{◌∷◌, Option, Some, None, IfSome, option_map, refl, arith}
 use Rattle.std.proofs.lemmas.Bool.Decides.{nat_tests}
 use Rattle.std.specs.Option.{option_and_then, is_none}
-use Rattle.std.specs.Str.{bytes_eq}
-use Rattle.std.specs.Prelude.{codes}
 use Rattle.conf_syntax.specs.Spelling.{number_of}
 use Rattle.conf_request.specs.declared.command.Command.{Command}
 use Rattle.conf_request.specs.declared.command.Command.TheVariants as command
+use Rattle.conf_request.specs.declared.options.OrderName.{OrderName}
+use Rattle.conf_request.specs.declared.options.OrderName.TheVariants as orders
 use Rattle.conf_request.specs.declared.scan.Expected.TheVariants as expected
 use Rattle.conf_request.specs.declared.request.Request.{Request}
 use Rattle.conf_request.specs.declared.request.Request.TheVariants.{Gen}
 use Rattle.conf_request.specs.Words.{Given, number_within, budget_of, order_of}
 use Rattle.conf_request.specs.Words.{has_none, solve_of, reconfigure_of, check_of, verify_of}
 use Rattle.conf_request.specs.Words.{gen_of, session_of, core_of, asked, command_named, plain_words}
-use Rattle.conf_request.specs.Words.{scan, nothing, parsed, IsLawful}
+use Rattle.conf_request.specs.Words.{is_read, scan, nothing, parsed, IsLawful}
 
--- of the number of a budget, of an order, and of a request, where there is one
+-- of the number of a budget, and of a request, where there is one
 abbrev IsBudget : Option ℕ → Type 0
 IsBudget o = IfSome o (λ n. n ≤ 1000000)
-
-abbrev IsOrder : Option ℕ → Type 0
-IsOrder o = IfSome o (λ n. n ≤ 2)
 
 abbrev IsGood : Option Request → Type 0
 IsGood o = IfSome o IsLawful
@@ -31,6 +28,10 @@ IsGood o = IfSome o IsLawful
 if_kept : (test : Bool) (o : Option Request) → IsGood o → IsGood (if test then o else None)
 if_kept true o h = h
 if_kept false o h = tt
+
+if_left : (test : Bool) (o : Option Request) → IsGood o → IsGood (if test then None else o)
+if_left true o h = tt
+if_left false o h = h
 
 -- of a value that a test lets pass, P need only hold where the test is true
 if_tested : (P : ℕ → Type 0) (test : Bool) (n : ℕ) → (test ≡ true → P n) →
@@ -60,37 +61,24 @@ budget_within : (o : Option (List ℕ)) → IsBudget (budget_of o)
 budget_within None = omega arith
 budget_within (Some word) = upto (number_within 7 0 1000000 word) (within 7 0 1000000 word)
 
-named_within : (a b c : Bool) →
-    IsOrder (if a then Some 0 else if b then Some 1 else if c then Some 2 else None)
-named_within true b c = omega arith
-named_within false true c = omega arith
-named_within false false true = omega arith
-named_within false false false = tt
-
-order_within : (usual : ℕ) (o : Option (List ℕ)) → usual ≤ 2 → IsOrder (order_of usual o)
-order_within usual None h = h
-order_within usual (Some word) h =
-    named_within (bytes_eq word (codes "first")) (bytes_eq word (codes "small"))
-    (bytes_eq word (codes "former"))
-
 -- ---- each command
 
-of_solve : (plain : List (List ℕ)) (budget : Option ℕ) (log : Option (List ℕ)) (order : Option ℕ) →
-    IsBudget budget → IsOrder order → IsGood (solve_of plain budget log order)
-of_solve [] budget log order b o = tt
-of_solve (model ∷ []) None log order b o = tt
-of_solve (model ∷ []) (Some budget) log None b o = tt
-of_solve (model ∷ []) (Some budget) log (Some order) b o = (b, o)
-of_solve (model ∷ more ∷ plain) budget log order b o = tt
+of_solve : (plain : List (List ℕ)) (budget : Option ℕ) (log : Option (List ℕ))
+    (order : Option OrderName) → IsBudget budget → IsGood (solve_of plain budget log order)
+of_solve [] budget log order b = tt
+of_solve (model ∷ []) None log order b = tt
+of_solve (model ∷ []) (Some budget) log None b = tt
+of_solve (model ∷ []) (Some budget) log (Some order) b = b
+of_solve (model ∷ more ∷ plain) budget log order b = tt
 
 of_reconfigure : (plain : List (List ℕ)) (budget : Option ℕ) (log : Option (List ℕ))
-    (order : Option ℕ) →
-    IsBudget budget → IsOrder order → IsGood (reconfigure_of plain budget log order)
-of_reconfigure [] budget log order b o = tt
-of_reconfigure (model ∷ []) budget log order b o = tt
-of_reconfigure (model ∷ former ∷ failed) None log order b o = tt
-of_reconfigure (model ∷ former ∷ failed) (Some budget) log None b o = tt
-of_reconfigure (model ∷ former ∷ failed) (Some budget) log (Some order) b o = (b, o)
+    (order : Option OrderName) →
+    IsBudget budget → IsGood (reconfigure_of plain budget log order)
+of_reconfigure [] budget log order b = tt
+of_reconfigure (model ∷ []) budget log order b = tt
+of_reconfigure (model ∷ former ∷ failed) None log order b = tt
+of_reconfigure (model ∷ former ∷ failed) (Some budget) log None b = tt
+of_reconfigure (model ∷ former ∷ failed) (Some budget) log (Some order) b = b
 
 of_check : (plain : List (List ℕ)) → IsGood (check_of plain)
 of_check [] = tt
@@ -113,44 +101,51 @@ of_gen [] = tt
 of_gen (word ∷ []) = is_gen (number_within 3 1 100 word) (within 3 1 100 word)
 of_gen (word ∷ more ∷ plain) = tt
 
-of_session : (plain : List (List ℕ)) (budget order : Option ℕ) →
-    IsBudget budget → IsOrder order → IsGood (session_of plain budget order)
-of_session [] budget order b o = tt
-of_session (model ∷ []) budget order b o = tt
-of_session (model ∷ former ∷ []) budget order b o = tt
-of_session (model ∷ former ∷ events ∷ []) None order b o = tt
-of_session (model ∷ former ∷ events ∷ []) (Some budget) None b o = tt
-of_session (model ∷ former ∷ events ∷ []) (Some budget) (Some order) b o = (b, o)
-of_session (model ∷ former ∷ events ∷ more ∷ plain) budget order b o = tt
+of_session : (plain : List (List ℕ)) (budget : Option ℕ) (order : Option OrderName) →
+    IsBudget budget → IsGood (session_of plain budget order)
+of_session [] budget order b = tt
+of_session (model ∷ []) budget order b = tt
+of_session (model ∷ former ∷ []) budget order b = tt
+of_session (model ∷ former ∷ events ∷ []) None order b = tt
+of_session (model ∷ former ∷ events ∷ []) (Some budget) None b = tt
+of_session (model ∷ former ∷ events ∷ []) (Some budget) (Some order) b = b
+of_session (model ∷ former ∷ events ∷ more ∷ plain) budget order b = tt
 
-of_core : (plain : List (List ℕ)) (budget order : Option ℕ) →
-    IsBudget budget → IsOrder order → IsGood (core_of plain budget order)
-of_core [] budget order b o = tt
-of_core (model ∷ []) None order b o = tt
-of_core (model ∷ []) (Some budget) None b o = tt
-of_core (model ∷ []) (Some budget) (Some order) b o = (b, o)
-of_core (model ∷ more ∷ plain) budget order b o = tt
+of_core : (plain : List (List ℕ)) (budget : Option ℕ) (order : Option OrderName) →
+    IsBudget budget → IsGood (core_of plain budget order)
+of_core [] budget order b = tt
+of_core (model ∷ []) None order b = tt
+of_core (model ∷ []) (Some budget) None b = tt
+of_core (model ∷ []) (Some budget) (Some order) b = b
+of_core (model ∷ more ∷ plain) budget order b = tt
 
 -- ---- any request
 
 of_asked : (c : Command) (plain : List (List ℕ)) (given : Given) → IsGood (asked c plain given)
 of_asked command.Solve plain given =
-    of_solve plain (budget_of given.budget) given.log (order_of 0 given.order)
-    (budget_within given.budget) (order_within 0 given.order (omega arith))
+    if_left (is_read given.log plain)
+    (solve_of plain (budget_of given.budget) given.log (order_of orders.First given.order))
+    (of_solve plain (budget_of given.budget) given.log (order_of orders.First given.order)
+    (budget_within given.budget))
 of_asked command.Reconfigure plain given =
-    of_reconfigure plain (budget_of given.budget) given.log (order_of 2 given.order)
-    (budget_within given.budget) (order_within 2 given.order (omega arith))
+    if_left (is_read given.log plain)
+    (reconfigure_of plain (budget_of given.budget) given.log
+    (order_of orders.Former given.order))
+    (of_reconfigure plain (budget_of given.budget) given.log (order_of orders.Former given.order)
+    (budget_within given.budget))
 of_asked command.Check plain given = if_kept (has_none given) (check_of plain) (of_check plain)
 of_asked command.Verify plain given = if_kept (has_none given) (verify_of plain) (of_verify plain)
 of_asked command.Gen plain given = if_kept (has_none given) (gen_of plain) (of_gen plain)
 of_asked command.Session plain given =
-    if_kept (is_none given.log) (session_of plain (budget_of given.budget) (order_of 2 given.order))
-    (of_session plain (budget_of given.budget) (order_of 2 given.order)
-    (budget_within given.budget) (order_within 2 given.order (omega arith)))
+    if_kept (is_none given.log)
+    (session_of plain (budget_of given.budget) (order_of orders.Former given.order))
+    (of_session plain (budget_of given.budget) (order_of orders.Former given.order)
+    (budget_within given.budget))
 of_asked command.Core plain given =
-    if_kept (is_none given.log) (core_of plain (budget_of given.budget) (order_of 0 given.order))
-    (of_core plain (budget_of given.budget) (order_of 0 given.order)
-    (budget_within given.budget) (order_within 0 given.order (omega arith)))
+    if_kept (is_none given.log)
+    (core_of plain (budget_of given.budget) (order_of orders.First given.order))
+    (of_core plain (budget_of given.budget) (order_of orders.First given.order)
+    (budget_within given.budget))
 
 good : (words : List (List ℕ)) → IsGood (parsed words)
 good [] = tt

@@ -1,6 +1,6 @@
 -- What words ask for. A reader believes after it: which lists of words are a request, and which
 -- request each of them is.
-use Rattle.std.specs.Prelude.{ℕ, ◌≡◌, ◌≤◌, Bool, not, ◌&&◌, ◌||◌, if◌then◌else◌}
+use Rattle.std.specs.Prelude.{ℕ, ◌≡◌, ◌≤◌, Bool, false, not, ◌&&◌, ◌||◌, if◌then◌else◌}
 use Rattle.std.specs.Prelude.{nat_eq, nat_le, nat_lt, List, [], ◌∷◌, ◌++◌, length, map, String}
 use Rattle.std.specs.Prelude.{string_bytes, codes, bytes_eq, Option, Some, None, is_none, IfNone}
 use Rattle.std.specs.Prelude.{option_map}
@@ -14,6 +14,8 @@ use Rattle.conf_request.specs.declared.command.Command.{Command}
 use Rattle.conf_request.specs.declared.command.Command.TheVariants as command
 use Rattle.conf_request.specs.declared.options.OptionName.{OptionName}
 use Rattle.conf_request.specs.declared.options.OptionName.TheVariants.{Budget, Log, Order}
+use Rattle.conf_request.specs.declared.options.OrderName.{OrderName}
+use Rattle.conf_request.specs.declared.options.OrderName.TheVariants as orders
 use Rattle.conf_request.specs.declared.scan.Expected.{Expected}
 use Rattle.conf_request.specs.declared.scan.Expected.TheVariants as expected
 use Rattle.conf_request.specs.declared.request.Request.{Request}
@@ -152,15 +154,15 @@ abbrev pub budget_of : Option (List ℕ) → Option ℕ
 budget_of None = Some usual_budget
 budget_of (Some word) = number_within 7 0 most_budget word
 
--- the number of an order: `first`, `small`, `former`
-abbrev pub order_named : List ℕ → Option ℕ
+-- an order by its name
+abbrev pub order_named : List ℕ → Option OrderName
 order_named word =
-    if bytes_eq word (codes "first") then Some 0
-    else if bytes_eq word (codes "small") then Some 1
-    else if bytes_eq word (codes "former") then Some 2
+    if bytes_eq word (codes "first") then Some orders.First
+    else if bytes_eq word (codes "small") then Some orders.Small
+    else if bytes_eq word (codes "former") then Some orders.Former
     else None
 
-abbrev pub order_of : ℕ → Option (List ℕ) → Option ℕ
+abbrev pub order_of : OrderName → Option (List ℕ) → Option OrderName
 order_of usual None = Some usual
 order_of usual (Some word) = order_named word
 
@@ -169,12 +171,20 @@ order_of usual (Some word) = order_named word
 abbrev pub has_none : Given → Bool
 has_none given = is_none given.budget && is_none given.log && is_none given.order
 
-abbrev pub solve_of : List (List ℕ) → Option ℕ → Option (List ℕ) → Option ℕ → Option Request
+-- the log's file is one of the first two words, which are the files that are read
+abbrev pub is_read : Option (List ℕ) → List (List ℕ) → Bool
+is_read None plain = false
+is_read (Some log) [] = false
+is_read (Some log) (first ∷ []) = bytes_eq log first
+is_read (Some log) (first ∷ second ∷ more) = bytes_eq log first || bytes_eq log second
+
+abbrev pub solve_of :
+    List (List ℕ) → Option ℕ → Option (List ℕ) → Option OrderName → Option Request
 solve_of (model ∷ []) (Some budget) log (Some order) = Some (Solve model budget log order)
 solve_of plain budget log order = None
 
 abbrev pub reconfigure_of :
-    List (List ℕ) → Option ℕ → Option (List ℕ) → Option ℕ → Option Request
+    List (List ℕ) → Option ℕ → Option (List ℕ) → Option OrderName → Option Request
 reconfigure_of (model ∷ former ∷ failed) (Some budget) log (Some order) =
     Some (Reconfigure model former failed budget log order)
 reconfigure_of plain budget log order = None
@@ -192,30 +202,34 @@ abbrev pub gen_of : List (List ℕ) → Option Request
 gen_of (word ∷ []) = option_map Gen (number_within 3 1 100 word)
 gen_of plain = None
 
-abbrev pub session_of : List (List ℕ) → Option ℕ → Option ℕ → Option Request
+abbrev pub session_of : List (List ℕ) → Option ℕ → Option OrderName → Option Request
 session_of (model ∷ former ∷ events ∷ []) (Some budget) (Some order) =
     Some (Session model former events budget order)
 session_of plain budget order = None
 
-abbrev pub core_of : List (List ℕ) → Option ℕ → Option ℕ → Option Request
+abbrev pub core_of : List (List ℕ) → Option ℕ → Option OrderName → Option Request
 core_of (model ∷ []) (Some budget) (Some order) = Some (Core model budget order)
 core_of plain budget order = None
 
--- which options a command has, and its order where none is named
+-- which options a command has, and its order where none is named; no log is written over a file
+-- that is read
 abbrev pub asked : Command → List (List ℕ) → Given → Option Request
 asked command.Solve plain given =
-    solve_of plain (budget_of given.budget) given.log (order_of 0 given.order)
+    if is_read given.log plain then None
+    else solve_of plain (budget_of given.budget) given.log (order_of orders.First given.order)
 asked command.Reconfigure plain given =
-    reconfigure_of plain (budget_of given.budget) given.log (order_of 2 given.order)
+    if is_read given.log plain then None
+    else reconfigure_of plain (budget_of given.budget) given.log
+    (order_of orders.Former given.order)
 asked command.Check plain given = if has_none given then check_of plain else None
 asked command.Verify plain given = if has_none given then verify_of plain else None
 asked command.Gen plain given = if has_none given then gen_of plain else None
 asked command.Session plain given =
     if is_none given.log
-    then session_of plain (budget_of given.budget) (order_of 2 given.order) else None
+    then session_of plain (budget_of given.budget) (order_of orders.Former given.order) else None
 asked command.Core plain given =
     if is_none given.log
-    then core_of plain (budget_of given.budget) (order_of 0 given.order) else None
+    then core_of plain (budget_of given.budget) (order_of orders.First given.order) else None
 
 -- ---- requests
 
@@ -264,10 +278,10 @@ model_file (Core model budget order) = Some model
 
 -- what the numbers of any request are, and that nothing failed where no former file is named
 abbrev pub IsLawful : Request → Type 0
-IsLawful (Solve model budget log order) = (budget ≤ most_budget) × (order ≤ 2)
-IsLawful (Reconfigure model former failed budget log order) = (budget ≤ most_budget) × (order ≤ 2)
+IsLawful (Solve model budget log order) = budget ≤ most_budget
+IsLawful (Reconfigure model former failed budget log order) = budget ≤ most_budget
 IsLawful (Check model log former failed) = IfNone former (failed ≡ [])
 IsLawful (Verify model config) = Unit {0}
 IsLawful (Gen n) = (1 ≤ n) × (n ≤ 100)
-IsLawful (Session model former events budget order) = (budget ≤ most_budget) × (order ≤ 2)
-IsLawful (Core model budget order) = (budget ≤ most_budget) × (order ≤ 2)
+IsLawful (Session model former events budget order) = budget ≤ most_budget
+IsLawful (Core model budget order) = budget ≤ most_budget

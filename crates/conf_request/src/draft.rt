@@ -3,14 +3,14 @@
 //! `draft_of` reads words without memory: it asks of each command which options and how many plain
 //! words it may have. `Draft::build` copies the words into the request.
 ghost use Rattle.std.specs.Prelude.{◌≡◌, map, string_bytes, option_map, option_copied, IfOk};
-ghost use Rattle.conf_request.specs.Words.{asked, check_of, verify_of, gen_of, parsed};
+ghost use Rattle.conf_request.specs.Words.{asked, check_of, verify_of, gen_of, is_read, parsed};
 ghost use Rattle.conf_request.specs.declared.command.Command.TheVariants as command;
 ghost use Rattle.conf_request.specs.Views.{given, plain, request_of};
 
 use crate::command::{Command, command_named};
 use crate::file_name::FileName;
 use crate::numbers::number_within;
-use crate::options::Given;
+use crate::options::{Given, OrderName};
 use crate::paths::Paths;
 use crate::request::Request;
 use crate::scan::{PlainWords, given_in};
@@ -21,10 +21,10 @@ use std::alloc::{AllocError, Global};
 #[derive(Clone, Copy)]
 pub enum Draft<'a> {
     /// `solve`: the model, the budget, the log and the order.
-    Solve(&'a str, u32, Option<&'a str>, u8),
+    Solve(&'a str, u32, Option<&'a str>, OrderName),
     /// `reconfigure`: the model, the former configuration, what failed, the budget, the log and the
     /// order.
-    Reconfigure(&'a str, &'a str, PlainWords<'a>, u32, Option<&'a str>, u8),
+    Reconfigure(&'a str, &'a str, PlainWords<'a>, u32, Option<&'a str>, OrderName),
     /// `check` without a former configuration: the model and the log.
     Check(&'a str, &'a str),
     /// `check` with one: the model, the log, the former configuration and what failed.
@@ -34,9 +34,24 @@ pub enum Draft<'a> {
     /// `gen`: the number.
     Gen(u32),
     /// `session`: the model, the former configuration, the events, the budget and the order.
-    Session(&'a str, &'a str, &'a str, u32, u8),
+    Session(&'a str, &'a str, &'a str, u32, OrderName),
     /// `core`: the model, the budget and the order.
-    Core(&'a str, u32, u8),
+    Core(&'a str, u32, OrderName),
+}
+
+/// Whether the log's file is one of the first two words, which are the files that are read. Two
+/// names of one file aren't told.
+fn is_read(words: PlainWords<'_>, log: Option<&str>) -> bool
+    ensures { result ≡ is_read (option_copied log.entry) (plain words.entry) }
+{
+    let Some(log) = log else { return false };
+    match words.split_first() {
+        None => false,
+        Some((first, more)) => match more.split_first() {
+            None => log == first,
+            Some((second, _)) => log == first || log == second,
+        },
+    }
 }
 
 /// What `solve` asks for.
@@ -44,10 +59,18 @@ fn solve<'a>(words: PlainWords<'a>, options: &Given<'a>) -> Option<Draft<'a>>
     ensures { option_map request_of result
         ≡ asked command.Solve (plain words.entry) (given options.now) }
 {
+    if is_read(words, options.log) {
+        return None;
+    }
     let (model, more) = words.split_first()?;
     match more.split_first() {
         Some(_) => None,
-        None => Some(Draft::Solve(model, options.budget()?, options.log, options.order(0)?)),
+        None => Some(Draft::Solve(
+            model,
+            options.budget()?,
+            options.log,
+            options.order(OrderName::First)?,
+        )),
     }
 }
 
@@ -56,10 +79,13 @@ fn reconfigure<'a>(words: PlainWords<'a>, options: &Given<'a>) -> Option<Draft<'
     ensures { option_map request_of result
         ≡ asked command.Reconfigure (plain words.entry) (given options.now) }
 {
+    if is_read(words, options.log) {
+        return None;
+    }
     let (model, more) = words.split_first()?;
     let (former, failed) = more.split_first()?;
     let budget = options.budget()?;
-    let order = options.order(2)?;
+    let order = options.order(OrderName::Former)?;
     Some(Draft::Reconfigure(model, former, failed, budget, options.log, order))
 }
 
@@ -111,7 +137,13 @@ fn session<'a>(words: PlainWords<'a>, options: &Given<'a>) -> Option<Draft<'a>>
     let (events, more) = more.split_first()?;
     match more.split_first() {
         Some(_) => None,
-        None => Some(Draft::Session(model, former, events, options.budget()?, options.order(2)?)),
+        None => Some(Draft::Session(
+            model,
+            former,
+            events,
+            options.budget()?,
+            options.order(OrderName::Former)?,
+        )),
     }
 }
 
@@ -126,7 +158,7 @@ fn core<'a>(words: PlainWords<'a>, options: &Given<'a>) -> Option<Draft<'a>>
     let (model, more) = words.split_first()?;
     match more.split_first() {
         Some(_) => None,
-        None => Some(Draft::Core(model, options.budget()?, options.order(0)?)),
+        None => Some(Draft::Core(model, options.budget()?, options.order(OrderName::First)?)),
     }
 }
 

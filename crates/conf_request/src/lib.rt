@@ -24,5 +24,6 @@ mod request;
 mod scan;
 
 pub use file_name::FileName;
+pub use options::OrderName;
 pub use paths::Paths;
 pub use request::{Request, request_of};

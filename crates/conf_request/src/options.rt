@@ -18,6 +18,17 @@ pub enum OptionName {
     Order,
 }
 
+/// The name of an order in which a search splits.
+#[derive(Clone, Copy, Debug)]
+pub enum OrderName {
+    /// `first`.
+    First,
+    /// `small`.
+    Small,
+    /// `former`.
+    Former,
+}
+
 /// The option of this name.
 pub fn option_named(name: &str) -> Option<OptionName>
     ensures { result ≡ option_named name.now }
@@ -108,8 +119,8 @@ impl<'a> Given<'a> {
         }
     }
 
-    /// The number of the order, if the value names one; this one without a value.
-    pub fn order(&self, usual: u8) -> Option<u8>
+    /// The order that the value names, if it names one; this one without a value.
+    pub fn order(&self, usual: OrderName) -> Option<OrderName>
         ensures { result ≡ order_of usual (given self.now).order }
     {
         match self.order {
@@ -119,16 +130,16 @@ impl<'a> Given<'a> {
     }
 }
 
-/// The number of the order of this name.
-fn order_named(word: &str) -> Option<u8>
+/// The order of this name.
+fn order_named(word: &str) -> Option<OrderName>
     ensures { result ≡ order_named word.now }
 {
     if word == "first" {
-        Some(0)
+        Some(OrderName::First)
     } else if word == "small" {
-        Some(1)
+        Some(OrderName::Small)
     } else if word == "former" {
-        Some(2)
+        Some(OrderName::Former)
     } else {
         None
     }

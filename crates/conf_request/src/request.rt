@@ -4,11 +4,11 @@ ghost use Rattle.conf_request.specs.Words.{request, model_file, IsLawful};
 
 use crate::draft::draft_of;
 use crate::file_name::FileName;
+use crate::options::OrderName;
 use crate::paths::Paths;
 use std::alloc::{AllocError, Global};
 
-/// What the words ask for. A budget is at most 1,000,000; an order is 0 for `first`, 1 for `small`
-/// and 2 for `former`.
+/// What the words ask for. A budget is at most 1,000,000.
 #[derive(Debug, Drop)]
 pub enum Request {
     /// A best configuration of the model. Its log is written to a file where one is named.
@@ -16,7 +16,7 @@ pub enum Request {
         model: FileName,
         budget: u32,
         log: Option<FileName>,
-        order: u8,
+        order: OrderName,
     },
     /// The best configuration that references nothing failed and differs least from a former one.
     Reconfigure {
@@ -25,7 +25,7 @@ pub enum Request {
         failed: Paths,
         budget: u32,
         log: Option<FileName>,
-        order: u8,
+        order: OrderName,
     },
     /// What a log shows: of `solve`, or of `reconfigure` where a former configuration is named.
     Check {
@@ -49,13 +49,13 @@ pub enum Request {
         former: FileName,
         events: FileName,
         budget: u32,
-        order: u8,
+        order: OrderName,
     },
     /// Constraints of the model that are to blame where it has no configuration.
     Core {
         model: FileName,
         budget: u32,
-        order: u8,
+        order: OrderName,
     },
 }
 

@@ -1,4 +1,3 @@
-mod LastFound
 mod KeyLaws
 mod KeptLaws
 mod Following

@@ -1,6 +1,6 @@
 -- What a session has come to. What a reader believes after this file: what stands as failed behind
 -- an event, and which values a session goes by.
-use Rattle.std.specs.Prelude.{◌≡◌, ℕ, Bool, ◌+◌, ◌^◌, ◌≤◌, not, cond, List, [], ◌∷◌, ◌++◌, ℤ, Option, None, Some, filter, length, map, take}
+use Rattle.std.specs.Prelude.{◌≡◌, ℕ, Bool, true, false, ◌+◌, ◌^◌, ◌≤◌, not, cond, List, [], ◌∷◌, ◌++◌, ℤ, Option, None, Some, filter, length, map, take}
 use Rattle.std.specs.List.{list_any}
 use Rattle.class_table.specs.Outline.{Outline}
 use Rattle.class_table.specs.Same.{same_name}
@@ -9,11 +9,8 @@ use Rattle.ground_cells.specs.CellBoxes.{cell_boxes}
 use Rattle.ground_form.specs.StandsFor.{StandsFor}
 use Rattle.ground_form.specs.WellMade.{IsWellMade}
 use Rattle.ground_form.specs.declared.ground.Ground.{Ground}
-use Rattle.log_check.specs.Added.{last_values}
-use Rattle.log_form.specs.declared.line.Line.{Line}
+use Rattle.log_check.specs.Verdicts.{Ending}
 use Rattle.reconfigure.specs.Failing.{unknown_word}
-use Rattle.run_finder.specs.declared.outcome.Outcome.{Outcome}
-use Rattle.run_finder.specs.declared.outcome.Outcome.TheVariants as outcomes
 use Rattle.command_limits.specs.Limits.{most_kept}
 
 -- the problem of the model with the clauses that were kept, the former values, the words that stand
@@ -57,13 +54,13 @@ failed_behind e failed = cond e.fails (with_word e.path failed) (without_word e.
 
 -- ---- former values
 
--- the values that were found last are former values, where some were found
-abbrev pub values_found : ℕ → List (Option ℤ) → Option (List ℤ) → List (Option ℤ)
-values_found n former None = former
-values_found n former (Some a) = map Some (take n a)
+-- those behind a search: where it has ended and found something the values found last, else those
+-- before
+abbrev pub former_by : ℕ → List (Option ℤ) → Bool → Option (List ℤ) → List (Option ℤ)
+former_by n former true (Some a) = map Some (take n a)
+former_by n former true None = former
+former_by n former false found = former
 
--- those behind a round: where a best configuration was found its values, else those before
-abbrev pub former_behind : ℕ → List (Option ℤ) → Outcome → List Line → List (Option ℤ)
-former_behind n former outcomes.Best ls = values_found n former (last_values ls)
-former_behind n former outcomes.NoSolution ls = former
-former_behind n former outcomes.Spent ls = former
+-- those behind a round with this verdict
+abbrev pub former_behind : ℕ → List (Option ℤ) → Ending → List (Option ℤ)
+former_behind n former verdict = former_by n former verdict.closed verdict.found

@@ -8,18 +8,18 @@ use Rattle.ground_form.specs.StandsFor.{StandsFor}
 use Rattle.ground_form.specs.WellMade.{IsWellMade}
 use Rattle.ground_form.specs.declared.ground.Ground.{Ground}
 use Rattle.kept_clauses.specs.Kept.{kept}
+use Rattle.log_check.specs.Verdicts.{Ending}
 use Rattle.log_form.specs.declared.line.Line.{Line}
 use Rattle.object_alloc.specs.Changes.{allowed, changes}
 use Rattle.proof_log.specs.Rounds.{Journal}
 use Rattle.proof_log.specs.declared.journal.Round.{Round}
 use Rattle.reconfigure.specs.Failing.{objects_named}
 use Rattle.reconfigure.specs.Repairing.{Extends}
-use Rattle.run_finder.specs.Outcomes.{OutcomeOf}
-use Rattle.run_finder.specs.declared.outcome.Outcome.{Outcome}
-use Rattle.run_law.specs.Replay.{is_run}
+use Rattle.run_finder.specs.Searched.{HasSearched}
 use Rattle.command_limits.specs.Limits.{most_kept}
 use Rattle.conf_session.specs.Keeping.{keeping}
 use Rattle.conf_session.specs.Standing.{Standing, IsOver, failed_behind, former_behind}
+use Rattle.conf_session.specs.declared.step.Step.{Step}
 
 -- whatever the one problem stands for, the other stands for too, with that nothing that failed is
 -- referred to, and with the number of changes as its first goal
@@ -44,17 +44,18 @@ ground_behind begun old g ls =
     (kept g (length old.domains) (length old.cons) ls)
 
 -- behind the event the journal has one round more, over the problem of a repair of what stood, by a
--- run that the outcome tells of; and this is what the session has come to
+-- search with this verdict; and this is what the session has come to
 pub record IsStep (o : Outline) (e : Event) (budget : ℕ) (old new : Standing)
-    (before after : Journal) (outcome : Outcome) : Type 0 where
+    (before after : Journal) (step : Step) : Type 0 where
   pub round : Round
   pub recorded : after ≡ record { ground = None; lines = []; rounds = before.rounds ++ round ∷ [] }
   pub extends : Extends old.ground round.ground
   pub repairs : RepairsFor o old.former new.failed old.ground round.ground
-  pub run : is_run round.ground round.lines ≡ true
-  pub outcome_is : OutcomeOf round.ground budget round.lines outcome
+  pub searched : HasSearched round.ground budget round.lines step.verdict
+  pub repaired_former : step.repair.former ≡ old.former
+  pub repaired_failed : step.repair.failed.items ≡ new.failed
   pub failed : new.failed ≡ failed_behind e old.failed
-  pub former : new.former ≡ former_behind old.ground.search old.former outcome round.lines
+  pub former : new.former ≡ former_behind old.ground.search old.former step.verdict
   pub ground : new.ground ≡ ground_behind old.begun old.ground round.ground round.lines
   pub begun : new.begun ≡ old.begun
   pub still : StandsStill o old.ground new.ground
@@ -62,11 +63,11 @@ pub record IsStep (o : Outline) (e : Event) (budget : ℕ) (old new : Standing)
 
 -- the session wasn't void, and isn't
 abbrev pub Steps : Outline → Event → ℕ → Option Standing → Option Standing → Journal → Journal
-    → Outcome → Type 0
-Steps o e budget None new before after outcome = ⊥
-Steps o e budget (Some old) None before after outcome = ⊥
-Steps o e budget (Some old) (Some new) before after outcome =
-    IsStep o e budget old new before after outcome
+    → Step → Type 0
+Steps o e budget None new before after step = ⊥
+Steps o e budget (Some old) None before after step = ⊥
+Steps o e budget (Some old) (Some new) before after step =
+    IsStep o e budget old new before after step
 
 -- ---- parts of a step
 
@@ -82,30 +83,29 @@ pub record IsGroundBehind (begun : ℕ) (old g : Ground) (ls : List Line)
 
 -- the present round holds the problem of a repair of what stands, and a run over it
 pub record IsSearched (o : Outline) (s : Standing) (budget : ℕ) (journal : Journal)
-    (outcome : Outcome) : Type 0 where
+    (verdict : Ending) : Type 0 where
   pub ground : Ground
   pub kept : journal.ground ≡ Some ground
   pub well_made : IsWellMade ground
   pub extends : Extends s.ground ground
   pub repairs : RepairsFor o s.former s.failed s.ground ground
-  pub run : is_run ground journal.lines ≡ true
-  pub outcome_is : OutcomeOf ground budget journal.lines outcome
+  pub searched : HasSearched ground budget journal.lines verdict
 
 -- what the session has come to behind a round
-pub record IsBehind (old : Standing) (g : Ground) (ls : List Line) (outcome : Outcome)
+pub record IsBehind (old : Standing) (g : Ground) (ls : List Line) (verdict : Ending)
     (new : Standing) : Type 0 where
   pub failed : new.failed ≡ old.failed
-  pub former : new.former ≡ former_behind old.ground.search old.former outcome ls
+  pub former : new.former ≡ former_behind old.ground.search old.former verdict
   pub ground : new.ground ≡ ground_behind old.begun old.ground g ls
   pub begun : new.begun ≡ old.begun
   pub still : (o : Outline) → (former : List (Option ℤ)) → (failed : List (List ℕ))
       → RepairsFor o former failed old.ground g → StandsStill o old.ground new.ground
 
 -- the present round was closed, and this is what the session has come to behind it
-pub record IsClosed (old : Standing) (before after : Journal) (outcome : Outcome)
+pub record IsClosed (old : Standing) (before after : Journal) (verdict : Ending)
     (new : Standing) : Type 0 where
   pub round : Round
   pub ground_is : before.ground ≡ Some round.ground
   pub lines_are : round.lines ≡ before.lines
   pub recorded : after ≡ record { ground = None; lines = []; rounds = before.rounds ++ round ∷ [] }
-  pub behind : IsBehind old round.ground round.lines outcome new
+  pub behind : IsBehind old round.ground round.lines verdict new

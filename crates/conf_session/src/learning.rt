@@ -1,6 +1,7 @@
 //! What a session takes from a round: former values, and clauses.
 ghost use Rattle.std.specs.Prelude.{◌≡◌, ◌+◌, ◌^◌, ◌≤◌, true, length, IfOk};
 ghost use Rattle.ground_form.specs.WellMade.{IsWellMade};
+ghost use Rattle.log_check.specs.Soundness.{FoundSolves};
 ghost use Rattle.reconfigure.specs.Repairing.{Extends};
 ghost use Rattle.run_law.specs.Replay.{is_run};
 ghost use Rattle.command_limits.specs.Limits.{most_kept};
@@ -12,8 +13,8 @@ use crate::values::former_behind;
 use command_limits::MOST_KEPT;
 use ground_form::Ground;
 use kept_clauses::kept_lines;
+use log_check::Verdict;
 use log_form::Line;
-use run_finder::Outcome;
 use run_law::front_is_run;
 use std::alloc::{AllocError, Global};
 
@@ -43,28 +44,27 @@ fn ground_behind(
     Ok(new)
 }
 
-/// What a session has come to behind a round over this problem, with this outcome and these lines.
-#[tactic(auto, using(crate::proofs::LastFound::found_long))]
+/// What a session has come to behind a round over this problem, with these lines and this verdict.
 pub(crate) fn behind(
     alloc: Global,
     state: State,
     g: &Ground,
     lines: &[Line],
-    outcome: Outcome,
+    verdict: &Verdict,
 ) -> Result<State, AllocError>
     requires well_made { IsWellMade g.now }
     requires run { is_run g.now lines.now ≡ true }
+    requires found { FoundSolves g.now verdict.now.found }
     requires extends { Extends state.ground g.now }
-    ensures behind { IfOk result (λ new. IsBehind state g.now lines.now outcome new) }
+    ensures behind { IfOk result (λ new. IsBehind state g.now lines.now verdict.now new) }
 {
-    front_is_run(g, lines);
     let State {
         ground,
         former,
         failed,
         begun,
     } = state;
-    let former = former_behind(alloc, ground.search, former, outcome, lines)?;
+    let former = former_behind(alloc, ground.search, former, verdict)?;
     let ground = ground_behind(alloc, ground, begun, g, lines)?;
     Ok(State {
         ground,

@@ -11,6 +11,7 @@
 //! Sorensson (2003), who mark by a literal what is to go; here the log tells.
 //!
 //! - `session`: `Session`, and its step.
+//! - `step`: `Step`, what a step hands back.
 //! - `state`: what a session has come to.
 //! - `round`: the problem of a round, and the search over it.
 //! - `learning`: what a session takes from a round.
@@ -25,9 +26,10 @@ mod round;
 mod session;
 mod state;
 mod stated;
+mod step;
 mod values;
 mod words;
 
 pub use session::Session;
-pub use values::last_found;
-pub use words::failed_behind;
+pub use step::Step;
+pub use words::copied_words;

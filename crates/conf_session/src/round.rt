@@ -5,18 +5,17 @@ ghost use Rattle.ground_form.specs.StandsFor.{StandsFor};
 ghost use Rattle.ground_form.specs.WellMade.{IsWellMade};
 ghost use Rattle.reconfigure.specs.Failing.{unknown_word};
 ghost use Rattle.reconfigure.specs.Repairing.{Extends};
-ghost use Rattle.run_finder.specs.Outcomes.{OutcomeOf};
-ghost use Rattle.run_law.specs.Replay.{is_run};
 ghost use Rattle.conf_session.specs.Standing.{IsOver};
 ghost use Rattle.conf_session.specs.Steps.{RepairsFor, IsSearched};
 
 use crate::state::{State, copied};
 use conf_syntax::PathText;
 use ground_form::Ground;
+use log_check::Verdict;
 use object_alloc::Objects;
 use proof_log::Journal;
 use reconfigure::{FailedError, with_changes};
-use run_finder::{Finder, Outcome};
+use run_finder::Finder;
 use std::alloc::{AllocError, Global};
 
 /// The problem of a repair: of this problem, these former values and these words.
@@ -64,12 +63,12 @@ pub(crate) fn searched<F: Finder>(
     objects: &Objects<'_>,
     finder: &mut F,
     journal: &mut Journal,
-) -> Result<Outcome, AllocError>
+) -> Result<Verdict, AllocError>
     requires over { IsOver objects.now state.now }
     requires problem { journal.old.ground ≡ None }
     requires lines { journal.old.lines ≡ [] }
-    ensures searched { IfOk result (λ outcome. IsSearched objects.now state.now
-        (F.allowed finder.old) journal.new outcome) }
+    ensures searched { IfOk result (λ verdict. IsSearched objects.now state.now
+        (F.allowed finder.old) journal.new verdict) }
     ensures rounds { journal.new.rounds ≡ journal.old.rounds }
     ensures budget { F.allowed finder.new ≡ F.allowed finder.old }
 {

@@ -9,13 +9,16 @@ ghost use Rattle.conf_session.specs.Steps.{Steps, IsStep, IsSearched, IsClosed};
 use crate::learning::behind;
 use crate::round::searched;
 use crate::state::State;
-use crate::words::failed_behind;
+use crate::step::Step;
+use crate::words::{copied_words, failed_behind};
 use conf_events::Event;
 use conf_syntax::PathText;
 use ground_form::Ground;
+use log_check::Verdict;
 use object_alloc::{Hints, Objects};
 use proof_log::Journal;
-use run_finder::{Finder, Outcome};
+use reconfigure::Repair;
+use run_finder::Finder;
 use std::alloc::{AllocError, Global};
 
 /// A session: the problem of a model with the clauses that were kept, the former values, and what
@@ -52,22 +55,32 @@ fn with_event(alloc: Global, state: State, event: &Event) -> Result<State, Alloc
     })
 }
 
+/// The repair of what stands.
+fn repair_of(alloc: Global, state: &State) -> Result<Repair, AllocError>
+    ensures former { IfOk result (λ r. r.former ≡ state.now.former) }
+    ensures failed { IfOk result (λ r. r.failed.items ≡ state.now.failed) }
+{
+    let former = Hints::of(state.former.items().to_vec(alloc)?);
+    let failed = copied_words(alloc, &state.failed)?;
+    Ok(Repair { former, failed })
+}
+
 /// What a session has come to behind the present round of the journal, which is then closed.
 fn closed(
     alloc: Global,
     state: State,
-    outcome: Outcome,
+    verdict: &Verdict,
     journal: &mut Journal,
 ) -> Result<State, AllocError>
     requires searched { (o : Outline) × (budget : ℕ)
-        × IsSearched o state budget journal.old outcome }
-    ensures closed { IfOk result (λ new. IsClosed state journal.old journal.new outcome new) }
+        × IsSearched o state budget journal.old verdict.now }
+    ensures closed { IfOk result (λ new. IsClosed state journal.old journal.new verdict.now new) }
     ensures rounds { OnErr result (journal.new.rounds ≡ journal.old.rounds) }
 {
     let Some(g) = journal.ground() else {
         unreachable!()
     };
-    let new = behind(alloc, state, g, journal.lines(), outcome)?;
+    let new = behind(alloc, state, g, journal.lines(), verdict)?;
     journal.close_round()?;
     Ok(new)
 }
@@ -80,7 +93,7 @@ fn advanced<F: Finder>(
     event: &Event,
     finder: &mut F,
     journal: &mut Journal,
-) -> Result<(State, Outcome), AllocError>
+) -> Result<(State, Step), AllocError>
     requires over { IsOver objects.now state }
     requires named { IsSome (object_named objects.now event.now.path) }
     requires problem { journal.old.ground ≡ None }
@@ -91,9 +104,10 @@ fn advanced<F: Finder>(
     ensures budget { F.allowed finder.new ≡ F.allowed finder.old }
 {
     let state = with_event(alloc, state, event)?;
-    let outcome = searched(alloc, &state, objects, finder, journal)?;
-    let new = closed(alloc, state, outcome, journal)?;
-    Ok((new, outcome))
+    let verdict = searched(alloc, &state, objects, finder, journal)?;
+    let repair = repair_of(alloc, &state)?;
+    let new = closed(alloc, state, &verdict, journal)?;
+    Ok((new, Step { repair, verdict }))
 }
 
 impl Session {
@@ -157,7 +171,8 @@ impl Session {
     /// Answers an event by a round: a search for the best repair of what then stands. Behind it the
     /// journal has one round more, over a problem that is made of the session's; the values of a
     /// best configuration are the former ones; and clauses that rest on the session's problem alone
-    /// are part of it, each once and at most 10,000 in all.
+    /// are part of it, each once and at most 10,000 in all. It hands back the repair that it made,
+    /// and the verdict of the search.
     ///
     /// # Errors
     ///
@@ -169,13 +184,13 @@ impl Session {
         event: &Event,
         finder: &mut F,
         journal: &mut Journal,
-    ) -> Result<Outcome, AllocError>
+    ) -> Result<Step, AllocError>
         requires over { IsSomeAnd self.old.state (IsOver objects.now) }
         requires named { IsSome (object_named objects.now event.now.path) }
         requires problem { journal.old.ground ≡ None }
         requires lines { journal.old.lines ≡ [] }
-        ensures step { IfOk result (λ outcome. Steps objects.now event.now (F.allowed finder.old)
-            self.old.state self.new.state journal.old journal.new outcome) }
+        ensures step { IfOk result (λ step. Steps objects.now event.now (F.allowed finder.old)
+            self.old.state self.new.state journal.old journal.new step) }
         ensures void { OnErr result (self.new.state ≡ None) }
         ensures rounds { OnErr result (journal.new.rounds ≡ journal.old.rounds) }
         ensures budget { F.allowed finder.new ≡ F.allowed finder.old }
@@ -183,8 +198,8 @@ impl Session {
         let Some(state) = self.state.take() else {
             unreachable!()
         };
-        let (state, outcome) = advanced(alloc, state, objects, event, finder, journal)?;
+        let (state, step) = advanced(alloc, state, objects, event, finder, journal)?;
         self.state = Some(state);
-        Ok(outcome)
+        Ok(step)
     }
 }

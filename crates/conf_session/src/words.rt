@@ -29,6 +29,17 @@ fn stands_among(word: &PathText, failed: &[PathText]) -> bool
     false
 }
 
+/// These words again.
+pub fn copied_words(alloc: Global, words: &[PathText]) -> Result<Vec<PathText>, AllocError>
+    ensures { IfOk result (λ copy. copy.items ≡ words.now) }
+{
+    let mut copy = Vec::new(alloc);
+    for word in words {
+        copy.push(PathText::of(alloc, word.as_bytes())?)?;
+    }
+    Ok(copy)
+}
+
 /// The words with one more, where it isn't one of them yet.
 fn with_word(
     alloc: Global,
@@ -76,7 +87,7 @@ fn without_word(
 }
 
 /// The words that stand as failed behind an event. A word stands once at most.
-pub fn failed_behind(
+pub(crate) fn failed_behind(
     alloc: Global,
     event: &Event,
     failed: Vec<PathText>,

@@ -6,23 +6,26 @@ use Rattle.branch_choice.specs.declared.split.Order.{Order}
 use Rattle.conf_request.specs.declared.request.Request.{Request}
 use Rattle.conf_syntax.specs.declared.tree.Program.{Program}
 use Rattle.desk_io.specs.Desk.{Files, with_file, with_printed}
-use Rattle.desk_io.specs.Whole.{StoresFront}
+use Rattle.desk_io.specs.Whole.{PrintsFront, StoresFront}
 use Rattle.proof_log.specs.Rounds.{Journal}
 use Rattle.run_status.specs.declared.status.Status.{Status}
-use Rattle.round_commands.specs.Answer.{IsAnswer}
-use Rattle.round_commands.specs.Asking.{OfAsked, OfText, log_file}
+use Rattle.run_promise.specs.Answer.{IsAnswer}
+use Rattle.run_promise.specs.Asking.{OfAsked, OfText, log_file}
 use Rattle.model_reader.specs.TextModel.{IsModelOf}
-use Rattle.round_commands.specs.Delivery.{Outside, outside, log_text, IsLoggedIn, IsLogFrontIn, IsLogFront, IsCutOff}
+use Rattle.run_promise.specs.Delivery.{Outside, outside, log_text, IsLoggedIn, IsLogFrontIn, IsLogFront, IsCutOff}
 use Rattle.round_commands.specs.Ending.{Trace, trace, Searches, IsBegun, EndsModel, EndsModelAt, Ends, EndsAt, RunEnds, RunEndsAt}
 use Rattle.model_reader.specs.Models.{IsWithin, outline_of, constraints_of, goals_of}
-use Rattle.round_commands.specs.Recorded.{IsRecorded}
-use Rattle.round_commands.specs.Refusal.{IsReason, IsDeniedOf, IsTooLongText}
+use Rattle.run_promise.specs.Recorded.{IsRecorded}
+use Rattle.run_promise.specs.Refusal.{IsReason, IsDeniedOf, IsTooLongText}
 use Rattle.model_reader.specs.ModelRefusal.{IsRefusedFor, IsTextRefused}
 use Rattle.run_status.specs.Stages.{Stage, Unasked, Unread, Refused, Answered, Unwritten, Lost, stage_of, Denied}
 use Rattle.round_commands.specs.Unreadable.{Unreadable}
-use Rattle.confsolve_run.specs.Told.{IsToldLog, stored, StoresSome, IsToldBroken}
-use Rattle.round_commands.proofs.Begun.{answer_begun}
+use Rattle.round_commands.specs.Told.{IsToldLog}
+use Rattle.confsolve_run.specs.Told.{stored, StoresSome, IsToldBroken}
+use Rattle.round_commands.proofs.Begun.{IsOther, Unheld, unheld, answer_begun}
+use Rattle.round_commands.proofs.Ends.{same_outside}
 use Rattle.round_commands.proofs.Reading.{risen_earlier}
+use Rattle.round_commands.proofs.Stepping.{nothing_printed}
 use Rattle.round_commands.proofs.Asking.{asked_map, text_map, text_read}
 
 -- ---- the log
@@ -48,13 +51,13 @@ whole_front (Some name) journal before now h =
     let text = log_text h.0 journal in
     inr (h.0, h.1, inr (length text, omega arith, h.2 ∙ ap (λ t. option_map (with_file name t) before) (sym (take_all text))))
 
-pub cut_of : (r : Request) (journal : Journal) (name log : Option (List ℕ)) (text : List ℕ) (before now : Outside) → name ≡ log_file r → IsToldLog (is_some name) journal log → IsToldBroken name log text before now → IsCutOff r journal text before now
-cut_of r journal name log text before now is h (inl b) = inl (b.0, subst (λ n. IsLogFrontIn n journal before.files now.files) is (front_of name log journal before.files now.files h b.1))
-cut_of r journal name log text before now is h (inr b) = inr (subst (λ n. IsLoggedIn n journal before.files now.files) is (logged_of name log journal before.files now.files h b.0), b.1)
+pub cut_of : (r : Request) (journal : Journal) (name log : Option (List ℕ)) (text : List ℕ) (before now : Outside) → name ≡ log_file r → IsToldLog (is_some name) journal log → IsToldBroken name log text before now → IsCutOff r journal [] text before now
+cut_of r journal name log text before now is h (inl b) = inl (refl, b.0, subst (λ n. IsLogFrontIn n journal before.files now.files) is (front_of name log journal before.files now.files h b.1))
+cut_of r journal name log text before now is h (inr b) = inr (subst (λ n. IsLoggedIn n journal before.files now.files) is (logged_of name log journal before.files now.files h b.0), subst (λ x. PrintsFront text x now.printed) (sym (nothing_printed before.printed)) b.1)
 
-pub begun_of : (r : Request) (journal : Journal) (text : List ℕ) (before now : Outside) → IsCutOff r journal text before now → IsLogFront r journal before.files now.files
-begun_of r journal text before now (inl c) = c.1
-begun_of r journal text before now (inr c) = whole_front (log_file r) journal before.files now.files c.0
+pub begun_of : (r : Request) (journal : Journal) (whole text : List ℕ) (before now : Outside) → IsCutOff r journal whole text before now → IsLogFront r journal before.files now.files
+begun_of r journal whole text before now (inl c) = c.2
+begun_of r journal whole text before now (inr c) = whole_front (log_file r) journal before.files now.files c.0
 
 -- ---- a model
 
@@ -64,20 +67,21 @@ model_answered t p s name log text stage recorded is h files within answers prin
     subst (λ g. EndsModelAt g t p s) (sym stage)
     (record { recorded = recorded; logged = logged }, (within, asked_map t.before.files t.request _ _ (λ asked a. (text, a, printed)) answers))
 
-pub model_begun : (t : Trace) (p : Program) (s : Status) (name log : Option (List ℕ)) (text : List ℕ) → IsRecorded t.orders t.request s t.journal → name ≡ log_file t.request → IsToldLog (is_some name) t.journal log → IsToldBroken name log text t.before t.now → IsWithin p → OfAsked t.before.files t.request (λ asked. IsAnswer t.orders t.journal asked p s text) → IsBegun t p
-model_begun t p s name log text recorded is h broken within answers =
+pub model_begun : (t : Trace) (p : Program) (s : Status) (name log : Option (List ℕ)) (text : List ℕ) → IsRecorded t.orders t.request s t.journal → name ≡ log_file t.request → IsToldLog (is_some name) t.journal log → IsToldBroken name log text t.before t.now → IsWithin p → IsOther t.request → OfAsked t.before.files t.request (λ asked. IsAnswer t.orders t.journal asked p s text) → IsBegun t p
+model_begun t p s name log text recorded is h broken within other answers =
     let cut = cut_of t.request t.journal name log text t.before t.now is h broken in
     record {
-      begins = record { status = s; recorded = recorded; logged = begun_of t.request t.journal text t.before t.now cut };
+      begins = record { status = s; recorded = recorded; logged = begun_of t.request t.journal [] text t.before t.now cut };
       within = within;
-      breaks = asked_map t.before.files t.request _ _ (λ asked a. (s, text, answer_begun (outline_of p) (constraints_of p) (goals_of p) t.orders t.journal asked s text a, cut)) answers;
+      breaks = asked_map t.before.files t.request (Unheld (λ asked. IsAnswer t.orders t.journal asked p s text)) _ (λ asked a. (s, [], text, answer_begun (outline_of p) (constraints_of p) (goals_of p) t.orders t.journal asked s text a, cut))
+          (unheld t.before.files t.request (λ asked. IsAnswer t.orders t.journal asked p s text) other answers);
     }
 
 -- the same, where the outside was as before when writing began
-pub begun_from : (t : Trace) (p : Program) (s : Status) (name log : Option (List ℕ)) (text : List ℕ) (files : Option Files) (printed : Option (List ℕ)) → files ≡ t.before.files → printed ≡ t.before.printed → IsRecorded t.orders t.request s t.journal → name ≡ log_file t.request → IsToldLog (is_some (log_file t.request)) t.journal log → IsToldBroken name log text (outside files printed) t.now → IsWithin p → OfAsked t.before.files t.request (λ asked. IsAnswer t.orders t.journal asked p s text) → IsBegun t p
-begun_from t p s name log text files printed f q recorded is h broken within answers =
+pub begun_from : (t : Trace) (p : Program) (s : Status) (name log : Option (List ℕ)) (text : List ℕ) (files : Option Files) (printed : Option (List ℕ)) → files ≡ t.before.files → printed ≡ t.before.printed → IsRecorded t.orders t.request s t.journal → name ≡ log_file t.request → IsToldLog (is_some (log_file t.request)) t.journal log → IsToldBroken name log text (outside files printed) t.now → IsWithin p → IsOther t.request → OfAsked t.before.files t.request (λ asked. IsAnswer t.orders t.journal asked p s text) → IsBegun t p
+begun_from t p s name log text files printed f q recorded is h broken within other answers =
     model_begun t p s name log text recorded is (subst (λ n. IsToldLog (is_some n) t.journal log) (sym is) h)
-    (subst (λ x. IsToldBroken name log text (outside t.before.files x) t.now) q (subst (λ x. IsToldBroken name log text (outside x printed) t.now) f broken)) within answers
+    (subst (λ x. IsToldBroken name log text (outside t.before.files x) t.now) q (subst (λ x. IsToldBroken name log text (outside x printed) t.now) f broken)) within other answers
 
 -- the same of an answer that was printed
 pub answered_from : (t : Trace) (p : Program) (s : Status) (name log : Option (List ℕ)) (text : List ℕ) (files : Option Files) (printed : Option (List ℕ)) → files ≡ t.before.files → printed ≡ t.before.printed → stage_of s ≡ Answered → IsRecorded t.orders t.request s t.journal → name ≡ log_file t.request → IsToldLog (is_some (log_file t.request)) t.journal log → t.now.files ≡ stored name log files → IsWithin p → OfAsked t.before.files t.request (λ asked. IsAnswer t.orders t.journal asked p s text) → t.now.printed ≡ with_printed text printed → EndsModel t p s
@@ -133,9 +137,6 @@ pub run_denied : (t : Trace) (s : Status) → t.journal.rounds ≡ [] → Unread
 run_denied t s none (inl h) same = subst (λ x. RunEndsAt (stage_of x) t x) (sym h.0) (h.1, same)
 run_denied t s none (inr (inl h)) same = subst (λ x. RunEndsAt (stage_of x) t x) (sym h) (inl (same, none))
 run_denied t s none (inr (inr h)) same = subst (λ g. RunEndsAt g t s) (sym h.0) (text_map t.before.files t.request _ _ (λ bytes long. inl long) h.1, same)
-
-same_outside : (files now_files : Option Files) (printed now_printed : Option (List ℕ)) → now_files ≡ files → now_printed ≡ printed → outside now_files now_printed ≡ outside files printed
-same_outside files now_files printed now_printed f q = ap (λ x. outside x now_printed) f ∙ ap (λ x. outside files x) q
 
 pub denied_from : (r : Request) (os : List Order) (journal : Journal) (files now_files : Option Files) (printed now_printed : Option (List ℕ)) (reads reads_now writes writes_now : ℕ) (s : Status) → journal.rounds ≡ [] → now_files ≡ files → now_printed ≡ printed → Unreadable reads reads_now s (OfText files r (λ bytes. IsTooLongText bytes s)) → RunEnds (trace r os journal (outside files printed) (outside now_files now_printed) reads reads_now writes writes_now) s
 denied_from r os journal files now_files printed now_printed reads reads_now writes writes_now s none f q h =

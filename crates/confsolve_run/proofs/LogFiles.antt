@@ -20,7 +20,7 @@ use Rattle.reconfigure.specs.declared.repair.Repair.{Repair}
 use Rattle.run_status.specs.declared.status.Status.{Status}
 use Rattle.run_status.specs.declared.status.Status.TheVariants as status
 use Rattle.confsolve_run.specs.Checking.{file_status, IsShownBy}
-use Rattle.round_commands.specs.Refusal.{IsUnfit, IsUnchecked}
+use Rattle.run_promise.specs.Refusal.{IsUnfit, IsUnchecked}
 use Rattle.round_commands.specs.Unreadable.{Unreadable}
 use Rattle.round_commands.proofs.Asking.{file_map}
 
@@ -63,7 +63,7 @@ module _ (told : Option Files) (name : List ℕ) (g h : Ground) (same : h ≡ g)
 -- the lines of a log show what is told
 pub shown_by : (told : Option Files) (name : List ℕ) (g : Ground) (v : Ending) (f : Finding) → OfFile told name (λ bytes. IsLogOf g bytes v) → f ≡ finding g v → OfFile told name (λ bytes. IsShownBy g bytes f)
 shown_by told name g v f log is =
-    file_map told name _ _ (λ bytes h. record { lines = h.lines; read = h.text; taken = h.taken; shown = is ∙ ap (finding g) h.verdict }) log
+    file_map told name _ _ (λ bytes h. record { lines = h.lines; read = h.text; spelled = h.spelled; taken = h.taken; shown = is ∙ ap (finding g) h.verdict }) log
 
 -- the journal holds the problem
 pub unchecked : (told : Option Files) (name : List ℕ) (reads reads_now : ℕ) (s : Status) (o : Outline) (ks : List ResolvedConstraint) (gs : List ResolvedGoal) (r : Option Repair) (g : Ground) (journal : Journal) → Unreadable reads reads_now s (OfFile told name (λ bytes. IsUnfit bytes s g)) → journal.ground ≡ Some g → journal.lines ≡ [] → IsProblemOf o ks gs r g → Unreadable reads reads_now s (OfFile told name (λ bytes. IsUnchecked o ks gs r journal bytes s))

@@ -2,6 +2,7 @@
 use Rattle.std.proofs.Common.{◌≡◌, ◌∙◌, ◌≤◌, inr, ap, List, Option, None, Some, Result, Ok, Err, IfOk, IfErr, refl, sym, subst, ℕ}
 use Rattle.branch_choice.specs.declared.split.Order.{Order}
 use Rattle.class_table.specs.Outline.{Outline}
+use Rattle.conf_request.specs.declared.options.OrderName.{OrderName}
 use Rattle.conf_request.specs.declared.request.Request.{Request}
 use Rattle.conf_request.specs.declared.request.Request.TheVariants.{Reconfigure, Check}
 use Rattle.conf_types.specs.Programs.{ResolvedConstraint, ResolvedGoal}
@@ -10,10 +11,10 @@ use Rattle.answer_text.specs.Texts.{solve_text}
 use Rattle.proof_log.specs.Rounds.{Journal}
 use Rattle.reconfigure.specs.declared.repair.Repair.{Repair}
 use Rattle.run_status.specs.declared.status.Status.{Status}
-use Rattle.confsolve_run.specs.declared.answer.Answer.{Answer}
-use Rattle.round_commands.specs.Answer.{IsChecked, IsModelAnswer, IsRepairOf, IsSearched, order_at}
-use Rattle.round_commands.specs.Asking.{OfAsked, former_text}
-use Rattle.round_commands.specs.Refusal.{IsDenied, IsUnchecked}
+use Rattle.round_commands.specs.declared.answer.Answer.{Answer}
+use Rattle.run_promise.specs.Answer.{IsChecked, IsModelAnswer, IsRepairOf, IsSearched, order_at}
+use Rattle.run_promise.specs.Asking.{OfAsked, former_text}
+use Rattle.run_promise.specs.Refusal.{IsDenied, IsUnchecked}
 use Rattle.round_commands.specs.Unreadable.{Unreadable}
 use Rattle.round_commands.proofs.Reading.{unread_map, unread_earlier}
 use Rattle.round_commands.proofs.Asking.{file_map}
@@ -23,7 +24,7 @@ module _ (told : Option Files) (q : Request) (o : Outline) (ks : List ResolvedCo
   of_request = subst (λ ws. OfFile told former (λ bytes. IsRepairOf o (former_text bytes ws) r)) named repair
 
   -- a repair is searched for
-  pub repaired : (os : List Order) (s : Status) (text : List ℕ) (model : List ℕ) (budget taken : ℕ) (log : Option (List ℕ)) (order number : ℕ) → q ≡ Reconfigure model former failed budget log order → taken ≡ budget → number ≡ order → IsSearched o ks gs (Some r) (order_at os number) taken journal s (solve_text o gs (Some r) taken) text → OfAsked told q (λ asked. IsModelAnswer o ks gs os journal asked s text)
+  pub repaired : (os : List Order) (s : Status) (text : List ℕ) (model : List ℕ) (budget taken : ℕ) (log : Option (List ℕ)) (order number : OrderName) → q ≡ Reconfigure model former failed budget log order → taken ≡ budget → number ≡ order → IsSearched o ks gs (Some r) (order_at os number) taken journal s (solve_text o gs (Some r) taken) text → OfAsked told q (λ asked. IsModelAnswer o ks gs os journal asked s text)
   repaired os s text model budget taken log order number is within by h =
       let asked = subst (λ n. IsSearched o ks gs (Some r) (order_at os n) budget journal s (solve_text o gs (Some r) budget) text) by
       (subst (λ n. IsSearched o ks gs (Some r) (order_at os number) n journal s (solve_text o gs (Some r) n) text) within h) in

@@ -1,17 +1,21 @@
 -- From how a request ends to what each clause of the top call says.
-use Rattle.std.proofs.Common.{◌≡◌, ◌⊎◌, inl, inr, ◌≤◌, true, List, Option, None, Some, IfSome, length, sym, subst, ap, ◌∙◌, ℕ}
+use Rattle.std.proofs.Common.{◌≡◌, ◌⊎◌, inl, inr, ◌≤◌, true, List, [], Option, None, Some, IfSome, length, sym, subst, ap, ◌∙◌, ℕ}
 use native.Mathlib.Omega.{arith}
+use Rattle.std.proofs.lemmas.List.Elements.{All-nil}
+use Rattle.branch_choice.specs.declared.split.Order.{Order}
 use Rattle.conf_request.specs.declared.request.Request.{Request}
+use Rattle.conf_request.specs.declared.request.Request.TheVariants.{Solve, Reconfigure, Check, Verify, Gen, Session, Core}
 use Rattle.desk_io.specs.Desk.{Files}
 use Rattle.desk_io.specs.Fault.{HasRisen}
 use Rattle.model_limits.specs.Limits.{model_bytes}
 use Rattle.proof_log.specs.Rounds.{Journal}
 use Rattle.run_status.specs.declared.status.Status.{Status}
 use Rattle.run_status.specs.declared.status.Status.TheVariants as status
-use Rattle.round_commands.specs.Asking.{OfText, log_file, text_of}
-use Rattle.round_commands.specs.Delivery.{IsLogFront, IsLogFrontIn}
-use Rattle.round_commands.specs.Ending.{Trace, Prints, Breaks, Searches, Delivers, Begins, IsUntouched, RunEnds, RunEndsAt, OfTrace}
-use Rattle.round_commands.specs.Refusal.{IsReason, IsTooLongText, IsStanding}
+use Rattle.run_promise.specs.Asking.{OfText, log_file, text_of}
+use Rattle.run_promise.specs.Delivery.{IsLogFront, IsLogFrontIn}
+use Rattle.round_commands.specs.Ending.{Trace, Prints, Breaks, Searches, Delivers, Begins, IsAmong, IsUntouched, RunEnds, RunEndsAt, OfTrace}
+use Rattle.run_promise.specs.Recorded.{AreRoundsFor, IsRecorded, IsRoundOf}
+use Rattle.run_promise.specs.Refusal.{IsReason, IsTooLongText, IsStanding}
 use Rattle.model_reader.specs.ModelRefusal.{IsTextRefused}
 use Rattle.run_status.specs.Stages.{Stage, Unasked, Unread, Refused, Answered, Unwritten, Lost, stage_of, is_silent, is_partial, IsSettled, IsUnless}
 use Rattle.round_commands.specs.Unreadable.{Unreadable}
@@ -29,6 +33,40 @@ some_same r q e = cc
 
 pub one_request : (o : Option Request) (r q : Request) → o ≡ Some r → o ≡ Some q → r ≡ q
 one_request o r q some other = some_same r q (sym some ∙ other)
+
+-- ---- rounds behind want of memory
+
+no_rounds : (r : Request) → AreRoundsFor r []
+no_rounds (Session model former events budget order) = All-nil (IsRoundOf budget)
+no_rounds (Core model budget order) = All-nil (IsRoundOf budget)
+no_rounds (Solve model budget log order) = tt
+no_rounds (Reconfigure model former failed budget log order) = tt
+no_rounds (Check model log former failed) = tt
+no_rounds (Verify model config) = tt
+no_rounds (Gen n) = tt
+
+recorded_rounds : (os : List Order) (r : Request) (s : Status) (journal : Journal) → IsRecorded os r s journal → AreRoundsFor r journal.rounds
+recorded_rounds os (Session model former events budget order) s journal h = h.rounds
+recorded_rounds os (Core model budget order) s journal h = h.rounds
+recorded_rounds os (Solve model budget log order) s journal h = tt
+recorded_rounds os (Reconfigure model former failed budget log order) s journal h = tt
+recorded_rounds os (Check model log former failed) s journal h = tt
+recorded_rounds os (Verify model config) s journal h = tt
+recorded_rounds os (Gen n) s journal h = tt
+
+abbrev IsLost : Trace → Type 0
+IsLost t = IsUntouched t ⊎ ((Begins t × OfTrace t (Breaks t)) ⊎ (IsAmong t × OfTrace t (Searches t)))
+
+-- without what is said of rounds
+untold : (t : Trace) → IsLost t → IsUntouched t ⊎ ((Begins t × OfTrace t (Breaks t)) ⊎ ((t.now ≡ t.before) × OfTrace t (Searches t)))
+untold t (inl h) = inl h
+untold t (inr (inl h)) = inr (inl h)
+untold t (inr (inr h)) = inr (inr (h.0.0, h.1))
+
+lost_rounds : (t : Trace) → IsLost t → AreRoundsFor t.request t.journal.rounds
+lost_rounds t (inl same) = subst (λ rounds. AreRoundsFor t.request rounds) (sym same.1) (no_rounds t.request)
+lost_rounds t (inr (inl h)) = recorded_rounds t.orders t.request h.0.status t.journal h.0.recorded
+lost_rounds t (inr (inr h)) = h.0.1
 
 module _ (t : Trace) (s : Status) (h : RunEnds t s) where
   at : (g : Stage) → stage_of s ≡ g → RunEndsAt g t s
@@ -50,7 +88,10 @@ module _ (t : Trace) (s : Status) (h : RunEnds t s) where
   unwritten is = at Unwritten (ap stage_of is)
 
   pub lost : s ≡ status.Memory → IsUntouched t ⊎ ((Begins t × OfTrace t (Breaks t)) ⊎ ((t.now ≡ t.before) × OfTrace t (Searches t)))
-  lost is = at Lost (ap stage_of is)
+  lost is = untold t (at Lost (ap stage_of is))
+
+  pub rounds_behind : s ≡ status.Memory → AreRoundsFor t.request t.journal.rounds
+  rounds_behind is = lost_rounds t (at Lost (ap stage_of is))
 
 silent_at : (g : Stage) (t : Trace) (s : Status) → is_silent g ≡ true → RunEndsAt g t s → t.now ≡ t.before
 silent_at Unasked t s is h = absurd h
@@ -76,7 +117,7 @@ front_at Answered t s is h = absurd cc
 front_at Unwritten t s is h = h.1.logged
 front_at Lost t s is (inl same) = untouched (log_file t.request) t.journal t.before.files t.now.files (ap (λ o. o.files) same.0)
 front_at Lost t s is (inr (inl h)) = h.0.logged
-front_at Lost t s is (inr (inr h)) = untouched (log_file t.request) t.journal t.before.files t.now.files (ap (λ o. o.files) h.0)
+front_at Lost t s is (inr (inr h)) = untouched (log_file t.request) t.journal t.before.files t.now.files (ap (λ o. o.files) h.0.0)
 
 pub log_front : (t : Trace) (s : Status) → RunEnds t s → is_partial (stage_of s) ≡ true → IsLogFront t.request t.journal t.before.files t.now.files
 log_front t s h is = front_at (stage_of s) t s is h

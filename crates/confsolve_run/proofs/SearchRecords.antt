@@ -3,18 +3,13 @@ use Rattle.std.proofs.Common.{◌≡◌, ◌∙◌, Bool, true, false, List, Opt
 use Rattle.branch_choice.specs.declared.split.Order.{Order}
 use Rattle.class_table.specs.Outline.{Outline}
 use Rattle.conf_types.specs.Programs.{ResolvedConstraint, ResolvedGoal}
-use Rattle.model_search.specs.Runs.{HasRun, is_open, values_for}
+use Rattle.model_search.specs.Runs.{is_open, values_for}
 use Rattle.model_search.specs.declared.finding.Finding.{Finding}
 use Rattle.proof_log.specs.Rounds.{Journal}
 use Rattle.reconfigure.specs.declared.repair.Repair.{Repair}
 use Rattle.run_status.specs.declared.status.Status.{Status}
-use Rattle.round_commands.specs.Answer.{searched_status, IsSearched}
-use Rattle.round_commands.specs.Recorded.{HasRecordedRun}
-use Rattle.confsolve_run.specs.Told.{HoldsLog}
-
-pub holds_log : (o : Outline) (ks : List ResolvedConstraint) (gs : List ResolvedGoal) (r : Option Repair) (order : Order) (budget : ℕ) (journal : Journal) (told : Finding) → HasRun o ks gs r order budget journal told → HoldsLog journal
-holds_log o ks gs r order budget journal told h =
-    record { ground = h.ground; kept = h.kept; well_made = h.problem.stands.well_made; taken = h.taken }
+use Rattle.run_promise.specs.Answer.{searched_status, IsSearched}
+use Rattle.run_promise.specs.Recorded.{HasRecordedRun}
 
 module _ (o : Outline) (ks : List ResolvedConstraint) (gs : List ResolvedGoal) (order : Order) (budget : ℕ) (journal : Journal) (s : Status) (text : Finding → List ℕ) (printed : List ℕ) where
   has_recorded_run : (repaired : Bool) (r : Option Repair) → (repaired ≡ false → r ≡ None) → IsSearched o ks gs r order budget journal s text printed → HasRecordedRun repaired order budget s journal
@@ -30,6 +25,7 @@ module _ (o : Outline) (ks : List ResolvedConstraint) (gs : List ResolvedGoal) (
         ordered = h.ordered;
         taken = h.taken;
         status_is = a.status_is ∙ ap (searched_status budget) h.shown;
+        within = h.within;
         all = λ is. (h.spent (subst (λ f. is_open f ≡ true) (sym h.shown) is)).all;
         due = λ is. (h.spent (subst (λ f. is_open f ≡ true) (sym h.shown) is)).due;
       }

@@ -15,9 +15,9 @@ use Rattle.object_alloc.specs.declared.object.Leaf.{Leaf}
 use Rattle.object_alloc.specs.Configurations.{IsConfiguration}
 use Rattle.object_alloc.specs.Cells.{extent}
 use Rattle.object_alloc.specs.Walk.{walk, leaves_in, objects}
-use Rattle.round_commands.specs.Answer.{IsConfigOf}
-use Rattle.round_commands.specs.Asking.{IsShort}
-use Rattle.round_commands.specs.Refusal.{IsBroken, IsUnverified, stated_path}
+use Rattle.run_promise.specs.Answer.{IsConfigOf}
+use Rattle.run_promise.specs.Asking.{IsShort}
+use Rattle.run_promise.specs.Refusal.{IsBroken, IsUnverified, stated_path}
 use Rattle.run_status.specs.Stages.{Denied}
 use Rattle.confsolve_run.specs.Verifying.{HasFullSets}
 use Rattle.run_status.specs.declared.status.Status.{Status}

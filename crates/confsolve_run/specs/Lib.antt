@@ -1,3 +1,4 @@
 pub mod Checking
+pub mod Requests
 pub mod Told
 pub mod Verifying

@@ -10,31 +10,32 @@ ghost use Rattle.conf_syntax.specs.Words.{AreWords};
 ghost use Rattle.model_limits.specs.Limits.{model_bytes, most_nesting};
 ghost use Rattle.proof_log.specs.Rounds.{empty};
 ghost use Rattle.run_status.specs.declared.status.Status.{Status as AStatus};
-ghost use Rattle.round_commands.specs.Answer.{IsModelAnswer, IsModelSearched, IsAnswer, IsAnswerSearched};
-ghost use Rattle.round_commands.specs.Asking.{IsFurther, OfAsked, closes_rounds, is_session, log_file};
-ghost use Rattle.round_commands.specs.Delivery.{outside};
+ghost use Rattle.run_promise.specs.Answer.{IsModelAnswer, IsModelSearched};
+ghost use Rattle.run_promise.specs.Asking.{IsFurther, OfAsked, closes_rounds, leaves_journal, log_file};
+ghost use Rattle.run_promise.specs.Delivery.{outside};
 ghost use Rattle.round_commands.specs.Ending.{Ends, EndsModel, trace};
-ghost use Rattle.model_reader.specs.Models.{IsWithin};
+ghost use Rattle.round_commands.specs.Holding.{ForModel};
 ghost use Rattle.model_reader.specs.Ready.{IsReady};
-ghost use Rattle.round_commands.specs.Recorded.{IsRecorded};
-ghost use Rattle.round_commands.specs.Refusal.{IsDenied, IsDeniedOf};
-ghost use Rattle.model_reader.specs.ModelRefusal.{IsRefusedFor, IsTextRefused};
+ghost use Rattle.run_promise.specs.Recorded.{AreRoundsFor, IsRecorded};
+ghost use Rattle.run_promise.specs.Refusal.{IsDenied};
+ghost use Rattle.model_reader.specs.ModelRefusal.{IsTextRefused};
 ghost use Rattle.run_status.specs.Stages.{Answered, stage_of, IsUnless};
 ghost use Rattle.round_commands.specs.Unreadable.{Unreadable};
-ghost use Rattle.confsolve_run.specs.Told.{IsToldLog};
+ghost use Rattle.round_commands.specs.Told.{IsToldLog};
+ghost use Rattle.confsolve_run.specs.Requests.{is_session};
 
-use crate::answer::Answer;
-use crate::blaming::blamed;
 use crate::checking::check;
 use crate::delivering::deliver;
-use crate::searching::{SearchWish, generated, solve};
 use crate::verifying::verify;
-use conf_request::{FileName, Request};
+use conf_request::{FileName, OrderName, Request};
 use conf_syntax::Program;
 use desk_io::{Desk, WriteError};
 use model_reader::{Built, objects_of, read_model, table_of, typed_model};
 use proof_log::Journal;
-use round_commands::{Resources, hold_model, repair_of};
+use round_commands::{
+    Answer, Resources, SearchWish, SessionWish, blame_model, generated, hold_model, repair_of,
+    solve,
+};
 use rule_law::Kit;
 use run_status::Status;
 use std::alloc::Global;
@@ -49,15 +50,8 @@ fn log_file(request: &Request) -> Option<&FileName>
     }
 }
 
-/// Whether a request is a session.
-fn is_session(request: &Request) -> bool
-    ensures { result ≡ is_session request.now }
-{
-    matches!(request, Request::Session { .. })
-}
-
 /// What is wanted of a search that a request asks for.
-fn wanted(budget: u32, order: u8, log: &Option<FileName>) -> SearchWish
+fn wanted(budget: u32, order: OrderName, log: &Option<FileName>) -> SearchWish
     ensures budget { result.budget ≡ budget }
     ensures order { result.order ≡ order }
     ensures logged { result.logged ≡ is_some log.now }
@@ -101,9 +95,11 @@ fn asked<D: Desk>(
         built.entry.objects.now built.entry.model.now.constraints
         built.entry.model.now.goals)) }
     ensures cut { OnErr result ((journal.new.rounds ≡ [])
-        ⊎ OfAsked (D.files desk.old) request.now (λ asked. IsModelSearched built.entry.objects.now
-        built.entry.model.now.constraints journal.new asked)) }
+        ⊎ (AreRoundsFor request.now journal.new.rounds
+        × OfAsked (D.files desk.old) request.now (λ asked. IsModelSearched built.entry.objects.now
+        built.entry.model.now.constraints journal.new asked))) }
     ensures rounds { closes_rounds request.now ≡ false → journal.new.rounds ≡ journal.old.rounds }
+    ensures kept { leaves_journal request.now ≡ true → journal.new ≡ journal.old }
     ensures files { D.files desk.new ≡ D.files desk.old }
     ensures printed { D.printed desk.new ≡ D.printed desk.old }
     ensures read_faults { D.read_faults desk.old ≤ D.read_faults desk.new }
@@ -147,66 +143,68 @@ fn asked<D: Desk>(
         },
         Request::Verify { config, .. } => verify(with.alloc, desk, config, built),
         Request::Core { budget, order, .. } => {
-            Ok(blamed(with, built, *budget, *order, kit, journal)?)
+            Ok(blame_model(with, built, *budget, *order, kit, journal)?)
         }
         Request::Session { .. } => unreachable!(),
     }
 }
 
-/// The answer to what is asked of a model.
-fn outcome<D: Desk>(
+/// Answers what is asked of a model that is within the limits.
+fn answer_built<D: Desk>(
     with: Resources<'_>,
     desk: &mut D,
-    program: &Program,
     request: &Request,
+    built: Built<'_>,
     kit: &mut Kit,
     journal: &mut Journal,
-) -> Result<Answer, Status>
-    requires words { AreWords (program_tokens program.now) }
-    requires nested { nesting program.now ≤ most_nesting }
-    requires few { length (program_tokens program.now) ≤ model_bytes }
+) -> Status
     requires may_read { (name : List ℕ) → IsFurther request.now name
         → IsTrue (D.may_read desk.old name) }
-    requires other { is_session request.now ≡ false }
+    requires may_write { (name : List ℕ) → log_file request.now ≡ Some name
+        → IsTrue (D.may_write desk.old name) }
+    requires ready { IsReady built.table.now built.objects.now built.model.now.constraints
+        built.model.now.goals }
     requires lawful { IsLawful request.now }
     requires empty { journal.old ≡ empty }
-    ensures stage { IfOk result (λ a. stage_of a.status ≡ Answered) }
-    ensures within { OnOk result (IsWithin program.now) }
-    ensures answer { IfOk result (λ a. OfAsked (D.files desk.old) request.now
-        (λ asked. IsAnswer (map (λ c. c.order) with.entry.choosers.now) journal.new asked
-        program.now a.status
-        a.text.items)) }
-    ensures recorded { IfOk result (λ a. IsRecorded (map (λ c. c.order) with.entry.choosers.now)
-        request.now
-        a.status journal.new) }
-    ensures log { IfOk result (λ a. IsToldLog (is_some (log_file request.now)) journal.new
-        (option_map (λ text. text.items) a.log)) }
-    ensures refused { IfErr result (λ s. Unreadable (D.read_faults desk.old)
-        (D.read_faults desk.new) s (IsRefusedFor s program.now
-        ⊎ (IsWithin program.now
-        × IsDeniedOf (D.files desk.old) request.now journal.new s program.now))) }
-    ensures cut { OnErr result ((journal.new.rounds ≡ [])
-        ⊎ (IsWithin program.now × OfAsked (D.files desk.old) request.now
-        (λ asked. IsAnswerSearched journal.new asked program.now))) }
+    ensures ends { ForModel built.entry.objects.now built.entry.model.now.constraints
+        built.entry.model.now.goals (λ p. EndsModel (trace request.now
+        (map (λ c. c.order) with.entry.choosers.now) journal.new
+        (outside (D.files desk.old) (D.printed desk.old))
+        (outside (D.files desk.new) (D.printed desk.new))
+        (D.read_faults desk.old) (D.read_faults desk.new) (D.write_faults desk.old)
+        (D.write_faults desk.new)) p result) }
     ensures rounds { closes_rounds request.now ≡ false → journal.new.rounds ≡ journal.old.rounds }
-    ensures files { D.files desk.new ≡ D.files desk.old }
-    ensures printed { D.printed desk.new ≡ D.printed desk.old }
-    ensures read_faults { D.read_faults desk.old ≤ D.read_faults desk.new }
-    ensures write_faults { D.write_faults desk.new ≡ D.write_faults desk.old }
-    ensures may_write { D.may_write desk.new ≡ D.may_write desk.old }
+    ensures kept { leaves_journal request.now ≡ true → journal.new ≡ journal.old }
 {
-    let table = table_of(with.alloc, program)?;
-    let model = typed_model(with.alloc, program, &table)?;
-    let objects = objects_of(with.alloc, &table, &model)?;
-    let built = Built {
-        table: &table,
-        model: &model,
-        objects: &objects,
+    if let Request::Session {
+        former,
+        events,
+        budget,
+        order,
+        ..
+    } = request
+    {
+        let wish = SessionWish {
+            former,
+            events,
+            budget: *budget,
+            order: *order,
+        };
+        return hold_model(with, desk, wish, built, kit, journal);
+    }
+    let answer = match asked(with, desk, request, built, kit, journal) {
+        Ok(answer) => answer,
+        Err(status) => return status,
     };
-    asked(with, desk, request, built, kit, journal)
+    match deliver(desk, log_file(request), &answer) {
+        Ok(()) => answer.status,
+        Err(WriteError::WriteFault) => Status::WriteFault,
+        Err(WriteError::Memory) => Status::Memory,
+    }
 }
 
-/// Answers a model.
+/// Answers a model: its table, its resolved expressions and its objects are made once, whatever is
+/// asked of it.
 fn answer_model<D: Desk>(
     with: Resources<'_>,
     desk: &mut D,
@@ -231,19 +229,26 @@ fn answer_model<D: Desk>(
         (D.read_faults desk.old) (D.read_faults desk.new) (D.write_faults desk.old)
         (D.write_faults desk.new)) program.now result }
     ensures rounds { closes_rounds request.now ≡ false → journal.new.rounds ≡ journal.old.rounds }
+    ensures kept { leaves_journal request.now ≡ true → journal.new ≡ journal.old }
 {
-    if is_session(request) {
-        return hold_model(with, desk, program, request, kit, journal);
-    }
-    let answer = match outcome(with, desk, program, request, kit, journal) {
-        Ok(answer) => answer,
+    let table = match table_of(with.alloc, program) {
+        Ok(table) => table,
         Err(status) => return status,
     };
-    match deliver(desk, log_file(request), &answer) {
-        Ok(()) => answer.status,
-        Err(WriteError::WriteFault) => Status::WriteFault,
-        Err(WriteError::Memory) => Status::Memory,
-    }
+    let model = match typed_model(with.alloc, program, &table) {
+        Ok(model) => model,
+        Err(status) => return status,
+    };
+    let objects = match objects_of(with.alloc, &table, &model) {
+        Ok(objects) => objects,
+        Err(status) => return status,
+    };
+    let built = Built {
+        table: &table,
+        model: &model,
+        objects: &objects,
+    };
+    answer_built(with, desk, request, built, kit, journal)
 }
 
 /// Answers what is asked of the model that a text of at most `MODEL_BYTES` bytes is, or names what
@@ -270,6 +275,7 @@ pub(crate) fn run_text<D: Desk>(
         (D.write_faults desk.new)) text.now result }
     ensures stands { (s : AStatus) → IsTextRefused text.now s → IsUnless s result }
     ensures rounds { closes_rounds request.now ≡ false → journal.new.rounds ≡ journal.old.rounds }
+    ensures kept { leaves_journal request.now ≡ true → journal.new ≡ journal.old }
 {
     match read_model(with.alloc, text) {
         Ok(program) => answer_model(with, desk, &program, request, kit, journal),

@@ -9,16 +9,15 @@ ghost use Rattle.model_search.specs.Findings.{Tells};
 ghost use Rattle.model_search.specs.Problems.{IsProblemOf};
 ghost use Rattle.model_search.specs.Wanted.{IsUnderstood};
 ghost use Rattle.proof_log.specs.Rounds.{empty};
-ghost use Rattle.round_commands.specs.Answer.{IsChecked, checked_status};
+ghost use Rattle.run_promise.specs.Answer.{IsChecked, checked_status};
 ghost use Rattle.answer_text.specs.Texts.{check_text};
 ghost use Rattle.confsolve_run.specs.Checking.{IsShownBy, file_status};
 ghost use Rattle.model_reader.specs.Ready.{IsReady};
-ghost use Rattle.round_commands.specs.Recorded.{HasChecked};
-ghost use Rattle.round_commands.specs.Refusal.{IsUnfit, IsUnchecked};
+ghost use Rattle.run_promise.specs.Recorded.{HasChecked};
+ghost use Rattle.run_promise.specs.Refusal.{IsUnfit, IsUnchecked};
 ghost use Rattle.run_status.specs.Stages.{Answered, stage_of};
 ghost use Rattle.round_commands.specs.Unreadable.{Unreadable};
 
-use crate::answer::{Answer, question_of};
 use answer_text::check_text;
 use command_limits::LOG_BYTES;
 use conf_request::FileName;
@@ -30,6 +29,7 @@ use model_reader::Built;
 use model_search::{Finding, Question, finding_of, problem_of};
 use proof_log::Journal;
 use reconfigure::Repair;
+use round_commands::{Answer, question_of};
 use run_status::{LimitKind, Status};
 use std::alloc::{AllocError, Global};
 
@@ -59,7 +59,7 @@ fn refused_file(error: FileCheck) -> Status
 }
 
 /// The verdict of the log in this file.
-fn verdict_of<D: Desk>(
+fn file_verdict<D: Desk>(
     alloc: Global,
     desk: &mut D,
     file: &FileName,
@@ -117,7 +117,7 @@ fn told_by<D: Desk>(
     ensures write_faults { D.write_faults desk.new ≡ D.write_faults desk.old }
     ensures may_write { D.may_write desk.new ≡ D.may_write desk.old }
 {
-    let verdict = verdict_of(alloc, desk, file, g)?;
+    let verdict = file_verdict(alloc, desk, file, g)?;
     let told = finding_of(alloc, question, g, &verdict)?;
     Ok(told)
 }

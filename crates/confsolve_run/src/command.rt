@@ -7,12 +7,12 @@ ghost use Rattle.desk_io.specs.Desk.{with_printed};
 ghost use Rattle.desk_io.specs.Fault.{HasRisen};
 ghost use Rattle.proof_log.specs.Rounds.{empty};
 ghost use Rattle.run_status.specs.declared.status.Status.{Status as AStatus};
-ghost use Rattle.round_commands.specs.Answer.{IsAnswer, IsAnswerBegun, IsAnswerSearched};
-ghost use Rattle.round_commands.specs.Asking.{Reads, Writes, IsFurther, OfText, closes_rounds, log_file, text_of};
-ghost use Rattle.round_commands.specs.Delivery.{outside, IsLogged, IsLogFront, IsCutOff};
-ghost use Rattle.round_commands.specs.Ending.{OfRequest, RunEnds, trace};
-ghost use Rattle.round_commands.specs.Recorded.{IsRecorded};
-ghost use Rattle.round_commands.specs.Refusal.{IsReason, IsStanding};
+ghost use Rattle.run_promise.specs.Answer.{IsAnswer, IsAnswerBegun, IsAnswerSearched};
+ghost use Rattle.run_promise.specs.Asking.{Reads, Writes, IsFurther, OfRequest, OfText, closes_rounds, leaves_journal, log_file, text_of};
+ghost use Rattle.run_promise.specs.Delivery.{outside, IsLogged, IsLogFront, IsCutOff};
+ghost use Rattle.round_commands.specs.Ending.{RunEnds, trace};
+ghost use Rattle.run_promise.specs.Recorded.{AreRoundsFor, IsRecorded};
+ghost use Rattle.run_promise.specs.Refusal.{IsReason, IsStanding};
 ghost use Rattle.run_status.specs.Stages.{Refused, Answered, stage_of, is_silent, is_partial, IsSettled, IsUnless};
 
 use crate::answering::run_text;
@@ -52,6 +52,7 @@ fn run_request<D: Desk>(
         → text_of (D.files desk.old) request.now ≡ Some text → IsStanding text s
         → IsUnless s result }
     ensures rounds { closes_rounds request.now ≡ false → journal.new.rounds ≡ journal.old.rounds }
+    ensures kept { leaves_journal request.now ≡ true → journal.new ≡ journal.old }
 {
     match text_of(with.alloc, desk, request) {
         Ok(text) => run_text(with, desk, &text, request, kit, journal),
@@ -98,11 +99,11 @@ pub fn run<D: Desk>(
     ensures files { is_silent (stage_of result) ≡ true → D.files desk.new ≡ D.files desk.old }
 
     // writing broke off within the log or the text of an answer; of a session the rounds are those
-    // of the events that were answered
+    // of the events that were answered, and all answers but the last were printed whole
     ensures write_fault { result ≡ Status.WriteFault → OfRequest (D.files desk.old) words.now
-        (λ r asked p. (s : AStatus) × (text : List ℕ)
-        × IsAnswerBegun (map (λ c. c.order) choosers.now) journal.new asked p s text
-        × IsCutOff r journal.new text (outside (D.files desk.old) (D.printed desk.old))
+        (λ r asked p. (s : AStatus) × (whole : List ℕ) × (text : List ℕ)
+        × IsAnswerBegun (map (λ c. c.order) choosers.now) journal.new asked p s whole text
+        × IsCutOff r journal.new whole text (outside (D.files desk.old) (D.printed desk.old))
         (outside (D.files desk.new) (D.printed desk.new))) }
     // want of memory came before writing and before a round was closed; or the same is so; or it
     // came among the searches for what to blame, before writing
@@ -110,14 +111,17 @@ pub fn run<D: Desk>(
         → ((outside (D.files desk.new) (D.printed desk.new)
         ≡ outside (D.files desk.old) (D.printed desk.old)) × (journal.new.rounds ≡ []))
         ⊎ (OfRequest (D.files desk.old) words.now
-        (λ r asked p. (s : AStatus) × (text : List ℕ)
-        × IsAnswerBegun (map (λ c. c.order) choosers.now) journal.new asked p s text
-        × IsCutOff r journal.new text (outside (D.files desk.old) (D.printed desk.old))
+        (λ r asked p. (s : AStatus) × (whole : List ℕ) × (text : List ℕ)
+        × IsAnswerBegun (map (λ c. c.order) choosers.now) journal.new asked p s whole text
+        × IsCutOff r journal.new whole text (outside (D.files desk.old) (D.printed desk.old))
         (outside (D.files desk.new) (D.printed desk.new)))
         ⊎ ((outside (D.files desk.new) (D.printed desk.new)
         ≡ outside (D.files desk.old) (D.printed desk.old))
         × OfRequest (D.files desk.old) words.now
         (λ r asked p. IsAnswerSearched journal.new asked p))) }
+    // of a session and of `core` the rounds are then runs, also where no files are told
+    ensures rounds_kept { result ≡ Status.Memory → IfSome (request words.now)
+        (λ r. AreRoundsFor r journal.new.rounds) }
 
     // the journal holds what the answer rests on, and the log's file a front of the log
     ensures kept { result ≡ Status.WriteFault → IfSome (request words.now)
@@ -141,6 +145,9 @@ pub fn run<D: Desk>(
     // no command but a session and `core` has rounds
     ensures rounds { IfSome (request words.now) (λ r. closes_rounds r ≡ false
         → journal.new.rounds ≡ journal.old.rounds) }
+    // `verify` has nothing in the journal, however it ends
+    ensures untouched { IfSome (request words.now) (λ r. leaves_journal r ≡ true
+        → journal.new ≡ journal.old) }
 {
     let with = Resources { alloc, choosers };
     match request_of(alloc, words) {

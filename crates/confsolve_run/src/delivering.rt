@@ -3,12 +3,12 @@ ghost use Rattle.std.specs.Prelude.{◌≡◌, ◌≤◌, List, Some, OnOk, OnEr
 ghost use Rattle.std.specs.Option.{option_map};
 ghost use Rattle.desk_io.specs.Desk.{with_printed};
 ghost use Rattle.desk_io.specs.Fault.{HasRisen};
-ghost use Rattle.round_commands.specs.Delivery.{outside};
+ghost use Rattle.run_promise.specs.Delivery.{outside};
 ghost use Rattle.confsolve_run.specs.Told.{stored, StoresSome, IsToldBroken};
 
-use crate::answer::Answer;
 use conf_request::FileName;
 use desk_io::{Desk, WriteError, print_all, store_all};
+use round_commands::Answer;
 
 /// Writes the log into the file, where there are both.
 fn store_log<D: Desk>(

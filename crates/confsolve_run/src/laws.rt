@@ -8,13 +8,13 @@ ghost use Rattle.conf_syntax.specs.OneModel.{AreOneModel};
 ghost use Rattle.desk_io.specs.Desk.{Files};
 ghost use Rattle.proof_log.specs.Rounds.{Journal as AJournal};
 ghost use Rattle.run_status.specs.declared.status.Status.{Status as AStatus};
-ghost use Rattle.round_commands.specs.Answer.{IsAnswer};
-ghost use Rattle.round_commands.specs.Asking.{Asked};
+ghost use Rattle.run_promise.specs.Answer.{IsAnswer, IsAnswerBegun, IsAnswerSearched};
+ghost use Rattle.run_promise.specs.Asking.{Asked};
 ghost use Rattle.model_reader.specs.TextModel.{IsModelOf, HasModel};
 ghost use Rattle.model_reader.specs.Meaning.{IsTyped};
 ghost use Rattle.model_reader.specs.Models.{IsWithin, outline_of};
 ghost use Rattle.model_reader.specs.ModelRefusal.{IsRefusedAs, IsRefusedFor};
-ghost use Rattle.round_commands.specs.Refusal.{IsDeniedOf};
+ghost use Rattle.run_promise.specs.Refusal.{IsDeniedOf};
 
 use conf_syntax::Program;
 
@@ -30,7 +30,7 @@ pub fn text_has_one_model(text: &[u8], model: &Program)
     // a refusal that stands in the text stands in this tree
     ensures refused { (s : AStatus) → IsRefusedAs s text.now → IsRefusedFor s model.now }
     ensures within { IsWithin model.now → (s : AStatus) → IsRefusedAs s text.now → ⊥ }
-    // what is asked of some tree of the text is asked of this one
+    // what is asked, answered, begun or searched of some tree of the text is so of this one
     ensures asked { (told : Option Files) (r : ARequest) (journal : AJournal) (s : AStatus)
         → HasModel text.now (λ p. IsWithin p × IsDeniedOf told r journal s p)
         → IsWithin model.now × IsDeniedOf told r journal s model.now }
@@ -38,4 +38,11 @@ pub fn text_has_one_model(text: &[u8], model: &Program)
         (printed : List ℕ)
         → HasModel text.now (λ p. IsWithin p × IsAnswer os journal asked p s printed)
         → IsWithin model.now × IsAnswer os journal asked model.now s printed }
+    ensures begun { (os : List AnOrder) (journal : AJournal) (asked : Asked) (s : AStatus)
+        (whole printed : List ℕ)
+        → HasModel text.now (λ p. IsWithin p × IsAnswerBegun os journal asked p s whole printed)
+        → IsWithin model.now × IsAnswerBegun os journal asked model.now s whole printed }
+    ensures searched { (journal : AJournal) (asked : Asked)
+        → HasModel text.now (λ p. IsWithin p × IsAnswerSearched journal asked p)
+        → IsWithin model.now × IsAnswerSearched journal asked model.now }
 {}

@@ -10,24 +10,18 @@
 //! - `command`: `run`, which reads the words.
 //! - `source`: the text of the model, from its file or made for `gen`.
 //! - `answering`: from the text to what is asked of its model, and to the answer.
-//! - `searching`, `checking`, `verifying`, `blaming`: what is asked of a model: a best
-//!   configuration, what a log shows, whether a configuration satisfies it, what to blame where
-//!   there is none.
-//! - `answer`: an answer, and what is asked of a model.
+//! - `checking`, `verifying`: what a log shows of a model; whether a configuration satisfies it.
 //! - `delivering`: the log is written, and the answer printed.
 //! - `laws`: a text has one model.
 //!
-//! What `run` promises stands in `round_commands`, as do a session and the searches of `core`.
+//! What `run` promises stands in `run_promise`, the commands that search in `round_commands`.
 #![tactic(auto)]
 
-mod answer;
 mod answering;
-mod blaming;
 mod checking;
 mod command;
 mod delivering;
 mod laws;
-mod searching;
 mod source;
 mod verifying;
 

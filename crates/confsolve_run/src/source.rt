@@ -4,8 +4,8 @@ ghost use Rattle.conf_request.specs.Words.{model_file, IsLawful};
 ghost use Rattle.desk_io.specs.Desk.{OfFile};
 ghost use Rattle.model_generator.specs.Generated.{generated};
 ghost use Rattle.model_limits.specs.Limits.{model_bytes};
-ghost use Rattle.round_commands.specs.Asking.{OfText};
-ghost use Rattle.round_commands.specs.Refusal.{IsTooLongText};
+ghost use Rattle.run_promise.specs.Asking.{OfText};
+ghost use Rattle.run_promise.specs.Refusal.{IsTooLongText};
 ghost use Rattle.round_commands.specs.Unreadable.{Unreadable};
 
 use conf_request::{FileName, Request};

@@ -7,15 +7,14 @@ ghost use Rattle.config_json.specs.Reading.{json_of};
 ghost use Rattle.desk_io.specs.Desk.{OfFile};
 ghost use Rattle.object_alloc.specs.Configurations.{IsConfiguration};
 ghost use Rattle.object_alloc.specs.Walk.{objects as all_objects};
-ghost use Rattle.round_commands.specs.Answer.{IsConfigOf, IsVerified};
-ghost use Rattle.round_commands.specs.Asking.{IsShort};
+ghost use Rattle.run_promise.specs.Answer.{IsConfigOf, IsVerified};
+ghost use Rattle.run_promise.specs.Asking.{IsShort};
 ghost use Rattle.confsolve_run.specs.Verifying.{HasFullSets};
 ghost use Rattle.model_reader.specs.Ready.{IsReady};
-ghost use Rattle.round_commands.specs.Refusal.{stated_path, IsUnverified};
+ghost use Rattle.run_promise.specs.Refusal.{stated_path, IsUnverified};
 ghost use Rattle.run_status.specs.Stages.{Answered, stage_of, Denied};
 ghost use Rattle.round_commands.specs.Unreadable.{Unreadable};
 
-use crate::answer::Answer;
 use answer_text::satisfied_text;
 use class_table::ClassTable;
 use conf_eval::{BrokenAt, satisfied};
@@ -26,7 +25,7 @@ use config_json::{ConfigText, hints_of, missing};
 use desk_io::Desk;
 use model_reader::Built;
 use object_alloc::{Config, Objects};
-use round_commands::{config_bytes, former_of};
+use round_commands::{Answer, config_bytes, former_of};
 use run_status::Status;
 use std::alloc::{AllocError, Global};
 

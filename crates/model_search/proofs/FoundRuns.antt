@@ -1,46 +1,141 @@
 -- What the journal holds when a search over a model has ended.
-use Rattle.std.proofs.Common.{◌≡◌, ℕ, ◌+◌, ◌≤◌, Bool, true, List, ℤ, Option, Some, None, subst, refl}
+use Rattle.std.proofs.Common.{◌≡◌, ◌∙◌, ℕ, ◌+◌, ◌≤◌, Bool, true, false, List, ℤ, Option, Some, None, ap, subst, sym, refl}
 use Rattle.bound_search.specs.declared.solving.Ended.{Ended}
 use Rattle.bound_search.specs.declared.solving.Ended.TheVariants as ended
 use Rattle.branch_choice.specs.declared.split.Order.{Order}
+use Rattle.branch_choice.specs.declared.split.Order.TheVariants as orders
 use Rattle.class_table.specs.Outline.{Outline}
 use Rattle.conf_types.specs.Programs.{ResolvedConstraint, ResolvedGoal}
 use Rattle.ground_form.specs.declared.ground.Ground.{Ground}
-use Rattle.log_check.specs.Verdicts.{ending}
-use Rattle.log_form.specs.Acceptance.{has_empty, made}
+use Rattle.log_check.specs.Soundness.{Means, FoundSolves}
+use Rattle.log_check.specs.Verdicts.{Ending, ending, kind_of, shown_of}
+use Rattle.log_form.specs.Acceptance.{has_empty, made, shown_by}
+use Rattle.log_form.specs.declared.line.Line.{Line}
 use Rattle.object_alloc.specs.Counts.{configuration_count}
 use Rattle.proof_log.specs.Rounds.{Journal}
+use Rattle.proof_log.specs.declared.journal.Round.{Round}
 use Rattle.reconfigure.specs.declared.repair.Repair.{Repair}
+use Rattle.run_finder.specs.Searched.{HasSearched}
 use Rattle.run_law.proofs.Fronts.{run_accepted}
+use Rattle.run_law.proofs.Orders.{own_ordered}
 use Rattle.run_law.specs.Decisions.{decisions, MayDecide}
+use Rattle.run_law.specs.Ordered.{IsOrdered}
+use Rattle.run_law.specs.Replay.{is_run}
+use Rattle.model_search.proofs.Solutions.{verdict_tells}
 use Rattle.model_search.specs.Findings.{finding, finding_by, Tells}
 use Rattle.model_search.specs.Problems.{IsProblemOf}
+use Rattle.model_search.specs.Rounds.{journal_of, told_by, end_of}
 use Rattle.model_search.specs.Runs.{is_open, values_for, IsSpent, HasRun}
-use Rattle.model_search.specs.Searching.{HasSearched}
 use Rattle.model_search.specs.declared.finding.Finding.{Finding}
+
+-- ---- a search whose lines were checked
+
+-- where the empty clause was made, the verdict isn't open
+spent_by : (g : Ground) (budget : ℕ) (ls : List Line) (end : Ended) (v : Ending) → v ≡ ending g ls →
+    (end ≡ ended.Closed → has_empty (made g ls).clauses ≡ true) →
+    (end ≡ ended.Spent → (decisions ls ≡ budget) × MayDecide g ls) → v.closed ≡ false →
+    (decisions ls ≡ budget) × MayDecide g ls
+spent_by g budget ls ended.Closed v is closed spent lacks =
+    let yes : v.closed ≡ true = ap (λ (x : Ending). x.closed) is ∙ closed refl in
+    absurd cc
+spent_by g budget ls ended.Spent v is closed spent lacks = spent refl
+
+-- the lines that were checked are those of the search, and the journal keeps them
+pub has_searched : (g : Ground) (budget : ℕ) (ls read kept : List Line) (end : Ended) (v : Ending) →
+    read ≡ ls → kept ≡ ls → is_run g ls ≡ true → v ≡ ending g read → Means g (shown_of v) →
+    FoundSolves g v.found → (end ≡ ended.Closed → has_empty (made g ls).clauses ≡ true) →
+    (end ≡ ended.Spent → (decisions ls ≡ budget) × MayDecide g ls) → decisions ls ≤ budget →
+    HasSearched g budget kept v
+has_searched g budget ls read kept end v r k run is sound found closed spent within =
+    let here : v ≡ ending g ls = is ∙ ap (λ xs. ending g xs) r in
+    subst (λ xs. HasSearched g budget xs v) (sym k)
+    (record {
+      run = run;
+      verdict_is = here;
+      sound = sound;
+      found = found;
+      within = within;
+      spent = λ lacks. spent_by g budget ls end v here closed spent lacks;
+    })
+
+-- ---- a search over a model
 
 closed_tells : (g : Ground) (found : Option (List ℤ)) → is_open (finding_by g true found) ≡ true → ⊥
 closed_tells g None e = cc
 closed_tells g (Some a) e = cc
 
-spent_of : (o : Outline) (g : Ground) (budget : ℕ) (j : Journal) (end : Ended) → (end ≡ ended.Closed → has_empty (made g j.lines).clauses ≡ true) → (end ≡ ended.Spent → (decisions j.lines ≡ budget) × MayDecide g j.lines) → (MayDecide g j.lines → decisions j.lines + 2 ≤ configuration_count o) → is_open (finding g (ending g j.lines)) ≡ true → IsSpent o g budget j
-spent_of o g budget j ended.Closed closed spent more is =
-    absurd (closed_tells g (made g j.lines).found (subst (λ (b : Bool). is_open (finding_by g b (made g j.lines).found) ≡ true) (closed refl) is))
-spent_of o g budget j ended.Spent closed spent more is =
-    let h = spent refl in
+open_not_closed : (g : Ground) (closed : Bool) (found : Option (List ℤ)) →
+    is_open (finding_by g closed found) ≡ true → closed ≡ false
+open_not_closed g true found e = absurd (closed_tells g found e)
+open_not_closed g false found e = refl
+
+spent_of : (o : Outline) (g : Ground) (budget : ℕ) (j : Journal) (v : Ending) →
+    HasSearched g budget j.lines v →
+    (MayDecide g j.lines → decisions j.lines + 2 ≤ configuration_count o) →
+    is_open (finding g v) ≡ true → IsSpent o g budget j
+spent_of o g budget j v searched more is =
+    let h = searched.spent (open_not_closed g v.closed v.found is) in
     record { all = h.0; due = h.1; more = subst (λ n. n + 2 ≤ configuration_count o) h.0 (more h.1) }
 
--- the journal's lines are those of the search, and its problem was kept behind them
-pub has_run : (o : Outline) (ks : List ResolvedConstraint) (gs : List ResolvedGoal) (r : Option Repair) (g : Ground) (order : Order) (budget : ℕ) (j : Journal) (told : Finding) (end : Ended) → j.ground ≡ Some g → IsProblemOf o ks gs r g → HasSearched g (values_for g.search r) order budget j.lines end → told ≡ finding g (ending g j.lines) → Tells o ks gs r told → (MayDecide g j.lines → decisions j.lines + 2 ≤ configuration_count o) → HasRun o ks gs r order budget j told
-has_run o ks gs r g order budget j told end kept problem searched shown tells more =
+-- the journal's lines are those of the search, its problem stands there, and its verdict is told
+pub has_run : (o : Outline) (ks : List ResolvedConstraint) (gs : List ResolvedGoal)
+    (r : Option Repair) (g : Ground) (order : Order) (budget : ℕ) (j : Journal) (told : Finding)
+    (v : Ending) → j.ground ≡ Some g → IsProblemOf o ks gs r g → HasSearched g budget j.lines v →
+    IsOrdered g order (values_for g.search r) j.lines → told ≡ finding g v →
+    (MayDecide g j.lines → decisions j.lines + 2 ≤ configuration_count o) →
+    HasRun o ks gs r order budget j told
+has_run o ks gs r g order budget j told v kept problem searched ordered is more =
     record {
       ground = g;
       kept = kept;
       problem = problem;
       run = searched.run;
-      ordered = searched.ordered;
+      ordered = ordered;
       taken = run_accepted g j.lines searched.run;
-      shown = shown;
-      tells = tells;
-      spent = λ is. spent_of o g budget j end searched.closed searched.spent more (subst (λ f. is_open f ≡ true) shown is);
+      shown = is ∙ ap (λ e. finding g e) searched.verdict_is;
+      tells = subst (λ f. Tells o ks gs r f) (sym is)
+          (verdict_tells o ks gs r g v problem searched.sound searched.found);
+      within = searched.within;
+      spent = λ told_open. spent_of o g budget j v searched more (subst (λ f. is_open f ≡ true) is told_open);
     }
+
+some_same : (g h : Ground) → Some g ≡ Some h → g ≡ h
+some_same g h e = cc
+
+-- the same, where what is told is told of the problem that the journal has
+pub found_run : (o : Outline) (ks : List ResolvedConstraint) (gs : List ResolvedGoal)
+    (r : Option Repair) (g h : Ground) (order : Order) (budget : ℕ) (j : Journal) (told : Finding)
+    (v : Ending) → j.ground ≡ Some g → j.ground ≡ Some h → IsProblemOf o ks gs r g →
+    HasSearched g budget j.lines v → IsOrdered g order (values_for g.search r) j.lines →
+    told ≡ finding h v → (MayDecide h j.lines → decisions j.lines + 2 ≤ configuration_count o) →
+    HasRun o ks gs r order budget j told
+found_run o ks gs r g h order budget j told v kept there problem searched ordered is more =
+    let same = some_same h g (sym there ∙ kept) in
+    has_run o ks gs r g order budget j told v kept problem searched ordered
+    (is ∙ ap (λ x. finding x v) same)
+    (subst (λ x. MayDecide x j.lines → decisions j.lines + 2 ≤ configuration_count o) same more)
+
+-- ---- a round is one
+
+pub run_of : (o : Outline) (ks : List ResolvedConstraint) (gs : List ResolvedGoal)
+    (r : Option Repair) (round : Round) (budget : ℕ) (v : Ending) →
+    IsProblemOf o ks gs r round.ground → HasSearched round.ground budget round.lines v →
+    (MayDecide round.ground round.lines → decisions round.lines + 2 ≤ configuration_count o) →
+    HasRun o ks gs r orders.Own budget (journal_of round) (told_by round)
+run_of o ks gs r round budget v problem searched more =
+    let g = round.ground in
+    has_run o ks gs r g orders.Own budget (journal_of round) (told_by round) v refl problem searched
+    (own_ordered g (values_for g.search r) round.lines)
+    (ap (λ e. finding g e) (sym searched.verdict_is)) more
+
+end_by : (g : Ground) (closed : Bool) (found : Option (List ℤ)) →
+    end_of (finding_by g closed found) ≡ kind_of (shown_by closed found)
+end_by g true (Some a) = refl
+end_by g true None = refl
+end_by g false found = refl
+
+pub ended_so : (round : Round) (budget : ℕ) (v : Ending) →
+    HasSearched round.ground budget round.lines v → end_of (told_by round) ≡ kind_of (shown_of v)
+ended_so round budget v searched =
+    ap (λ e. end_of (finding round.ground e)) (sym searched.verdict_is)
+    ∙ end_by round.ground v.closed v.found

@@ -1,5 +1,5 @@
 -- The ground problem of a repair, from that of the model.
-use Rattle.std.proofs.Common.{◌≡◌, Bool, true, false, ◌&&◌, List, ◌∷◌, ℤ, pos, Option, None, Some, IfSome, length, refl, subst, ℕ, ◌≤◌, ◌∙◌, arith}
+use Rattle.std.proofs.Common.{◌≡◌, ℕ, Bool, true, false, ◌&&◌, List, [], ◌∷◌, ℤ, pos, Option, None, Some, IfSome, length, suc, ap, refl, sym, subst, ◌∙◌}
 use Rattle.class_table.specs.Outline.{Outline}
 use Rattle.conf_types.specs.Programs.{ResolvedConstraint, ResolvedGoal}
 use Rattle.ground_cells.specs.CellBoxes.{cell_boxes, domain_box}
@@ -7,9 +7,10 @@ use Rattle.ground_model.specs.Asked.{functions}
 use Rattle.ground_form.specs.declared.ground.Ground.{Ground}
 use Rattle.ground_form.specs.StandsFor.{StandsFor}
 use Rattle.object_alloc.specs.Cells.{cells}
+use Rattle.object_alloc.proofs.HintLaws.{hints_lie}
 use Rattle.object_alloc.specs.Changes.{allowed, changes}
+use Rattle.object_alloc.specs.Hints.{AreCellHints, AreHints}
 use Rattle.object_alloc.specs.declared.object.Cell.{Cell}
-use Rattle.reconfigure.proofs.HintCounts.{enough_hints}
 use Rattle.reconfigure.specs.Failing.{objects_named}
 use Rattle.reconfigure.specs.declared.repair.Repair.{Repair}
 use Rattle.model_search.specs.Problems.{IsProblemOf}
@@ -41,10 +42,25 @@ repaired_by o ks gs r g new hs ws former failed p more =
     subst (λ (vs : List (List ℕ)). StandsFor new (cell_boxes o) (λ t. test t && allowed o (objects_named o vs) t) ((false, λ t. pos (changes o r.former t)) ∷ fs)) failed
     (subst (λ (ks : List (Option ℤ)). StandsFor new (cell_boxes o) (λ t. test t && allowed o (objects_named o ws) t) ((false, λ t. pos (changes o ks t)) ∷ fs)) former (more test fs st)))
 
--- there is a hint for each searched variable
-pub enough_former : (o : Outline) (ks : List ResolvedConstraint) (gs : List ResolvedGoal) (r : Option Repair) (g : Ground) → IsProblemOf o ks gs r g → IfSome r (IsUnderstood o) → IfSome r (λ x. g.search ≤ length x.former)
-enough_former o ks gs None g p u = tt
-enough_former o ks gs (Some r) g p u =
-    let size = p.stands.searched ∙ length_map (λ (c : Cell). domain_box o c.domain) (cells o) in
-    let enough = enough_hints o r.former u.former in
-    omega (arith, size, enough)
+-- ---- hints
+
+one_each : (o : Outline) (cs : List Cell) (hs : List (Option ℤ)) → AreCellHints o cs hs →
+    length hs ≡ length cs
+one_each o [] [] h = refl
+one_each o [] (k ∷ hs) h = absurd h
+one_each o (c ∷ cs) [] h = absurd h
+one_each o (c ∷ cs) (k ∷ hs) h = ap suc (one_each o cs hs h.1)
+
+-- there is a hint, or none, for each searched variable
+pub as_many_hints : (o : Outline) (ks : List ResolvedConstraint) (gs : List ResolvedGoal)
+    (r : Option Repair) (g : Ground) (hs : List (Option ℤ)) → IsProblemOf o ks gs r g →
+    AreHints o hs → length hs ≡ g.search
+as_many_hints o ks gs r g hs p h =
+    one_each o (cells o) hs (hints_lie o hs h)
+    ∙ sym (p.stands.searched ∙ length_map (λ (c : Cell). domain_box o c.domain) (cells o))
+
+pub as_many_former : (o : Outline) (ks : List ResolvedConstraint) (gs : List ResolvedGoal)
+    (r : Option Repair) (g : Ground) → IsProblemOf o ks gs r g → IfSome r (IsUnderstood o) →
+    IfSome r (λ x. length x.former ≡ g.search)
+as_many_former o ks gs None g p u = tt
+as_many_former o ks gs (Some r) g p u = as_many_hints o ks gs (Some r) g r.former p u.former

@@ -1,6 +1,6 @@
 pub mod Findings
 pub mod Problems
+pub mod Rounds
 pub mod Runs
-pub mod Searching
 pub mod Wanted
 pub use Rattle.ground_model.specs.Asked

@@ -1,6 +1,6 @@
 -- What a journal holds of a search over a model. What a reader believes after this file: its
 -- problem is the model's, or that of a repair of it; its lines are a run of a search by the order,
--- which the checker accepts, and what they show is what is told.
+-- within the budget, which the checker accepts, and what they show is what is told.
 use Rattle.std.specs.Prelude.{◌≡◌, ◌+◌, ◌≤◌, ℕ, Bool, true, false, List, ℤ, Option, None, Some, replicate}
 use Rattle.branch_choice.specs.declared.split.Order.{Order}
 use Rattle.class_table.specs.Outline.{Outline}
@@ -48,4 +48,5 @@ pub record HasRun (o : Outline) (ks : List ResolvedConstraint) (gs : List Resolv
   pub taken : accepted ground journal.lines ≡ true
   pub shown : told ≡ finding ground (ending ground journal.lines)
   pub tells : Tells o ks gs r told
+  pub within : decisions journal.lines ≤ budget
   pub spent : is_open told ≡ true → IsSpent o ground budget journal

@@ -63,8 +63,9 @@ pub fn finding_of(
     requires sound { Means g.now (shown_of verdict.now) }
     requires found { FoundSolves g.now verdict.now.found }
     ensures finding { IfOk result (λ f. f ≡ finding g.now verdict.now) }
-    ensures tells { IfOk result (λ f. Tells question.entry.objects.now question.entry.model.now.constraints
-        question.entry.model.now.goals (option_copied question.entry.repair) f) }
+    ensures tells { IfOk result (λ f. Tells question.entry.objects.now
+        question.entry.model.now.constraints question.entry.model.now.goals
+        (option_copied question.entry.repair) f) }
 {
     configurations_are_points(question.objects);
     let told = told_of(alloc, g, verdict)?;

@@ -1,12 +1,12 @@
 -- What holds where files are told, of texts and of what is asked.
-use Rattle.std.proofs.Common.{◌≡◌, true, false, List, Option, None, Some, sym, subst, ◌∙◌, ℕ}
+use Rattle.std.proofs.Common.{◌≡◌, List, Option, None, Some, sym, subst, ◌∙◌, ℕ}
 use Rattle.std.specs.Option.{option_and_then}
 use Rattle.conf_request.specs.declared.request.Request.{Request}
 use Rattle.conf_request.specs.declared.request.Request.TheVariants.{Solve, Reconfigure, Check, Verify, Gen, Session, Core}
 use Rattle.conf_syntax.specs.declared.tree.Program.{Program}
 use Rattle.desk_io.specs.Desk.{Files, OfFile}
 use Rattle.model_generator.specs.Generated.{generated}
-use Rattle.round_commands.specs.Asking.{Asked, Best, Generated, Checked, Satisfied, Held, Blamed, OfChecked, OfText, OfAsked, former_text, is_session, closes_rounds, text_of}
+use Rattle.run_promise.specs.Asking.{Asked, Best, Generated, Checked, Satisfied, Held, Blamed, OfChecked, OfText, OfAsked, former_text, text_of}
 use Rattle.model_reader.specs.TextModel.{HasModel}
 
 pub file_map : (told : Option Files) (name : List ℕ) (P Q : List ℕ → Type 0) → ((bytes : List ℕ) → P bytes → Q bytes) → OfFile told name P → OfFile told name Q
@@ -61,13 +61,3 @@ text_known told (Core model budget order) text P e h = file_known told model tex
 
 pub model_map : (text : List ℕ) (P Q : Program → Type 0) → ((p : Program) → P p → Q p) → HasModel text P → HasModel text Q
 model_map text P Q f h = (h.0, h.1, f h.0 h.2)
-
--- the searches of a session are rounds
-pub session_closes : (r : Request) → is_session r ≡ true → closes_rounds r ≡ false → ⊥
-session_closes (Solve model budget log order) s c = absurd cc
-session_closes (Reconfigure model former failed budget log order) s c = absurd cc
-session_closes (Check model log former failed) s c = absurd cc
-session_closes (Verify model config) s c = absurd cc
-session_closes (Gen n) s c = absurd cc
-session_closes (Session model former events budget order) s c = absurd cc
-session_closes (Core model budget order) s c = absurd cc

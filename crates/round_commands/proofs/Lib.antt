@@ -1,6 +1,11 @@
-pub mod Holdings
+pub mod Among
+pub mod Answering
 pub mod Asking
 pub mod Begun
+pub mod Blames
 pub mod Ends
+pub mod Holdings
+pub mod LogHolds
 pub mod Reading
 pub mod Rounds
+pub mod Stepping

@@ -1,30 +1,31 @@
 -- What holds of the journal's rounds, whatever is known of files.
 use Rattle.std.proofs.Common.{◌≡◌, ◌∙◌, true, List, [], Option, None, Some, slice_index_or, refl, sym, subst, ap, ℕ}
+use Rattle.std.specs.List.{All}
 use Rattle.branch_choice.specs.declared.split.Order.TheVariants as orders
 use Rattle.class_table.specs.Outline.{Outline}
-use Rattle.core_run.specs.Cores.{BeginsSo, IsAnswered}
-use Rattle.core_run.specs.Parts.{part_of}
-use Rattle.core_run.specs.CoreAnswer.{CoreAnswer}
-use Rattle.core_run.specs.CoreAnswer.TheVariants as answers
+use Rattle.conf_core.specs.Cores.{BeginsSo, IsAnswered}
+use Rattle.conf_core.specs.Parts.{part_of, ArePartRounds}
+use Rattle.conf_core.specs.declared.answer.CoreAnswer.{CoreAnswer}
+use Rattle.conf_core.specs.declared.answer.CoreAnswer.TheVariants as answers
 use Rattle.conf_types.specs.Programs.{ResolvedConstraint, ResolvedGoal}
-use Rattle.core_run.specs.Blaming.{IsBlamed}
-use Rattle.core_run.specs.Texts.{core_status}
+use Rattle.run_promise.specs.Blaming.{IsBlamed}
+use Rattle.run_promise.specs.CoreTexts.{core_status}
 use Rattle.ground_form.specs.WellMade.{IsWellMade}
 use Rattle.ground_form.specs.declared.ground.Ground.{Ground}
 use Rattle.log_check.specs.Verdicts.{ending}
 use Rattle.log_form.specs.Acceptance.{accepted}
-use Rattle.model_rounds.specs.Rounds.{end_of, journal_of, told_by}
-use Rattle.model_rounds.specs.Findings.{finding}
-use Rattle.model_rounds.specs.Runs.{HasRun, is_open}
-use Rattle.model_rounds.specs.Finding.{Finding}
-use Rattle.model_rounds.specs.Finding.TheVariants as findings
+use Rattle.model_search.specs.Rounds.{end_of, journal_of, told_by}
+use Rattle.model_search.specs.Findings.{finding}
+use Rattle.model_search.specs.Runs.{HasRun, is_open}
+use Rattle.model_search.specs.declared.finding.Finding.{Finding}
+use Rattle.model_search.specs.declared.finding.Finding.TheVariants as findings
 use Rattle.proof_log.specs.Rounds.{Journal}
 use Rattle.proof_log.specs.declared.journal.Round.{Round}
 use Rattle.reconfigure.specs.declared.repair.Repair.{Repair}
-use Rattle.round_commands.specs.Answer.{searched_status}
-use Rattle.round_commands.specs.Recorded.{HasBlamed, IsRoundOf}
-use Rattle.run_finder.specs.declared.outcome.Outcome.{Outcome}
-use Rattle.run_finder.specs.declared.outcome.Outcome.TheVariants as outcomes
+use Rattle.run_promise.specs.Answer.{searched_status}
+use Rattle.run_promise.specs.Recorded.{HasBlamed, IsRoundOf}
+use Rattle.log_check.specs.declared.verdict.VerdictKind.{VerdictKind}
+use Rattle.log_check.specs.declared.verdict.VerdictKind.TheVariants as kinds
 use Rattle.run_status.specs.declared.status.Status.{Status}
 use Rattle.run_status.specs.declared.status.Status.TheVariants as status
 use Rattle.run_law.specs.Decisions.{MayDecide}
@@ -46,6 +47,7 @@ round_of o ks gs r budget round told h =
         well_made = subst (λ (g : Ground). IsWellMade g) (sym same) h.problem.stands.well_made;
         run = subst (λ (g : Ground). is_run g round.lines ≡ true) (sym same) h.run;
         taken = subst (λ (g : Ground). accepted g round.lines ≡ true) (sym same) h.taken;
+        within = h.within;
         all = λ is. (h.spent (subst (λ (f : Finding). is_open f ≡ true) shown is)).all;
         due = λ is. subst (λ (g : Ground). MayDecide g round.lines) (sym same)
             (h.spent (subst (λ (f : Finding). is_open f ≡ true) shown is)).due;
@@ -55,19 +57,19 @@ round_of o ks gs r budget round told h =
 
 -- ---- what to blame
 
-best_status : (budget : ℕ) (f : Finding) → end_of f ≡ outcomes.Best →
+best_status : (budget : ℕ) (f : Finding) → end_of f ≡ kinds.Best →
     searched_status budget f ≡ status.Done
 best_status budget (findings.Best t) e = refl
 best_status budget findings.NoneExists e = absurd cc
 best_status budget (findings.Open last) e = absurd cc
 
-none_status : (budget : ℕ) (f : Finding) → end_of f ≡ outcomes.NoSolution →
+none_status : (budget : ℕ) (f : Finding) → end_of f ≡ kinds.NoSolution →
     searched_status budget f ≡ status.NoneExists
 none_status budget (findings.Best t) e = absurd cc
 none_status budget findings.NoneExists e = refl
 none_status budget (findings.Open last) e = absurd cc
 
-spent_status : (budget : ℕ) (f : Finding) → end_of f ≡ outcomes.Spent →
+spent_status : (budget : ℕ) (f : Finding) → end_of f ≡ kinds.Open →
     searched_status budget f ≡ status.Undecided budget
 spent_status budget (findings.Best t) e = absurd cc
 spent_status budget findings.NoneExists e = absurd cc
@@ -76,12 +78,19 @@ spent_status budget (findings.Open last) e = refl
 -- what the first round shows makes the status
 begins_as : (o : Outline) (ks : List ResolvedConstraint) (rounds : List Round) (budget : ℕ)
     (a : CoreAnswer) → IsAnswered o ks rounds a →
-    (end : Outcome) × BeginsSo ks rounds end
+    (end : VerdictKind) × BeginsSo ks rounds end
     × ((f : Finding) → end_of f ≡ end → searched_status budget f ≡ core_status budget a)
-begins_as o ks rounds budget answers.Solvable h = (outcomes.Best, h, best_status budget)
-begins_as o ks rounds budget answers.Undecided h = (outcomes.Spent, h, spent_status budget)
+begins_as o ks rounds budget answers.Solvable h = (kinds.Best, h, best_status budget)
+begins_as o ks rounds budget answers.Undecided h = (kinds.Open, h, spent_status budget)
 begins_as o ks rounds budget (answers.Core keep unsure) h =
-    (outcomes.NoSolution, h.0, none_status budget)
+    (kinds.NoSolution, h.0, none_status budget)
+
+-- rounds over parts of a model are runs within the budget
+pub part_rounds : (o : Outline) (ks : List ResolvedConstraint) (budget : ℕ) (rounds : List Round) →
+    ArePartRounds o ks budget rounds → All (IsRoundOf budget) rounds
+part_rounds o ks budget rounds h = λ k d lt.
+    let round = slice_index_or rounds k d in
+    (round_of o (part_of ks round.part) [] None budget round (told_by round) (h k d lt).run).0
 
 pub has_blamed : (o : Outline) (ks : List ResolvedConstraint) (budget : ℕ) (journal : Journal)
     (s : Status) (text : List ℕ) → IsBlamed o ks budget journal.rounds s text →
@@ -90,10 +99,7 @@ has_blamed o ks budget journal s text h =
     let rounds = journal.rounds in
     let b = begins_as o ks rounds budget h.answer h.answered in
     record {
-      rounds = λ k d lt.
-          let round = slice_index_or rounds k d in
-          (round_of o (part_of ks round.part) [] None budget round (told_by round)
-          (h.searched k d lt).run).0;
+      rounds = part_rounds o ks budget rounds h.searched;
       first = b.1.first;
       rest = b.1.rest;
       rounds_are = b.1.rounds_are;

@@ -1,38 +1,21 @@
--- How a run ends, stage by stage. What a reader believes after this file: what was printed and
--- written, what the status says, and which faults came.
-use Rattle.std.specs.Prelude.{◌≡◌, ◌⊎◌, List, [], Option, IfSome, String, ℕ}
-use Rattle.std.specs.declared.alloc.Global.{Global}
+-- How a run ends, stage by stage, as its steps hand it on. What a reader believes after this file:
+-- nothing that `run` says.
+use Rattle.std.specs.Prelude.{◌≡◌, ◌⊎◌, List, [], ℕ}
 use Rattle.branch_choice.specs.declared.split.Order.{Order}
-use Rattle.conf_request.specs.Words.{request}
 use Rattle.conf_request.specs.declared.request.Request.{Request}
 use Rattle.conf_syntax.specs.declared.tree.Program.{Program}
-use Rattle.desk_io.specs.Desk.{Files, with_printed}
+use Rattle.desk_io.specs.Desk.{with_printed}
 use Rattle.desk_io.specs.Fault.{HasRisen}
 use Rattle.proof_log.specs.Rounds.{Journal}
 use Rattle.run_status.specs.declared.status.Status.{Status}
-use Rattle.round_commands.specs.Answer.{IsAnswer, IsAnswerBegun, IsAnswerSearched}
-use Rattle.round_commands.specs.Asking.{Asked, OfAsked, OfText}
-use Rattle.model_reader.specs.TextModel.{HasModel}
-use Rattle.round_commands.specs.Delivery.{Outside, IsLogged, IsLogFront, IsCutOff}
-use Rattle.round_commands.specs.Recorded.{IsRecorded}
+use Rattle.run_promise.specs.Answer.{IsAnswer, IsAnswerBegun, IsAnswerSearched}
+use Rattle.run_promise.specs.Asking.{Asked, OfAsked, OfModel, OfText}
+use Rattle.run_promise.specs.Delivery.{Outside, IsLogged, IsLogFront, IsCutOff}
+use Rattle.run_promise.specs.Recorded.{AreRoundsFor, IsRecorded}
 use Rattle.model_reader.specs.Models.{IsWithin}
-use Rattle.round_commands.specs.Refusal.{IsReason, IsDeniedOf}
+use Rattle.run_promise.specs.Refusal.{IsReason, IsDeniedOf}
 use Rattle.model_reader.specs.ModelRefusal.{IsRefusedFor}
 use Rattle.run_status.specs.Stages.{Stage, Unasked, Unread, Refused, Answered, Unwritten, Lost, stage_of}
-
--- where files are told, the text's model is within the limits, and P holds of it and of what the
--- request asks of it
-abbrev pub OfModel : Option Files → Request → List ℕ → (Asked → Program → Type 0) → Type 0
-OfModel told r text P =
-    HasModel text (λ p. IsWithin p × OfAsked told r (λ asked. P asked p))
-
--- the words are a request, and that holds of the text of its model
-abbrev pub OfRequest : Option Files → List (String Global)
-    → (Request → Asked → Program → Type 0) → Type 0
-OfRequest told words P =
-    IfSome (request words) (λ r. OfText told r (λ text. OfModel told r text (P r)))
-
--- ---- steps of a run
 
 -- what a run has to do with: the request, the choosers' orders and the journal; the outside before
 -- and now, and the counts of failed reads and writes
@@ -70,8 +53,9 @@ Prints t s asked p =
 -- writing an answer broke off
 abbrev pub Breaks : Trace → Asked → Program → Type 0
 Breaks t asked p =
-    (s : Status) × (text : List ℕ) × IsAnswerBegun t.orders t.journal asked p s text
-    × IsCutOff t.request t.journal text t.before t.now
+    (s : Status) × (whole : List ℕ) × (text : List ℕ)
+    × IsAnswerBegun t.orders t.journal asked p s whole text
+    × IsCutOff t.request t.journal whole text t.before t.now
 
 -- memory failed among searches, before anything was printed or written
 abbrev pub Searches : Trace → Asked → Program → Type 0
@@ -88,6 +72,10 @@ pub record Begins (t : Trace) : Type 0 where
   pub status : Status
   pub recorded : IsRecorded t.orders t.request status t.journal
   pub logged : IsLogFront t.request t.journal t.before.files t.now.files
+
+-- nothing was printed or written, and the rounds that were closed are runs
+abbrev pub IsAmong : Trace → Type 0
+IsAmong t = (t.now ≡ t.before) × AreRoundsFor t.request t.journal.rounds
 
 -- nothing was printed or written, and no round was closed
 abbrev pub IsUntouched : Trace → Type 0
@@ -123,7 +111,7 @@ EndsModelAt Unwritten t p s =
 EndsModelAt Lost t p s =
     IsUntouched t
     ⊎ ((Begins t × (IsWithin p × OfAsked t.before.files t.request (λ asked. Breaks t asked p)))
-    ⊎ ((t.now ≡ t.before)
+    ⊎ (IsAmong t
     × (IsWithin p × OfAsked t.before.files t.request (λ asked. Searches t asked p))))
 
 abbrev pub EndsModel : Trace → Program → Status → Type 0
@@ -143,7 +131,7 @@ EndsAt Unwritten t text s =
 EndsAt Lost t text s =
     IsUntouched t
     ⊎ ((Begins t × OfModel t.before.files t.request text (Breaks t))
-    ⊎ ((t.now ≡ t.before) × OfModel t.before.files t.request text (Searches t)))
+    ⊎ (IsAmong t × OfModel t.before.files t.request text (Searches t)))
 
 abbrev pub Ends : Trace → List ℕ → Status → Type 0
 Ends t text s = EndsAt (stage_of s) t text s
@@ -165,7 +153,7 @@ RunEndsAt Unwritten t s =
     HasRisen t.writes t.writes_now × Begins t × OfTrace t (Breaks t)
 RunEndsAt Lost t s =
     IsUntouched t
-    ⊎ ((Begins t × OfTrace t (Breaks t)) ⊎ ((t.now ≡ t.before) × OfTrace t (Searches t)))
+    ⊎ ((Begins t × OfTrace t (Breaks t)) ⊎ (IsAmong t × OfTrace t (Searches t)))
 
 abbrev pub RunEnds : Trace → Status → Type 0
 RunEnds t s = RunEndsAt (stage_of s) t s

@@ -17,11 +17,11 @@ use Rattle.object_alloc.specs.Named.{object_named}
 use Rattle.proof_log.specs.Rounds.{Journal}
 use Rattle.reconfigure.specs.declared.repair.Repair.{Repair}
 use Rattle.run_status.specs.declared.status.Status.{Status}
-use Rattle.session_run.specs.Holding.{StandsAt, situation_of}
-use Rattle.session_run.specs.Sessions.{situation, subject, AreHeld, AreBegun}
-use Rattle.round_commands.specs.Answer.{IsRepairOf}
-use Rattle.round_commands.specs.Asking.{Asked, Best, Generated, Checked, Satisfied, Held, Blamed, former_text}
-use Rattle.round_commands.specs.Refusal.{IsEventsRefused, IsFormerRefused, IsUnread}
+use Rattle.round_commands.specs.Events.{StandsAt, situation_of}
+use Rattle.run_promise.specs.Sessions.{situation, subject, AreHeld, AreBegun}
+use Rattle.run_promise.specs.Answer.{IsRepairOf}
+use Rattle.run_promise.specs.Asking.{Asked, Best, Generated, Checked, Satisfied, Held, Blamed, IsShort, former_text}
+use Rattle.run_promise.specs.Refusal.{AreEventsLong, IsEventRefused, IsFormerLong, IsFormerRefused}
 use Rattle.round_commands.specs.declared.session.Day.{Day}
 use Rattle.round_commands.specs.declared.session.Opened.{Opened}
 
@@ -34,43 +34,39 @@ pub record IsDayOf (o : Outline) (before bytes : List ℕ) (d : Day) : Type 0 wh
   pub values : d.former ≡ repair.former
   pub events : d.events ≡ events_of o bytes
 
--- one of the files of a former text and of events is too long
+-- the former text is too long; or it isn't, and the events are
 abbrev pub AreTextsRefused : Option Files → List ℕ → List ℕ → Status → Type 0
 AreTextsRefused told former events s =
-    OfFile told former (λ before. IsUnread before s)
+    OfFile told former (λ before. IsFormerLong before s)
     ⊎ OfFile told former (λ before. OfFile told events
-    (λ bytes. (o : Outline) → IsEventsRefused o bytes s))
+    (λ bytes. IsShort before × AreEventsLong bytes s))
 
--- one of the texts is refused
+-- the former text is refused; or it is a repair, and a line is no event
 abbrev pub IsDayRefused : Outline → List ℕ → List ℕ → Status → Type 0
 IsDayRefused o before bytes s =
-    IsFormerRefused o (former_text before []) s ⊎ IsEventsRefused o bytes s
+    IsFormerRefused o (former_text before []) s
+    ⊎ ((r : Repair) × IsRepairOf o (former_text before []) r × IsEventRefused o bytes s)
 
 -- the session begins with the values of the former text, and has the events of the other
-pub record IsOpenedBy (o : Outline) (before bytes : List ℕ) (budget order : ℕ)
-    (x : Opened) : Type 0 where
-  pub repair : Repair
-  pub former : IsRepairOf o (former_text before []) repair
-  pub short : length bytes ≤ events_bytes
-  pub good : bad_line o bytes ≡ None
-  pub situation_is : situation_of x.session.state ≡ situation repair.former []
-  pub events : x.events ≡ events_of o bytes
-  pub budget_is : x.budget ≡ budget
+pub record IsOpenedBy (o : Outline) (before bytes : List ℕ) (budget : ℕ) (x : Opened) : Type 0
+  where
+    pub repair : Repair
+    pub former : IsRepairOf o (former_text before []) repair
+    pub short : length bytes ≤ events_bytes
+    pub good : bad_line o bytes ≡ None
+    pub situation_is : situation_of x.session.state ≡ situation repair.former []
+    pub events : x.events ≡ events_of o bytes
+    pub budget_is : x.budget ≡ budget
 
 abbrev pub IsOpenedFor : Outline → Opened → Asked → Type 0
-IsOpenedFor o x (Held before bytes budget order) = IsOpenedBy o before bytes budget order x
-IsOpenedFor o x (Best former budget order) = ⊥
-IsOpenedFor o x (Generated n) = ⊥
-IsOpenedFor o x (Checked former bytes) = ⊥
-IsOpenedFor o x (Satisfied bytes) = ⊥
-IsOpenedFor o x (Blamed budget order) = ⊥
+IsOpenedFor o x (Held before bytes budget order) = IsOpenedBy o before bytes budget x
+IsOpenedFor o x asked = ⊥
 
--- it is over the model, its events are of the model's objects, and its order has a chooser
+-- it is over the model, and its events are of the model's objects
 pub record IsOpen (o : Outline) (ks : List ResolvedConstraint) (gs : List ResolvedGoal)
     (x : Opened) : Type 0 where
   pub at : StandsAt (subject o ks gs x.budget) (situation_of x.session.state) x.session.state
   pub named : All (λ e. IsSome (object_named o e.path)) x.events
-  pub order : x.order ≤ 2
 
 -- the request is a session with this budget
 abbrev pub HasBudget : Request → ℕ → Type 0
@@ -86,14 +82,14 @@ HasWhole o ks gs x journal end printed now =
     end text
     × (now ≡ with_printed text printed)
 
--- the first of them were, and a front of the text was printed
+-- the first of them were, all but the last of their texts were printed, and a front of that one
 abbrev pub HasPart : Outline → List ResolvedConstraint → List ResolvedGoal → Opened → Journal
     → Option (List ℕ) → Option (List ℕ) → Type 0
 HasPart o ks gs x journal printed now =
-    (text : List ℕ)
+    (whole : List ℕ) × (text : List ℕ)
     × AreBegun (subject o ks gs x.budget) (situation_of x.session.state) x.events journal.rounds
-    text
-    × PrintsFront text printed now
+    whole text
+    × PrintsFront text (with_printed whole printed) now
 
 -- P holds of each program whose model these are the parts of
 abbrev pub ForModel : Outline → List ResolvedConstraint → List ResolvedGoal → (Program → Type 0)

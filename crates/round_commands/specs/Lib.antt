@@ -1,10 +1,7 @@
-pub mod Holding
-pub mod Asking
-pub mod Answer
-pub mod Recorded
-pub mod Refusal
-pub mod Unreadable
-pub mod Delivery
+pub mod CoreLines
 pub mod Ending
+pub mod Events
+pub mod Holding
 pub mod Statuses
-pub use Rattle.core_run.specs.Blaming
+pub mod Told
+pub mod Unreadable

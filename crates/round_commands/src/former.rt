@@ -3,16 +3,17 @@ ghost use Rattle.std.specs.Prelude.{◌≡◌, ◌≤◌, Some, IsSome, IfOk, If
 ghost use Rattle.config_json.specs.Reading.{json_of, value_read};
 ghost use Rattle.desk_io.specs.Desk.{OfFile};
 ghost use Rattle.model_reader.specs.Ready.{IsReady};
-ghost use Rattle.model_rounds.specs.Wanted.{IsUnderstood};
+ghost use Rattle.model_search.specs.Wanted.{IsUnderstood};
 ghost use Rattle.run_status.specs.Stages.{Denied};
 ghost use Rattle.serde_json.specs.Find.{as_object};
-ghost use Rattle.round_commands.specs.Answer.{IsRepairOf};
-ghost use Rattle.round_commands.specs.Asking.{IsShort, former_text};
-ghost use Rattle.round_commands.specs.Refusal.{IsUnread, IsFormerRefused};
+ghost use Rattle.run_promise.specs.Answer.{IsRepairOf};
+ghost use Rattle.run_promise.specs.Asking.{IsShort, former_text};
+ghost use Rattle.run_promise.specs.Refusal.{IsUnread, IsFormerLong, IsFormerRefused};
 ghost use Rattle.round_commands.specs.Unreadable.{Unreadable};
 ghost use Rattle.round_commands.specs.Statuses.{former_status};
 
 use conf_request::FileName;
+use conf_session::copied_words;
 use conf_syntax::PathText;
 use config_json::{ConfigText, FormerError, hints_of, read_config};
 use desk_io::{Desk, ReadError, read_all};
@@ -20,7 +21,7 @@ use model_limits::CONFIG_BYTES;
 use model_reader::Built;
 use reconfigure::{Repair, unknown_word};
 use run_status::{FormerKind, LimitKind, Status};
-use std::alloc::{AllocError, Global};
+use std::alloc::Global;
 
 /// The status of bytes that aren't read as an object.
 fn former_status(error: FormerError) -> Status
@@ -50,6 +51,9 @@ pub fn config_bytes<D: Desk>(
     ensures refused { IfErr result (λ s. Unreadable (D.read_faults desk.old)
         (D.read_faults desk.new) s (OfFile (D.files desk.old) file.now
         (λ bytes. IsUnread bytes s))) }
+    ensures long { IfErr result (λ s. Unreadable (D.read_faults desk.old)
+        (D.read_faults desk.new) s (OfFile (D.files desk.old) file.now
+        (λ bytes. IsFormerLong bytes s))) }
     ensures files { D.files desk.new ≡ D.files desk.old }
     ensures printed { D.printed desk.new ≡ D.printed desk.old }
     ensures read_faults { D.read_faults desk.old ≤ D.read_faults desk.new }
@@ -81,17 +85,6 @@ pub fn former_of(alloc: Global, bytes: &[u8]) -> Result<ConfigText, Status>
     }
 }
 
-/// A copy of some paths.
-fn copied(alloc: Global, paths: &[PathText]) -> Result<Vec<PathText>, AllocError>
-    ensures { IfOk result (λ copy. copy.items ≡ paths.now) }
-{
-    let mut copy = Vec::new(alloc);
-    for path in paths {
-        copy.push(PathText::of(alloc, path.as_bytes())?)?;
-    }
-    Ok(copy)
-}
-
 /// The repair that a former configuration's text and the words that name what failed ask for.
 pub fn repair_in(
     alloc: Global,
@@ -115,7 +108,7 @@ pub fn repair_in(
         });
     }
     let former = hints_of(alloc, &read, built.table, built.objects)?;
-    let failed = copied(alloc, failed)?;
+    let failed = copied_words(alloc, failed)?;
     Ok(Repair { former, failed })
 }
 

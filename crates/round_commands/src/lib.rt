@@ -1,33 +1,35 @@
-//! What a run promises; former texts, `session`, `core`, and their finder. Former texts, sessions
-//! and cores are the parts of a run that stand on the former configuration or on several searches.
+//! The commands that search: `solve`, `reconfigure`, `gen`, `session` and `core`.
 //!
-//! What `run` promises is a crate's worth of definitions (`specs/`), one file for each question
-//! that a reader has: what is asked, what answers it, what the journal holds, what is refused and
-//! why, what was printed and written, and how a run ends. They stand below the call that keeps
-//! them, since a session and a core keep their parts of it here. A new command is a line in each.
-//! To read them is to know the program; the code below them needs no reading.
+//! They go one way. Each makes a finder of the kit and a chooser, asks it for a best solution of
+//! a ground problem, once or for each round, and tells what the checker's verdict says of the
+//! model. They differ in which problem they ask for, and in a text and a status.
 //!
+//! - `finder`: who searches, and by what.
+//! - `answer`: an answer, and what is asked of a model.
+//! - `solving`: `solve`, `reconfigure` and `gen`: a best configuration.
+//! - `session`: the answers to a text of events, each printed as it is found; `holding`: the loop
+//!   over the events; `event`: the answer to one.
+//! - `blaming`: what to blame where a model has no configuration; `core_text`: its text.
 //! - `former`: the text of a configuration as it was or is to be: its file, what it is read as, and
 //!   the repair that one asks for.
-//! - `session`: the answers to a text of events, each printed as it is found.
-//! - `blaming`: what to blame where a model has no configuration.
-//! - `finder`: who searches for the rounds, and by what.
 //!
-//! What a run promises, as definitions:
-//! - `specs/Asking`: which text is that of a request's model, and what is asked of it.
-//! - `specs/Answer`: what answers it; `specs/Recorded`: what the journal then holds.
-//! - `specs/Refusal`: why it is refused; `specs/Unreadable`: or why a file gave nothing.
-//! - `specs/Delivery`: what is printed and written; `specs/Ending`: how a run ends, by stages.
-//!
-//! `specs/Holding` says what steps of a session hand on.
+//! What they promise stands in `run_promise`. Here `specs/Ending` says how a run ends, by stages,
+//! `specs/Unreadable` why a file gave nothing, and the others what steps hand on.
 #![tactic(auto)]
 
+mod answer;
 mod blaming;
+mod core_text;
+mod event;
 mod finder;
 mod former;
+mod holding;
 mod session;
+mod solving;
 
+pub use answer::{Answer, question_of};
 pub use blaming::blame_model;
 pub use finder::Resources;
 pub use former::{config_bytes, former_of, repair_in, repair_of};
-pub use session::hold_model;
+pub use session::{SessionWish, hold_model};
+pub use solving::{SearchWish, generated, solve};

@@ -1,50 +1,54 @@
 //! `session`: the best repair behind each event of a text, each answer printed as it is found.
-ghost use Rattle.std.specs.Prelude.{map, ◌≡◌, ◌⊎◌, ◌≤◌, ◌^◌, IsTrue, IsSome, List, [], None, Some, true, length, IfOk, IfErr, OnErr, OnOk, IsErrOf, ℕ};
+ghost use Rattle.std.specs.Prelude.{map, ◌≡◌, ◌⊎◌, ◌≤◌, ◌^◌, IsTrue, IsSome, List, [], None, Some, length, IfOk, IfErr, OnErr, OnOk, IsErrOf, ℕ};
 ghost use Rattle.std.specs.List.{All};
-ghost use Rattle.class_table.specs.Outline.{Outline};
 ghost use Rattle.command_limits.specs.Limits.{events_bytes};
 ghost use Rattle.conf_events.specs.Texts.{bad_line, events_of};
-ghost use Rattle.conf_request.specs.Words.{IsLawful};
-ghost use Rattle.conf_syntax.specs.Trees.{program_tokens, nesting};
-ghost use Rattle.conf_syntax.specs.Words.{AreWords};
+ghost use Rattle.conf_request.specs.declared.request.Request.TheVariants as requests;
 ghost use Rattle.desk_io.specs.Desk.{OfFile};
 ghost use Rattle.desk_io.specs.Fault.{HasRisen};
-ghost use Rattle.model_limits.specs.Limits.{model_bytes, most_nesting};
-ghost use Rattle.model_reader.specs.ModelRefusal.{IsRefusedFor};
-ghost use Rattle.model_reader.specs.Models.{IsWithin};
 ghost use Rattle.model_reader.specs.Ready.{IsReady};
-ghost use Rattle.model_rounds.specs.Problems.{IsProblemOf};
+ghost use Rattle.model_search.specs.Problems.{IsProblemOf};
 ghost use Rattle.object_alloc.specs.Hints.{AreHints};
 ghost use Rattle.object_alloc.specs.Named.{object_named};
 ghost use Rattle.proof_log.specs.Rounds.{Journal as AJournal, empty};
-ghost use Rattle.session_run.specs.Holding.{StandsAt, situation_of};
-ghost use Rattle.session_run.specs.Sessions.{situation, subject};
+ghost use Rattle.round_commands.specs.Events.{StandsAt, situation_of};
+ghost use Rattle.run_promise.specs.Sessions.{situation, subject};
 ghost use Rattle.run_status.specs.Stages.{Denied};
-ghost use Rattle.round_commands.specs.Asking.{IsFurther, IsShort, OfAsked, former_text, is_session};
-ghost use Rattle.round_commands.specs.Delivery.{outside};
-ghost use Rattle.round_commands.specs.Ending.{EndsModel, IsBegun, IsHeldWhole, trace};
-ghost use Rattle.round_commands.specs.Holding.{IsDayOf, IsDayRefused, AreTextsRefused, IsOpenedFor, IsOpen, ForModel, HasBudget, HasWhole, HasPart};
-ghost use Rattle.round_commands.specs.Refusal.{IsDenied, IsDeniedOf, IsEventsRefused, IsFormerRefused};
+ghost use Rattle.run_promise.specs.Asking.{IsShort, OfAsked, former_text};
+ghost use Rattle.run_promise.specs.Delivery.{outside};
+ghost use Rattle.round_commands.specs.Ending.{EndsModel, trace};
+ghost use Rattle.round_commands.specs.Holding.{IsDayOf, IsDayRefused, AreTextsRefused, IsOpenedFor, IsOpen, ForModel, HasWhole, HasPart};
+ghost use Rattle.run_promise.specs.Refusal.{IsDenied, AreEventsLong, IsEventRefused};
 ghost use Rattle.round_commands.specs.Unreadable.{Unreadable};
 
-use crate::finder::{Resources, Searching};
+use crate::event::Setting;
+use crate::finder::{Resources, Searching, place_of};
 use crate::former::{config_bytes, repair_in};
+use crate::holding::hold_session;
 use bound_search::Limits;
 use command_limits::EVENTS_BYTES;
 use conf_events::{Events, EventsError, read_events};
-use conf_request::{FileName, Request};
+use conf_request::{FileName, OrderName};
 use conf_session::Session;
-use conf_syntax::Program;
 use desk_io::{Desk, ReadError, WriteError, read_all};
 use ground_form::Ground;
 use ground_model::ground;
-use model_reader::{Built, objects_of, table_of, typed_model};
+use model_reader::Built;
 use object_alloc::{Hints, Objects};
 use proof_log::Journal;
 use rule_law::Kit;
 use run_status::{LimitKind, Status};
-use session_run::{Setting, hold_session};
 use std::alloc::{AllocError, Global};
+
+/// What a session is asked with: the files of the former configuration and of the events, how many
+/// decisions each search may take, and its order.
+#[derive(Clone, Copy)]
+pub struct SessionWish<'a> {
+    pub former: &'a FileName,
+    pub events: &'a FileName,
+    pub budget: u32,
+    pub order: OrderName,
+}
 
 /// What a session goes by: the former values, and the events.
 #[derive(Drop)]
@@ -54,13 +58,13 @@ struct Day {
 }
 
 /// A session that nothing happened in yet, with its events, how many decisions each search may
-/// take, and the number of its order.
+/// take, and its order.
 #[derive(Drop)]
 struct Opened {
     session: Session,
     events: Events,
     budget: u32,
-    order: u8,
+    order: OrderName,
 }
 
 /// The bytes of a text of events.
@@ -71,7 +75,7 @@ fn event_bytes<D: Desk>(alloc: Global, desk: &mut D, file: &FileName) -> Result<
     ensures short { IfOk result (λ bytes. length bytes.items ≤ events_bytes) }
     ensures refused { IfErr result (λ s. Unreadable (D.read_faults desk.old)
         (D.read_faults desk.new) s (OfFile (D.files desk.old) file.now
-        (λ bytes. (o : Outline) → IsEventsRefused o bytes s))) }
+        (λ bytes. AreEventsLong bytes s))) }
     ensures files { D.files desk.new ≡ D.files desk.old }
     ensures printed { D.printed desk.new ≡ D.printed desk.old }
     ensures read_faults { D.read_faults desk.old ≤ D.read_faults desk.new }
@@ -96,7 +100,7 @@ fn events_in(alloc: Global, bytes: &[u8], objects: &Objects<'_>) -> Result<Event
     ensures events { IfOk result (λ es. es ≡ events_of objects.now bytes.now) }
     ensures good { OnOk result (bad_line objects.now bytes.now ≡ None) }
     ensures named { IfOk result (λ es. All (λ e. IsSome (object_named objects.now e.path)) es) }
-    ensures refused { IfErr result (λ s. Denied s (IsEventsRefused objects.now bytes.now s)) }
+    ensures refused { IfErr result (λ s. Denied s (IsEventRefused objects.now bytes.now s)) }
 {
     match read_events(alloc, bytes, objects) {
         Ok(events) => Ok(events),
@@ -119,11 +123,13 @@ fn day_in(alloc: Global, built: Built<'_>, before: &[u8], bytes: &[u8]) -> Resul
         bytes.now s)) }
 {
     let repair = repair_in(alloc, built, before, &[])?;
-    let events = events_in(alloc, bytes, built.objects)?;
-    Ok(Day {
-        former: repair.former,
-        events,
-    })
+    match events_in(alloc, bytes, built.objects) {
+        Ok(events) => Ok(Day {
+            former: repair.former,
+            events,
+        }),
+        Err(status) => Err(status),
+    }
 }
 
 /// The texts of a session's files: of the former configuration, and of the events.
@@ -155,9 +161,14 @@ fn texts_of<D: Desk>(
     ensures read_faults { D.read_faults desk.old ≤ D.read_faults desk.new }
     ensures write_faults { D.write_faults desk.new ≡ D.write_faults desk.old }
 {
-    let before = config_bytes(alloc, desk, former)?;
-    let bytes = event_bytes(alloc, desk, events)?;
-    Ok(Texts { before, bytes })
+    let before = match config_bytes(alloc, desk, former) {
+        Ok(before) => before,
+        Err(status) => return Err(status),
+    };
+    match event_bytes(alloc, desk, events) {
+        Ok(bytes) => Ok(Texts { before, bytes }),
+        Err(status) => Err(status),
+    }
 }
 
 /// The ground problem of a model.
@@ -193,13 +204,12 @@ fn opening(
     built: Built<'_>,
     day: Day,
     budget: u32,
-    order: u8,
+    order: OrderName,
 ) -> Result<Opened, AllocError>
     requires ready { IsReady built.table.now built.objects.now built.model.now.constraints
         built.model.now.goals }
     requires hints { AreHints built.objects.now day.former }
     requires named { All (λ e. IsSome (object_named built.objects.now e.path)) day.events }
-    requires order { order ≤ 2 }
     ensures situation { IfOk result (λ x. situation_of x.session.state ≡ situation day.former []) }
     ensures events { IfOk result (λ x. x.events ≡ day.events) }
     ensures budget { IfOk result (λ x. x.budget ≡ budget) }
@@ -216,44 +226,35 @@ fn opening(
     })
 }
 
-/// The session that a request asks for.
-fn session_asked<D: Desk>(
+/// The session that is asked for.
+fn session_wished<D: Desk>(
     alloc: Global,
     desk: &mut D,
-    request: &Request,
+    wish: SessionWish<'_>,
     built: Built<'_>,
 ) -> Result<Opened, Status>
-    requires may_read { (name : List ℕ) → IsFurther request.now name
-        → IsTrue (D.may_read desk.old name) }
-    requires session { is_session request.now ≡ true }
-    requires lawful { IsLawful request.now }
+    requires may_read_former { IsTrue (D.may_read desk.old wish.former.now) }
+    requires may_read_events { IsTrue (D.may_read desk.old wish.events.now) }
     requires ready { IsReady built.table.now built.objects.now built.model.now.constraints
         built.model.now.goals }
-    ensures asked { IfOk result (λ x. OfAsked (D.files desk.old) request.now
-        (IsOpenedFor built.entry.objects.now x)) }
+    ensures asked { IfOk result (λ x. (model : List ℕ) → OfAsked (D.files desk.old)
+        (requests.Session model wish.entry.former.now wish.entry.events.now wish.entry.budget
+        wish.entry.order) (IsOpenedFor built.entry.objects.now x)) }
     ensures is_open { IfOk result (λ x. IsOpen built.entry.objects.now
         built.entry.model.now.constraints built.entry.model.now.goals x) }
-    ensures budget { IfOk result (λ x. HasBudget request.now x.budget) }
+    ensures budget { IfOk result (λ x. x.budget ≡ wish.entry.budget) }
     ensures refused { IfErr result (λ s. Unreadable (D.read_faults desk.old)
-        (D.read_faults desk.new) s ((journal : AJournal) → IsDenied (D.files desk.old) request.now
-        journal s built.entry.objects.now built.entry.model.now.constraints
+        (D.read_faults desk.new) s ((model : List ℕ) (journal : AJournal)
+        → IsDenied (D.files desk.old) (requests.Session model wish.entry.former.now
+        wish.entry.events.now wish.entry.budget wish.entry.order) journal s
+        built.entry.objects.now built.entry.model.now.constraints
         built.entry.model.now.goals)) }
     ensures files { D.files desk.new ≡ D.files desk.old }
     ensures printed { D.printed desk.new ≡ D.printed desk.old }
     ensures read_faults { D.read_faults desk.old ≤ D.read_faults desk.new }
     ensures write_faults { D.write_faults desk.new ≡ D.write_faults desk.old }
 {
-    let Request::Session {
-        former,
-        events,
-        budget,
-        order,
-        ..
-    } = request
-    else {
-        unreachable!()
-    };
-    let texts = match texts_of(alloc, desk, former, events) {
+    let texts = match texts_of(alloc, desk, wish.former, wish.events) {
         Ok(texts) => texts,
         Err(status) => return Err(status),
     };
@@ -261,7 +262,7 @@ fn session_asked<D: Desk>(
         Ok(day) => day,
         Err(status) => return Err(status),
     };
-    match opening(alloc, built, day, *budget, *order) {
+    match opening(alloc, built, day, wish.budget, wish.order) {
         Ok(opened) => Ok(opened),
         Err(_) => Err(Status::Memory),
     }
@@ -295,7 +296,7 @@ fn hold_opened<D: Desk>(
 {
     let choosers = with.choosers;
     let all = &choosers[..];
-    let chooser = &all[opened.order as usize];
+    let chooser = &all[place_of(opened.order)];
     kit.begin();
     let limits = Limits {
         alloc: with.alloc,
@@ -305,6 +306,8 @@ fn hold_opened<D: Desk>(
         limits,
         kit,
         chooser,
+        spare: chooser,
+        may_turn: false,
     };
     let setting = Setting {
         alloc: with.alloc,
@@ -319,133 +322,38 @@ fn hold_opened<D: Desk>(
     hold_session(setting, desk, session, events.items(), &mut finder, journal)
 }
 
-/// Answers the events of a session over a model's parts. What is refused leaves everything as it
-/// was.
-fn held_built<D: Desk>(
-    with: Resources<'_>,
-    desk: &mut D,
-    request: &Request,
-    built: Built<'_>,
-    kit: &mut Kit,
-    journal: &mut Journal,
-) -> Result<Result<Status, WriteError>, Status>
-    requires may_read { (name : List ℕ) → IsFurther request.now name
-        → IsTrue (D.may_read desk.old name) }
-    requires session { is_session request.now ≡ true }
-    requires lawful { IsLawful request.now }
-    requires ready { IsReady built.table.now built.objects.now built.model.now.constraints
-        built.model.now.goals }
-    requires empty { journal.old ≡ empty }
-    ensures whole { IfOk result (λ r. IfOk r (λ end. ForModel built.entry.objects.now
-        built.entry.model.now.constraints built.entry.model.now.goals
-        (λ p. IsHeldWhole (trace request.now (map (λ c. c.order) with.entry.choosers.now)
-        journal.new (outside (D.files desk.old) (D.printed desk.old))
-        (outside (D.files desk.new) (D.printed desk.new))
-        (D.read_faults desk.old) (D.read_faults desk.new) (D.write_faults desk.old)
-        (D.write_faults desk.new)) p end))) }
-    ensures part { IfOk result (λ r. OnErr r (ForModel built.entry.objects.now
-        built.entry.model.now.constraints built.entry.model.now.goals
-        (λ p. IsBegun (trace request.now (map (λ c. c.order) with.entry.choosers.now)
-        journal.new (outside (D.files desk.old) (D.printed desk.old))
-        (outside (D.files desk.new) (D.printed desk.new))
-        (D.read_faults desk.old) (D.read_faults desk.new) (D.write_faults desk.old)
-        (D.write_faults desk.new)) p))) }
-    ensures fault { IfOk result (λ r. IsErrOf r WriteError.WriteFault
-        → HasRisen (D.write_faults desk.old) (D.write_faults desk.new)) }
-    ensures refused { IfErr result (λ s. Unreadable (D.read_faults desk.old)
-        (D.read_faults desk.new) s ((j : AJournal) → IsDenied (D.files desk.old) request.now j s
-        built.entry.objects.now built.entry.model.now.constraints
-        built.entry.model.now.goals)) }
-    ensures same { OnErr result (outside (D.files desk.new) (D.printed desk.new)
-        ≡ outside (D.files desk.old) (D.printed desk.old)) }
-    ensures empty { OnErr result (journal.new ≡ empty) }
-{
-    let opened = match session_asked(with.alloc, desk, request, built) {
-        Ok(opened) => opened,
-        Err(status) => return Err(status),
-    };
-    Ok(hold_opened(with, desk, built, opened, kit, journal))
-}
-
-/// Answers the events of a session over the model that a program is. What is refused leaves
-/// everything as it was.
-fn held<D: Desk>(
-    with: Resources<'_>,
-    desk: &mut D,
-    program: &Program,
-    request: &Request,
-    kit: &mut Kit,
-    journal: &mut Journal,
-) -> Result<Result<Status, WriteError>, Status>
-    requires words { AreWords (program_tokens program.now) }
-    requires nested { nesting program.now ≤ most_nesting }
-    requires few { length (program_tokens program.now) ≤ model_bytes }
-    requires may_read { (name : List ℕ) → IsFurther request.now name
-        → IsTrue (D.may_read desk.old name) }
-    requires session { is_session request.now ≡ true }
-    requires lawful { IsLawful request.now }
-    requires empty { journal.old ≡ empty }
-    ensures whole { IfOk result (λ r. IfOk r (IsHeldWhole (trace request.now
-        (map (λ c. c.order) with.entry.choosers.now) journal.new
-        (outside (D.files desk.old) (D.printed desk.old))
-        (outside (D.files desk.new) (D.printed desk.new))
-        (D.read_faults desk.old) (D.read_faults desk.new) (D.write_faults desk.old)
-        (D.write_faults desk.new)) program.now)) }
-    ensures part { IfOk result (λ r. OnErr r (IsBegun (trace request.now
-        (map (λ c. c.order) with.entry.choosers.now) journal.new
-        (outside (D.files desk.old) (D.printed desk.old))
-        (outside (D.files desk.new) (D.printed desk.new))
-        (D.read_faults desk.old) (D.read_faults desk.new) (D.write_faults desk.old)
-        (D.write_faults desk.new)) program.now)) }
-    ensures fault { IfOk result (λ r. IsErrOf r WriteError.WriteFault
-        → HasRisen (D.write_faults desk.old) (D.write_faults desk.new)) }
-    ensures refused { IfErr result (λ s. Unreadable (D.read_faults desk.old)
-        (D.read_faults desk.new) s (IsRefusedFor s program.now
-        ⊎ (IsWithin program.now
-        × IsDeniedOf (D.files desk.old) request.now journal.new s program.now))) }
-    ensures same { OnErr result (outside (D.files desk.new) (D.printed desk.new)
-        ≡ outside (D.files desk.old) (D.printed desk.old)) }
-    ensures empty { OnErr result (journal.new ≡ empty) }
-{
-    let table = table_of(with.alloc, program)?;
-    let model = typed_model(with.alloc, program, &table)?;
-    let objects = objects_of(with.alloc, &table, &model)?;
-    let built = Built {
-        table: &table,
-        model: &model,
-        objects: &objects,
-    };
-    held_built(with, desk, request, built, kit, journal)
-}
-
-/// Answers the events of a session over a model.
+/// Answers the events of a session over a model: each by a round of the journal, and printed as
+/// soon as it is found. What is refused leaves everything as it was.
 pub fn hold_model<D: Desk>(
     with: Resources<'_>,
     desk: &mut D,
-    program: &Program,
-    request: &Request,
+    wish: SessionWish<'_>,
+    built: Built<'_>,
     kit: &mut Kit,
     journal: &mut Journal,
 ) -> Status
-    requires words { AreWords (program_tokens program.now) }
-    requires nested { nesting program.now ≤ most_nesting }
-    requires few { length (program_tokens program.now) ≤ model_bytes }
-    requires may_read { (name : List ℕ) → IsFurther request.now name
-        → IsTrue (D.may_read desk.old name) }
-    requires session { is_session request.now ≡ true }
-    requires lawful { IsLawful request.now }
+    requires may_read_former { IsTrue (D.may_read desk.old wish.former.now) }
+    requires may_read_events { IsTrue (D.may_read desk.old wish.events.now) }
+    requires ready { IsReady built.table.now built.objects.now built.model.now.constraints
+        built.model.now.goals }
     requires empty { journal.old ≡ empty }
-    ensures ends { EndsModel (trace request.now (map (λ c. c.order) with.entry.choosers.now)
-        journal.new
+    ensures ends { (model : List ℕ) → ForModel built.entry.objects.now
+        built.entry.model.now.constraints built.entry.model.now.goals
+        (λ p. EndsModel (trace (requests.Session model wish.entry.former.now
+        wish.entry.events.now wish.entry.budget wish.entry.order)
+        (map (λ c. c.order) with.entry.choosers.now) journal.new
         (outside (D.files desk.old) (D.printed desk.old))
         (outside (D.files desk.new) (D.printed desk.new))
         (D.read_faults desk.old) (D.read_faults desk.new) (D.write_faults desk.old)
-        (D.write_faults desk.new)) program.now result }
+        (D.write_faults desk.new)) p result) }
 {
-    match held(with, desk, program, request, kit, journal) {
-        Ok(Ok(status)) => status,
-        Ok(Err(WriteError::WriteFault)) => Status::WriteFault,
-        Ok(Err(WriteError::Memory)) => Status::Memory,
-        Err(status) => status,
+    let opened = match session_wished(with.alloc, desk, wish, built) {
+        Ok(opened) => opened,
+        Err(status) => return status,
+    };
+    match hold_opened(with, desk, built, opened, kit, journal) {
+        Ok(status) => status,
+        Err(WriteError::WriteFault) => Status::WriteFault,
+        Err(WriteError::Memory) => Status::Memory,
     }
 }

@@ -9,5 +9,5 @@ returns-clause-kept c = λ order hints.
 
 pub returns-clause-ends : goal.returns-clause-ends
 returns-clause-ends c = λ budget.
-    empty_closes c.args.g.now c.args.journal.now c.push.new.self c.args.x c.requires.lines
+    empty_closes c.args.g.now c.args.journal.now c.push.new.self c.args.x budget c.requires.lines
     c.in_ok-push.ensures.ok

@@ -20,9 +20,9 @@ returns-in-Best-clause-narrowed c =
     (λ part. part ≡ indexes_of c.args.n.settled.items ++ c.args.others.items) e) c.in-Best.is t))
     c.kept.ensures.narrowed
 
-pub returns-in-Spent-clause-narrowed : goal.returns-in-Spent-clause-narrowed
-returns-in-Spent-clause-narrowed c =
-    IfOk-weaker c.kept-in-Spent.result _ _ (λ new f. λ ks rounds h t. f ks rounds h
+pub returns-in-Open-clause-narrowed : goal.returns-in-Open-clause-narrowed
+returns-in-Open-clause-narrowed c =
+    IfOk-weaker c.kept-in-Open.result _ _ (λ new f. λ ks rounds h t. f ks rounds h
     (subst (λ e. HasRound rounds
-    (λ part. part ≡ indexes_of c.args.n.settled.items ++ c.args.others.items) e) c.in-Spent.is t))
-    c.kept-in-Spent.ensures.narrowed
+    (λ part. part ≡ indexes_of c.args.n.settled.items ++ c.args.others.items) e) c.in-Open.is t))
+    c.kept-in-Open.ensures.narrowed

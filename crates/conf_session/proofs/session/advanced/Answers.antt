@@ -9,5 +9,10 @@ searched-requires-clause-over g c =
 pub returns-clause-step : goal.returns-clause-step
 returns-clause-step g c =
     let e = c.in_ok-state.ensures in
-    step_of c.args.objects.now c.args.event.now (g.F.Finder.allowed c.args.finder.now) c.args.state c.in_ok-state.state c.in_ok-new.new c.args.journal.now c.searched.new.journal c.closed.new.journal c.in_ok-outcome.outcome
-    c.requires.over c.requires.named e.ground e.failed e.former e.begun c.in_ok-outcome.ensures.searched c.in_ok-outcome.ensures.rounds c.in_ok-new.ensures.closed
+    step_of c.args.objects.now c.args.event.now (g.F.Finder.allowed c.args.finder.now) c.args.state
+    c.in_ok-state.state c.in_ok-new.new c.args.journal.now c.searched.new.journal
+    c.closed.new.journal
+    (record { repair = c.in_ok-repair.repair; verdict = c.in_ok-verdict.verdict }) c.requires.over
+    c.requires.named e.ground e.failed e.former e.begun c.in_ok-verdict.ensures.searched
+    c.in_ok-verdict.ensures.rounds c.in_ok-repair.ensures.former c.in_ok-repair.ensures.failed
+    c.in_ok-new.ensures.closed

@@ -28,21 +28,21 @@ returns-in_ok-repair-in-Some-clause-refused g c =
     check_refused (g.D.Desk.files c.args.desk.now) c.args.request.now c.args.built.objects.now c.args.built.model.now.constraints c.args.built.model.now.goals c.check-in-Some.new.journal c.in-Some.file asked.failed c.items-in-Some.result.now c.items-in-Some.ensures.items made.repair made.ensures.repair
     asked.model asked.log asked.former asked.is c.in-Some.is (g.D.Desk.files c.repair_of-in-Some.new.desk) made.ensures.files (reads c.args.desk.now) (reads c.repair_of-in-Some.new.desk) (reads c.check-in-Some.new.desk) made.ensures.read_faults c.check-in-Some.result c.check-in-Some.ensures.refused
 
-pub returns-in_ok-blamed-in-Core-clause-answer : goal.returns-in_ok-blamed-in-Core-clause-answer
-returns-in_ok-blamed-in-Core-clause-answer g c =
+pub returns-in_ok-blame_model-in-Core-clause-answer : goal.returns-in_ok-blame_model-in-Core-clause-answer
+returns-in_ok-blame_model-in-Core-clause-answer g c =
     let asked = c.in-Core in
-    let a = c.in_ok-blamed-in-Core.field-0 in
+    let a = c.in_ok-blame_model-in-Core.field-0 in
     blamed_answer (g.D.Desk.files c.args.desk.now) c.args.request.now asked.model asked.budget
     asked.order asked.is c.args.built.objects.now c.args.built.model.now.constraints
-    c.args.built.model.now.goals (map (λ x. x.order) c.args.with.choosers.now) c.blamed.new.journal
-    a.status a.text.items c.in_ok-blamed-in-Core.ensures.answer
+    c.args.built.model.now.goals (map (λ x. x.order) c.args.with.choosers.now) c.blame_model.new.journal
+    a.status a.text.items c.in_ok-blame_model-in-Core.ensures.answer
 
-pub returns-in_ok-blamed-in-Core-clause-recorded :
-    goal.returns-in_ok-blamed-in-Core-clause-recorded
-returns-in_ok-blamed-in-Core-clause-recorded g c =
+pub returns-in_ok-blame_model-in-Core-clause-recorded :
+    goal.returns-in_ok-blame_model-in-Core-clause-recorded
+returns-in_ok-blame_model-in-Core-clause-recorded g c =
     let asked = c.in-Core in
-    let a = c.in_ok-blamed-in-Core.field-0 in
+    let a = c.in_ok-blame_model-in-Core.field-0 in
     blamed_recorded (g.D.Desk.files c.args.desk.now) c.args.request.now asked.model asked.budget
     asked.order asked.is c.args.built.objects.now c.args.built.model.now.constraints
-    c.args.built.model.now.goals (map (λ x. x.order) c.args.with.choosers.now) c.blamed.new.journal
-    a.status a.text.items c.in_ok-blamed-in-Core.ensures.answer
+    c.args.built.model.now.goals (map (λ x. x.order) c.args.with.choosers.now) c.blame_model.new.journal
+    a.status a.text.items c.in_ok-blame_model-in-Core.ensures.answer

@@ -1,6 +1,6 @@
 use Rattle.std.proofs.Common.{map, refl, ap}
 use Rattle.proof_log.specs.Rounds.{Journal}
-use Rattle.round_commands.specs.Delivery.{outside}
+use Rattle.run_promise.specs.Delivery.{outside}
 use Rattle.round_commands.specs.Ending.{trace}
 use Rattle.confsolve_run.proofs.Endings.{text_at, text_refused}
 use Rattle.run_status.specs.Stages.{stage_of}

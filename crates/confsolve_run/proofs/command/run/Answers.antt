@@ -1,6 +1,6 @@
 use Rattle.std.proofs.Common.{◌≡◌, ◌∙◌, Some, sym, subst}
 use Rattle.conf_request.specs.Words.{request}
-use Rattle.round_commands.specs.Asking.{text_of}
+use Rattle.run_promise.specs.Asking.{text_of}
 use Rattle.confsolve_run.proofs.RunLaws.{one_request}
 use Rattle.confsolve_run.proofs.command.run.Goals as goal
 

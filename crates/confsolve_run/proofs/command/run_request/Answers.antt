@@ -1,8 +1,8 @@
 use Rattle.proof_log.specs.Rounds.{Journal}
 use Rattle.std.proofs.Common.{ap, ◌≡◌, ◌≤◌, ℕ, List, length, map, subst, sym}
 use Rattle.model_limits.specs.Limits.{model_bytes}
-use Rattle.round_commands.specs.Asking.{OfText}
-use Rattle.round_commands.specs.Delivery.{outside}
+use Rattle.run_promise.specs.Asking.{OfText}
+use Rattle.run_promise.specs.Delivery.{outside}
 use Rattle.confsolve_run.proofs.Endings.{run_ends, denied_from}
 use Rattle.confsolve_run.proofs.RunLaws.{stands_read}
 use Rattle.confsolve_run.proofs.command.run_request.Goals as goal

@@ -1,5 +1,5 @@
 use Rattle.model_reader.proofs.OneModel.{are_one, names_of}
-use Rattle.confsolve_run.proofs.OneAnswer.{asked_of, answer_of}
+use Rattle.confsolve_run.proofs.OneAnswer.{asked_of, answer_of, begun_of, searched_of}
 use Rattle.model_reader.proofs.OneStatus.{refused_of, within_text}
 use Rattle.confsolve_run.proofs.laws.text_has_one_model.Goals as goal
 
@@ -17,6 +17,12 @@ returns-clause-asked c = λ told r journal s is. asked_of c.args.text.now c.args
 
 pub returns-clause-answered : goal.returns-clause-answered
 returns-clause-answered c = λ os journal asked s printed is. answer_of c.args.text.now c.args.model.now os journal asked s printed c.requires.model is
+
+pub returns-clause-begun : goal.returns-clause-begun
+returns-clause-begun c = λ os journal asked s whole printed is. begun_of c.args.text.now c.args.model.now os journal asked s whole printed c.requires.model is
+
+pub returns-clause-searched : goal.returns-clause-searched
+returns-clause-searched c = λ journal asked is. searched_of c.args.text.now c.args.model.now journal asked c.requires.model is
 
 pub returns-clause-names : goal.returns-clause-names
 returns-clause-names c = names_of c.args.text.now c.args.model.now c.requires.model

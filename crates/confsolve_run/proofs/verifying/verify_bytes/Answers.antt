@@ -2,7 +2,7 @@ use Rattle.std.proofs.Common.{sym, subst, IfSome}
 use Rattle.class_table.specs.Outline.{Outline}
 use Rattle.conf_eval.specs.Breaking.{IsFirstBroken}
 use Rattle.object_alloc.specs.Configurations.{IsConfiguration}
-use Rattle.round_commands.specs.Answer.{IsConfigOf}
+use Rattle.run_promise.specs.Answer.{IsConfigOf}
 use Rattle.confsolve_run.specs.Verifying.{HasFullSets}
 use Rattle.confsolve_run.proofs.VerifyingLaws.{object_there, no_wrong_set, broken_denied}
 use Rattle.confsolve_run.proofs.verifying.verify_bytes.Goals as goal

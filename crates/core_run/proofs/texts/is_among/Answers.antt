@@ -1,6 +1,0 @@
-use Rattle.std.proofs.Common.{◌∙◌}
-use Rattle.core_run.proofs.Searching.{found}
-use Rattle.core_run.proofs.texts.is_among.Goals as goal
-
-pub returns : goal.returns
-returns c = c.is_ok.ensures.value ∙ found c.args.numbers.now c.args.number c.binary_search.result c.requires.ascend c.binary_search.ensures.position

@@ -1,2 +1,0 @@
-pub mod Meanings
-pub use Rattle.model_search.proofs.RepairProblems

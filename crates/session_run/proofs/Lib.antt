@@ -1,3 +1,0 @@
-pub mod Meanings
-pub mod Stepping
-pub mod Answering

@@ -1,3 +1,0 @@
-pub mod Sessions
-pub mod Telling
-pub mod Holding
