@@ -1,16 +1,19 @@
 -- A core, by the rounds that narrowed a model down to it.
-use Rattle.std.proofs.Common.{◌≡◌, ℕ, zero, suc, ◌+◌, ◌<◌, Bool, true, false, not, cond, List, [], ◌∷◌, ◌++◌, ℤ, None, refl, sym, ap, ◌∙◌, subst, arith, length, map, drop, get_or, All, nat_eq}
-use Rattle.std.specs.List.{AllPairs, Contains, filter}
-use Rattle.std.proofs.lemmas.List.{append-nil}
+use Rattle.std.proofs.Common.{◌≡◌, ℕ, true, false, not, cond, List, [], ◌∷◌, ℤ, None, refl, sym, ap, subst, arith, map, All, nat_eq}
+use Rattle.std.specs.List.{Contains}
 use Rattle.std.proofs.lemmas.List.Elements.{All-nil, All-cons, All-head, All-tail, All-contains, All-map}
 use Rattle.class_table.specs.Outline.{Outline}
-use Rattle.conf_core.proofs.PartLists.{all_as, contains_here, contains_later, marked_ascend, marked_within}
+use Rattle.conf_core.proofs.Narrowings.{kept_part}
+use Rattle.conf_core.proofs.PartLists.{all_as}
+use Rattle.conf_core.proofs.SuspectLaws.{marked_ascend, marked_has, marked_so}
 use Rattle.conf_core.specs.Cores.{HasRound, IsWithout, without, IsCore}
-use Rattle.conf_core.specs.Parts.{part_of, IsPart, IsPartRound, ArePartRounds}
-use Rattle.conf_core.specs.Searching.{IsNarrowed, IsCoreAnswer, indexes_of, unsure_of, end_without}
+use Rattle.conf_core.specs.Parts.{part_of, IsPartRound, ArePartRounds}
+use Rattle.conf_core.specs.Searching.{IsNarrowed, IsCoreAnswer, end_without}
+use Rattle.conf_core.specs.Suspects.{is_kept, is_unsure, marked, told, IsSettled, NoneOpen}
 use Rattle.conf_core.specs.declared.answer.CoreAnswer.{CoreAnswer}
 use Rattle.conf_core.specs.declared.answer.CoreAnswer.TheVariants as answers
-use Rattle.conf_core.specs.declared.narrowing.Settled.{Settled}
+use Rattle.conf_core.specs.declared.suspects.Suspect.{Suspect}
+use Rattle.conf_core.specs.declared.suspects.Suspect.TheVariants.{Cleared, Open, Needed, Unsure}
 use Rattle.conf_eval.specs.Best.{HasNone}
 use Rattle.conf_eval.specs.Satisfying.{Satisfies, Holds}
 use Rattle.conf_types.specs.Programs.{ResolvedConstraint, constraint_at}
@@ -20,7 +23,6 @@ use Rattle.model_search.specs.declared.finding.Finding.{Finding}
 use Rattle.model_search.specs.declared.finding.Finding.TheVariants as findings
 use Rattle.object_alloc.specs.Configurations.{IsConfiguration}
 use Rattle.proof_log.specs.declared.journal.Round.{Round}
-use Rattle.log_check.specs.declared.verdict.VerdictKind.{VerdictKind}
 use Rattle.log_check.specs.declared.verdict.VerdictKind.TheVariants as kinds
 
 -- ---- what a round tells of its part
@@ -61,58 +63,22 @@ others_within c part (k ∷ ks) h =
 
 -- ---- constraints that were settled
 
-abbrev unsure_with : Settled → List Settled → Bool → List ℕ
-unsure_with s ss b =
-    map (λ (t : Settled). t.index) (cond b (s ∷ filter (λ (t : Settled). t.unsure) ss)
-    (filter (λ (t : Settled). t.unsure) ss))
+-- one that is kept, and neither open nor unsure, is needed
+needed_told : (s : Suspect) → is_kept s ≡ true → (s ≡ Open → ⊥) → is_unsure s ≡ false →
+    s ≡ Needed
+needed_told Cleared k o u = absurd cc
+needed_told Open k o u = absurd (o refl)
+needed_told Needed k o u = refl
+needed_told Unsure k o u = absurd cc
 
-later_unsure : (s : Settled) (ss : List Settled) (c : ℕ) → Contains (unsure_of ss) c →
-    Contains (unsure_of (s ∷ ss)) c
-later_unsure s ss c at =
-    elim (s.unsure) as (λ b. Contains (unsure_with s ss b) c) [
-      | true ↦ contains_later s.index c (unsure_of ss) at
-      | false ↦ at
-    ]
+unsure_told : (s : Suspect) → is_unsure s ≡ true → s ≡ Unsure
+unsure_told Cleared u = absurd cc
+unsure_told Open u = absurd cc
+unsure_told Needed u = absurd cc
+unsure_told Unsure u = refl
 
-module _ (P : ℕ → VerdictKind → Type 0) where
-  settled_sure : (s : Settled) (ss : List Settled) (c : ℕ) → s.index ≡ c →
-      P s.index (end_without s) → (Contains (unsure_of (s ∷ ss)) c → ⊥) → P s.index kinds.Best
-  settled_sure s ss c is first none =
-      elim (s.unsure) as (λ b. P s.index (cond b kinds.Open kinds.Best)
-      → (Contains (unsure_with s ss b) c → ⊥) → P s.index kinds.Best) [
-        | true ↦ λ p lack. absurd (lack (0, omega arith, is))
-        | false ↦ λ p lack. p
-      ] first none
-
-  first_undecided : (s : Settled) (ss : List Settled) → P s.index (end_without s) →
-      All (λ c. P c kinds.Open) (unsure_of ss) →
-      All (λ c. P c kinds.Open) (unsure_of (s ∷ ss))
-  first_undecided s ss first rest =
-      elim (s.unsure) as (λ b. P s.index (cond b kinds.Open kinds.Best)
-      → All (λ c. P c kinds.Open) (unsure_with s ss b)) [
-        | true ↦ λ p. All-cons (λ c. P c kinds.Open) s.index (unsure_of ss) p rest
-        | false ↦ λ p. rest
-      ] first
-
-  needed : (settled : List Settled) → All (λ (s : Settled). P s.index (end_without s)) settled →
-      (c : ℕ) → Contains (indexes_of settled) c → (Contains (unsure_of settled) c → ⊥) →
-      P c kinds.Best
-  needed [] h c at none = absurd (let there = at.1 in omega (arith, there))
-  needed (s ∷ ss) h c (zero, there, is) none =
-      let first = All-head (λ (s : Settled). P s.index (end_without s)) s ss h in
-      subst (λ n. P n kinds.Best) is (settled_sure s ss c is first none)
-  needed (s ∷ ss) h c (suc k, there, is) none =
-      needed ss (All-tail (λ (s : Settled). P s.index (end_without s)) s ss h) c
-      (k, omega (arith, there), is) (λ at. none (later_unsure s ss c at))
-
-  undecided : (settled : List Settled) →
-      All (λ (s : Settled). P s.index (end_without s)) settled →
-      All (λ c. P c kinds.Open) (unsure_of settled)
-  undecided [] h = All-nil (λ c. P c kinds.Open)
-  undecided (s ∷ ss) h =
-      let first = All-head (λ (s : Settled). P s.index (end_without s)) s ss h in
-      let rest = undecided ss (All-tail (λ (s : Settled). P s.index (end_without s)) s ss h) in
-      first_undecided s ss first rest
+unsure_kept : (s : Suspect) → is_unsure s ≡ true → is_kept s ≡ true
+unsure_kept s u = ap is_kept (unsure_told s u)
 
 module _ (o : Outline) (ks : List ResolvedConstraint) (budget : ℕ) (rounds : List Round)
     (are : ArePartRounds o ks budget rounds) where
@@ -158,37 +124,51 @@ module _ (o : Outline) (ks : List ResolvedConstraint) (budget : ℕ) (rounds : L
 
   -- ---- the core
 
-  kept_core : (settled : List Settled) (keep : List ℕ) → indexes_of settled ≡ keep →
-      IsPart ks keep → HasRound rounds (λ part. part ≡ keep) kinds.NoSolution →
-      All (λ (s : Settled). HasRound rounds (IsWithout keep s.index) (end_without s)) settled →
-      IsCore o ks rounds keep (unsure_of settled)
-  kept_core settled keep e part shown tried =
-      let P = λ (c : ℕ) (end : VerdictKind). HasRound rounds (IsWithout keep c) end in
-      let need = λ (c : ℕ) (at : Contains keep c) (none : Contains (unsure_of settled) c → ⊥).
-      needed P settled tried c (subst (λ ns. Contains ns c) (sym e) at) none in
-      record {
-        part = part;
-        impossible = impossible keep shown;
-        shown = shown;
-        ascend = marked_ascend (λ (s : Settled). s.index) (λ (s : Settled). s.unsure) settled
-            (subst (λ ns. AllPairs ◌<◌ ns) (sym e) part.ascend);
-        within = subst (λ ns. All (λ c. Contains ns c) (unsure_of settled)) e
-            (marked_within (λ (s : Settled). s.index) (λ (s : Settled). s.unsure) settled);
-        needed = need;
-        possible = λ c at none. possible keep c (need c at none);
-        undecided = undecided P settled tried;
-      }
+  module _ (ss : List Suspect) (h : IsNarrowed ks rounds ss) (none : NoneOpen ss) where
+    abbrev keep : List ℕ
+    keep = marked is_kept 0 ss
 
-  pub core_is : (settled : List Settled) → IsNarrowed ks rounds settled [] →
-      IsCore o ks rounds (indexes_of settled) (unsure_of settled)
-  core_is settled h =
-      let is = append-nil (indexes_of settled) in
-      kept_core settled (indexes_of settled) refl (subst (λ ns. IsPart ks ns) is h.part)
-      (subst (λ ns. HasRound rounds (λ part. part ≡ ns) kinds.NoSolution) is h.shown)
-      (subst (λ ns. All (λ (s : Settled). HasRound rounds (IsWithout ns s.index) (end_without s))
-      settled) is h.tried)
+    abbrev unsure : List ℕ
+    unsure = marked is_unsure 0 ss
 
-  pub core_answer : (settled : List Settled) (a : CoreAnswer) →
-      a ≡ answers.Core (indexes_of settled) (unsure_of settled) → IsNarrowed ks rounds settled [] →
-      IsCoreAnswer o ks rounds a
-  core_answer settled a e h = subst (λ x. IsCoreAnswer o ks rounds x) (sym e) (core_is settled h)
+    needed : (c : ℕ) → Contains keep c → (Contains unsure c → ⊥) →
+        HasRound rounds (IsWithout keep c) kinds.Best
+    needed c at sure =
+        let kept = All-contains (λ m. is_kept (told ss m) ≡ true) keep c (marked_so is_kept ss) at in
+        let off = elim (is_unsure (told ss c)) as (λ b. is_unsure (told ss c) ≡ b
+        → is_unsure (told ss c) ≡ false) [
+          | true ↦ λ e. absurd (sure (marked_has is_unsure ss c refl e))
+          | false ↦ λ e. e
+        ] refl in
+        let is = needed_told (told ss c) kept (none c) off in
+        subst (λ s. HasRound rounds (IsWithout keep c) (end_without s)) is
+        (h.tried c (subst IsSettled (sym is) tt))
+
+    undecided_at : (c : ℕ) → is_unsure (told ss c) ≡ true →
+        HasRound rounds (IsWithout keep c) kinds.Open
+    undecided_at c e =
+        let is = unsure_told (told ss c) e in
+        subst (λ s. HasRound rounds (IsWithout keep c) (end_without s)) is
+        (h.tried c (subst IsSettled (sym is) tt))
+
+    pub core_is : IsCore o ks rounds keep unsure
+    core_is =
+        record {
+          part = kept_part ks ss h.count;
+          impossible = impossible keep h.shown;
+          shown = h.shown;
+          ascend = marked_ascend is_unsure ss;
+          within = all_as (λ c. is_unsure (told ss c) ≡ true) (λ c. Contains keep c) unsure
+              (λ c e. marked_has is_kept ss c refl (unsure_kept (told ss c) e))
+              (marked_so is_unsure ss);
+          needed = needed;
+          possible = λ c at sure. possible keep c (needed c at sure);
+          undecided = all_as (λ c. is_unsure (told ss c) ≡ true)
+              (λ c. HasRound rounds (IsWithout keep c) kinds.Open) unsure undecided_at
+              (marked_so is_unsure ss);
+        }
+
+  pub core_answer : (ss : List Suspect) (a : CoreAnswer) →
+      a ≡ answers.Core (marked is_kept 0 ss) (marked is_unsure 0 ss) →
+      IsNarrowed ks rounds ss → NoneOpen ss → IsCoreAnswer o ks rounds a
+  core_answer ss a e h none = subst (λ x. IsCoreAnswer o ks rounds x) (sym e) (core_is ss h none)

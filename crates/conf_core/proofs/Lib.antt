@@ -1,4 +1,5 @@
 pub mod PartLists
 pub mod Rounds
+pub mod SuspectLaws
 pub mod Narrowings
 pub mod CoreLaws

@@ -3,7 +3,7 @@
 use Rattle.std.specs.Prelude.{◌≡◌, ◌<◌, ℕ, ℤ, List, ◌∷◌, All, AllPairs, Contains, filter, length, not, nat_eq}
 use Rattle.std.specs.List.{range_with_len}
 use Rattle.class_table.specs.Outline.{Outline}
-use Rattle.conf_core.specs.Parts.{part_of, IsPart, ArePartRounds}
+use Rattle.conf_core.specs.Parts.{part_of, IsPart}
 use Rattle.conf_core.specs.declared.answer.CoreAnswer.{CoreAnswer}
 use Rattle.conf_core.specs.declared.answer.CoreAnswer.TheVariants as answers
 use Rattle.conf_eval.specs.Best.{HasNone}

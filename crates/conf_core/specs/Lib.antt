@@ -1,3 +1,4 @@
 pub mod Parts
 pub mod Cores
+pub mod Suspects
 pub mod Searching

@@ -1,13 +1,16 @@
 -- What the searches for a core hand on. What a reader believes after this file: nothing that
 -- `find_core` says.
-use Rattle.std.specs.Prelude.{◌≡◌, ◌≤◌, ◌++◌, ◌∷◌, [], ℕ, Bool, true, List, None, All, cond, filter, map}
+use Rattle.std.specs.Prelude.{◌≡◌, ◌≤◌, ◌++◌, ◌∷◌, [], ℕ, true, List, None, length}
+use Rattle.std.specs.List.{range_with_len}
 use Rattle.class_table.specs.Outline.{Outline}
 use Rattle.conf_core.specs.Cores.{HasRound, IsWithout, IsCore}
-use Rattle.conf_core.specs.Parts.{IsPart, ArePartRounds}
+use Rattle.conf_core.specs.Parts.{ArePartRounds}
 use Rattle.conf_core.specs.declared.answer.CoreAnswer.{CoreAnswer}
 use Rattle.conf_core.specs.declared.answer.CoreAnswer.TheVariants as answers
 use Rattle.conf_core.specs.declared.narrowing.Narrowing.{Narrowing}
-use Rattle.conf_core.specs.declared.narrowing.Settled.{Settled}
+use Rattle.conf_core.specs.declared.suspects.Suspect.{Suspect}
+use Rattle.conf_core.specs.declared.suspects.Suspect.TheVariants.{Cleared, Open, Needed, Unsure}
+use Rattle.conf_core.specs.Suspects.{is_kept, marked, told, AreTried, IsSettled}
 use Rattle.conf_types.specs.Programs.{ResolvedConstraint}
 use Rattle.ground_form.specs.WellMade.{IsWellMade}
 use Rattle.log_form.specs.Acceptance.{accepted}
@@ -47,28 +50,32 @@ pub record EndsAccepted (rounds : List Round) : Type 0 where
 -- ---- on the way to a core
 
 -- how the search ended without a constraint that was settled
-abbrev pub end_without : Settled → VerdictKind
-end_without s = cond s.unsure kinds.Open kinds.Best
+abbrev pub end_without : Suspect → VerdictKind
+end_without Cleared = kinds.NoSolution
+end_without Open = kinds.NoSolution
+end_without Needed = kinds.Best
+end_without Unsure = kinds.Open
 
-abbrev pub indexes_of : List Settled → List ℕ
-indexes_of ss = map (λ (s : Settled). s.index) ss
+-- a search over all constraints told that no configuration satisfies them
+abbrev pub IsShownAll : List ResolvedConstraint → List Round → Type 0
+IsShownAll ks rounds =
+    HasRound rounds (λ part. part ≡ range_with_len 0 (length ks)) kinds.NoSolution
 
-abbrev pub unsure_of : List Settled → List ℕ
-unsure_of ss = map (λ (s : Settled). s.index) (filter (λ (s : Settled). s.unsure) ss)
-
--- no configuration satisfies the settled constraints and the rest; and of each settled one some
--- search without it, with all others of these, found one or was undecided
+-- no configuration satisfies those that are to blame so far; and of each settled one some search
+-- without it, with all others of these, found one or was undecided
 pub record IsNarrowed (ks : List ResolvedConstraint) (rounds : List Round)
-    (settled : List Settled) (rest : List ℕ) : Type 0 where
-  pub part : IsPart ks (indexes_of settled ++ rest)
-  pub shown : HasRound rounds (λ part. part ≡ indexes_of settled ++ rest) kinds.NoSolution
-  pub tried : All (λ (s : Settled). HasRound rounds
-      (IsWithout (indexes_of settled ++ rest) s.index) (end_without s)) settled
+    (ss : List Suspect) : Type 0 where
+  pub count : length ss ≡ length ks
+  pub shown : HasRound rounds (λ part. part ≡ marked is_kept 0 ss) kinds.NoSolution
+  pub tried : (c : ℕ) → IsSettled (told ss c)
+      → HasRound rounds (IsWithout (marked is_kept 0 ss) c) (end_without (told ss c))
 
 -- the loop over further searches, between two of them
 pub record IsUnderWay (o : Outline) (ks : List ResolvedConstraint) (budget : ℕ)
-    (rounds : List Round) (journal : Journal) (n : Narrowing) (allowed : ℕ) : Type 0 where
-  pub narrowed : IsNarrowed ks journal.rounds n.settled.items n.rest.items
+    (rounds : List Round) (first : Narrowing) (journal : Journal) (n : Narrowing)
+    (allowed : ℕ) : Type 0 where
+  pub narrowed : IsNarrowed ks journal.rounds n.suspects.items
+  pub tried : AreTried first.suspects.items first.rest.items n.suspects.items n.rest.items
   pub grown : HasGrown o ks budget rounds journal.rounds
   pub some : 1 ≤ n.chunk
   pub ground : journal.ground ≡ None

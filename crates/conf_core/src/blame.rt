@@ -1,10 +1,11 @@
 //! Which constraints the log of a search that found no configuration rests on: those for which the
 //! constraints of its needed lines were stated. That they have no configuration either is for a
 //! further search to tell.
-ghost use Rattle.std.specs.Prelude.{◌≡◌, ◌<◌, ◌^◌, All, AllPairs, length, replicate, false, IfOk};
+ghost use Rattle.std.specs.Prelude.{◌≡◌, ◌<◌, ◌^◌, All, length, IfOk};
 ghost use Rattle.conf_core.specs.Searching.{EndsAccepted};
+ghost use Rattle.conf_core.specs.Suspects.{IsFresh};
 
-use crate::indexes::marked_indexes;
+use crate::suspects::{Suspect, suspects_of};
 use conf_types::Constraint;
 use ground_model::Origins;
 use log_check::trim;
@@ -60,6 +61,19 @@ fn mark_lines(marks: &mut Vec<bool>, part: &[u32], origins: &Origins, lines: &[L
     }
 }
 
+/// The indexes of the marks that are set, and not among the others.
+fn others_of(alloc: Global, marks: &[bool], fixing: &[bool]) -> Result<Vec<u32>, AllocError>
+    requires few { length marks.now < 2 ^ 32 }
+{
+    let mut list = Vec::new(alloc);
+    for k in 0..marks.len().min(fixing.len()) {
+        if marks[k] && !fixing[k] {
+            list.push(k as u32)?;
+        }
+    }
+    Ok(list)
+}
+
 /// Sets the marks of the constraints of this part on which the values of known cells rest.
 fn mark_fixing(marks: &mut Vec<bool>, part: &[u32], origins: &Origins)
     ensures { length marks.new.items ≡ length marks.old.items }
@@ -69,15 +83,16 @@ fn mark_fixing(marks: &mut Vec<bool>, part: &[u32], origins: &Origins)
     }
 }
 
-/// The constraints that the journal's last round blames, without and with those on which the values
-/// of known cells rest: the lines of a log don't name these where others were stated by the values.
+/// What is suspected of each constraint, and those that are left out first.
 #[derive(Drop)]
 pub(crate) struct Blamed {
-    pub alone: Vec<u32>,
-    pub with_fixing: Vec<u32>,
+    pub suspects: Vec<Suspect>,
+    pub first: Vec<u32>,
 }
 
-/// Which constraints the journal's last round blames.
+/// Which constraints the journal's last round blames: those that its lines name, and those on which
+/// the values of known cells rest, since lines don't name these where others were stated by the
+/// values. Those that only fix values are not left out first: with open values a search is longer.
 pub(crate) fn blamed_by(
     alloc: Global,
     constraints: &[Constraint],
@@ -86,18 +101,18 @@ pub(crate) fn blamed_by(
 ) -> Result<Blamed, AllocError>
     requires few { length constraints.now < 2 ^ 32 }
     requires accepted { EndsAccepted journal.now.rounds }
-    ensures alone_ascends { IfOk result (λ b. AllPairs ◌<◌ b.alone.items) }
-    ensures alone_exists { IfOk result (λ b. All (λ k. k < length constraints.now) b.alone.items) }
-    ensures ascends { IfOk result (λ b. AllPairs ◌<◌ b.with_fixing.items) }
-    ensures exists { IfOk result (λ b.
-        All (λ k. k < length constraints.now) b.with_fixing.items) }
+    ensures count { IfOk result (λ b. length b.suspects.items ≡ length constraints.now) }
+    ensures fresh { IfOk result (λ b. All IsFresh b.suspects.items) }
 {
     let round = last_round(journal);
     let lines = trim(alloc, &round.ground, round.lines.items())?;
+    let part = round.part.items();
+    let mut fixing = no_marks(alloc, constraints.len())?;
+    mark_fixing(&mut fixing, part, origins);
     let mut marks = no_marks(alloc, constraints.len())?;
-    mark_lines(&mut marks, round.part.items(), origins, lines.items());
-    let alone = marked_indexes(alloc, &marks)?;
-    mark_fixing(&mut marks, round.part.items(), origins);
-    let with_fixing = marked_indexes(alloc, &marks)?;
-    Ok(Blamed { alone, with_fixing })
+    mark_lines(&mut marks, part, origins, lines.items());
+    let first = others_of(alloc, &marks, &fixing)?;
+    mark_fixing(&mut marks, part, origins);
+    let suspects = suspects_of(alloc, &marks)?;
+    Ok(Blamed { suspects, first })
 }

@@ -1,5 +1,5 @@
 //! A search over a part of a model, which is a round of the journal.
-ghost use Rattle.std.specs.Prelude.{◌≡◌, [], true, None, IfOk, OnOk, OnErr};
+ghost use Rattle.std.specs.Prelude.{◌≡◌, [], true, None, length, IfOk, OnOk, OnErr};
 ghost use Rattle.conf_core.specs.Parts.{IsPart, HasTried};
 ghost use Rattle.conf_core.specs.Cores.{HasRound};
 ghost use Rattle.conf_core.specs.Searching.{HasClosed, HasGrown};
@@ -12,7 +12,7 @@ use conf_types::TypedModel;
 use ground_form::Ground;
 use ground_model::{Origins, ground_with_origins};
 use log_check::{Verdict, VerdictKind};
-use model_search::{Question, last_round, no_hints, round_is_run};
+use model_search::{Question, last_round, round_is_run};
 use object_alloc::Objects;
 use proof_log::Journal;
 use run_finder::Finder;
@@ -64,12 +64,35 @@ fn problem_of(
     Ok(g)
 }
 
-/// Searches the problem of a part, without objectives, and closes the round. With the verdict comes
-/// for which constraints of the part each of the problem's was stated.
+/// Values to go by, for so many variables: those that another part's search found, where it found
+/// so many.
+fn hints_from(alloc: Global, found: &[i64], count: u32) -> Result<Vec<Option<i64>>, AllocError>
+    ensures { IfOk result (λ hints. length hints.items ≡ count) }
+{
+    let mut hints = Vec::new(alloc);
+    for k in 0..count as usize {
+        hints.push(found.get(k).copied())?;
+    }
+    Ok(hints)
+}
+
+/// Notes which values a search found last, if any.
+fn note_found(found: &mut Vec<i64>, verdict: &Verdict) -> Result<(), AllocError> {
+    if let Some(values) = verdict.values() {
+        found.clear();
+        found.extend_from_slice(values)?;
+    }
+    Ok(())
+}
+
+/// Searches the problem of a part, without objectives, and closes the round: by the values that
+/// were found last, which mostly break only what wasn't in that part. With the verdict comes for
+/// which constraints of the part each of the problem's was stated.
 fn closed_round<F: Finder>(
     with: Subject<'_>,
     model: &TypedModel,
     part: Vec<u32>,
+    found: &mut Vec<i64>,
     finder: &mut F,
     journal: &mut Journal,
 ) -> Result<(Verdict, Origins), AllocError>
@@ -88,8 +111,9 @@ fn closed_round<F: Finder>(
 {
     let mut origins = Origins::new(with.alloc);
     let g = problem_of(with, model, &mut origins)?;
-    let hints = no_hints(with.alloc, g.search)?;
+    let hints = hints_from(with.alloc, found, g.search)?;
     let verdict = finder.find(g, &hints, journal)?;
+    note_found(found, &verdict)?;
     journal.close_part(part)?;
     Ok((verdict, origins))
 }
@@ -101,6 +125,7 @@ fn closed_round<F: Finder>(
 pub(crate) fn try_part<F: Finder>(
     with: Subject<'_>,
     part: Vec<u32>,
+    found: &mut Vec<i64>,
     finder: &mut F,
     journal: &mut Journal,
 ) -> Result<Tried, AllocError>
@@ -121,7 +146,7 @@ pub(crate) fn try_part<F: Finder>(
     ensures budget { F.allowed finder.new ≡ F.allowed finder.old }
 {
     let model = with.model.only(with.alloc, &part)?;
-    let (verdict, origins) = closed_round(with, &model, part, finder, journal)?;
+    let (verdict, origins) = closed_round(with, &model, part, found, finder, journal)?;
     let round = last_round(journal);
     round_is_run(
         question_about(&model, with.objects),
@@ -138,6 +163,7 @@ pub(crate) fn try_part<F: Finder>(
 fn part_end<F: Finder>(
     with: Subject<'_>,
     part: &[u32],
+    found: &mut Vec<i64>,
     finder: &mut F,
     journal: &mut Journal,
 ) -> Result<VerdictKind, AllocError>
@@ -156,7 +182,7 @@ fn part_end<F: Finder>(
     ensures lines { OnOk result (journal.new.lines ≡ []) }
     ensures budget { F.allowed finder.new ≡ F.allowed finder.old }
 {
-    let tried = try_part(with, part.to_vec(with.alloc)?, finder, journal)?;
+    let tried = try_part(with, part.to_vec(with.alloc)?, found, finder, journal)?;
     Ok(tried.end)
 }
 
@@ -179,6 +205,7 @@ fn turned<F: Finder>(end: VerdictKind, finder: &mut F) -> bool
 pub(crate) fn decide_part<F: Finder>(
     with: Subject<'_>,
     part: &[u32],
+    found: &mut Vec<i64>,
     finder: &mut F,
     journal: &mut Journal,
 ) -> Result<VerdictKind, AllocError>
@@ -197,11 +224,11 @@ pub(crate) fn decide_part<F: Finder>(
     ensures lines { OnOk result (journal.new.lines ≡ []) }
     ensures budget { F.allowed finder.new ≡ F.allowed finder.old }
 {
-    let end = part_end(with, part, finder, journal)?;
+    let end = part_end(with, part, found, finder, journal)?;
     if !turned(end, finder) {
         return Ok(end);
     }
-    let again = part_end(with, part, finder, journal)?;
+    let again = part_end(with, part, found, finder, journal)?;
     let _back = turned(again, finder);
     Ok(again)
 }

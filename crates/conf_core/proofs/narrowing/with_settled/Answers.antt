@@ -1,13 +1,15 @@
 use Rattle.std.proofs.Common.{◌∙◌, sym, ap, subst, get_or}
-use Rattle.conf_core.proofs.Narrowings.{narrowed_settle}
+use Rattle.conf_core.proofs.Narrowings.{narrowed_first}
 use Rattle.conf_core.specs.Searching.{IsNarrowed}
+use Rattle.conf_core.specs.Suspects.{settled}
 use Rattle.conf_core.proofs.narrowing.with_settled.Goals as goal
 
 pub returns-clause-narrowed : goal.returns-clause-narrowed
 returns-clause-narrowed c =
+    let ss = c.args.n.suspects.items in
+    let one = c.args.one in
+    let first = c.first_of-index.ensures ∙ ap (λ xs. get_or xs 0 0) c.deref.ensures.value in
     λ ks rounds h t.
-    subst (λ ss. IsNarrowed ks rounds ss c.args.others.items) (sym c.in_ok-push.ensures.items)
-    (narrowed_settle ks rounds c.args.n.settled.items c.args.n.rest.items c.args.others.items
-    (record { index = c.first_of-index.result; unsure = c.args.unsure }) c.requires.some
-    c.requires.others (c.first_of-index.ensures ∙ ap (λ xs. get_or xs 0 0) c.deref.ensures.value) h
-    t)
+    subst (λ xs. IsNarrowed ks rounds xs)
+    (sym (c.settle.ensures ∙ ap (λ k. settled ss k one) first))
+    (narrowed_first ks rounds ss c.args.n.rest.items one c.requires.some c.requires.settled h t)
