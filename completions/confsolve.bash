@@ -1,5 +1,5 @@
-# Completion of `confsolve` and `confsolve-view` for bash: commands, options with their values, and
-# files by their place among the words. It needs no other package. `. completions/confsolve.bash`
+# Completion of `confsolve`, `confsolve-view` and `confsolve-site` for bash: commands, options with
+# their values, and files by their place among the words. It needs no other package. `. completions/confsolve.bash`
 # takes it into a shell; tools/install puts it where bash-completion looks.
 
 # Adds what begins as the word does, of the words given.
@@ -99,5 +99,21 @@ _confsolve_view() {
     esac
 }
 
+_confsolve_site() {
+    local _confsolve_current _confsolve_option _confsolve_plain _confsolve_named
+    COMPREPLY=()
+    _confsolve_read --goal
+    [ -z "$_confsolve_option" ] || { _confsolve_words none fewest; return; }
+    case ${_confsolve_plain[0]-}:${#_confsolve_plain[@]} in
+        :0)
+            _confsolve_words model
+            [[ $_confsolve_current != -* ]] || _confsolve_words --help --version --prove
+            ;;
+        model:1 | model:2) _confsolve_files .csv ;;
+        model:3) [[ $_confsolve_current != -* ]] || _confsolve_words --goal ;;
+    esac
+}
+
 complete -F _confsolve confsolve
 complete -F _confsolve_view confsolve-view
+complete -F _confsolve_site confsolve-site

@@ -1,0 +1,6 @@
+pub mod Choices
+pub mod Classes
+pub mod Facts
+pub mod Lines
+pub mod Model
+pub mod Pairs

@@ -1,0 +1,4 @@
+pub mod Drafts
+pub mod Ending
+pub mod Status
+pub mod Words

@@ -1,0 +1,5 @@
+pub mod Cells
+pub mod Columns
+pub mod Grid
+pub mod Values
+pub mod Views
