@@ -12,7 +12,9 @@ use Rattle.signed_clause.proofs.SetFacts.{within_law}
 use Rattle.ground_form.specs.declared.ground.Ground.{Ground}
 use Rattle.fd_store.specs.declared.store.Applied.{Applied}
 use Rattle.fd_store.specs.declared.store.Applied.TheVariants.{Pruned, Conflict}
-use Rattle.fd_store.specs.Levels.{Level, Stack, bottom, moved, applied, applied_by, reacted, pruned_by, dropped_from, dropped, IsWiderAt, AreWider}
+use Rattle.fd_store.specs.Levels.{Level, Stack, bottom, moved, reacted, pruned_by}
+use Rattle.fd_store.specs.Applying.{applied, applied_by}
+use Rattle.fd_store.specs.Undo.{dropped_from, dropped, IsWiderAt, AreWider}
 use Rattle.fd_store.proofs.StackLaws.{dropped_from-none}
 use Rattle.learn_clauses.proofs.WithinLaws.{valid_boxes}
 use Rattle.prop_queue.specs.Work as queue

@@ -7,8 +7,10 @@ use Rattle.signed_clause.specs.Ranges.{is_nil}
 use Rattle.signed_clause.specs.Clauses.{Boxes, Literals, false_in, IsClause}
 use Rattle.ground_form.specs.declared.ground.Ground.{Ground}
 use Rattle.numbered_clauses.specs.declared.chain.Chain as chains
-use Rattle.fd_store.specs.Levels.{Stack, reacted, dropped}
-use Rattle.learn_clauses.specs.Walk.{walk_from, back_to, IsDroppedBy}
+use Rattle.fd_store.specs.Levels.{Stack, reacted}
+use Rattle.fd_store.specs.Undo.{dropped}
+use Rattle.learn_clauses.specs.Walk.{walk_from, back_to}
+use Rattle.learn_clauses.specs.Learnt.{IsDroppedBy}
 use Rattle.log_form.specs.declared.line.Line.{Line}
 use Rattle.log_form.specs.declared.line.Line.TheVariants.{Chain}
 use Rattle.log_form.specs.Acceptance.{Made, clause_at, has_empty, after, made}

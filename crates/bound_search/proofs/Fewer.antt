@@ -10,7 +10,8 @@ use Rattle.signed_clause.proofs.RangeSteps.{has-meet_valid, IsValid-meet}
 use Rattle.signed_clause.proofs.SetFacts.{within_law}
 use Rattle.signed_clause.proofs.CountLaws.{count-part, count-some}
 use Rattle.ground_form.specs.declared.ground.Ground.{Ground}
-use Rattle.fd_store.specs.Levels.{Level, Stack, moved, reacted, pruned_by, AreWider}
+use Rattle.fd_store.specs.Levels.{Level, Stack, moved, reacted, pruned_by}
+use Rattle.fd_store.specs.Undo.{AreWider}
 use Rattle.prop_queue.specs.Work.{AreAllQuiet}
 use Rattle.run_law.specs.Replay.{Going, Conflict, Closed, acts, mode_by}
 use Rattle.run_law.proofs.Units.{some_same, none_some, unit_is}

@@ -8,8 +8,9 @@ use Rattle.signed_clause.specs.Clauses.{Boxes, Literals, box_of, false_in, IsWit
 use Rattle.signed_clause.proofs.SetFacts.{within_law}
 use Rattle.ground_form.specs.declared.ground.Ground.{Ground}
 use Rattle.numbered_clauses.specs.declared.chain.Chain as chains
-use Rattle.fd_store.specs.Levels.{Level, Stack, moved, dropped_from, dropped}
-use Rattle.learn_clauses.specs.Walk.{domains_of, CameFrom, IsWithinDomains, IsDroppedBy}
+use Rattle.fd_store.specs.Levels.{Level, Stack, moved}
+use Rattle.fd_store.specs.Undo.{dropped_from, dropped}
+use Rattle.learn_clauses.specs.Learnt.{domains_of, CameFrom, IsWithinDomains, IsDroppedBy}
 use Rattle.learn_clauses.proofs.WithinLaws.{vars_within}
 use Rattle.clause_watches.specs.declared.rest.Rest.{Rest}
 use Rattle.clause_watches.specs.declared.rest.Rest.TheVariants.{Listed}

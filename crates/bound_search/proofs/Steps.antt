@@ -4,7 +4,7 @@ use Rattle.signed_clause.specs.Clauses.{Boxes, Literals, IsClause, IsWithinBoxes
 use Rattle.signed_clause.specs.Running.{AreValid}
 use Rattle.ground_form.specs.declared.ground.Ground.{Ground}
 use Rattle.fd_store.specs.Levels.{Stack, reacted}
-use Rattle.learn_clauses.specs.Walk.{IsWithinDomains}
+use Rattle.learn_clauses.specs.Learnt.{IsWithinDomains}
 use Rattle.learn_clauses.proofs.WithinLaws.{valid_boxes, vars_within}
 use Rattle.log_form.specs.declared.line.Line.{Line}
 use Rattle.log_form.specs.declared.line.Line.TheVariants.{Axiom, Chain, Bound, Use, Found, Decide, Empty}

@@ -11,7 +11,8 @@ use Rattle.signed_clause.proofs.SetFacts.{nil_law, within_law}
 use Rattle.signed_clause.proofs.ClauseLaws.{has_from_disjoint}
 use Rattle.ground_form.specs.declared.ground.Ground.{Ground}
 use Rattle.rule_law.specs.Answers.{AreBoxesWithin}
-use Rattle.fd_store.specs.Levels.{Level, Stack, moved, reacted, dropped_from, dropped, AreWider}
+use Rattle.fd_store.specs.Levels.{Level, Stack, moved, reacted}
+use Rattle.fd_store.specs.Undo.{dropped_from, dropped, AreWider}
 use Rattle.learn_clauses.proofs.WithinLaws.{valid_boxes}
 use Rattle.run_law.specs.Replay.{acts}
 use Rattle.run_law.proofs.LevelFacts.{AreBoxesIn}

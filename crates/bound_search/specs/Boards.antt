@@ -5,7 +5,8 @@ use Rattle.std.specs.Prelude.{◌≡◌, List, [], ◌∷◌, length}
 use Rattle.signed_clause.specs.Clauses.{Boxes}
 use Rattle.signed_clause.specs.Running.{AreValid}
 use Rattle.ground_form.specs.declared.ground.Ground.{Ground}
-use Rattle.fd_store.specs.Levels.{Level, Stack, AreWider}
+use Rattle.fd_store.specs.Levels.{Level, Stack}
+use Rattle.fd_store.specs.Undo.{AreWider}
 use Rattle.prop_queue.specs.Work as queue
 use Rattle.prop_queue.specs.Work.{Work, IsOver, AreAllQuiet}
 use Rattle.clause_watches.specs.Watching as watches

@@ -8,7 +8,8 @@ use Rattle.ground_form.specs.declared.ground.Ground.{Ground}
 use Rattle.branch_choice.specs.declared.split.Order.{Order}
 use Rattle.branch_choice.specs.declared.split.Split.{Split}
 use Rattle.branch_choice.specs.Picks.{Hints, IsPick}
-use Rattle.fd_store.specs.Levels.{Stack, reacted, dropped}
+use Rattle.fd_store.specs.Levels.{Stack, reacted}
+use Rattle.fd_store.specs.Undo.{dropped}
 use Rattle.log_form.specs.declared.line.Line.{Line}
 use Rattle.log_form.specs.Acceptance.{has_empty, made}
 use Rattle.proof_log.specs.Rounds.{Journal}

@@ -22,9 +22,9 @@ use Rattle.graph_walk.specs.Cycles.{IsOnCycle, IsPlainCycle, IsOrdered, rank}
 use Rattle.class_table.specs.Faults.{Stands, name_repeated, within_item, attribute_repeated, derives_itself, contains_itself, HaveNoFault, IsSmall, IsNumbered, OnFault, item_faults, pointed, repeated, variable_ident, parent_of, attributes_of, class_count}
 use Rattle.class_table.specs.Graphs.{derivation, containment}
 use Rattle.class_table.specs.Names.{Space, space, space_from, means, same_name, classes, enumerations, roots, declared, own}
-use Rattle.class_table.specs.Outline.{class_of, parent_in, own_in, variable_of, attributes, parent_named, class_meant, enumeration_of, value_name}
+use Rattle.class_table.specs.Outline.{class_of, parent_in, own_in, variable_of, attributes, parent_named, class_meant, enumeration_of, value_name, variable_name}
 use Rattle.class_table.specs.Scopes.{Falls, HasParents, HasRanks, IsRepeated, Differ, attributes_at, own_at}
-use Rattle.class_table.specs.Tables.{IsTable, IsFew, all_differ, variable_name}
+use Rattle.class_table.specs.Tables.{IsTable, IsFew, all_differ}
 use Rattle.class_table.proofs.DifferLaws.{differ_from}
 use Rattle.std.proofs.lemmas.List.Elements.{All-nil, All-cons}
 use Rattle.class_table.proofs.ListLaws.{contains_none}

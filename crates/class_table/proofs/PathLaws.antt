@@ -9,10 +9,10 @@ use Rattle.class_table.specs.declared.table.Class.{Class}
 use Rattle.class_table.specs.declared.table.Resolved.TheVariants.{Truth}
 use Rattle.class_table.specs.declared.table.Variable.{Variable}
 use Rattle.graph_walk.specs.declared.walk.State.{State}
-use Rattle.class_table.specs.Outline.{parent_in, own_in, attributes}
+use Rattle.class_table.specs.Outline.{parent_in, own_in, attributes, variable_name}
 use Rattle.class_table.specs.Paths.{IsPath, IsOn, IsEnd, ArePaths, inherited, names_in, path_of, variable_at}
 use Rattle.class_table.specs.Same.{same_name}
-use Rattle.class_table.specs.Tables.{IsTable, all_differ, variable_name}
+use Rattle.class_table.specs.Tables.{IsTable, all_differ}
 use Rattle.std.proofs.lemmas.Bool.{cases_eq}
 use Rattle.class_table.proofs.DifferLaws.{as_from, behind, fewer, front_differs, found_within, own_found, not_own}
 use Rattle.class_table.proofs.ScopeSteps.{map_append, length_map}

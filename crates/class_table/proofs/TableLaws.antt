@@ -5,9 +5,9 @@ use Rattle.class_table.specs.declared.table.Class.{Class}
 use Rattle.class_table.specs.declared.table.Variable.{Variable}
 use Rattle.graph_walk.specs.declared.walk.State.{State}
 use Rattle.graph_walk.specs.Cycles.{rank}
-use Rattle.class_table.specs.Outline.{parent_in, own_in, attributes}
+use Rattle.class_table.specs.Outline.{parent_in, own_in, attributes, variable_name}
 use Rattle.class_table.specs.Same.{same_name}
-use Rattle.class_table.specs.Tables.{IsTable, variable_name}
+use Rattle.class_table.specs.Tables.{IsTable}
 use Rattle.class_table.proofs.AncestryLaws.{attributes_next, at_top}
 use Rattle.class_table.proofs.DifferLaws.{found_within}
 use Rattle.class_table.proofs.ScopeSteps.{length_map}

@@ -119,3 +119,6 @@ is_a cs c d = derives (parent_in cs) (length cs) c d
 -- the attributes of a class: its parent's and then its own
 abbrev pub attributes : List Class → ℕ → List Variable
 attributes cs c = attributes_within (parent_in cs) (own_in cs) (length cs) (length cs) c
+
+abbrev pub variable_name : Variable → List ℕ
+variable_name v = v.name

@@ -8,8 +8,8 @@ use Rattle.class_table.specs.declared.table.Class.{Class}
 use Rattle.class_table.specs.declared.table.Variable.{Variable}
 use Rattle.graph_walk.specs.declared.walk.State.{State}
 use Rattle.graph_walk.specs.Cycles.{rank}
-use Rattle.class_table.specs.Outline.{parent_in, own_in, attributes}
-use Rattle.class_table.specs.Tables.{all_differ, variable_name}
+use Rattle.class_table.specs.Outline.{parent_in, own_in, attributes, variable_name}
+use Rattle.class_table.specs.Tables.{all_differ}
 
 -- the attribute that stands at a spot
 abbrev pub variable_at : List Class → Spot → Option Variable

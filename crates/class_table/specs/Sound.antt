@@ -5,9 +5,9 @@ use Rattle.class_table.specs.declared.table.Resolved.{Resolved}
 use Rattle.class_table.specs.declared.table.Resolved.TheVariants.{Span, Truth, Choice, One, Many, Ref, RefSet}
 use Rattle.class_table.specs.declared.table.Variable.{Variable}
 use Rattle.class_table.specs.Named.{IsNamed}
-use Rattle.class_table.specs.Outline.{Outline, attributes}
+use Rattle.class_table.specs.Outline.{Outline, attributes, variable_name}
 use Rattle.class_table.specs.Scopes.{HasParents, HasRanks}
-use Rattle.class_table.specs.Tables.{IsClosed, all_differ, variable_name}
+use Rattle.class_table.specs.Tables.{IsClosed, all_differ}
 
 -- the class of the objects that a variable of this shape holds
 abbrev pub held_class : Resolved → Option ℕ

@@ -1,5 +1,5 @@
 -- What holds of every table, and what its accessors answer.
-use Rattle.std.specs.Prelude.{◌≡◌, ℕ, ◌<◌, ◌^◌, Bool, true, false, cond, List, [], ◌∷◌, ◌++◌, Option, None, Some, length, map, slice_index, slice_index_or}
+use Rattle.std.specs.Prelude.{◌≡◌, ℕ, ◌<◌, ◌^◌, Bool, true, false, cond, List, ◌∷◌, ◌++◌, Option, None, Some, length, map, slice_index, slice_index_or, []}
 use Rattle.std.specs.List.{list_any}
 use Rattle.class_table.specs.declared.names.NameMeaning.{NameMeaning}
 use Rattle.class_table.specs.declared.names.NameMeaning.TheVariants as meaning
@@ -11,7 +11,7 @@ use Rattle.class_table.specs.declared.table.Variable.{Variable}
 use Rattle.graph_walk.specs.declared.walk.State.{State}
 use Rattle.graph_walk.specs.Cycles.{rank}
 use Rattle.class_table.specs.Names.{means}
-use Rattle.class_table.specs.Outline.{Outline, parent_in, attributes}
+use Rattle.class_table.specs.Outline.{Outline, parent_in, attributes, variable_name}
 use Rattle.class_table.specs.Same.{same_name}
 use Rattle.class_table.specs.Scopes.{Falls, HasParents}
 
@@ -31,9 +31,6 @@ root_meant None = None
 
 abbrev pub IsFew : Enumeration → Type 0
 IsFew e = length e.values < 2 ^ 32
-
-abbrev pub variable_name : Variable → List ℕ
-variable_name v = v.name
 
 -- each of the names differs from those before it
 abbrev pub all_differ : List (List ℕ) → List (List ℕ) → Bool

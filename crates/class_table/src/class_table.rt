@@ -14,11 +14,11 @@ ghost use Rattle.conf_syntax.specs.Words.{AreWords};
 ghost use Rattle.class_table.specs.declared.fault.TableFault.{TableFault as AFault};
 ghost use Rattle.class_table.specs.Faults.{OnFault, Stands, IsSmall, pointed, repeated};
 ghost use Rattle.class_table.specs.Names.{means, space, classes, declared};
-ghost use Rattle.class_table.specs.Outline.{outline, parent_in, own_in, is_a, attributes, class_meant};
+ghost use Rattle.class_table.specs.Outline.{outline, parent_in, own_in, is_a, attributes, class_meant, variable_name};
 ghost use Rattle.class_table.specs.Paths.{ArePaths, HavePaths};
 ghost use Rattle.class_table.specs.Same.{same_name};
 ghost use Rattle.class_table.specs.Sound.{IsSound};
-ghost use Rattle.class_table.specs.Tables.{enumeration_meant, root_meant, IsFew, IsTable, IsMeant, IsShapeOf, variable_name};
+ghost use Rattle.class_table.specs.Tables.{enumeration_meant, root_meant, IsFew, IsTable, IsMeant, IsShapeOf};
 
 use crate::build::check_classes;
 use crate::name_text::NameText;

@@ -7,10 +7,10 @@
 ghost use Rattle.std.specs.Prelude.{◌≡◌, ◌++◌, ◌+◌, ◌-◌, ◌<◌, ◌≤◌, ◌^◌, [], true, None, Some, length, map, position, slice_index, slice_index_or, ℕ, IfOk, IfSome, IfNone, OnOk};
 ghost use Rattle.class_table.specs.declared.paths.Path.{Path as APath};
 ghost use Rattle.graph_walk.specs.Cycles.{rank};
-ghost use Rattle.class_table.specs.Outline.{own_in, parent_in, attributes};
+ghost use Rattle.class_table.specs.Outline.{own_in, parent_in, attributes, variable_name};
 ghost use Rattle.class_table.specs.Paths.{ArePaths, HavePaths, IsEnd, IsOn, names_in, path_of, variable_at};
 ghost use Rattle.class_table.specs.Same.{same_name};
-ghost use Rattle.class_table.specs.Tables.{IsTable, all_differ, variable_name};
+ghost use Rattle.class_table.specs.Tables.{IsTable, all_differ};
 
 use crate::parents::{ClassList, parent_of};
 use crate::{Class, Values, Variable};

@@ -13,7 +13,8 @@ use Rattle.conf_syntax.specs.declared.tree.QuantKind.TheVariants as kind
 use Rattle.conf_types.specs.declared.tree.RExpr.{RExpr}
 use Rattle.conf_types.specs.declared.tree.RNode as node
 use Rattle.conf_types.specs.declared.tree.RQuant as quant
-use Rattle.conf_types.specs.Trees.{Tree, Filter, Bodies, NoBody, Body, tree_of, quant_tree, body_trees, optional_tree, trees_of, node_tree}
+use Rattle.conf_types.specs.Trees.{Tree, Filter, Bodies, NoBody, Body}
+use Rattle.conf_types.specs.TreeOf.{tree_of, quant_tree, body_trees, optional_tree, trees_of, node_tree}
 use Rattle.conf_types.specs.Trees as tree
 use Rattle.conf_eval.specs.Evaluating.{IsGiven, IsRoom, AllEvaluable, IsInner, AreInner, height, filter_height, bodies_height, number_of, term_of, holds}
 use Rattle.conf_eval.specs.declared.value.Value.{Value}

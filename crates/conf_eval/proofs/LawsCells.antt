@@ -16,7 +16,7 @@ use Rattle.object_alloc.specs.declared.object.Domain.TheVariants as domain
 use Rattle.object_alloc.specs.Cells.{cells, extent, value_count, domain_of}
 use Rattle.object_alloc.specs.Configurations.{IsInDomain, AreValues, IsConfiguration}
 use Rattle.object_alloc.specs.Groups.{parts_of, own_cells}
-use Rattle.object_alloc.specs.Laid.{variables_of}
+use Rattle.object_alloc.specs.Variables.{variables_of}
 use Rattle.object_alloc.specs.Own.{IsOwner, held_count, member_cell}
 use Rattle.object_alloc.proofs.OwnParts.{one_cell, parts_count, part_is, member_cells_are}
 use Rattle.conf_eval.specs.declared.value.Value.{Value}

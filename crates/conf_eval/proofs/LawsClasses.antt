@@ -12,8 +12,7 @@ use Rattle.class_table.specs.Steps.{StepsBy}
 use Rattle.class_table.proofs.AncestryLaws.{IsUp, steps_from_derives, attributes_next}
 use Rattle.object_alloc.specs.declared.object.Object.{Object}
 use Rattle.object_alloc.specs.Cells.{extent_from, extent}
-use Rattle.object_alloc.specs.Laid.{variables_of}
-use Rattle.object_alloc.specs.Sums.{variables}
+use Rattle.object_alloc.specs.Variables.{variables_of, variables}
 use Rattle.object_alloc.specs.Walk.{objects}
 
 -- an item of a list is one of a longer list

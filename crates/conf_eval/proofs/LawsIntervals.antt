@@ -27,7 +27,7 @@ use Rattle.conf_types.specs.Operators.{left_need, right_need}
 use Rattle.conf_types.specs.Typing.{Place, inside, within, attribute_type, tree_type, filter_fits, bodies_fit}
 use Rattle.object_alloc.specs.Cells.{extent}
 use Rattle.object_alloc.specs.Configurations.{IsConfiguration}
-use Rattle.object_alloc.specs.Laid.{variables_of}
+use Rattle.object_alloc.specs.Variables.{variables_of}
 use Rattle.object_alloc.specs.Own.{IsOwner}
 use Rattle.conf_eval.specs.declared.value.Value.{Value}
 use Rattle.conf_eval.specs.declared.value.Value.TheVariants.{Int}

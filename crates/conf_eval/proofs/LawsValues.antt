@@ -26,7 +26,7 @@ use Rattle.conf_types.specs.Operators.{result_of}
 use Rattle.conf_types.specs.Typing.{Place, local_class, same_shape, shaped, variable_type, attribute_type, value_there, quantifier_type, tree_type}
 use Rattle.object_alloc.specs.Cells.{extent, value_count}
 use Rattle.object_alloc.specs.Configurations.{IsConfiguration}
-use Rattle.object_alloc.specs.Laid.{variables_of}
+use Rattle.object_alloc.specs.Variables.{variables_of}
 use Rattle.object_alloc.specs.Own.{IsOwner}
 use Rattle.conf_eval.specs.declared.value.Value.{Value}
 use Rattle.conf_eval.specs.declared.value.Value.TheVariants.{Int, Truth, Choice, Objects}

@@ -5,7 +5,8 @@ use Rattle.class_table.specs.Outline.{Outline}
 use Rattle.class_table.specs.Sound.{IsSound}
 use Rattle.class_table.specs.Tables.{IsFew}
 use Rattle.conf_types.specs.declared.tree.RExpr.{RExpr}
-use Rattle.conf_types.specs.Trees.{Tree, Filter, NoFilter, Where, Bodies, NoBody, Body, tree_of}
+use Rattle.conf_types.specs.Trees.{Tree, Filter, NoFilter, Where, Bodies, NoBody, Body}
+use Rattle.conf_types.specs.TreeOf.{tree_of}
 use Rattle.conf_types.specs.Trees as tree
 use Rattle.object_alloc.specs.Configurations.{IsConfiguration}
 use Rattle.object_alloc.specs.Limits.{IsWithinLimits}

@@ -11,7 +11,7 @@ use Rattle.conf_types.specs.declared.types.ExprType.TheVariants as type
 use Rattle.conf_types.specs.Trees.{Tree, Filter, Bodies}
 use Rattle.conf_types.specs.Typing.{Place, tree_type, filter_fits, bodies_fit}
 use Rattle.object_alloc.specs.Cells.{extent, value_count}
-use Rattle.object_alloc.specs.Laid.{variables_of}
+use Rattle.object_alloc.specs.Variables.{variables_of}
 use Rattle.object_alloc.specs.Own.{IsOwner}
 use Rattle.conf_eval.specs.declared.value.Value.{Value}
 use Rattle.conf_eval.specs.declared.value.Value.TheVariants.{Int, Truth, Choice, Object, Objects}

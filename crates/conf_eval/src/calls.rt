@@ -1,6 +1,6 @@
 //! The calls that evaluate: an expression, and the objectives of a model.
 ghost use Rattle.std.specs.Prelude.{◌≡◌, ◌++◌, ◌∷◌, [], None, true, drop, false, IfOk, IsOk, OnOk};
-ghost use Rattle.conf_types.specs.Trees.{tree_of};
+ghost use Rattle.conf_types.specs.TreeOf.{tree_of};
 ghost use Rattle.conf_types.specs.Typing.{IsTypedModel};
 ghost use Rattle.object_alloc.specs.Configurations.{IsConfiguration};
 ghost use Rattle.conf_eval.specs.Evaluating.{IsGiven, env_setting, setting_at};

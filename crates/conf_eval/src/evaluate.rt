@@ -4,7 +4,7 @@
 //! (`members_at`); a list is made only where its value is asked for.
 ghost use Rattle.std.specs.Prelude.{◌≡◌, ◌<◌, ◌^◌, ◌++◌, ◌∷◌, [], ℕ, List, All, true, false, Some, drop, length, map, neg_ℤ, not, IfOk, count_by, cond, ◌||◌, IsOk};
 ghost use Rattle.std.specs.List.{list_all, list_any};
-ghost use Rattle.conf_types.specs.Trees.{tree_of, quant_tree, optional_tree, trees_of};
+ghost use Rattle.conf_types.specs.TreeOf.{tree_of, quant_tree, optional_tree, trees_of};
 ghost use Rattle.conf_types.specs.Trees as tree;
 ghost use Rattle.object_alloc.specs.Cells.{extent};
 ghost use Rattle.conf_eval.specs.declared.value.Value.TheVariants.{Int, Truth, Objects};

@@ -3,7 +3,7 @@
 use Rattle.std.specs.Prelude.{◌≡◌, ℕ, ◌+◌, Bool, true, false, ◌&&◌, cond, List, [], ◌∷◌, ◌++◌, Option, None, Some, codes, drop, filter_map, is_some, nat_eq, nat_le}
 use Rattle.std.specs.List.{starts_with}
 use Rattle.class_table.specs.Outline.{Outline}
-use Rattle.object_alloc.specs.Named.{object_named}
+use Rattle.object_alloc.specs.Paths.{object_named}
 use Rattle.command_limits.specs.Limits.{most_events}
 use Rattle.conf_events.specs.declared.event.Event.{Event}
 use Rattle.conf_events.specs.declared.event.EventsError.{EventsError}

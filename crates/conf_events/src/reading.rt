@@ -2,7 +2,7 @@
 ghost use Rattle.std.specs.Prelude.{ℕ, ◌≡◌, ◌≢◌, ◌+◌, ◌<◌, ◌≤◌, [], ◌∷◌, ◌++◌, length};
 ghost use Rattle.std.specs.Prelude.{None, Some, IsSome, IfOk, IfErr, OnOk, IfSome, IfNone};
 ghost use Rattle.std.specs.List.{All};
-ghost use Rattle.object_alloc.specs.Named.{object_named};
+ghost use Rattle.object_alloc.specs.Paths.{object_named};
 ghost use Rattle.command_limits.specs.Limits.{most_events, events_bytes};
 ghost use Rattle.conf_events.specs.Texts.{bad_line, events_of, IsEventsError};
 ghost use Rattle.conf_events.specs.Texts.{ended, unended, event_at, event_of, bad_from};

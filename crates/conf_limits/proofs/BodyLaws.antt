@@ -4,7 +4,8 @@ use Rattle.std.specs.Prelude.{Some, nat_eq, ◌&&◌}
 use Rattle.class_table.specs.Outline.{Outline}
 use Rattle.conf_types.specs.declared.tree.RExpr.{RExpr}
 use Rattle.conf_types.specs.declared.tree.RQuant as quant
-use Rattle.conf_types.specs.Trees.{Tree, Bodies, NoBody, Body, tree_of, trees_of, optional_tree, quant_tree, body_trees, node_tree}
+use Rattle.conf_types.specs.Trees.{Tree, Bodies, NoBody, Body}
+use Rattle.conf_types.specs.TreeOf.{tree_of, trees_of, optional_tree, quant_tree, body_trees, node_tree}
 use Rattle.conf_types.specs.Trees as tree
 use Rattle.conf_limits.specs.declared.measure.Bodies.{Bodies as BodiesMeasure}
 use Rattle.conf_limits.specs.declared.measure.Measure.{Measure}

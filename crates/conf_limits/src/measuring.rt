@@ -1,6 +1,6 @@
 //! Expressions, each walked once: what is measured of a part serves all that is asked of the whole.
 ghost use Rattle.std.specs.Prelude.{◌≡◌, ◌+◌, ℕ};
-ghost use Rattle.conf_types.specs.Trees.{tree_of, optional_tree, trees_of, quant_tree};
+ghost use Rattle.conf_types.specs.TreeOf.{tree_of, optional_tree, trees_of, quant_tree};
 ghost use Rattle.conf_limits.specs.Limits.{capped, chosen, IsThere, IsFilterThere, AreBodiesThere, IsMeasure, IsFilterMeasure, IsBodiesMeasure};
 
 use crate::capped::capped_sum;

@@ -5,9 +5,9 @@ use Rattle.std.specs.List.{list_any}
 use Rattle.class_table.specs.Outline.{Outline}
 use Rattle.class_table.specs.Same.{same_name}
 use Rattle.conf_events.specs.declared.event.Event.{Event}
-use Rattle.object_alloc.specs.Named.{object_named}
+use Rattle.object_alloc.specs.Paths.{object_named}
 use Rattle.reconfigure.specs.Failing.{unknown_from, unknown_word}
-use Rattle.conf_session.specs.Standing.{with_word, without_word, failed_behind}
+use Rattle.conf_session.specs.Failed.{with_word, without_word, failed_behind}
 
 -- a walk that finds nothing unknown names the first word, and finds nothing behind it
 known_here : (b : Bool) (n : ℕ) (rest : Option ℕ) → cond b rest (Some n) ≡ None → (b ≡ true) × (rest ≡ None)

@@ -7,14 +7,15 @@ use Rattle.ground_form.specs.WellMade.{IsWellMade}
 use Rattle.log_check.specs.Soundness.{FoundSolves}
 use Rattle.log_check.specs.Verdicts.{Ending}
 use Rattle.log_form.specs.declared.line.Line.{Line}
-use Rattle.object_alloc.specs.Named.{object_named}
+use Rattle.object_alloc.specs.Paths.{object_named}
 use Rattle.proof_log.specs.Rounds.{Journal}
 use Rattle.proof_log.specs.declared.journal.Round.{Round}
 use Rattle.reconfigure.specs.Failing.{unknown_word}
 use Rattle.reconfigure.specs.Repairing.{Extends}
 use Rattle.run_finder.specs.Searched.{HasSearched}
 use Rattle.conf_session.proofs.KnownWords.{behind_known}
-use Rattle.conf_session.specs.Standing.{Standing, IsOver, IsStanding, failed_behind, former_behind, former_by}
+use Rattle.conf_session.specs.Standing.{Standing, IsOver, IsStanding, former_behind, former_by}
+use Rattle.conf_session.specs.Failed.{failed_behind}
 use Rattle.conf_session.specs.declared.step.Step.{Step}
 use Rattle.conf_session.specs.Steps.{RepairsFor, IsStep, IsSearched, IsClosed, IsBehind, IsGroundBehind}
 

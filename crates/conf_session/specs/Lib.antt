@@ -1,4 +1,5 @@
 pub mod Standing
+pub mod Failed
 pub mod Keeping
 pub mod Keys
 pub mod Steps

@@ -1,10 +1,6 @@
--- What a session has come to. What a reader believes after this file: what stands as failed behind
--- an event, and which values a session goes by.
-use Rattle.std.specs.Prelude.{◌≡◌, ℕ, Bool, true, false, ◌+◌, ◌^◌, ◌≤◌, not, cond, List, [], ◌∷◌, ◌++◌, ℤ, Option, None, Some, filter, length, map, take}
-use Rattle.std.specs.List.{list_any}
+-- What a session has come to, and which values it goes by.
+use Rattle.std.specs.Prelude.{◌≡◌, ℕ, Bool, true, false, ◌+◌, ◌^◌, ◌≤◌, List, ℤ, Option, None, Some, length, map, take}
 use Rattle.class_table.specs.Outline.{Outline}
-use Rattle.class_table.specs.Same.{same_name}
-use Rattle.conf_events.specs.declared.event.Event.{Event}
 use Rattle.ground_cells.specs.CellBoxes.{cell_boxes}
 use Rattle.ground_form.specs.StandsFor.{StandsFor}
 use Rattle.ground_form.specs.WellMade.{IsWellMade}
@@ -37,22 +33,6 @@ pub record IsOver (o : Outline) (s : Standing) : Type 0 where
   pub functions : List (Bool × (List ℤ → ℤ))
   pub stands : StandsFor s.ground (cell_boxes o) test functions
   pub failed : unknown_word o s.failed ≡ None
-
--- ---- what failed
-
--- the words that stand as failed with one more, where it isn't one of them yet
-abbrev pub with_word : List ℕ → List (List ℕ) → List (List ℕ)
-with_word word failed = cond (list_any (same_name word) failed) failed (failed ++ word ∷ [])
-
--- those without this one
-abbrev pub without_word : List ℕ → List (List ℕ) → List (List ℕ)
-without_word word failed = filter (λ w. not (same_name word w)) failed
-
--- those behind an event
-abbrev pub failed_behind : Event → List (List ℕ) → List (List ℕ)
-failed_behind e failed = cond e.fails (with_word e.path failed) (without_word e.path failed)
-
--- ---- former values
 
 -- those behind a search: where it has ended and found something the values found last, else those
 -- before

@@ -18,7 +18,8 @@ use Rattle.reconfigure.specs.Repairing.{Extends}
 use Rattle.run_finder.specs.Searched.{HasSearched}
 use Rattle.command_limits.specs.Limits.{most_kept}
 use Rattle.conf_session.specs.Keeping.{keeping}
-use Rattle.conf_session.specs.Standing.{Standing, IsOver, failed_behind, former_behind}
+use Rattle.conf_session.specs.Standing.{Standing, IsOver, former_behind}
+use Rattle.conf_session.specs.Failed.{failed_behind}
 use Rattle.conf_session.specs.declared.step.Step.{Step}
 
 -- whatever the one problem stands for, the other stands for too, with that nothing that failed is

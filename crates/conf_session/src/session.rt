@@ -2,8 +2,9 @@
 ghost use Rattle.std.specs.Prelude.{◌≡◌, ◌^◌, ◌≤◌, [], ℕ, None, Some, length, IfSome, IfOk, IsSome, IsSomeAnd, OnErr};
 ghost use Rattle.class_table.specs.Outline.{Outline};
 ghost use Rattle.ground_form.specs.WellMade.{IsWellMade};
-ghost use Rattle.object_alloc.specs.Named.{object_named};
-ghost use Rattle.conf_session.specs.Standing.{IsOver, failed_behind};
+ghost use Rattle.object_alloc.specs.Paths.{object_named};
+ghost use Rattle.conf_session.specs.Standing.{IsOver};
+ghost use Rattle.conf_session.specs.Failed.{failed_behind};
 ghost use Rattle.conf_session.specs.Steps.{Steps, IsStep, IsSearched, IsClosed};
 
 use crate::learning::behind;

@@ -2,9 +2,9 @@
 ghost use Rattle.std.specs.Prelude.{◌≡◌, ◌++◌, ◌∷◌, [], None, not, filter, IsSome, IfOk, OnOk};
 ghost use Rattle.std.specs.List.{list_any};
 ghost use Rattle.class_table.specs.Same.{same_name};
-ghost use Rattle.object_alloc.specs.Named.{object_named};
+ghost use Rattle.object_alloc.specs.Paths.{object_named};
 ghost use Rattle.reconfigure.specs.Failing.{unknown_word};
-ghost use Rattle.conf_session.specs.Standing.{with_word, without_word, failed_behind};
+ghost use Rattle.conf_session.specs.Failed.{with_word, without_word, failed_behind};
 
 use conf_events::Event;
 use conf_syntax::PathText;

@@ -23,7 +23,8 @@ use Rattle.conf_types.specs.Programs.{OnFault}
 use Rattle.conf_types.specs.Readings.{Reading, read, alone, over_reading, pair_reading, quantifier_reading, shadow, filter_faults, filter_holds, filter_tree, mismatch, nonlinear_unless, typed_if, has, needs, needed, wrong_unless, found_reading, attribute_reading, bodies_faults, bodies_hold, bodies_tree}
 use Rattle.conf_types.specs.Scopes.{Scope, Sense, Nothing, attribute_named, sense}
 use Rattle.conf_types.specs.declared.tree.RQuant as rquant
-use Rattle.conf_types.specs.Trees.{Tree, Bodies, NoBody, Body, tree_of, trees_of, optional_tree, quant_tree, body_trees}
+use Rattle.conf_types.specs.Trees.{Tree, Bodies, NoBody, Body}
+use Rattle.conf_types.specs.TreeOf.{tree_of, trees_of, optional_tree, quant_tree, body_trees, node_tree}
 use Rattle.conf_types.specs.Trees as tree
 use Rattle.conf_types.specs.Types.{meets, body_need, quant_result}
 use Rattle.conf_types.specs.Operators.{left_need, right_need, is_linear}
@@ -186,7 +187,7 @@ module _ (o : Outline) (s : Scope) (k : QuantKind) (body : List Expr) where
 
 rows_are : (m : _) (row : rquant.Row_of-RExpr m) → body_trees row ≡ trees_of (rquant.items-the_row-RExpr m row)
 rows_are m rquant.end_of-RExpr = refl
-rows_are m (rquant.more_of-RExpr at e rest) = ap (λ bs. Body (tree.node_tree e at) bs) (rows_are _ rest)
+rows_are m (rquant.more_of-RExpr at e rest) = ap (λ bs. Body (node_tree e at) bs) (rows_are _ rest)
 
 pub rquant_is : (q : rquant.RQuant) (at : ℕ) → quant_tree q at ≡ tree.Quant at (rquant.out-RQuant q).kind (tree_of (rquant.out-RQuant q).over) (optional_tree (rquant.out-RQuant q).filter) (trees_of (rquant.out-RQuant q).body.items)
 rquant_is (rquant.RQuant' k at over rquant.None' shape body) place = search (rules, rquant.the_lemmas, rows_are)

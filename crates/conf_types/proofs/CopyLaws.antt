@@ -7,7 +7,8 @@ use Rattle.conf_types.specs.declared.tree.RExpr.{RExpr}
 use Rattle.conf_types.specs.declared.tree.RQuant as rquant
 use Rattle.conf_types.specs.Checked.{trees_onto}
 use Rattle.conf_types.specs.Programs.{ResolvedConstraint, ResolvedGoal, constraint_at}
-use Rattle.conf_types.specs.Trees.{Bodies, NoBody, Body, tree_of, trees_of, optional_tree, quant_tree}
+use Rattle.conf_types.specs.Trees.{Bodies, NoBody, Body}
+use Rattle.conf_types.specs.TreeOf.{tree_of, trees_of, optional_tree, quant_tree}
 use Rattle.conf_types.specs.Trees as tree
 use Rattle.conf_types.specs.Typing.{IsTypedConstraint, IsTypedGoal, IsTypedModel}
 use Rattle.conf_types.proofs.CheckLaws.{rquant_is}

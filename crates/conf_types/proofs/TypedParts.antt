@@ -13,7 +13,7 @@ use Rattle.conf_types.specs.declared.types.Need.TheVariants as need
 use Rattle.conf_types.specs.Checked.{IsRead}
 use Rattle.conf_types.specs.Programs.{outside, ResolvedConstraint, ResolvedGoal}
 use Rattle.conf_types.specs.Readings.{read}
-use Rattle.conf_types.specs.Trees.{tree_of}
+use Rattle.conf_types.specs.TreeOf.{tree_of}
 use Rattle.conf_types.specs.Types.{meets, is_truth, is_int}
 use Rattle.conf_types.specs.Typing.{tree_type, outermost, IsTypedConstraint, IsTypedGoal, IsTypedModel}
 use Rattle.conf_types.proofs.TypingTrees.{node_typed}

@@ -19,7 +19,8 @@ use Rattle.conf_types.specs.declared.types.ExprType.TheVariants.{Int, Truth, Cho
 use Rattle.conf_types.specs.Readings.{Reading, read, alone, over_reading, list_class, quantifier_reading, filter_faults, filter_holds, filter_tree, bodies_faults, bodies_hold, bodies_tree}
 use Rattle.conf_types.specs.Scopes.{Scope, within, Sense, ALocal, AnOwn, ARoot, AnEnumeration, AClass, Nothing}
 use Rattle.conf_types.specs.Scopes.{sense as meaning_of}
-use Rattle.conf_types.specs.Trees.{Bodies, Body, tree_of, trees_of, optional_tree}
+use Rattle.conf_types.specs.Trees.{Bodies, Body}
+use Rattle.conf_types.specs.TreeOf.{tree_of, trees_of, optional_tree}
 
 -- Scopes
 

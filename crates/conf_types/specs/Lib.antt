@@ -2,6 +2,7 @@ pub mod Types
 pub mod Operators
 pub mod Typing
 pub mod Trees
+pub mod TreeOf
 pub mod Resolved
 pub mod TreeCodes
 pub mod Scopes

@@ -7,9 +7,8 @@ use Rattle.class_table.specs.declared.table.Resolved.{Resolved}
 use Rattle.class_table.specs.declared.table.Resolved.TheVariants as shape
 use Rattle.class_table.specs.declared.table.Variable.{Variable}
 use Rattle.class_table.specs.Names.{means}
-use Rattle.class_table.specs.Outline.{Outline, attributes}
+use Rattle.class_table.specs.Outline.{Outline, attributes, variable_name}
 use Rattle.class_table.specs.Same.{same_name}
-use Rattle.class_table.specs.Tables.{variable_name}
 use Rattle.conf_types.specs.declared.scope.Found.{Found}
 
 -- where an expression stands: the class of `this`, if it stands in one, and the variables of the

@@ -3,7 +3,7 @@
 //! `RExpr::copy` is the entry. The recursion is on the tree, which nests at most `MOST_NESTING`.
 ghost use Rattle.std.specs.Prelude.{◌≡◌, ◌<◌, ℕ, All, length, map, IfOk};
 ghost use Rattle.conf_types.specs.Programs.{constraint_at};
-ghost use Rattle.conf_types.specs.Trees.{tree_of, node_tree, quant_tree, optional_tree, trees_of};
+ghost use Rattle.conf_types.specs.TreeOf.{tree_of, node_tree, quant_tree, optional_tree, trees_of};
 
 use crate::{Constraint, RExpr, RNode, RQuant};
 use std::alloc::{AllocError, Global};

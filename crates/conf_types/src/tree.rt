@@ -71,7 +71,7 @@ impl Drop for Constraint {
 impl Model for Constraint {
     ghost use Rattle.conf_types.specs.Resolved.{ResolvedConstraint};
     ghost use Rattle.conf_types.specs.TreeCodes.{coded_constraint};
-    ghost use Rattle.conf_types.specs.Trees.{tree_of};
+    ghost use Rattle.conf_types.specs.TreeOf.{tree_of};
 
     ghost Value = { ResolvedConstraint };
 
@@ -95,7 +95,7 @@ impl Drop for Goal {
 impl Model for Goal {
     ghost use Rattle.conf_types.specs.Resolved.{ResolvedGoal};
     ghost use Rattle.conf_types.specs.TreeCodes.{coded_goal};
-    ghost use Rattle.conf_types.specs.Trees.{tree_of};
+    ghost use Rattle.conf_types.specs.TreeOf.{tree_of};
 
     ghost Value = { ResolvedGoal };
 

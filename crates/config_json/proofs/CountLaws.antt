@@ -14,7 +14,7 @@ use Rattle.serde_json.specs.Data.{Data, Items, no_items, item}
 use Rattle.serde_json.specs.Events.{items_len}
 use Rattle.serde_json.specs.Find.{as_str}
 use Rattle.config_json.specs.Former.{of_extent, object_in, members_in}
-use Rattle.object_alloc.specs.Named.{object_named}
+use Rattle.object_alloc.specs.Paths.{object_named}
 use Rattle.config_json.proofs.Known.{before}
 
 -- how many of the numbers are among the members

@@ -9,7 +9,7 @@ use Rattle.class_table.specs.declared.table.Variable.{Variable}
 use Rattle.class_table.specs.Outline.{Outline}
 use Rattle.object_alloc.specs.Cells.{cells}
 use Rattle.object_alloc.specs.Groups.{parts_of, own_cells}
-use Rattle.object_alloc.specs.Laid.{variables_of}
+use Rattle.object_alloc.specs.Variables.{variables_of}
 use Rattle.object_alloc.specs.Walk.{objects}
 use Rattle.serde_json.specs.Data.{Data, Members, no_members, member, put}
 use Rattle.serde_json.specs.Find.{of_integer, is_float}

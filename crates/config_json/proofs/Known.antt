@@ -14,9 +14,8 @@ use Rattle.class_table.specs.Sound.{IsSound}
 use Rattle.class_table.specs.Tables.{IsShapeOf}
 use Rattle.object_alloc.specs.declared.object.Object.{Object}
 use Rattle.object_alloc.specs.Cells.{extent, extent_from}
-use Rattle.object_alloc.specs.Laid.{class_in, variables_of}
-use Rattle.object_alloc.specs.Paths.{HoldsAt}
-use Rattle.object_alloc.specs.Sums.{variables}
+use Rattle.object_alloc.specs.Variables.{class_in, variables_of, variables}
+use Rattle.object_alloc.specs.Held.{HoldsAt}
 use Rattle.object_alloc.specs.Walk.{objects}
 use Rattle.object_alloc.proofs.HeldLaws.{object_held}
 use Rattle.object_alloc.proofs.ShapeLaws.{shapes, root_shapes}

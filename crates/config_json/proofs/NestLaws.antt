@@ -15,7 +15,7 @@ use Rattle.class_table.specs.Sound.{IsSound}
 use Rattle.object_alloc.specs.declared.object.Object.{Object}
 use Rattle.object_alloc.specs.Cells.{cells}
 use Rattle.object_alloc.specs.Groups.{own_cells, parts_of}
-use Rattle.object_alloc.specs.Laid.{variables_of}
+use Rattle.object_alloc.specs.Variables.{variables_of}
 use Rattle.object_alloc.specs.Limits.{IsShallow}
 use Rattle.object_alloc.specs.Members.{member_at}
 use Rattle.object_alloc.specs.Own.{IsOwner, depth_in, held, held_from, inside_of}

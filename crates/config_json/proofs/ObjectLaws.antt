@@ -9,8 +9,8 @@ use Rattle.class_table.specs.declared.table.Variable.{Variable}
 use Rattle.class_table.specs.Outline.{Outline}
 use Rattle.object_alloc.specs.declared.object.Object.{Object}
 use Rattle.object_alloc.specs.Groups.{numbers_from, is_part_of, same_owner, parts_of, own_cells}
-use Rattle.object_alloc.specs.Laid.{variables_of}
-use Rattle.object_alloc.specs.Paths.{IsBefore}
+use Rattle.object_alloc.specs.Variables.{variables_of}
+use Rattle.object_alloc.specs.Held.{IsBefore}
 use Rattle.object_alloc.specs.Walk.{objects}
 use Rattle.object_alloc.proofs.HeldLaws.{object_held}
 use Rattle.serde_json.specs.Data.{Data, item, Members, array, object, put}

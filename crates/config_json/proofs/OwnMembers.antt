@@ -12,7 +12,7 @@ use Rattle.object_alloc.specs.declared.object.Object.{Object}
 use Rattle.object_alloc.specs.Cells.{extent, extent_from, member_cells}
 use Rattle.object_alloc.specs.Configurations.{AreValues}
 use Rattle.object_alloc.specs.Members.{is_one}
-use Rattle.object_alloc.specs.Named.{object_named}
+use Rattle.object_alloc.specs.Paths.{object_named}
 use Rattle.object_alloc.specs.Walk.{objects}
 use Rattle.object_alloc.proofs.PathsDiffer.{path_named}
 use Rattle.object_alloc.proofs.PickedMembers.{any_cell, picks}

@@ -9,9 +9,9 @@ use Rattle.class_table.specs.Sound.{IsSound}
 use Rattle.object_alloc.specs.declared.object.Leaf.{Leaf}
 use Rattle.object_alloc.specs.declared.object.Object.{Object}
 use Rattle.object_alloc.specs.Groups.{parts_of, own_cells}
-use Rattle.object_alloc.specs.Laid.{variables_of}
+use Rattle.object_alloc.specs.Variables.{variables_of}
 use Rattle.object_alloc.specs.Leaves.{IsHeldLeaf}
-use Rattle.object_alloc.specs.Paths.{HoldsAt, IsBefore}
+use Rattle.object_alloc.specs.Held.{HoldsAt, IsBefore}
 use Rattle.object_alloc.specs.Walk.{objects}
 use Rattle.object_alloc.proofs.HeldLaws.{object_held}
 use Rattle.object_alloc.proofs.OwnParts.{part_place}

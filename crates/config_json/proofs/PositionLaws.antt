@@ -4,8 +4,8 @@ use Rattle.std.specs.Prelude.{slice_get, slice_index_or, option_and_then, IfSome
 use Rattle.std.specs.Borrow.{Bor}
 use Rattle.class_table.specs.Outline.{Outline}
 use Rattle.object_alloc.specs.declared.object.Object.{Object}
-use Rattle.object_alloc.specs.Laid.{variables_of}
-use Rattle.object_alloc.specs.Paths.{IsBefore}
+use Rattle.object_alloc.specs.Variables.{variables_of}
+use Rattle.object_alloc.specs.Held.{IsBefore}
 use Rattle.object_alloc.specs.Walk.{objects}
 use Rattle.object_alloc.proofs.HeldLaws.{object_held}
 use Rattle.serde_json.specs.Data.{Data}

@@ -4,7 +4,7 @@ use Rattle.class_table.specs.declared.table.Enumeration.{Enumeration}
 use Rattle.class_table.specs.declared.table.Variable.{Variable}
 use Rattle.class_table.specs.Outline.{Outline}
 use Rattle.class_table.specs.Same.{same_name}
-use Rattle.object_alloc.specs.Laid.{variables_of}
+use Rattle.object_alloc.specs.Variables.{variables_of}
 use Rattle.object_alloc.specs.Paths.{path}
 use Rattle.object_alloc.specs.Walk.{objects}
 use Rattle.config_json.specs.Keys.{text_of}

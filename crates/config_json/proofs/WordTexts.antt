@@ -17,17 +17,16 @@ use Rattle.class_table.specs.declared.table.Resolved.TheVariants.{Span, Truth, C
 use Rattle.class_table.specs.declared.table.Variable.{Variable}
 use Rattle.class_table.specs.declared.names.NameMeaning.TheVariants as meaning
 use Rattle.class_table.specs.Names.{means}
-use Rattle.class_table.specs.Outline.{Outline, attributes}
+use Rattle.class_table.specs.Outline.{Outline, attributes, variable_name}
 use Rattle.class_table.specs.Same.{same_name}
 use Rattle.class_table.specs.Sound.{IsSound}
-use Rattle.class_table.specs.Tables.{all_differ, variable_name}
+use Rattle.class_table.specs.Tables.{all_differ}
 use Rattle.class_table.specs.Worded.{HasWord, HasWordValues, HasWords, IsWord}
 use Rattle.class_table.proofs.DifferLaws.{as_from}
 use Rattle.object_alloc.specs.declared.object.Object.{Object}
 use Rattle.object_alloc.specs.Groups.{is_part_of, numbers_from, parts_of}
-use Rattle.object_alloc.specs.Laid.{class_in, variables_of}
+use Rattle.object_alloc.specs.Variables.{class_in, variables_of, variables}
 use Rattle.object_alloc.specs.Paths.{index_text, last_step, owner_path, path, path_within, step_text}
-use Rattle.object_alloc.specs.Sums.{variables}
 use Rattle.object_alloc.specs.Walk.{objects}
 use Rattle.object_alloc.proofs.OwnParts.{part_place}
 use Rattle.config_json.specs.Keys.{text_of}

@@ -1,7 +1,7 @@
 -- The objects that an object or the top level holds, by their numbers.
 use Rattle.std.specs.Prelude.{ℕ, ◌<◌, List, [], ◌∷◌, Option, length}
 use Rattle.class_table.specs.Outline.{Outline}
-use Rattle.object_alloc.specs.Paths.{IsBefore}
+use Rattle.object_alloc.specs.Held.{IsBefore}
 use Rattle.object_alloc.specs.Walk.{objects}
 
 -- each is an object, with a number above its owner's

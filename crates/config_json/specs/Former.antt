@@ -12,9 +12,8 @@ use Rattle.class_table.specs.Same.{same_name}
 use Rattle.object_alloc.specs.declared.object.Leaf.{Leaf}
 use Rattle.object_alloc.specs.declared.object.Object.{Object}
 use Rattle.object_alloc.specs.Cells.{extent, leaf_cells}
-use Rattle.object_alloc.specs.Laid.{variables_of}
-use Rattle.object_alloc.specs.Named.{object_named}
-use Rattle.object_alloc.specs.Paths.{path, owner_path}
+use Rattle.object_alloc.specs.Variables.{variables_of}
+use Rattle.object_alloc.specs.Paths.{object_named, path, owner_path}
 use Rattle.object_alloc.specs.Walk.{objects, walk, leaves_in}
 use Rattle.serde_json.specs.Data.{Data, Items, no_items, item}
 use Rattle.serde_json.specs.Events.{items_len}

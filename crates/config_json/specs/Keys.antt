@@ -5,7 +5,7 @@ use Rattle.std.specs.Str.Lossy.{utf8_lossy}
 use Rattle.class_table.specs.declared.table.Class.{Class}
 use Rattle.class_table.specs.declared.table.Enumeration.{Enumeration}
 use Rattle.class_table.specs.Outline.{Outline}
-use Rattle.object_alloc.specs.Laid.{class_in}
+use Rattle.object_alloc.specs.Variables.{class_in}
 use Rattle.object_alloc.specs.Walk.{objects}
 
 -- these bytes as a text. A text is UTF-8, and bytes that are UTF-8 stay as they are; names and

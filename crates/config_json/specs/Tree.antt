@@ -7,7 +7,7 @@ use Rattle.class_table.specs.declared.table.Variable.{Variable}
 use Rattle.class_table.specs.Outline.{Outline}
 use Rattle.object_alloc.specs.Cells.{cells}
 use Rattle.object_alloc.specs.Groups.{parts_of, own_cells}
-use Rattle.object_alloc.specs.Laid.{variables_of}
+use Rattle.object_alloc.specs.Variables.{variables_of}
 use Rattle.object_alloc.specs.Members.{is_one, member_at, value_at}
 use Rattle.object_alloc.specs.Paths.{path}
 use Rattle.object_alloc.specs.Walk.{objects}

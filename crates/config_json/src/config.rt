@@ -4,7 +4,7 @@ ghost use Rattle.class_table.specs.Tables.{IsShapeOf};
 ghost use Rattle.object_alloc.specs.Cells.{cells as all_cells};
 ghost use Rattle.object_alloc.specs.Configurations.{IsConfiguration};
 ghost use Rattle.object_alloc.specs.Groups.{parts_of, own_cells};
-ghost use Rattle.object_alloc.specs.Laid.{variables_of};
+ghost use Rattle.object_alloc.specs.Variables.{variables_of};
 ghost use Rattle.object_alloc.specs.Walk.{objects as all_objects};
 ghost use Rattle.serde_json.specs.Data.{string, put, no_members};
 ghost use Rattle.serde_json.specs.View.{view, items_view, members_view};

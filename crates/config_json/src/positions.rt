@@ -1,7 +1,7 @@
 //! The positions of objects and leaves in a JSON value: keys for names, elements for indexes.
 ghost use Rattle.std.specs.Prelude.{◌≡◌, ◌<◌, None, Some, length, slice_get, slice_index_or, option_and_then, IfOk, IfSome};
 ghost use Rattle.class_table.specs.Tables.{IsShapeOf};
-ghost use Rattle.object_alloc.specs.Laid.{variables_of};
+ghost use Rattle.object_alloc.specs.Variables.{variables_of};
 ghost use Rattle.object_alloc.specs.Walk.{objects as all_objects};
 ghost use Rattle.serde_json.specs.Find.{get};
 ghost use Rattle.serde_json.specs.View.{view};

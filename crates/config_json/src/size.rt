@@ -4,7 +4,7 @@
 //! and paths are so long that it would have more than half a gigabyte, memory is said to lack
 //! before it does. No former text may have a thirtieth of that.
 ghost use Rattle.std.specs.Prelude.{◌<◌, length, IfSome};
-ghost use Rattle.object_alloc.specs.Laid.{variables_of};
+ghost use Rattle.object_alloc.specs.Variables.{variables_of};
 ghost use Rattle.object_alloc.specs.Walk.{objects as all_objects};
 
 use crate::config::{member_at, only_value};

@@ -4,7 +4,7 @@ ghost use Rattle.desk_io.specs.Desk.{OfFile};
 ghost use Rattle.ground_form.specs.WellMade.{IsWellMade};
 ghost use Rattle.log_check.specs.Fed.{IsLogOf};
 ghost use Rattle.log_check.specs.Soundness.{Means, FoundSolves};
-ghost use Rattle.log_check.specs.Verdicts.{shown_of};
+ghost use Rattle.log_check.specs.Kinds.{shown_of};
 ghost use Rattle.model_search.specs.Findings.{Tells};
 ghost use Rattle.model_search.specs.Problems.{IsProblemOf};
 ghost use Rattle.model_search.specs.Wanted.{IsUnderstood};

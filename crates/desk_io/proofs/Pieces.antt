@@ -3,7 +3,7 @@ use Rattle.std.proofs.Common.{◌≡◌, ℕ, ◌+◌, ◌<◌, ◌≤◌, List,
 use Rattle.std.proofs.lemmas.List.{take-append-le, take-take, take-append-drop, nil_from_length, take_all}
 use Rattle.std.proofs.Math.Seq.{drop-append_seam, take-append_seam, take-append-add}
 use Rattle.desk_io.specs.Desk.{Files, OfFile, ReadsAt, with_printed}
-use Rattle.desk_io.specs.Whole.{ReadsBehind}
+use Rattle.desk_io.specs.Pieces.{ReadsBehind}
 
 -- the items are the front of the file
 abbrev pub IsFront : List ℕ → List ℕ → Type 0

@@ -6,3 +6,4 @@ pub mod Piece
 pub mod RealDesk
 pub mod SteadyDesk
 pub mod Whole
+pub mod Pieces

@@ -5,7 +5,8 @@ ghost use Rattle.std.specs.Prelude.{◌≡◌, ℕ, ◌+◌, ◌^◌, ◌<◌, �
 ghost use Rattle.std.specs.Option.{option_map};
 ghost use Rattle.desk_io.specs.Desk.{OfFile, with_file, with_printed};
 ghost use Rattle.desk_io.specs.Fault.{HasRisen};
-ghost use Rattle.desk_io.specs.Whole.{ReadsBehind, PrintsFront, StoresFront, read_error_of, write_error_of};
+ghost use Rattle.desk_io.specs.Whole.{PrintsFront, StoresFront};
+ghost use Rattle.desk_io.specs.Pieces.{ReadsBehind, read_error_of, write_error_of};
 
 use crate::{Desk, DeskError};
 use std::alloc::{AllocError, Global};

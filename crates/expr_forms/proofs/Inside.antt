@@ -18,7 +18,7 @@ use Rattle.conf_types.specs.Trees as tree
 use Rattle.conf_types.specs.Operators.{left_need, right_need}
 use Rattle.conf_types.specs.Typing.{Place, local_class, attribute_type, tree_type}
 use Rattle.object_alloc.specs.Cells.{extent}
-use Rattle.object_alloc.specs.Laid.{variables_of}
+use Rattle.object_alloc.specs.Variables.{variables_of}
 use Rattle.object_alloc.specs.Own.{IsOwner}
 use Rattle.conf_eval.specs.Fitting.{IsThis, HasShape}
 use Rattle.conf_limits.specs.Measures.{narrow}

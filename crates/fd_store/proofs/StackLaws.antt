@@ -10,7 +10,8 @@ use Rattle.signed_clause.specs.Clauses.{Boxes, Literals, box_of, false_in, unit_
 use Rattle.signed_clause.proofs.RangeSteps.{IsValid-meet, has-meet_valid}
 use Rattle.signed_clause.proofs.CountLaws.{within_from_has}
 use Rattle.fd_store.specs.declared.trail.Moved.{Moved}
-use Rattle.fd_store.specs.Levels.{Entry, Level, Stack, with_entry, moved, dropped_from, dropped, back_by, taken_back, entries_in, IsWiderAt}
+use Rattle.fd_store.specs.Levels.{Entry, Level, Stack, with_entry, moved}
+use Rattle.fd_store.specs.Undo.{dropped_from, dropped, back_by, taken_back, entries_in, IsWiderAt}
 use Rattle.fd_store.specs.Trails.{entry_of, stack_of, level_of, level_after, IsTrail, IsStore, IsNarrowing, IsNewest, undone, older}
 
 -- ---- what the levels show of the trail

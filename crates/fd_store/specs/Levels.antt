@@ -1,13 +1,8 @@
 -- Boxes in levels, as decisions open them. What a reader believes after this file: which levels a
--- decision, a pruning and a clause make of those that stand, and which are left where levels are
--- dropped or what was done last is taken back.
-use Rattle.std.specs.Prelude.{◌≡◌, ◌≢◌, ◌<◌, ◌+◌, ℕ, suc, true, cond, List, [], ◌∷◌, Option, Some, None, length, slice_set, nat_lt}
-use Rattle.signed_clause.specs.Ranges.{Ranges, IsValid, IsSubset}
-use Rattle.signed_clause.specs.SetAlgebra.{is_within}
+-- decision, a pruning and a clause make of those that stand.
+use Rattle.std.specs.Prelude.{ℕ, cond, List, ◌∷◌, Option, Some, None, slice_set, []}
+use Rattle.signed_clause.specs.Ranges.{Ranges}
 use Rattle.signed_clause.specs.Clauses.{Boxes, Literals, box_of, false_in, unit_of}
-use Rattle.signed_clause.specs.Running.{AreValid}
-use Rattle.fd_store.specs.declared.store.Applied.{Applied}
-use Rattle.fd_store.specs.declared.store.Applied.TheVariants.{Pruned, Conflict, Nothing}
 
 -- what was done to a box: its variable, the box before, and the number of the clause that pruned
 -- it, none for a decision
@@ -57,77 +52,6 @@ moved from x set s =
           box_of s.top.now x;
       from = from;
     }) s
-
--- ---- levels that are dropped
-
--- the levels up to k are left, of a last level and those below it
-abbrev pub dropped_from : ℕ → Level → List Level → Stack
-dropped_from k top [] = record { top = top; below = [] }
-dropped_from k top (l ∷ ls) =
-    cond (nat_lt k (suc (length ls))) (dropped_from k l ls) (record { top = top; below = l ∷ ls })
-
--- the levels up to k are left
-abbrev pub dropped : ℕ → Stack → Stack
-dropped k s = dropped_from k s.top s.below
-
--- ---- what was done last is taken back
-
-abbrev pub popped : Level → List Level → Stack
-popped top [] = record { top = top; below = [] }
-popped top (l ∷ ls) = record { top = l; below = ls }
-
--- a decision goes with its level, and a pruning alone
-abbrev pub back_by : Option ℕ → Entry → List Entry → Stack → Stack
-back_by None e es s = popped s.top s.below
-back_by (Some j) e es s =
-    record {
-      top =
-          record { first = s.top.first; now = slice_set s.top.now e.var e.before; entries = es };
-      below = s.below;
-    }
-
-abbrev pub back_from : List Entry → Stack → Stack
-back_from [] s = s
-back_from (e ∷ es) s = back_by e.from e es s
-
-abbrev pub taken_back : Stack → Stack
-taken_back s = back_from s.top.entries s
-
--- how much was done in all levels
-abbrev pub entries_below : List Level → ℕ
-entries_below [] = 0
-entries_below (l ∷ ls) = length l.entries + entries_below ls
-
-abbrev pub entries_in : Stack → ℕ
-entries_in s = length s.top.entries + entries_below s.below
-
--- the box of x is as it was or wider, and the others are the same
-pub record IsWiderAt (x : ℕ) (before after : Boxes) : Type 0 where
-  pub size : length after ≡ length before
-  pub exists : x < length before
-  pub others : (y : ℕ) → y ≢ x → box_of after y ≡ box_of before y
-  pub before_valid : IsValid (box_of before x)
-  pub after_valid : IsValid (box_of after x)
-  pub within : is_within (box_of before x) (box_of after x) ≡ true
-
--- ---- wider boxes
-
--- valid boxes, each of which has the values of the other's
-pub record AreWider (small large : Boxes) : Type 0 where
-  pub small_valid : AreValid small
-  pub large_valid : AreValid large
-  pub within : (x : ℕ) → IsSubset (box_of small x) (box_of large x)
-
--- ---- what a clause does
-
--- it prunes where it is unit
-abbrev pub applied_by : Option (ℕ × Ranges) → Applied
-applied_by None = Nothing
-applied_by (Some u) = Pruned u.0
-
--- it shows a conflict where it is false
-abbrev pub applied : Boxes → Literals → Applied
-applied boxes c = cond (false_in boxes c) Conflict (applied_by (unit_of boxes c))
 
 -- the levels behind it, where n is the clause's number
 abbrev pub pruned_by : ℕ → Option (ℕ × Ranges) → Stack → Stack

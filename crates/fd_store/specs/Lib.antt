@@ -1,2 +1,4 @@
 pub mod Levels
+pub mod Applying
+pub mod Undo
 pub mod Trails

@@ -10,7 +10,9 @@ ghost use Rattle.std.specs.List.{All};
 ghost use Rattle.signed_clause.specs.Ranges.{is_nil, IsValid};
 ghost use Rattle.signed_clause.specs.SetAlgebra.{is_within};
 ghost use Rattle.signed_clause.specs.Clauses.{box_of, unit_of, IsWithinBoxes};
-ghost use Rattle.fd_store.specs.Levels.{bottom, moved, dropped, taken_back, entries_in, IsWiderAt, applied, reacted};
+ghost use Rattle.fd_store.specs.Levels.{bottom, moved, reacted};
+ghost use Rattle.fd_store.specs.Applying.{applied};
+ghost use Rattle.fd_store.specs.Undo.{dropped, taken_back, entries_in, IsWiderAt};
 ghost use Rattle.fd_store.specs.Trails.{stack_of, IsStore, IsNarrowing};
 
 use crate::trail::{Moved, last_level, narrow, undo, undo_last};

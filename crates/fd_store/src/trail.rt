@@ -7,7 +7,8 @@ ghost use Rattle.std.specs.Prelude.{◌≡◌, ◌<◌, ◌≤◌, ◌-◌, ◌�
 ghost use Rattle.signed_clause.specs.Ranges.{IsValid};
 ghost use Rattle.signed_clause.specs.SetAlgebra.{is_within};
 ghost use Rattle.signed_clause.specs.Clauses.{box_of};
-ghost use Rattle.fd_store.specs.Levels.{moved, dropped};
+ghost use Rattle.fd_store.specs.Levels.{moved};
+ghost use Rattle.fd_store.specs.Undo.{dropped};
 ghost use Rattle.fd_store.specs.Trails.{stack_of, level_of, level_after, IsStore, IsNewest, undone, older};
 
 use signed_clause::IntSet;

@@ -1,6 +1,7 @@
 //! Lists of ascending numbers as sets.
 ghost use Rattle.std.specs.Prelude.{◌≡◌, ◌++◌, ◌∷◌, [], ℤ, List, IfOk, OnOk};
-ghost use Rattle.signed_clause.specs.Union.{fuse, fuse_pending};
+ghost use Rattle.signed_clause.specs.Union.{fuse};
+ghost use Rattle.signed_clause.specs.Merging.{fuse_pending};
 ghost use Rattle.ground_cells.specs.CellBoxes.{single, AscendFrom, number_ranges};
 
 use signed_clause::IntSet;

@@ -12,7 +12,8 @@ use Rattle.conf_types.specs.declared.types.Need.{Need}
 use Rattle.conf_types.specs.Readings.{has}
 use Rattle.conf_types.specs.Types.{is_list, is_object, meets, body_need}
 use Rattle.conf_types.specs.Typing.{Place, tree_type, bodies_fit}
-use Rattle.conf_types.specs.Trees.{Tree, Bodies, NoBody, Body, tree_of, trees_of}
+use Rattle.conf_types.specs.Trees.{Tree, Bodies, NoBody, Body}
+use Rattle.conf_types.specs.TreeOf.{tree_of, trees_of}
 use Rattle.conf_eval.specs.declared.value.Value.{Value}
 use Rattle.conf_eval.specs.Meaning.{value, values_of}
 use Rattle.conf_syntax.specs.declared.tree.QuantKind.{QuantKind}

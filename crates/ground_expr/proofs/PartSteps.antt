@@ -6,7 +6,8 @@ use Rattle.std.proofs.lemmas.List.{drop_all, drop_more, take_all}
 use Rattle.std.proofs.lemmas.List.Elements.{All-nil, All-cons, All-append, All-weaker}
 use Rattle.class_table.specs.Outline.{Outline}
 use Rattle.conf_types.specs.declared.tree.RExpr.{RExpr}
-use Rattle.conf_types.specs.Trees.{Tree, Filter, Bodies, NoBody, tree_of, trees_of, optional_tree}
+use Rattle.conf_types.specs.Trees.{Tree, Filter, Bodies, NoBody}
+use Rattle.conf_types.specs.TreeOf.{tree_of, trees_of, optional_tree}
 use Rattle.conf_eval.specs.declared.value.Value.{Value}
 use Rattle.conf_types.specs.Typing.{Place, inside}
 use Rattle.conf_eval.specs.Fitting.{Fits}

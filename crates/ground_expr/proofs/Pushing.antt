@@ -6,7 +6,8 @@ use Rattle.std.proofs.lemmas.List.Folds.{list_any_more}
 use Rattle.class_table.specs.Outline.{Outline}
 use Rattle.conf_syntax.specs.declared.tree.Op.{Op}
 use Rattle.conf_types.specs.declared.tree.RExpr.{RExpr}
-use Rattle.conf_types.specs.Trees.{Tree, tree_of}
+use Rattle.conf_types.specs.Trees.{Tree}
+use Rattle.conf_types.specs.TreeOf.{tree_of}
 use Rattle.conf_types.specs.Trees as tree
 use Rattle.conf_eval.specs.Meaning.{value, truth_of}
 use Rattle.conf_eval.specs.Meaning.{value as meant}

@@ -10,7 +10,8 @@ use Rattle.conf_syntax.specs.declared.tree.QuantKind.{QuantKind}
 use Rattle.conf_syntax.specs.declared.tree.QuantKind.TheVariants as kind
 use Rattle.conf_types.specs.declared.tree.RExpr.{RExpr}
 use Rattle.conf_types.specs.declared.tree.RQuant as quant
-use Rattle.conf_types.specs.Trees.{Tree, Filter, Bodies, tree_of, trees_of, quant_tree}
+use Rattle.conf_types.specs.Trees.{Tree, Filter, Bodies}
+use Rattle.conf_types.specs.TreeOf.{tree_of, trees_of, quant_tree}
 use Rattle.conf_types.specs.Trees as tree
 use Rattle.conf_eval.specs.declared.value.Value.{Value}
 use Rattle.conf_eval.specs.Meaning.{Setting, bind, operate, value, truth_of, objects_of, keeps, values_of, all_true}

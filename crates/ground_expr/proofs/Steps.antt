@@ -15,7 +15,8 @@ use Rattle.conf_types.specs.declared.types.ExprType.{ExprType}
 use Rattle.conf_types.specs.declared.types.ExprType.TheVariants as type
 use Rattle.conf_types.specs.Readings.{list_class}
 use Rattle.conf_types.specs.Typing.{inside, within, tree_type, filter_fits, bodies_fit}
-use Rattle.conf_types.specs.Trees.{Tree, Filter, Bodies, tree_of, quant_tree, optional_tree, trees_of}
+use Rattle.conf_types.specs.Trees.{Tree, Filter, Bodies}
+use Rattle.conf_types.specs.TreeOf.{tree_of, quant_tree, optional_tree, trees_of}
 use Rattle.conf_types.specs.declared.tree.RQuant as quant
 use Rattle.conf_eval.proofs.EvalLaws.{quant_is}
 use Rattle.conf_types.specs.Trees as tree

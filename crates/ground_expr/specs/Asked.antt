@@ -1,16 +1,15 @@
--- What is asked of a configuration, as tests and functions. What a reader believes after this file:
--- which test of configurations the constraints of a model and the sizes of its sets are, and which
--- functions its objectives are.
-use Rattle.std.specs.Prelude.{ℕ, Bool, true, ◌&&◌, List, Option, ℤ, map, length, nat_eq}
+-- What is asked of a configuration, as a test: that the constraints of a model hold, and that its
+-- sets are full.
+use Rattle.std.specs.Prelude.{ℕ, Bool, true, ◌&&◌, List, Option, ℤ, length, nat_eq}
 use Rattle.std.specs.List.{list_all}
 use Rattle.class_table.specs.declared.table.Resolved.{Resolved}
 use Rattle.class_table.specs.declared.table.Resolved.TheVariants as shape
 use Rattle.class_table.specs.Outline.{Outline}
-use Rattle.conf_types.specs.Programs.{ResolvedConstraint, ResolvedGoal}
+use Rattle.conf_types.specs.Programs.{ResolvedConstraint}
 use Rattle.object_alloc.specs.declared.object.Leaf.{Leaf}
 use Rattle.object_alloc.specs.Walk.{walk, leaves_in}
 use Rattle.conf_eval.specs.Meaning.{value, truth_of, objects_of, attribute_value}
-use Rattle.conf_eval.specs.Satisfying.{setting, stated_for, objective}
+use Rattle.conf_eval.specs.Satisfying.{setting, stated_for}
 
 -- a set of this shape has as many members as the shape says
 abbrev pub has_count : Resolved → ℕ → Bool
@@ -38,7 +37,3 @@ holds_of o values k = list_all (holds_for o values k) (stated_for o k.class)
 -- the sets are full, and the constraints hold
 abbrev pub satisfied_by : Outline → List ResolvedConstraint → List ℤ → Bool
 satisfied_by o ks values = are_full o values && list_all (holds_of o values) ks
-
--- the objectives, each with its direction
-abbrev pub functions : Outline → List ResolvedGoal → List (Bool × (List ℤ → ℤ))
-functions o gs = map (λ (g : ResolvedGoal). (g.max, λ (values : List ℤ). objective o values g)) gs

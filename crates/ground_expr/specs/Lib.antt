@@ -4,6 +4,7 @@ pub mod Bodies
 pub mod Chosen
 pub mod Usable
 pub mod Asked
+pub mod Objectives
 pub mod Known
 pub mod Stated
 pub mod Fixed

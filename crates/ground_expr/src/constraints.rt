@@ -2,7 +2,7 @@
 //! configuration become constraints of a kind that was made for them.
 ghost use Rattle.std.specs.Prelude.{◌≡◌, true, [], OnOk};
 ghost use Rattle.conf_syntax.specs.declared.tree.QuantKind.TheVariants as kinds;
-ghost use Rattle.conf_types.specs.Trees.{tree_of, quant_tree};
+ghost use Rattle.conf_types.specs.TreeOf.{tree_of, quant_tree};
 ghost use Rattle.conf_types.specs.declared.tree.RQuant as quants;
 ghost use Rattle.conf_eval.specs.Meaning.{truth_of as truth_in};
 ghost use Rattle.form_build.specs.Worlds.{Adds};

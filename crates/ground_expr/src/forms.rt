@@ -4,7 +4,7 @@
 //! which the filter keeps, and the forms of the bodies there.
 ghost use Rattle.std.specs.Prelude.{◌≡◌, ◌*◌, ◌+◌, ◌++◌, ◌≤◌, ◌∷◌, [], ℕ, ℤ, List, map, filter, cond, ◌&&◌, true, length, IfOk, OnOk};
 ghost use Rattle.std.specs.List.{All};
-ghost use Rattle.conf_types.specs.Trees.{tree_of, quant_tree, optional_tree, trees_of};
+ghost use Rattle.conf_types.specs.TreeOf.{tree_of, quant_tree, optional_tree, trees_of};
 ghost use Rattle.conf_types.specs.Trees as tree;
 ghost use Rattle.conf_types.specs.declared.tree.RQuant as quants;
 ghost use Rattle.conf_eval.specs.Evaluating.{AllEvaluable, IsRoom};

@@ -1,7 +1,7 @@
 //! Expressions that are pushed into a disjunction: `or` and `->` part by part, where one part is
 //! enough, `not` with the other truth, all else as a truth of its own.
 ghost use Rattle.std.specs.Prelude.{◌≡◌, ◌<◌, ℤ, List, length, IfOk, OnOk};
-ghost use Rattle.conf_types.specs.Trees.{tree_of};
+ghost use Rattle.conf_types.specs.TreeOf.{tree_of};
 ghost use Rattle.form_build.specs.Forms.{truth_at, HasVariable};
 ghost use Rattle.form_build.specs.Worlds.{IsWorld};
 ghost use Rattle.form_truths.specs.Disjunctions.{IsWithin};

@@ -4,7 +4,7 @@
 //! clause, `not` with the other truth, and a comparison of numbers as a row where it can be one.
 ghost use Rattle.std.specs.Prelude.{◌≡◌, ◌++◌, ◌∷◌, not, ◌&&◌, [], true, false, ℤ, List, length, IfOk, OnOk};
 ghost use Rattle.std.specs.List.{All, list_all};
-ghost use Rattle.conf_types.specs.Trees.{tree_of, trees_of, optional_tree, quant_tree};
+ghost use Rattle.conf_types.specs.TreeOf.{tree_of, trees_of, optional_tree, quant_tree};
 ghost use Rattle.conf_types.specs.Trees as tree;
 ghost use Rattle.conf_types.specs.declared.tree.RQuant as quants;
 ghost use Rattle.conf_eval.specs.Evaluating.{AllEvaluable};

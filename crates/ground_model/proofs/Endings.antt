@@ -18,7 +18,8 @@ use Rattle.form_build.proofs.Growth.{adds_more}
 use Rattle.form_build.proofs.Final.{stands_from}
 use Rattle.ground_cells.specs.CellBoxes.{cell_boxes}
 use Rattle.expr_forms.specs.Standing.{HasCells}
-use Rattle.ground_expr.specs.Asked.{satisfied_by, functions}
+use Rattle.ground_expr.specs.Asked.{satisfied_by}
+use Rattle.ground_expr.specs.Objectives.{functions}
 use Rattle.ground_model.specs.Aims.{idle_goal}
 use Rattle.ground_model.specs.Requiring.{Requires}
 

@@ -3,7 +3,8 @@ use Rattle.std.proofs.Common.{◌≡◌, ℕ, ◌+◌, ◌<◌, ◌≤◌, Bool,
 use Rattle.std.proofs.lemmas.List.{drop_more, drop_all}
 use Rattle.conf_types.specs.declared.tree.RExpr.{RExpr}
 use Rattle.conf_types.specs.declared.tree.RQuant as quant
-use Rattle.conf_types.specs.Trees.{Body, NoBody, tree_of, trees_of, optional_tree, quant_tree}
+use Rattle.conf_types.specs.Trees.{Body, NoBody}
+use Rattle.conf_types.specs.TreeOf.{tree_of, trees_of, optional_tree, quant_tree}
 use Rattle.conf_eval.proofs.EvalLaws.{quant_is}
 use Rattle.ground_model.specs.Fixing.{joins_truths, is_simple, is_simple_filter, are_simple, fixes}
 

@@ -11,7 +11,7 @@ use Rattle.ground_form.specs.Meaning.{value_of}
 use Rattle.ground_form.specs.StandsFor.{AreGoalValues}
 use Rattle.form_build.specs.Worlds.{IsWorld, Defines}
 use Rattle.form_build.proofs.Growth.{world_before, no_less, defines_more}
-use Rattle.ground_expr.specs.Asked.{functions}
+use Rattle.ground_expr.specs.Objectives.{functions}
 
 -- one goal more
 goal_behind : (gs : List GroundGoal) (fs : List (Bool × (List ℤ → ℤ))) (g : GroundGoal) (f : Bool × (List ℤ → ℤ)) (t a : List ℤ) → AreGoalValues gs fs t a → g.max ≡ f.0 → value_of a g.var ≡ f.1 t → AreGoalValues (gs ++ g ∷ []) (fs ++ f ∷ []) t a

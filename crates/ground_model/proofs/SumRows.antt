@@ -6,7 +6,8 @@ use Rattle.conf_syntax.specs.declared.tree.Op.{Op}
 use Rattle.conf_syntax.specs.declared.tree.Op.TheVariants as op
 use Rattle.conf_syntax.specs.declared.tree.QuantKind.{QuantKind}
 use Rattle.conf_types.specs.declared.tree.RQuant as quant
-use Rattle.conf_types.specs.Trees.{Tree, Filter, Bodies, tree_of, trees_of, optional_tree, quant_tree}
+use Rattle.conf_types.specs.Trees.{Tree, Filter, Bodies}
+use Rattle.conf_types.specs.TreeOf.{tree_of, trees_of, optional_tree, quant_tree}
 use Rattle.conf_types.specs.Trees as tree
 use Rattle.conf_eval.specs.Meaning.{value, int_of, objects_of}
 use Rattle.conf_eval.proofs.EvalLaws.{quant_is, quant_value}

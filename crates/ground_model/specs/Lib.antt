@@ -7,4 +7,5 @@ pub mod Fixing
 pub mod Known
 pub mod RowsAsked
 pub use Rattle.ground_expr.specs.Asked
+pub use Rattle.ground_expr.specs.Objectives
 pub mod Adding

@@ -1,7 +1,7 @@
 //! Which constraints may give cells their values: those that need no sum, count or packing. What
 //! follows from them alone is known where the others are stated. No promise rests on this choice.
 ghost use Rattle.std.specs.Prelude.{◌≡◌, ℕ};
-ghost use Rattle.conf_types.specs.Trees.{tree_of, trees_of, optional_tree, quant_tree};
+ghost use Rattle.conf_types.specs.TreeOf.{tree_of, trees_of, optional_tree, quant_tree};
 ghost use Rattle.form_truths.specs.Tests.{wanted};
 ghost use Rattle.ground_model.specs.Fixing.{joins_truths, is_simple, is_simple_filter, are_simple, fixes};
 

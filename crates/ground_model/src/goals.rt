@@ -6,7 +6,7 @@ ghost use Rattle.ground_form.specs.Meaning.{value_of};
 ghost use Rattle.ground_form.specs.StandsFor.{AreGoalValues};
 ghost use Rattle.form_build.specs.Worlds.{IsWorld, Defines};
 ghost use Rattle.expr_forms.specs.Standing.{HasCells};
-ghost use Rattle.ground_expr.specs.Asked.{functions};
+ghost use Rattle.ground_expr.specs.Objectives.{functions};
 ghost use Rattle.ground_model.specs.Aims.{idle_goal};
 ghost use Rattle.ground_model.specs.Known.{HasKnown, AreFixed};
 ghost use Rattle.ground_model.specs.Stated.{IsReady, IsReadyGoal};

@@ -2,7 +2,7 @@
 //!
 //! These two calls are all that this crate asks of `ground_expr`.
 ghost use Rattle.std.specs.Prelude.{[], IfOk, OnOk};
-ghost use Rattle.conf_types.specs.Trees.{tree_of};
+ghost use Rattle.conf_types.specs.TreeOf.{tree_of};
 ghost use Rattle.form_build.specs.Worlds.{Defines};
 ghost use Rattle.conf_eval.specs.Meaning.{value, truth_of};
 ghost use Rattle.conf_eval.specs.Satisfying.{setting};

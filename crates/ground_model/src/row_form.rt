@@ -1,6 +1,6 @@
 //! The row that a constraint is.
 ghost use Rattle.std.specs.Prelude.{◌≡◌, ◌<◌, true, IfOk, IfSome};
-ghost use Rattle.conf_types.specs.Trees.{tree_of, quant_tree};
+ghost use Rattle.conf_types.specs.TreeOf.{tree_of, quant_tree};
 ghost use Rattle.form_build.specs.Worlds.{Defines};
 ghost use Rattle.expr_forms.specs.Standing.{IsStanding, HasCells};
 ghost use Rattle.quantifier_forms.specs.Quantified.{adds_up};

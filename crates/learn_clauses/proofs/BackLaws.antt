@@ -3,10 +3,12 @@ use Rattle.std.proofs.Common.{◌≡◌, ℕ, suc, ◌-◌, ◌<◌, true, false
 use Rattle.std.proofs.lemmas.Bool.{and_parts, not-true, lt-ltb, le-ltb, cases_lt}
 use Rattle.signed_clause.specs.Clauses.{Boxes, Literals, false_in}
 use Rattle.fd_store.specs.declared.trail.Moved.{Moved}
-use Rattle.fd_store.specs.Levels.{Entry, Level, Stack, with_entry, dropped_from, dropped}
+use Rattle.fd_store.specs.Levels.{Entry, Level, Stack, with_entry}
+use Rattle.fd_store.specs.Undo.{dropped_from, dropped}
 use Rattle.fd_store.specs.Trails.{entry_of, entries_of, stack_of}
 use Rattle.fd_store.proofs.StackLaws.{stack-now, dropped_from-none}
-use Rattle.learn_clauses.specs.Walk.{trail_from, trail_of, domains_from, domains_of, back_from, back_to, IsDroppedBy}
+use Rattle.learn_clauses.specs.Walk.{trail_from, trail_of, back_from, back_to}
+use Rattle.learn_clauses.specs.Learnt.{domains_from, domains_of, IsDroppedBy}
 
 -- ---- entries and domains
 

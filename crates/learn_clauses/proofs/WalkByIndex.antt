@@ -7,7 +7,8 @@ use Rattle.signed_clause.proofs.RangeSteps.{left_at}
 use Rattle.fd_store.specs.declared.trail.Moved.{Moved}
 use Rattle.fd_store.specs.Levels.{Entry, Stack}
 use Rattle.fd_store.specs.Trails.{entries_of, stack_of, IsStore}
-use Rattle.learn_clauses.specs.Walk.{clause_at, domains_of, trail_of, AreFrom, IsWithinDomains, walk, IsDroppedBy, IsLearnt}
+use Rattle.learn_clauses.specs.Walk.{clause_at, trail_of, walk}
+use Rattle.learn_clauses.specs.Learnt.{domains_of, AreFrom, IsWithinDomains, IsDroppedBy, IsLearnt}
 use Rattle.learn_clauses.specs.Turns.{is_passed, ends_at, clause_by, steps_by, next_clause, next_steps, IsReadable, IsResolvable, IsStart}
 use Rattle.learn_clauses.proofs.BackLaws.{trail_of-stack, length-domains}
 use Rattle.learn_clauses.proofs.WithinLaws.{within_at, vars_within}

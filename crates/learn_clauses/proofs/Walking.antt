@@ -4,10 +4,12 @@ use Rattle.std.specs.List.{All}
 use Rattle.signed_clause.specs.Clauses.{Boxes, Literals, box_of, false_in, resolvent, IsClause}
 use Rattle.signed_clause.proofs.ClauseLaws.{IsClauseFrom-resolvent}
 use Rattle.fd_store.specs.declared.trail.Moved.{Moved}
-use Rattle.fd_store.specs.Levels.{Stack, dropped}
+use Rattle.fd_store.specs.Levels.{Stack}
+use Rattle.fd_store.specs.Undo.{dropped}
 use Rattle.fd_store.specs.Trails.{entries_of, stack_of, level_of, level_after, IsStore}
 use Rattle.fd_store.proofs.StackLaws.{store-older, dropped-older, dropped-none}
-use Rattle.learn_clauses.specs.Walk.{clause_at, domains_of, IsFrom, AreFrom, IsWithinDomains, Walk, with_step, walk, back_to, IsDroppedBy}
+use Rattle.learn_clauses.specs.Walk.{clause_at, Walk, with_step, walk, back_to}
+use Rattle.learn_clauses.specs.Learnt.{domains_of, IsFrom, AreFrom, IsWithinDomains, IsDroppedBy}
 use Rattle.learn_clauses.specs.Turns.{is_passed, ends_at, clause_by, steps_by, next_clause, next_steps, IsResolvable}
 use Rattle.learn_clauses.proofs.FalseLaws.{false_in-narrower, false_in-set, has_var-met}
 use Rattle.learn_clauses.proofs.EntryLaws.{valid_before, narrower_behind, unit_has, false_in-resolvent}

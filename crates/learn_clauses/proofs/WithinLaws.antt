@@ -12,7 +12,8 @@ use Rattle.signed_clause.specs.Running.{AreValid}
 use Rattle.signed_clause.proofs.SetFacts.{nil_law, disjoint_law}
 use Rattle.signed_clause.proofs.RangeSteps.{has-meet_valid, has-join_valid}
 use Rattle.signed_clause.proofs.ResolventLaws.{set_here, set_later, set_below, set_valid, other_is, pivot_is}
-use Rattle.learn_clauses.specs.Walk.{clause_at, IsWithinDomains}
+use Rattle.learn_clauses.specs.Walk.{clause_at}
+use Rattle.learn_clauses.specs.Learnt.{IsWithinDomains}
 
 pub valid_boxes : (boxes : Boxes) → All (λ s. IsValid s) boxes → AreValid boxes
 valid_boxes boxes a y =

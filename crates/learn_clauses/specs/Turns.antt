@@ -6,7 +6,8 @@ use Rattle.signed_clause.specs.SetAlgebra.{is_disjoint}
 use Rattle.signed_clause.specs.Clauses.{Boxes, Literals, set_of, has_var, false_in, resolvent, IsClause, IsWithinBoxes}
 use Rattle.fd_store.specs.declared.trail.Moved.{Moved}
 use Rattle.fd_store.specs.Levels.{Stack}
-use Rattle.learn_clauses.specs.Walk.{clause_at, domains_of, CameFrom, IsWithinDomains}
+use Rattle.learn_clauses.specs.Walk.{clause_at}
+use Rattle.learn_clauses.specs.Learnt.{domains_of, CameFrom, IsWithinDomains}
 
 -- the clause is false before the entry too, so the entry is passed over
 abbrev pub is_passed : Moved → Literals → Bool

@@ -13,7 +13,8 @@ ghost use Rattle.std.specs.Prelude.{◌≡◌, ◌<◌, ◌≤◌, ◌↔◌, []
 ghost use Rattle.std.specs.List.{All};
 ghost use Rattle.signed_clause.specs.Clauses.{has_var, false_in, resolvent, IsClause, IsWithinBoxes};
 ghost use Rattle.signed_clause.specs.Running.{listed};
-ghost use Rattle.learn_clauses.specs.Walk.{clause_at, domains_of, CameFrom, IsWithinDomains, walk_from, IsDroppedBy, IsLearnt};
+ghost use Rattle.learn_clauses.specs.Walk.{clause_at, walk_from};
+ghost use Rattle.learn_clauses.specs.Learnt.{domains_of, CameFrom, IsWithinDomains, IsDroppedBy, IsLearnt};
 ghost use Rattle.learn_clauses.specs.Turns.{is_passed, ends_at, next_clause, next_steps, IsReadable, IsResolvable, IsStart};
 
 use fd_store::{Moved, Store};

@@ -6,8 +6,7 @@ use Rattle.std.proofs.lemmas.Bool.{and_from}
 use Rattle.std.proofs.lemmas.List.Folds.{list_all-append}
 use Rattle.ground_form.specs.declared.ground.Ground.{Ground}
 use Rattle.log_form.specs.declared.line.Line.{Line}
-use Rattle.proof_log.specs.Spelling.{line_text, lines_text, IsLine, Spells}
-use Rattle.proof_log.specs.Parts.{lacks}
+use Rattle.proof_log.specs.Spelling.{line_text, lines_text, IsLine, Spells, lacks}
 use Rattle.log_form.specs.Acceptance.{Made, start, may_come, after, accepted_from, made_from}
 use Rattle.log_check.specs.declared.lines.CheckError.{CheckError}
 use Rattle.log_check.specs.Fed.{IsFed, FailsAt, HasTaken, Left, IsRefusedText}

@@ -7,7 +7,8 @@ use Rattle.ground_form.specs.declared.ground.Ground.{Ground}
 use Rattle.log_form.specs.declared.line.Line.{Line}
 use Rattle.log_form.specs.Acceptance.{Made, may_come, after, accepted, start, accepted_from, made_from, has_empty, made, FailsFirst, shown_by}
 use Rattle.log_check.specs.Soundness.{IsSound, Means}
-use Rattle.log_check.specs.Verdicts.{Ending, ending, shown_of}
+use Rattle.log_check.specs.Verdicts.{Ending, ending}
+use Rattle.log_check.specs.Kinds.{shown_of}
 use Rattle.log_check.proofs.Steps.{sound_means}
 
 accepted-front : (g : Ground) (m : Made) (ls : List Line) (k : ℕ) (x : Line) → k < length ls → x ≡ get_or ls k x →

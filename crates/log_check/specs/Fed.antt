@@ -5,8 +5,7 @@ use Rattle.std.specs.List.{AllByRecursion}
 use Rattle.ground_form.specs.declared.ground.Ground.{Ground}
 use Rattle.ground_form.specs.WellMade.{IsWellMade}
 use Rattle.log_form.specs.declared.line.Line.{Line}
-use Rattle.proof_log.specs.Spelling.{lines_text, IsLine, Spells}
-use Rattle.proof_log.specs.Parts.{lacks}
+use Rattle.proof_log.specs.Spelling.{lines_text, IsLine, Spells, lacks}
 use Rattle.log_form.specs.Acceptance.{Made, accepted, made, may_come}
 use Rattle.log_check.specs.declared.lines.CheckError.{CheckError}
 use Rattle.log_check.specs.declared.lines.CheckError.TheVariants.{Rejected, Memory}

@@ -1,6 +1,7 @@
 pub mod Soundness
 pub mod Chains
 pub mod Verdicts
+pub mod Kinds
 pub mod Progress
 pub mod Refusals
 pub mod Fed

@@ -6,7 +6,7 @@
 ghost use Rattle.std.specs.Prelude.{◌≡◌, ◌+◌, ◌<◌, ◌^◌, ◌++◌, [], ℕ, List, Some, None, Err, IfOk, IfErr, OnOk, IfSome, length};
 ghost use Rattle.ground_form.specs.WellMade.{IsWellMade};
 ghost use Rattle.log_check.specs.Soundness.{Means, FoundSolves};
-ghost use Rattle.log_check.specs.Verdicts.{shown_of};
+ghost use Rattle.log_check.specs.Kinds.{shown_of};
 ghost use Rattle.log_check.specs.declared.lines.CheckError.TheVariants.{Rejected};
 ghost use Rattle.log_check.specs.Fed.{HasTaken, IsRefusedText, IsLogOf};
 

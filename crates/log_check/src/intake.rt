@@ -6,7 +6,7 @@
 ghost use Rattle.std.specs.Prelude.{◌≡◌, ◌+◌, ◌<◌, ◌≤◌, ◌^◌, ◌++◌, [], ◌∷◌, ℕ, List, true, length};
 ghost use Rattle.std.specs.Prelude.{IfOk, IfErr, OnOk};
 ghost use Rattle.ground_form.specs.WellMade.{IsWellMade};
-ghost use Rattle.proof_log.specs.Parts.{lacks};
+ghost use Rattle.proof_log.specs.Spelling.{lacks};
 ghost use Rattle.log_check.specs.Progress.{IsRight};
 ghost use Rattle.log_check.specs.Fed.{HasTaken, IsRefusedText, left_of, left_with};
 

@@ -3,7 +3,8 @@ ghost use Rattle.std.specs.Prelude.{◌≡◌, true, IfOk, IfErr, OnOk};
 ghost use Rattle.ground_form.specs.WellMade.{IsWellMade};
 ghost use Rattle.log_form.specs.Acceptance.{accepted};
 ghost use Rattle.log_check.specs.Soundness.{Means, FoundSolves};
-ghost use Rattle.log_check.specs.Verdicts.{ending, shown_of};
+ghost use Rattle.log_check.specs.Verdicts.{ending};
+ghost use Rattle.log_check.specs.Kinds.{shown_of};
 ghost use Rattle.log_check.specs.Refusals.{IsRefusedAs};
 ghost use Rattle.log_check.specs.declared.lines.CheckError.TheVariants.{Memory};
 

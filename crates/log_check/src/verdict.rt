@@ -1,6 +1,6 @@
 //! What accepted lines show.
 ghost use Rattle.std.specs.Prelude.{◌≡◌, Some, None, IfSome, IfNone};
-ghost use Rattle.log_check.specs.Verdicts.{kind_of, shown_of};
+ghost use Rattle.log_check.specs.Kinds.{kind_of, shown_of};
 
 use log_form::Values;
 use std::marker::Model;

@@ -8,7 +8,8 @@ use Rattle.class_table.specs.Outline.{Outline}
 use Rattle.conf_types.specs.Programs.{ResolvedConstraint, ResolvedGoal}
 use Rattle.ground_form.specs.declared.ground.Ground.{Ground}
 use Rattle.log_check.specs.Soundness.{Means, FoundSolves}
-use Rattle.log_check.specs.Verdicts.{Ending, ending, kind_of, shown_of}
+use Rattle.log_check.specs.Verdicts.{Ending, ending}
+use Rattle.log_check.specs.Kinds.{kind_of, shown_of}
 use Rattle.log_form.specs.Acceptance.{has_empty, made, shown_by}
 use Rattle.log_form.specs.declared.line.Line.{Line}
 use Rattle.object_alloc.specs.Counts.{configuration_count}

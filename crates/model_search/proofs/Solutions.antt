@@ -10,7 +10,7 @@ use Rattle.conf_eval.specs.Satisfying.{objectives}
 use Rattle.conf_types.specs.Programs.{ResolvedConstraint, ResolvedGoal}
 use Rattle.ground_cells.proofs.Points.{cells_agree}
 use Rattle.ground_cells.specs.CellBoxes.{cell_boxes}
-use Rattle.ground_model.specs.Asked.{functions}
+use Rattle.ground_model.specs.Objectives.{functions}
 use Rattle.ground_form.specs.declared.con.Con.{Con}
 use Rattle.ground_form.specs.declared.ground.GroundGoal.{GroundGoal}
 use Rattle.ground_form.specs.declared.ground.Ground.{Ground}
@@ -18,7 +18,8 @@ use Rattle.ground_form.specs.Meaning.{value_of, con_true}
 use Rattle.ground_form.specs.Solutions.{IsPoint, IsSolution, better}
 use Rattle.ground_form.specs.StandsFor.{IsDefinition, IsExtension, AreGoalValues}
 use Rattle.log_check.specs.Soundness.{Means, FoundSolves}
-use Rattle.log_check.specs.Verdicts.{Ending, shown_of}
+use Rattle.log_check.specs.Verdicts.{Ending}
+use Rattle.log_check.specs.Kinds.{shown_of}
 use Rattle.log_form.specs.Acceptance.{shown_by, FailsFirst}
 use Rattle.log_form.specs.declared.line.Line.{Line}
 use Rattle.object_alloc.specs.Configurations.{IsConfiguration}

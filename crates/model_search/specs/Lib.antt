@@ -3,4 +3,4 @@ pub mod Problems
 pub mod Rounds
 pub mod Runs
 pub mod Wanted
-pub use Rattle.ground_model.specs.Asked
+pub use Rattle.ground_model.specs.Objectives

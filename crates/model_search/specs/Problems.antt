@@ -5,7 +5,7 @@ use Rattle.std.specs.Prelude.{◌≡◌, ◌↔◌, Bool, true, false, List, ◌
 use Rattle.class_table.specs.Outline.{Outline}
 use Rattle.conf_types.specs.Programs.{ResolvedConstraint, ResolvedGoal}
 use Rattle.ground_cells.specs.CellBoxes.{cell_boxes}
-use Rattle.ground_model.specs.Asked.{functions}
+use Rattle.ground_model.specs.Objectives.{functions}
 use Rattle.ground_form.specs.declared.ground.Ground.{Ground}
 use Rattle.ground_form.specs.StandsFor.{StandsFor}
 use Rattle.object_alloc.specs.Changes.{changes}

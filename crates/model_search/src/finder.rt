@@ -2,7 +2,8 @@
 ghost use Rattle.std.specs.Prelude.{◌≡◌, [], true, Some, length, IfOk, OnOk};
 ghost use Rattle.ground_form.specs.WellMade.{IsWellMade};
 ghost use Rattle.log_check.specs.Soundness.{Means, FoundSolves};
-ghost use Rattle.log_check.specs.Verdicts.{ending, shown_of};
+ghost use Rattle.log_check.specs.Verdicts.{ending};
+ghost use Rattle.log_check.specs.Kinds.{shown_of};
 ghost use Rattle.run_finder.specs.Searched.{HasSearched};
 ghost use Rattle.run_law.specs.Ordered.{IsOrdered};
 ghost use Rattle.run_law.specs.Replay.{is_run};

@@ -1,7 +1,7 @@
 //! What a verdict tells of a model's configurations.
 ghost use Rattle.std.specs.Prelude.{◌≡◌, ◌≤◌, take, length, option_copied, IfOk, IfSome};
 ghost use Rattle.log_check.specs.Soundness.{Means, FoundSolves};
-ghost use Rattle.log_check.specs.Verdicts.{shown_of};
+ghost use Rattle.log_check.specs.Kinds.{shown_of};
 ghost use Rattle.model_search.specs.Findings.{finding, Tells};
 ghost use Rattle.model_search.specs.Problems.{IsProblemOf};
 

@@ -1,7 +1,7 @@
 //! Rounds of a journal as runs of searches over a model: the last one, and a law.
 ghost use Rattle.std.specs.Prelude.{◌≡◌, ◌≤◌, ◌++◌, ◌∷◌, [], List, length, option_copied};
 ghost use Rattle.branch_choice.specs.declared.split.Order.TheVariants as orders;
-ghost use Rattle.log_check.specs.Verdicts.{kind_of, shown_of};
+ghost use Rattle.log_check.specs.Kinds.{kind_of, shown_of};
 ghost use Rattle.model_search.specs.Problems.{IsProblemOf};
 ghost use Rattle.model_search.specs.Rounds.{journal_of, told_by, end_of};
 ghost use Rattle.model_search.specs.Runs.{HasRun};

@@ -4,9 +4,9 @@ use Rattle.std.specs.Prelude.{Contains, IfSome, slice_get}
 use Rattle.std.specs.Option.{option_map, option_map_or}
 use Rattle.class_table.specs.Outline.{Outline}
 use Rattle.object_alloc.specs.declared.object.Object.{Object}
-use Rattle.object_alloc.specs.Laid.{class_in, variables_of}
-use Rattle.object_alloc.specs.Paths.{owner_in, IsBefore}
-use Rattle.object_alloc.specs.Sums.{variables}
+use Rattle.object_alloc.specs.Variables.{class_in, variables_of, variables}
+use Rattle.object_alloc.specs.Paths.{owner_in}
+use Rattle.object_alloc.specs.Held.{IsBefore}
 use Rattle.object_alloc.specs.Walk.{objects}
 use Rattle.object_alloc.proofs.HeldLaws.{object_held}
 

@@ -10,11 +10,11 @@ use Rattle.class_table.specs.Outline.{Outline}
 use Rattle.class_table.specs.Same.{same_name}
 use Rattle.class_table.specs.Sound.{IsSound}
 use Rattle.object_alloc.specs.declared.object.Object.{Object}
-use Rattle.object_alloc.specs.Laid.{class_in, variables_of}
+use Rattle.object_alloc.specs.Variables.{class_in, variables_of, variables}
 use Rattle.class_table.specs.Named.{IsNamed, dot}
-use Rattle.object_alloc.specs.Named.{IsStep, first_place, object_named}
-use Rattle.object_alloc.specs.Paths.{IsBefore, last_step, owner_path, path_within, path}
-use Rattle.object_alloc.specs.Sums.{variables}
+use Rattle.object_alloc.specs.Named.{IsStep, first_place}
+use Rattle.object_alloc.specs.Paths.{object_named, last_step, owner_path, path_within, path}
+use Rattle.object_alloc.specs.Held.{IsBefore}
 use Rattle.object_alloc.specs.Walk.{objects}
 use Rattle.object_alloc.proofs.HeldLaws.{object_held}
 use Rattle.object_alloc.proofs.PathLaws.{path_same}

@@ -8,9 +8,8 @@ use Rattle.class_table.specs.declared.table.Resolved.TheVariants.{Span, Truth, C
 use Rattle.class_table.specs.declared.table.Variable.{Variable}
 use Rattle.class_table.specs.Outline.{Outline, attributes}
 use Rattle.object_alloc.specs.declared.object.Object.{Object}
-use Rattle.object_alloc.specs.Laid.{class_in}
-use Rattle.object_alloc.specs.Paths.{IsBefore, IsHeld, AreHeld, HoldsAt}
-use Rattle.object_alloc.specs.Sums.{variables}
+use Rattle.object_alloc.specs.Variables.{class_in, variables}
+use Rattle.object_alloc.specs.Held.{IsBefore, IsHeld, AreHeld, HoldsAt}
 use Rattle.object_alloc.specs.Walk.{Met, Visit, Inside, made, object, object_met, objects_in, elements, attribute, members, within, top, visit_to, visit, objects}
 
 -- an object of a list is one of a longer list

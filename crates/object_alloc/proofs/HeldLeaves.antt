@@ -9,10 +9,9 @@ use Rattle.class_table.specs.declared.table.Variable.{Variable}
 use Rattle.class_table.specs.Outline.{Outline, attributes}
 use Rattle.object_alloc.specs.declared.object.Leaf.{Leaf}
 use Rattle.object_alloc.specs.declared.object.Object.{Object}
-use Rattle.object_alloc.specs.Laid.{class_in, variables_of}
+use Rattle.object_alloc.specs.Variables.{class_in, variables_of, variables}
 use Rattle.object_alloc.specs.Leaves.{IsHeldLeaf}
-use Rattle.object_alloc.specs.Paths.{IsBefore}
-use Rattle.object_alloc.specs.Sums.{variables}
+use Rattle.object_alloc.specs.Held.{IsBefore}
 use Rattle.object_alloc.specs.Walk.{Met, Made, Passed, Visit, Inside, made, object, leaf, object_met, leaf_met, objects_in, leaves_in, elements, attribute, members, within, top, visit_to, visit, walk, objects}
 use Rattle.object_alloc.proofs.HeldLaws.{StandsIn, class_more, get_last}
 

@@ -9,7 +9,8 @@ use Rattle.class_table.specs.Tables.{IsShapeOf}
 use Rattle.object_alloc.specs.declared.fault.AllocFault.{AllocFault}
 use Rattle.object_alloc.specs.declared.queue.Kind.{Kind}
 use Rattle.object_alloc.specs.Holding.{kinds_in}
-use Rattle.object_alloc.specs.Sums.{variables, held_kinds, kinds_of, IsExcess}
+use Rattle.object_alloc.specs.Sums.{held_kinds, kinds_of, IsExcess}
+use Rattle.object_alloc.specs.Variables.{variables}
 use Rattle.object_alloc.proofs.QueueSteps.{excess_more}
 use Rattle.object_alloc.proofs.ShapeLaws.{shapes, root_shapes}
 

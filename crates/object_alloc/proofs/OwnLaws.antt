@@ -12,9 +12,8 @@ use Rattle.class_table.specs.Tables.{IsShapeOf}
 use Rattle.object_alloc.specs.declared.object.Object.{Object}
 use Rattle.object_alloc.specs.Cells.{cells, leaf_cells}
 use Rattle.object_alloc.specs.Groups.{is_part_of, is_cell_of}
-use Rattle.object_alloc.specs.Laid.{variables_of}
+use Rattle.object_alloc.specs.Variables.{variables_of, variables}
 use Rattle.object_alloc.specs.Own.{inside_of, IsOwner, IsOwned, held}
-use Rattle.object_alloc.specs.Sums.{variables}
 use Rattle.object_alloc.specs.Walk.{within, top, objects_in, leaves_in, visit, walk, objects}
 use Rattle.object_alloc.proofs.OwnNumbers.{filtered, kept_objects, kept_cells, first_objects, first_cells}
 use Rattle.object_alloc.proofs.OwnWalk.{kept, first_met, in_list, all_hit, IsOwn, AllOwn, members_own, members_first, visit_owns}

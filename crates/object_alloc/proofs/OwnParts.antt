@@ -13,10 +13,10 @@ use Rattle.object_alloc.specs.declared.object.Domain.{Domain}
 use Rattle.object_alloc.specs.declared.object.Object.{Object}
 use Rattle.object_alloc.specs.Cells.{cells, extent, domain_of, leaf_cells}
 use Rattle.object_alloc.specs.Groups.{numbers_from, same_owner, is_part_of, parts_of, own_cells}
-use Rattle.object_alloc.specs.Laid.{variables_of}
+use Rattle.object_alloc.specs.Variables.{variables_of}
 use Rattle.object_alloc.specs.Own.{inside_of, IsOwner, IsOwned, held, held_from, held_count, IsPartOf, HasOnePart, HasOneCell, HasMemberCells, member_cell}
 use Rattle.object_alloc.specs.Parts.{IsPart}
-use Rattle.object_alloc.specs.Paths.{IsBefore}
+use Rattle.object_alloc.specs.Held.{IsBefore}
 use Rattle.object_alloc.specs.Walk.{Inside, object, leaf, objects}
 use Rattle.object_alloc.proofs.HeldLaws.{object_held}
 use Rattle.object_alloc.proofs.OwnLaws.{owned}

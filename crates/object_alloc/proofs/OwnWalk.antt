@@ -13,7 +13,7 @@ use Rattle.class_table.specs.Sound.{HasNesting, held_class}
 use Rattle.object_alloc.specs.declared.object.Leaf.{Leaf}
 use Rattle.object_alloc.specs.declared.object.Object.{Object}
 use Rattle.object_alloc.specs.Groups.{same_owner, is_part_of}
-use Rattle.object_alloc.specs.Paths.{IsBefore}
+use Rattle.object_alloc.specs.Held.{IsBefore}
 use Rattle.object_alloc.specs.Walk.{Met, Made, Passed, Visit, Inside, made, object, leaf, object_met, objects_in, elements, attribute, members, within, visit_to}
 
 abbrev pub is_leaf_of : Option ℕ → ℕ → Leaf → Bool

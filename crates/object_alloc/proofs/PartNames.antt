@@ -6,7 +6,7 @@ use Rattle.class_table.specs.declared.table.Variable.{Variable}
 use Rattle.class_table.specs.Outline.{Outline}
 use Rattle.class_table.specs.Sound.{IsSound}
 use Rattle.object_alloc.specs.declared.object.Object.{Object}
-use Rattle.object_alloc.specs.Laid.{variables_of}
+use Rattle.object_alloc.specs.Variables.{variables_of}
 use Rattle.class_table.specs.Named.{IsNamed, bracket}
 use Rattle.object_alloc.specs.Named.{IsStep, HasName, first_place}
 use Rattle.object_alloc.specs.Parts.{IsElement, IsPart}

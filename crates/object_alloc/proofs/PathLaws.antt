@@ -6,9 +6,9 @@ use Rattle.class_table.specs.declared.table.Resolved.{Resolved}
 use Rattle.class_table.specs.declared.table.Variable.{Variable}
 use Rattle.class_table.specs.Outline.{Outline}
 use Rattle.object_alloc.specs.declared.object.Object.{Object}
-use Rattle.object_alloc.specs.Laid.{class_in}
-use Rattle.object_alloc.specs.Paths.{index_text, step_text, last_step, owner_path, path_within, IsBefore}
-use Rattle.object_alloc.specs.Sums.{variables}
+use Rattle.object_alloc.specs.Variables.{class_in, variables}
+use Rattle.object_alloc.specs.Paths.{index_text, step_text, last_step, owner_path, path_within}
+use Rattle.object_alloc.specs.Held.{IsBefore}
 use Rattle.object_alloc.specs.Walk.{objects}
 use Rattle.object_alloc.proofs.HeldLaws.{object_held}
 use Rattle.object_alloc.proofs.Asked.{get_is}

@@ -9,11 +9,12 @@ use Rattle.class_table.specs.declared.table.Variable.{Variable}
 use Rattle.class_table.specs.Outline.{Outline, attributes}
 use Rattle.class_table.specs.Sound.{IsSound}
 use Rattle.object_alloc.specs.declared.object.Object.{Object}
-use Rattle.object_alloc.specs.Laid.{variables_of}
+use Rattle.object_alloc.specs.Variables.{variables_of}
 use Rattle.class_table.specs.Named.{IsNamed, dot, bracket}
-use Rattle.object_alloc.specs.Named.{IsStep, HasName, first_place, object_named}
+use Rattle.object_alloc.specs.Named.{IsStep, HasName, first_place}
+use Rattle.object_alloc.specs.Paths.{object_named, index_text, path}
+use Rattle.object_alloc.specs.Held.{IsBefore}
 use Rattle.object_alloc.specs.Parts.{IsElement}
-use Rattle.object_alloc.specs.Paths.{IsBefore, index_text, path}
 use Rattle.object_alloc.specs.Walk.{objects}
 use Rattle.object_alloc.proofs.ChainLaws.{Leads, IsTurn, turn, path_leads, object_found}
 use Rattle.object_alloc.proofs.HeldLaws.{object_held}

@@ -13,18 +13,18 @@ use Rattle.class_table.specs.declared.table.Resolved.{Resolved}
 use Rattle.class_table.specs.declared.table.Resolved.TheVariants.{Span, Truth, Choice, One, Many, Ref, RefSet}
 use Rattle.class_table.specs.declared.table.Variable.{Variable}
 use Rattle.class_table.specs.Names.{means}
-use Rattle.class_table.specs.Outline.{Outline, attributes}
+use Rattle.class_table.specs.Outline.{Outline, attributes, variable_name}
 use Rattle.class_table.specs.Same.{same_name}
 use Rattle.class_table.specs.Sound.{IsSound}
-use Rattle.class_table.specs.Tables.{all_differ, variable_name, root_meant, IsShapeOf}
+use Rattle.class_table.specs.Tables.{all_differ, root_meant, IsShapeOf}
 use Rattle.object_alloc.specs.declared.object.Object.{Object}
 use Rattle.object_alloc.specs.Groups.{numbers_from, is_part_of, parts_of}
-use Rattle.object_alloc.specs.Laid.{class_in, variables_of}
+use Rattle.object_alloc.specs.Variables.{class_in, variables_of, variables}
 use Rattle.class_table.specs.Named.{IsNamed, IsPlain, lacks, dot, bracket}
 use Rattle.object_alloc.specs.Named.{IsStep, HasName, first_place}
 use Rattle.object_alloc.specs.Parts.{IsElement, IsPart}
-use Rattle.object_alloc.specs.Paths.{HoldsAt, index_text, step_text}
-use Rattle.object_alloc.specs.Sums.{variables}
+use Rattle.object_alloc.specs.Paths.{index_text, step_text}
+use Rattle.object_alloc.specs.Held.{HoldsAt}
 use Rattle.object_alloc.specs.Walk.{objects}
 use Rattle.object_alloc.proofs.Digits.{lacks_decimal}
 use Rattle.object_alloc.proofs.HeldLaws.{object_held}

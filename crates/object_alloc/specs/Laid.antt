@@ -1,7 +1,5 @@
 -- What the objects of a model are kept as, and what is asked of them.
-use Rattle.std.specs.Prelude.{All, ◌≡◌, ℕ, List, Option, None, Some, slice_get}
-use Rattle.std.specs.Option.{option_map}
-use Rattle.class_table.specs.declared.table.Variable.{Variable}
+use Rattle.std.specs.Prelude.{All, ◌≡◌, ℕ, List, Option}
 use Rattle.class_table.specs.Outline.{Outline}
 use Rattle.class_table.specs.Sound.{IsSound}
 use Rattle.class_table.specs.Tables.{IsFew}
@@ -12,17 +10,7 @@ use Rattle.object_alloc.specs.Cells.{cells}
 use Rattle.object_alloc.specs.Groups.{parts_of, own_cells}
 use Rattle.object_alloc.specs.Laying.{AreSizes, AreClassed}
 use Rattle.object_alloc.specs.Limits.{IsWithinLimits}
-use Rattle.object_alloc.specs.Sums.{variables}
 use Rattle.object_alloc.specs.Walk.{objects, leaves_in, walk}
-
--- the class of an object, by its number
-abbrev pub class_in : List Object → Option ℕ → Option ℕ
-class_in xs None = None
-class_in xs (Some n) = option_map (λ (x : Object). x.class) (slice_get xs n)
-
--- the attributes of an object, by its number, or the variables of the top level
-abbrev pub variables_of : Outline → Option ℕ → List Variable
-variables_of o owner = variables o (class_in (objects o) owner)
 
 -- the objects, the leaves, the cells and the sizes of the extents of a model, and the numbers of
 -- its objects and cells by place

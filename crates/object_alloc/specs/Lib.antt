@@ -9,11 +9,13 @@ pub mod Members
 pub mod Hints
 pub mod Limits
 pub mod Sums
+pub mod Variables
 pub mod Holding
 pub mod Laying
 pub mod Laid
 pub mod Listed
 pub mod Paths
+pub mod Held
 pub mod Named
 pub mod Parts
 pub mod Leaves

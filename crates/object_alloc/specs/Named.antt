@@ -1,23 +1,16 @@
--- The object of a path, and the steps of paths.
-use Rattle.std.specs.Prelude.{◌≡◌, ℕ, suc, cond, List, [], ◌∷◌, Option, Some, nat_eq, slice_get, length, position}
-use Rattle.std.specs.List.{range_with_len}
+-- The steps of paths, and places in texts.
+use Rattle.std.specs.Prelude.{◌≡◌, ℕ, suc, cond, List, ◌∷◌, Option, Some, nat_eq, slice_get, []}
 use Rattle.class_table.specs.declared.table.Variable.{Variable}
 use Rattle.class_table.specs.Outline.{Outline}
-use Rattle.class_table.specs.Same.{same_name}
 use Rattle.object_alloc.specs.declared.object.Object.{Object}
-use Rattle.object_alloc.specs.Laid.{variables_of}
-use Rattle.object_alloc.specs.Paths.{last_step, path}
+use Rattle.object_alloc.specs.Variables.{variables_of}
+use Rattle.object_alloc.specs.Paths.{last_step}
 use Rattle.object_alloc.specs.Walk.{objects}
 
 -- the place of the first byte of this kind; the text's length where there is none
 abbrev pub first_place : ℕ → List ℕ → ℕ
 first_place b [] = 0
 first_place b (x ∷ xs) = cond (nat_eq x b) 0 (suc (first_place b xs))
-
--- the first object with this path
-abbrev pub object_named : Outline → List ℕ → Option ℕ
-object_named o text =
-    position (λ n. same_name text (path o n)) (range_with_len 0 (length (objects o)))
 
 -- object n is held by the owner, and the last name of its path is this text
 pub record IsStep (o : Outline) (owner : Option ℕ) (text : List ℕ) (n : ℕ) : Type 0 where

@@ -1,5 +1,5 @@
--- Where objects are held: the object that holds each, which objects are in which, and paths.
-use Rattle.std.specs.Prelude.{◌≡◌, ℕ, zero, suc, ◌<◌, Bool, List, [], ◌∷◌, ◌++◌, Option, None, Some, length, slice_get, decimal, codes}
+-- The object that holds each object, which objects are in which, paths, and the object of a path.
+use Rattle.std.specs.Prelude.{ℕ, zero, suc, Bool, List, ◌++◌, Option, None, Some, length, slice_get, decimal, codes, position, []}
 use Rattle.std.specs.Option.{option_map_or}
 use Rattle.class_table.specs.declared.table.Resolved.{Resolved}
 use Rattle.class_table.specs.declared.table.Resolved.TheVariants.{Span, Truth, Choice, One, Many, Ref, RefSet}
@@ -7,9 +7,10 @@ use Rattle.class_table.specs.declared.table.Variable.{Variable}
 use Rattle.class_table.specs.Ancestry.{derives}
 use Rattle.class_table.specs.Outline.{Outline}
 use Rattle.object_alloc.specs.declared.object.Object.{Object}
-use Rattle.object_alloc.specs.Laid.{class_in}
-use Rattle.object_alloc.specs.Sums.{variables}
+use Rattle.object_alloc.specs.Variables.{class_in, variables}
 use Rattle.object_alloc.specs.Walk.{objects}
+use Rattle.std.specs.List.{range_with_len}
+use Rattle.class_table.specs.Same.{same_name}
 
 -- the object that holds an object; None at the top level
 abbrev pub owner_in : List Object → ℕ → Option ℕ
@@ -54,29 +55,7 @@ path_within o xs (suc steps) n =
 abbrev pub path : Outline → ℕ → List ℕ
 path o n = path_within o (objects o) (suc n) n
 
--- the shape holds objects of class c, and element i is one of them
-abbrev pub HoldsAt : Resolved → ℕ → ℕ → Type 0
-HoldsAt (One d) c i = (c ≡ d) × (i ≡ 0)
-HoldsAt (Many d m) c i = (c ≡ d) × (i < m)
-HoldsAt (Span low high) c i = ⊥
-HoldsAt Truth c i = ⊥
-HoldsAt (Choice e) c i = ⊥
-HoldsAt (Ref d) c i = ⊥
-HoldsAt (RefSet d m) c i = ⊥
-
-abbrev pub IsBefore : Option ℕ → ℕ → Type 0
-IsBefore None n = Unit {0}
-IsBefore (Some p) n = p < n
-
--- object x, which has number n, is held by one with a lesser number, as an element of an attribute
--- of it
-pub record IsHeld (o : Outline) (xs : List Object) (n : ℕ) (x : Object) : Type 0 where
-  pub owner : IsBefore x.owner n
-  pub variable : Variable
-  pub has : slice_get (variables o (class_in xs x.owner)) x.attribute ≡ Some variable
-  pub holds : HoldsAt variable.shape x.class x.element
-
--- each of these objects, the first of which has number n
-abbrev pub AreHeld : Outline → List Object → ℕ → List Object → Type 0
-AreHeld o xs n [] = Unit {0}
-AreHeld o xs n (y ∷ ys) = IsHeld o xs n y × AreHeld o xs (suc n) ys
+-- the first object with this path
+abbrev pub object_named : Outline → List ℕ → Option ℕ
+object_named o text =
+    position (λ n. same_name text (path o n)) (range_with_len 0 (length (objects o)))

@@ -1,5 +1,5 @@
 -- Objects by their classes and depths alone, for counting.
-use Rattle.std.specs.Prelude.{ℕ, zero, suc, ◌+◌, ◌<◌, ◌≤◌, nat_lt, cond, List, [], ◌∷◌, Option, None, Some, length, replicate}
+use Rattle.std.specs.Prelude.{ℕ, zero, suc, ◌+◌, ◌<◌, ◌≤◌, nat_lt, cond, List, ◌∷◌, length, replicate, []}
 use Rattle.std.specs.List.{flat_map, sum_by}
 use Rattle.model_limits.specs.Limits.{most_names, most_objects}
 use Rattle.class_table.specs.declared.table.Resolved.{Resolved}
@@ -10,11 +10,6 @@ use Rattle.object_alloc.specs.declared.fault.AllocFault.{AllocFault}
 use Rattle.object_alloc.specs.declared.fault.AllocFault.TheVariants.{TooManyObjects, TooDeep, TooManyCells, Memory}
 use Rattle.object_alloc.specs.declared.object.Object.{Object}
 use Rattle.object_alloc.specs.declared.queue.Kind.{Kind}
-
--- the variables of a class, or those of the top level
-abbrev pub variables : Outline → Option ℕ → List Variable
-variables o None = o.roots
-variables o (Some c) = attributes o.classes c
 
 -- a number for each class and depth
 abbrev pub Weigh : Type 0

@@ -5,10 +5,10 @@
 ghost use Rattle.std.specs.Prelude.{◌≡◌, ◌<◌, ◌≤◌, ◌^◌, ◌++◌, ℕ, Some, IfSome, IfNone, length, slice_get, codes, decimal};
 ghost use Rattle.class_table.specs.declared.table.Variable.{Variable as AVariable};
 ghost use Rattle.class_table.specs.Sound.{IsSound};
-ghost use Rattle.object_alloc.specs.Laid.{variables_of};
-ghost use Rattle.object_alloc.specs.Named.{IsStep, HasName, object_named, first_place};
+ghost use Rattle.object_alloc.specs.Variables.{variables_of};
+ghost use Rattle.object_alloc.specs.Named.{IsStep, HasName, first_place};
+ghost use Rattle.object_alloc.specs.Paths.{object_named, index_text, path};
 ghost use Rattle.object_alloc.specs.Parts.{IsElement};
-ghost use Rattle.object_alloc.specs.Paths.{index_text, path};
 ghost use Rattle.object_alloc.specs.Walk.{objects as all_objects};
 
 use crate::objects::Objects;

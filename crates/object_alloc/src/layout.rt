@@ -9,7 +9,8 @@ ghost use Rattle.class_table.specs.Tables.{IsShapeOf};
 ghost use Rattle.object_alloc.specs.declared.object.Leaf.{Leaf as ALeaf};
 ghost use Rattle.object_alloc.specs.Cells.{shape_cells};
 ghost use Rattle.object_alloc.specs.Laying.{AreSizes, IsReady, HasLaid, IsRefusedPart};
-ghost use Rattle.object_alloc.specs.Sums.{variables, held_kinds, kinds_of, kind, kinds_weight, weight, deep};
+ghost use Rattle.object_alloc.specs.Sums.{held_kinds, kinds_of, kind, kinds_weight, weight, deep};
+ghost use Rattle.object_alloc.specs.Variables.{variables};
 ghost use Rattle.object_alloc.specs.Walk.{Passed, visit, members, attribute, elements};
 
 use crate::fault::AllocFault;

@@ -9,7 +9,7 @@ ghost use Rattle.object_alloc.specs.declared.object.Cell.{Cell as ACell};
 ghost use Rattle.object_alloc.specs.declared.object.Object.{Object as AnObject};
 ghost use Rattle.object_alloc.specs.Cells.{cells as all_cells, extent, IsDomainOf};
 ghost use Rattle.object_alloc.specs.Groups.{parts_of, own_cells};
-ghost use Rattle.object_alloc.specs.Laid.{variables_of};
+ghost use Rattle.object_alloc.specs.Variables.{variables_of};
 ghost use Rattle.object_alloc.specs.Parts.{IsElement, IsPart};
 ghost use Rattle.object_alloc.specs.Paths.{is_inside, owner_in, path};
 ghost use Rattle.object_alloc.specs.Limits.{IsRefused, IsWithinLimits};

@@ -1,9 +1,8 @@
 //! The paths of objects.
 ghost use Rattle.std.specs.Prelude.{◌≡◌, ◌++◌, ◌<◌, suc, length, OnOk, IfSome};
-ghost use Rattle.object_alloc.specs.Laid.{class_in};
+ghost use Rattle.object_alloc.specs.Variables.{class_in, variables};
 ghost use Rattle.object_alloc.specs.Laying.{AreClassed};
 ghost use Rattle.object_alloc.specs.Paths.{index_text, last_step, owner_path, path_within};
-ghost use Rattle.object_alloc.specs.Sums.{variables};
 ghost use Rattle.object_alloc.specs.Walk.{objects as all_objects};
 
 use crate::object::Object;

@@ -9,7 +9,8 @@ ghost use Rattle.model_limits.specs.Limits.{most_objects};
 ghost use Rattle.class_table.specs.Sound.{IsSound};
 ghost use Rattle.class_table.specs.Outline.{attributes};
 ghost use Rattle.object_alloc.specs.Holding.{AreHolding, HoldsSame, kinds_in, shapes_of};
-ghost use Rattle.object_alloc.specs.Sums.{Weigh, of_object, of_kind, variables, held_kinds, kinds_of, deep, IsExcess, IsLawful};
+ghost use Rattle.object_alloc.specs.Sums.{Weigh, of_object, of_kind, held_kinds, kinds_of, deep, IsExcess, IsLawful};
+ghost use Rattle.object_alloc.specs.Variables.{variables};
 ghost use Rattle.object_alloc.specs.Walk.{objects};
 
 use crate::fault::AllocFault;

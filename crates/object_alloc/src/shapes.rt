@@ -1,8 +1,7 @@
 //! The variables of a class or of the top level, by their numbers.
 ghost use Rattle.std.specs.Prelude.{◌≡◌, ◌<◌, length, slice_index_or, IfSome};
 ghost use Rattle.class_table.specs.declared.table.Variable.{Variable as AVariable};
-ghost use Rattle.object_alloc.specs.Laid.{class_in};
-ghost use Rattle.object_alloc.specs.Sums.{variables};
+ghost use Rattle.object_alloc.specs.Variables.{class_in, variables};
 
 use crate::object::Object;
 use class_table::{Attribute, ClassTable, Resolved};

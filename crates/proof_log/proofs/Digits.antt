@@ -7,8 +7,7 @@ use lib.Signed.{mag}
 use Rattle.std.proofs.lemmas.Int.{ints}
 use Rattle.std.proofs.lemmas.Bool.{and_parts, ne_eqb}
 use Rattle.decimal_text.proofs.Digits.{own}
-use Rattle.proof_log.specs.Spelling.{IsSigned}
-use Rattle.proof_log.specs.Parts.{lacks}
+use Rattle.proof_log.specs.Spelling.{IsSigned, lacks}
 use Rattle.std.proofs.lemmas.Fmt.{digits_decimal, signed_decimal_injective}
 
 -- a text of digits lacks what is no digit

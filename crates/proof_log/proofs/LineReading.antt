@@ -11,9 +11,9 @@ use Rattle.log_form.specs.declared.line.Line.TheVariants as lines
 use Rattle.numbered_clauses.specs.declared.chain.Chain as chains
 use Rattle.proof_log.specs.declared.words.Word.{Word}
 use Rattle.proof_log.specs.declared.words.Word.TheVariants.{Axiom, Chain, Bound, Use, Found, Decide, Empty}
-use Rattle.proof_log.specs.Spelling.{behind, set_text, literal_text, step_text, word_of, pieces_of, IsSigned, IsStep, IsLiteral, AreLiterals, IsLine, Spells, IsTextOfNone}
+use Rattle.proof_log.specs.Spelling.{behind, set_text, literal_text, step_text, word_of, pieces_of, IsSigned, IsStep, IsLiteral, AreLiterals, IsLine, Spells, IsTextOfNone, lacks}
 use Rattle.proof_log.specs.Words.{IsNumberFirst, word_text, word_at, IsBehind}
-use Rattle.proof_log.specs.Parts.{lacks, heads, IsCut, IsNextPart}
+use Rattle.proof_log.specs.Parts.{heads, IsCut, IsNextPart}
 use Rattle.proof_log.proofs.Separated.{same_cut, heads-behind, all_lack, values_same, pieces_front, pieces_same, behind-append}
 use Rattle.decimal_text.proofs.Digits.{one_number}
 use Rattle.proof_log.proofs.Digits.{lacks-decimal}

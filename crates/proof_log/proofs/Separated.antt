@@ -3,8 +3,8 @@ use Rattle.std.proofs.Common.{◌≡◌, ℕ, true, not, ◌==◌, List, [], ◌
 use Rattle.std.specs.List.{AllByRecursion}
 use Rattle.std.proofs.lemmas.Bool.{and_parts, eqb-true}
 use Rattle.std.proofs.lemmas.List.{take-append-drop}
-use Rattle.proof_log.specs.Spelling.{behind}
-use Rattle.proof_log.specs.Parts.{lacks, heads, IsCut, IsNextPart}
+use Rattle.proof_log.specs.Spelling.{behind, lacks}
+use Rattle.proof_log.specs.Parts.{heads, IsCut, IsNextPart}
 
 pub behind-append : (s : ℕ) (a b : List (List ℕ)) → behind s (a ++ b) ≡ behind s a ++ behind s b
 behind-append s [] b = refl

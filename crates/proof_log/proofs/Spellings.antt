@@ -11,8 +11,8 @@ use Rattle.std.proofs.lemmas.Bool.Decides.{Decides-int_eq}
 use Rattle.std.proofs.lemmas.List.Folds.{list_all-append}
 use Rattle.signed_clause.specs.Ranges.{Ranges, Ascends, IsValid}
 use Rattle.signed_clause.proofs.RangeLaws.{Ascends-ends}
-use Rattle.proof_log.specs.Spelling.{behind, joined, range_text, set_text, literal_text, step_text, IsSigned, IsRange, IsStep, IsLiteral}
-use Rattle.proof_log.specs.Parts.{lacks, heads}
+use Rattle.proof_log.specs.Spelling.{behind, joined, range_text, set_text, literal_text, step_text, IsSigned, IsRange, IsStep, IsLiteral, lacks}
+use Rattle.proof_log.specs.Parts.{heads}
 use Rattle.proof_log.proofs.Separated.{IsSpelling, same_cut, all_lack, values_same}
 use Rattle.decimal_text.proofs.Digits.{one_number}
 use Rattle.proof_log.proofs.Digits.{lacks-decimal, lacks-signed, signed_apart}

@@ -1,10 +1,6 @@
 -- Texts cut at a separator.
-use Rattle.std.specs.Prelude.{◌≡◌, ℕ, Bool, true, not, ◌==◌, List, [], ◌∷◌, ◌++◌}
-use Rattle.std.specs.List.{list_all}
-
--- the separator doesn't stand in the text
-abbrev pub lacks : ℕ → List ℕ → Bool
-lacks s text = list_all (λ b. not (b == s)) text
+use Rattle.std.specs.Prelude.{◌≡◌, ℕ, Bool, true, ◌==◌, List, ◌∷◌, ◌++◌, []}
+use Rattle.proof_log.specs.Spelling.{lacks}
 
 -- the text is empty or begins with the separator
 abbrev pub heads : ℕ → List ℕ → Bool

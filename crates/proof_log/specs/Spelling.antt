@@ -1,9 +1,9 @@
 -- How the lines of a log are spelled. What a reader believes after this file: each line has one
 -- text, made of its word and then its pieces, each behind one space; numbers are decimal with no
 -- leading zero, sets are their ranges in order.
-use Rattle.std.specs.Prelude.{◌≡◌, ℕ, ◌<◌, ◌^◌, false, cond, List, [], ◌∷◌, ◌++◌, ℤ, pos, negsuc, ◌≤ℤ◌, map, codes, decimal}
+use Rattle.std.specs.Prelude.{◌≡◌, ℕ, ◌<◌, ◌^◌, false, cond, List, [], ◌∷◌, ◌++◌, ℤ, pos, negsuc, ◌≤ℤ◌, map, codes, decimal, Bool, not, ◌==◌}
 use Rattle.std.specs.Fmt.{signed_decimal}
-use Rattle.std.specs.List.{AllByRecursion}
+use Rattle.std.specs.List.{AllByRecursion, list_all}
 use Rattle.std.specs.Ordering.{int_eq}
 use Rattle.signed_clause.specs.Ranges.{Ranges, IsValid, is_nil}
 use Rattle.signed_clause.specs.Clauses.{Literals, IsClause}
@@ -118,3 +118,7 @@ IsTextOf spelling IsRight text x = IsRight x × (text ≡ spelling x)
 -- the text is that of none
 abbrev pub IsTextOfNone : {X : Type 0} → (X → List ℕ) → (X → Type 0) → List ℕ → Type 0
 IsTextOfNone {X} spelling IsRight text = (x : X) → IsRight x → text ≡ spelling x → ⊥
+
+-- the separator doesn't stand in the text
+abbrev pub lacks : ℕ → List ℕ → Bool
+lacks s text = list_all (λ b. not (b == s)) text

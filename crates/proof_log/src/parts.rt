@@ -1,6 +1,7 @@
 //! Texts cut at a separator.
 ghost use Rattle.std.specs.Prelude.{◌≡◌, ℕ, ◌≤◌, List, ◌∷◌, ◌++◌, length, take, drop, true, IfSome, IfNone};
-ghost use Rattle.proof_log.specs.Parts.{lacks, heads, IsCut, IsNextPart};
+ghost use Rattle.proof_log.specs.Parts.{heads, IsCut, IsNextPart};
+ghost use Rattle.proof_log.specs.Spelling.{lacks};
 
 /// The text up to the first separator, and what is left.
 #[tactic(auto, using(crate::proofs::Separated::cut_at))]

@@ -6,9 +6,9 @@
 ghost use Rattle.std.specs.Prelude.{◌≡◌, ℕ, ℤ, ◌<◌, ◌^◌, ◌++◌, [], ◌∷◌, List, map, codes, decimal, true, IfSome, IfNone, IfOk, IsErrOf, IsTrue, ◌↔◌};
 ghost use Rattle.std.specs.List.{AllByRecursion};
 ghost use Rattle.signed_clause.specs.Clauses.{Literals};
-ghost use Rattle.proof_log.specs.Parts.{heads, lacks};
-ghost use Rattle.proof_log.specs.Spelling.{behind, literal_text, step_text, IsStep, AreLiterals, Spells};
+ghost use Rattle.proof_log.specs.Parts.{heads};
 ghost use Rattle.proof_log.specs.Words.{IsBehind, IsNumberFirst};
+ghost use Rattle.proof_log.specs.Spelling.{lacks, behind, literal_text, step_text, IsStep, AreLiterals, Spells};
 ghost use Rattle.log_form.specs.declared.line.Line.{Line};
 ghost use Rattle.proof_log.specs.declared.words.Word.{Word};
 ghost use Rattle.proof_log.specs.declared.words.Word.TheVariants as words;

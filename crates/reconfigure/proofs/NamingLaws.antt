@@ -5,7 +5,7 @@ use Rattle.std.specs.Option.{option_to_list}
 use Rattle.std.proofs.lemmas.List.{take_more}
 use Rattle.std.proofs.lemmas.List.Elements.{filter_map-append}
 use Rattle.class_table.specs.Outline.{Outline}
-use Rattle.object_alloc.specs.Named.{object_named}
+use Rattle.object_alloc.specs.Paths.{object_named}
 use Rattle.reconfigure.specs.Failing.{objects_named}
 
 one_of : (r : Option ℕ) → cons_option r [] ≡ option_to_list r

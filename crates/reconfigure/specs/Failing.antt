@@ -2,7 +2,7 @@
 -- and which word is refused.
 use Rattle.std.specs.Prelude.{◌≡◌, ℕ, ◌+◌, cond, List, [], ◌∷◌, Option, None, Some, filter_map, is_some}
 use Rattle.class_table.specs.Outline.{Outline}
-use Rattle.object_alloc.specs.Named.{object_named}
+use Rattle.object_alloc.specs.Paths.{object_named}
 use Rattle.reconfigure.specs.declared.failed.FailedError.{FailedError}
 use Rattle.reconfigure.specs.declared.failed.FailedError.TheVariants.{UnknownObject, Memory}
 

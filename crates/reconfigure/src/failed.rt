@@ -2,7 +2,7 @@
 ghost use Rattle.std.specs.Prelude.{◌≡◌, ◌<◌, ◌++◌, length, IfOk, OnOk};
 ghost use Rattle.std.specs.List.{All};
 ghost use Rattle.std.specs.Option.{option_to_list};
-ghost use Rattle.object_alloc.specs.Named.{object_named};
+ghost use Rattle.object_alloc.specs.Paths.{object_named};
 ghost use Rattle.object_alloc.specs.Walk.{objects as all_objects};
 ghost use Rattle.reconfigure.specs.Failing.{objects_named, unknown_word};
 ghost use Rattle.reconfigure.specs.Marking.{AreFailed};

@@ -11,8 +11,7 @@ use Rattle.object_alloc.specs.declared.object.Cell.{Cell}
 use Rattle.object_alloc.specs.declared.object.Domain.{Domain}
 use Rattle.object_alloc.specs.Cells.{cells, domain_of}
 use Rattle.object_alloc.specs.Groups.{own_cells}
-use Rattle.object_alloc.specs.Laid.{class_in}
-use Rattle.object_alloc.specs.Sums.{variables}
+use Rattle.object_alloc.specs.Variables.{class_in, variables}
 use Rattle.object_alloc.specs.Walk.{objects}
 use Rattle.object_alloc.proofs.OwnParts.{one_cell}
 use Rattle.conf_eval.specs.Fitting.{HasShape}

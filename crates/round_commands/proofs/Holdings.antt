@@ -14,7 +14,7 @@ use Rattle.conf_syntax.specs.declared.tree.Program.{Program}
 use Rattle.conf_types.specs.Programs.{ResolvedConstraint, ResolvedGoal}
 use Rattle.conf_session.specs.Standing.{Standing}
 use Rattle.desk_io.specs.Desk.{Files, OfFile}
-use Rattle.model_search.specs.Asked.{functions}
+use Rattle.model_search.specs.Objectives.{functions}
 use Rattle.ground_form.specs.declared.ground.Ground.{Ground}
 use Rattle.model_reader.proofs.ModelParts.{at_model}
 use Rattle.model_reader.specs.Building.{IsResolved}

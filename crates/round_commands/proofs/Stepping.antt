@@ -5,13 +5,14 @@ use Rattle.answer_text.specs.Texts.{solve_text}
 use Rattle.branch_choice.specs.declared.split.Order.TheVariants as orders
 use Rattle.class_table.specs.Outline.{Outline}
 use Rattle.conf_events.specs.declared.event.Event.{Event}
-use Rattle.conf_session.specs.Standing.{Standing, failed_behind, former_behind, former_by}
+use Rattle.conf_session.specs.Standing.{Standing, former_behind, former_by}
+use Rattle.conf_session.specs.Failed.{failed_behind}
 use Rattle.conf_session.specs.declared.step.Step.{Step}
 use Rattle.conf_session.specs.Steps.{Steps, IsStep}
 use Rattle.conf_types.specs.Programs.{ResolvedConstraint, ResolvedGoal}
 use Rattle.desk_io.specs.Desk.{with_printed}
 use Rattle.desk_io.specs.Whole.{PrintsFront}
-use Rattle.model_search.specs.Asked.{functions}
+use Rattle.model_search.specs.Objectives.{functions}
 use Rattle.ground_form.specs.WellMade.{IsWellMade}
 use Rattle.ground_form.specs.declared.ground.Ground.{Ground}
 use Rattle.log_check.specs.Verdicts.{Ending, ending}

@@ -4,7 +4,8 @@ use Rattle.std.specs.Prelude.{◌≡◌, ◌⊎◌, ℕ, Bool, true, List, [], �
 use Rattle.std.specs.List.{list_any}
 use Rattle.class_table.specs.Outline.{Outline}
 use Rattle.conf_events.specs.declared.event.Event.{Event}
-use Rattle.conf_session.specs.Standing.{Standing, IsOver, failed_behind}
+use Rattle.conf_session.specs.Standing.{Standing, IsOver}
+use Rattle.conf_session.specs.Failed.{failed_behind}
 use Rattle.conf_session.specs.declared.step.Step.{Step}
 use Rattle.desk_io.specs.Desk.{with_printed}
 use Rattle.desk_io.specs.Whole.{PrintsFront}

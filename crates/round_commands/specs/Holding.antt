@@ -13,7 +13,7 @@ use Rattle.desk_io.specs.Desk.{Files, OfFile, with_printed}
 use Rattle.desk_io.specs.Whole.{PrintsFront}
 use Rattle.model_reader.specs.Building.{IsResolved}
 use Rattle.model_reader.specs.Models.{IsWithin}
-use Rattle.object_alloc.specs.Named.{object_named}
+use Rattle.object_alloc.specs.Paths.{object_named}
 use Rattle.proof_log.specs.Rounds.{Journal}
 use Rattle.reconfigure.specs.declared.repair.Repair.{Repair}
 use Rattle.run_status.specs.declared.status.Status.{Status}

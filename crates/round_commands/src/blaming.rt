@@ -65,11 +65,20 @@ fn blame<F: Finder>(
     })
 }
 
+/// The order of the first searches: that of the cells is by the values that were found last, where
+/// there are some.
+fn first_order(order: OrderName) -> OrderName {
+    match order {
+        OrderName::Small => OrderName::Small,
+        OrderName::First | OrderName::Former => OrderName::Former,
+    }
+}
+
 /// The order in which a search that was undecided is made once more: fewest values first, and of
 /// that the order of the cells.
 fn other_order(order: OrderName) -> OrderName {
     match order {
-        OrderName::Small => OrderName::First,
+        OrderName::Small => OrderName::Former,
         OrderName::First | OrderName::Former => OrderName::Small,
     }
 }
@@ -97,7 +106,7 @@ pub fn blame_model(
 {
     let choosers = with.choosers;
     let all = &choosers[..];
-    let chooser = &all[place_of(order)];
+    let chooser = &all[place_of(first_order(order))];
     let spare = &all[place_of(other_order(order))];
     kit.begin();
     let limits = Limits {

@@ -3,14 +3,14 @@ ghost use Rattle.std.specs.Prelude.{◌≡◌, ◌≤◌, ℤ, List, Some, IsSom
 ghost use Rattle.answer_text.specs.Texts.{solve_text};
 ghost use Rattle.desk_io.specs.Fault.{HasRisen};
 ghost use Rattle.log_check.specs.Soundness.{Means, FoundSolves};
-ghost use Rattle.log_check.specs.Verdicts.{shown_of};
+ghost use Rattle.log_check.specs.Kinds.{shown_of};
 ghost use Rattle.model_reader.specs.Ready.{IsReady};
 ghost use Rattle.model_search.specs.Findings.{finding, Tells};
 ghost use Rattle.model_search.specs.Problems.{IsProblemOf};
 ghost use Rattle.model_search.specs.Wanted.{IsUnderstood};
 ghost use Rattle.model_search.specs.declared.finding.Finding.TheVariants as findings;
 ghost use Rattle.object_alloc.specs.Hints.{AreHints};
-ghost use Rattle.object_alloc.specs.Named.{object_named};
+ghost use Rattle.object_alloc.specs.Paths.{object_named};
 ghost use Rattle.round_commands.specs.Events.{IsBetween, IsHinted, StandsAt, situation_of, HasStepped, HasRound, IsTold, IsTried, IsCut};
 ghost use Rattle.run_promise.specs.Sessions.{situation_behind, subject};
 

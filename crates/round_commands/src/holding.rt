@@ -7,7 +7,7 @@ ghost use Rattle.desk_io.specs.Whole.{PrintsFront};
 ghost use Rattle.model_reader.specs.Ready.{IsReady};
 ghost use Rattle.model_search.specs.Runs.{is_open};
 ghost use Rattle.model_search.specs.declared.finding.Finding.{Finding as AFinding};
-ghost use Rattle.object_alloc.specs.Named.{object_named};
+ghost use Rattle.object_alloc.specs.Paths.{object_named};
 ghost use Rattle.round_commands.specs.Events.{IsBetween, StandsAt, situation_of};
 ghost use Rattle.run_promise.specs.Sessions.{subject, is_none_told, session_status, AreHeld, AreBegun};
 

@@ -9,7 +9,7 @@ ghost use Rattle.desk_io.specs.Fault.{HasRisen};
 ghost use Rattle.model_reader.specs.Ready.{IsReady};
 ghost use Rattle.model_search.specs.Problems.{IsProblemOf};
 ghost use Rattle.object_alloc.specs.Hints.{AreHints};
-ghost use Rattle.object_alloc.specs.Named.{object_named};
+ghost use Rattle.object_alloc.specs.Paths.{object_named};
 ghost use Rattle.proof_log.specs.Rounds.{Journal as AJournal, empty};
 ghost use Rattle.round_commands.specs.Events.{StandsAt, situation_of};
 ghost use Rattle.run_promise.specs.Sessions.{situation, subject};

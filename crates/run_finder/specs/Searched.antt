@@ -4,7 +4,8 @@ use Rattle.std.specs.Prelude.{◌≡◌, ℕ, ◌≤◌, true, false, List}
 use Rattle.ground_form.specs.declared.ground.Ground.{Ground}
 use Rattle.log_form.specs.declared.line.Line.{Line}
 use Rattle.log_check.specs.Soundness.{Means, FoundSolves}
-use Rattle.log_check.specs.Verdicts.{Ending, ending, shown_of}
+use Rattle.log_check.specs.Verdicts.{Ending, ending}
+use Rattle.log_check.specs.Kinds.{shown_of}
 use Rattle.run_law.specs.Decisions.{decisions, MayDecide}
 use Rattle.run_law.specs.Replay.{is_run}
 

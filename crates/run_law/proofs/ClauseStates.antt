@@ -8,7 +8,8 @@ use Rattle.signed_clause.specs.Ranges.{is_nil}
 use Rattle.signed_clause.specs.Clauses.{Boxes, Literals, IsClause}
 use Rattle.ground_form.specs.declared.ground.Ground.{Ground}
 use Rattle.log_form.specs.Acceptance.{Made, clause_at, has_empty, bounds}
-use Rattle.learn_clauses.specs.Walk.{IsWithinDomains, walk_from, back_to}
+use Rattle.learn_clauses.specs.Walk.{walk_from, back_to}
+use Rattle.learn_clauses.specs.Learnt.{IsWithinDomains}
 use Rattle.run_law.specs.Replay.{State, Mode, Going, Conflict, AtFound, Closed, top_boxes, is_walk, leads_back, may_explain, led_back, back_or, react, learned}
 use Rattle.run_law.proofs.LevelFacts.{IsStack, stack_more}
 use Rattle.run_law.proofs.LevelSteps.{reacted_stack, stack_back}

@@ -2,7 +2,8 @@
 use Rattle.std.proofs.Common.{◌≡◌, ℕ, suc, ◌-◌, ◌≤◌, inl, inr, true, false, not, ◌&&◌, cond, List, [], ◌∷◌, length, refl, sym, ap, ◌∙◌, arith, subst, slice_set, Some, None, is_some}
 use Rattle.std.proofs.lemmas.Bool.{and_parts, cases_lt, lt-ltb, le-ltb, not-true}
 use Rattle.signed_clause.specs.Clauses.{Boxes, Literals, false_in, IsClause, unit_of}
-use Rattle.fd_store.specs.Levels.{Level, Stack, dropped_from, dropped}
+use Rattle.fd_store.specs.Levels.{Level, Stack}
+use Rattle.fd_store.specs.Undo.{dropped_from, dropped}
 use Rattle.learn_clauses.specs.Walk.{back_from, back_to}
 use Rattle.run_law.specs.Conflicts.{LeadsFrom}
 use Rattle.run_law.proofs.Units.{some_same, none_some, unit_before}

@@ -10,7 +10,8 @@ use Rattle.signed_clause.proofs.SetFacts.{within_law}
 use Rattle.signed_clause.proofs.RangeSteps.{has-meet_valid, IsValid-meet}
 use Rattle.fd_store.specs.Levels.{Entry, Level, Stack}
 use Rattle.log_form.specs.Acceptance.{clause_at}
-use Rattle.learn_clauses.specs.Walk.{IsFrom, AreFrom, CameFrom, trail_from, domains_from, domains_of}
+use Rattle.learn_clauses.specs.Walk.{trail_from}
+use Rattle.learn_clauses.specs.Learnt.{IsFrom, AreFrom, CameFrom, domains_from, domains_of}
 use Rattle.learn_clauses.proofs.FalseLaws.{false_in-narrower}
 use Rattle.run_law.proofs.Units.{box-set_same, box-set_other, AreValid-set, IsUnitBy, IsHalf}
 

@@ -6,7 +6,8 @@ use Rattle.signed_clause.specs.Clauses.{Boxes, Literals, box_of, false_in, unit_
 use Rattle.fd_store.specs.Levels.{Level, Stack, moved, reacted, pruned_by}
 use Rattle.fd_store.proofs.StackLaws.{put_back}
 use Rattle.log_form.specs.Acceptance.{clause_at}
-use Rattle.learn_clauses.specs.Walk.{IsFrom, AreFrom, back_from, back_to}
+use Rattle.learn_clauses.specs.Walk.{back_from, back_to}
+use Rattle.learn_clauses.specs.Learnt.{IsFrom, AreFrom}
 use Rattle.run_law.proofs.Units.{some_same, none_some, box-set_same, unit_is, IsHalf}
 use Rattle.run_law.proofs.LevelFacts.{IsPart, part_in, part_keeps, half_part, unit_part, undone_by, IsLevel, AreLevels, IsStack, stack_boxes}
 

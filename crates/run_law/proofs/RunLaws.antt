@@ -12,14 +12,16 @@ use Rattle.ground_form.specs.WellMade.{IsWellMade}
 use Rattle.rule_law.specs.Answers.{AreBoxesWithin}
 use Rattle.log_form.specs.declared.line.Line.{Line}
 use Rattle.log_form.specs.Acceptance.{Made, clause_at, has_empty, made}
-use Rattle.learn_clauses.specs.Walk.{domains_of, CameFrom, IsWithinDomains, back_to}
+use Rattle.learn_clauses.specs.Walk.{back_to}
+use Rattle.learn_clauses.specs.Learnt.{domains_of, CameFrom, IsWithinDomains}
 use Rattle.learn_clauses.proofs.WithinLaws.{valid_boxes}
 use Rattle.run_law.specs.Replay.{Mode, Going, Conflict, AtFound, Closed, top_boxes, acts, none_acts, is_settled, leads_back, is_run, state_of}
 use Rattle.run_law.specs.Lines.{HasSets}
 use Rattle.run_law.specs.Conflicts.{IsConflict, LeadsFrom}
 use Rattle.run_law.proofs.Units.{none_some}
 use Rattle.run_law.proofs.LevelBack.{back_from_level, level_of_back, level_unit}
-use Rattle.fd_store.specs.Levels.{Stack, dropped}
+use Rattle.fd_store.specs.Levels.{Stack}
+use Rattle.fd_store.specs.Undo.{dropped}
 use Rattle.run_law.proofs.LevelFacts.{AreBoxesIn, stack_came, stack_domains, stack_boxes}
 use Rattle.run_law.proofs.StateSteps.{AreMade, HoldsIn}
 use Rattle.run_law.proofs.ClauseStates.{IsState}

@@ -11,7 +11,7 @@ use Rattle.log_form.specs.Acceptance.{Made, clause_at, has_empty, chain_holds, c
 use Rattle.log_form.specs.Acceptance as acceptance
 use Rattle.log_check.specs.Soundness.{IsSound}
 use Rattle.log_check.proofs.Steps.{sound_step, sound_start, same_clause-equal}
-use Rattle.learn_clauses.specs.Walk.{IsWithinDomains}
+use Rattle.learn_clauses.specs.Learnt.{IsWithinDomains}
 use Rattle.learn_clauses.proofs.WithinLaws.{valid_boxes}
 use Rattle.run_law.specs.Replay.{State, start, top_boxes, is_going, acts, are_sets_within, may_explain, react, learned, may_stand, changed, next, run_from, is_run, state_from, state_of}
 use Rattle.run_law.specs.Lines.{HasSets}

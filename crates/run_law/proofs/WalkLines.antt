@@ -10,7 +10,8 @@ use Rattle.log_form.specs.Acceptance.{Made, clause_at, has_empty, chain_holds, c
 use Rattle.log_form.specs.Acceptance as acceptance
 use Rattle.log_check.proofs.Steps.{all_same-self, same_clause-self}
 use Rattle.fd_store.specs.Levels.{Entry}
-use Rattle.learn_clauses.specs.Walk.{IsFrom, AreFrom, Walk, with_step, walk_at, walk, walk_from, trail_of}
+use Rattle.learn_clauses.specs.Walk.{Walk, with_step, walk_at, walk, walk_from, trail_of}
+use Rattle.learn_clauses.specs.Learnt.{IsFrom, AreFrom}
 use Rattle.run_law.specs.Replay.{State, Mode, Going, Conflict, AtFound, Closed, are_same_steps, is_walk, leads_back, may_explain, may_stand, is_run, state_of}
 use Rattle.run_law.specs.Replay as replay
 use Rattle.run_law.proofs.Units.{some_same, none_some}

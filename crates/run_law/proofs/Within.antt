@@ -18,7 +18,7 @@ use Rattle.ground_form.specs.WellMade.{IsWellMade}
 use Rattle.log_form.specs.Acceptance.{clause_at, chain_holds, chain_end, with_literal, better_values, as_good_values, bounds, bounds_from, bounds_of}
 use Rattle.log_check.specs.Soundness.{FoundSolves}
 use Rattle.log_check.proofs.Bounds.{with_form, fits_at, better_than_valid, as_good_as_valid}
-use Rattle.learn_clauses.specs.Walk.{IsWithinDomains}
+use Rattle.learn_clauses.specs.Learnt.{IsWithinDomains}
 use Rattle.learn_clauses.proofs.WithinLaws.{within-resolvent}
 use Rattle.run_law.specs.Replay.{are_sets_within}
 

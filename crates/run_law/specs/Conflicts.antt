@@ -3,7 +3,8 @@
 -- explains it has at most one level to drop.
 use Rattle.std.specs.Prelude.{◌≡◌, ℕ, ◌<◌, ◌≤◌, ◌-◌, true, false, List, length}
 use Rattle.signed_clause.specs.Clauses.{Boxes, Literals, false_in}
-use Rattle.fd_store.specs.Levels.{Stack, dropped}
+use Rattle.fd_store.specs.Levels.{Stack}
+use Rattle.fd_store.specs.Undo.{dropped}
 use Rattle.log_form.specs.Acceptance.{clause_at}
 
 -- clause n was made, and it is false in the boxes

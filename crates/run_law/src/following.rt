@@ -12,7 +12,7 @@ ghost use Rattle.log_form.specs.Acceptance.{made, states};
 ghost use Rattle.signed_clause.specs.Ranges.{is_nil, IsValid};
 ghost use Rattle.signed_clause.specs.SetAlgebra.{meet};
 ghost use Rattle.signed_clause.specs.Clauses.{box_of, unit_of};
-ghost use Rattle.fd_store.specs.Levels.{dropped};
+ghost use Rattle.fd_store.specs.Undo.{dropped};
 ghost use Rattle.learn_clauses.specs.Walk.{walk_from, back_to};
 ghost use Rattle.std.specs.List.{All};
 ghost use Rattle.branch_choice.specs.Picks.{half_of, IsPick};

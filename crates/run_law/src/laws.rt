@@ -10,7 +10,7 @@ ghost use Rattle.ground_form.specs.WellMade.{IsWellMade};
 ghost use Rattle.rule_law.specs.Answers.{AreBoxesWithin};
 ghost use Rattle.log_form.specs.Acceptance as acceptance;
 ghost use Rattle.log_form.specs.Acceptance.{may_come, after, has_empty, accepted, made};
-ghost use Rattle.learn_clauses.specs.Walk.{domains_of, CameFrom, IsWithinDomains};
+ghost use Rattle.learn_clauses.specs.Learnt.{domains_of, CameFrom, IsWithinDomains};
 ghost use Rattle.run_law.specs.Replay.{Conflict, Closed, top_boxes, none_acts, is_settled, may_stand, next, is_run, state_of};
 ghost use Rattle.run_law.specs.Conflicts.{IsConflict};
 ghost use Rattle.run_law.specs.Fixpoints.{IsFixpoint};

@@ -8,7 +8,7 @@ use Rattle.answer_text.specs.Texts.{solve_text}
 use Rattle.branch_choice.specs.declared.split.Order.TheVariants as orders
 use Rattle.class_table.specs.Outline.{Outline}
 use Rattle.conf_events.specs.declared.event.Event.{Event}
-use Rattle.conf_session.specs.Standing.{failed_behind}
+use Rattle.conf_session.specs.Failed.{failed_behind}
 use Rattle.conf_types.specs.Programs.{ResolvedConstraint, ResolvedGoal}
 use Rattle.ground_form.specs.WellMade.{IsWellMade}
 use Rattle.model_search.specs.Rounds.{journal_of}

@@ -4,7 +4,8 @@ use Rattle.std.specs.Int.{int_max}
 use Rattle.std.proofs.lemmas.Int.{ints, clamps}
 use Rattle.signed_clause.specs.Ranges.{Ranges, in_range, has, Ascends, IsValid}
 use Rattle.signed_clause.specs.SetAlgebra.{join}
-use Rattle.signed_clause.specs.Union.{fuse, fused, fuse_pending, merge_from, merge}
+use Rattle.signed_clause.specs.Union.{fuse, fused}
+use Rattle.signed_clause.specs.Merging.{fuse_pending, merge_from, merge}
 use Rattle.signed_clause.proofs.RangeSteps.{left_none}
 use Rattle.signed_clause.proofs.RangeLaws.{Ascends-ends, Ascends-join, has-join, same_ranges}
 

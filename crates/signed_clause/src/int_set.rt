@@ -10,7 +10,8 @@ ghost use Rattle.std.specs.Prelude.{◌≡◌, ◌↔◌, ◌≤ℤ◌, ◌<◌,
 ghost use Rattle.std.specs.Int.{int_min};
 ghost use Rattle.signed_clause.specs.Ranges.{has, in_range, IsValid, HasNoValue, IsSubset, HaveNoCommonValue, HaveSameValues, least_of, greatest_of, IsLeast, IsGreatest, count_of, is_nil};
 ghost use Rattle.signed_clause.specs.SetAlgebra.{meet, less, join, is_disjoint, piece, less_from, is_within};
-ghost use Rattle.signed_clause.specs.Union.{fuse, fuse_pending, merge};
+ghost use Rattle.signed_clause.specs.Union.{fuse};
+ghost use Rattle.signed_clause.specs.Merging.{fuse_pending, merge};
 
 use crate::range::{
     after, before, begins_by, begins_first, begins_no_later, common, covering, ends_before,

@@ -5,7 +5,8 @@ use Rattle.signed_clause.specs.Clauses.{Boxes, Literals, box_of}
 use Rattle.fd_store.specs.declared.trail.Moved.{Moved}
 use Rattle.fd_store.specs.Levels.{Entry, Stack}
 use Rattle.fd_store.specs.Trails.{entries_of, stack_of}
-use Rattle.learn_clauses.specs.Walk.{domains_of, trail_of, IsFrom, AreFrom, CameFrom}
+use Rattle.learn_clauses.specs.Walk.{trail_of}
+use Rattle.learn_clauses.specs.Learnt.{domains_of, IsFrom, AreFrom, CameFrom}
 use Rattle.learn_clauses.proofs.BackLaws.{trail_of-stack, domains_of-older}
 use Rattle.test_search_checks.specs.Backwards.{IsStepBack, IsBack}
 

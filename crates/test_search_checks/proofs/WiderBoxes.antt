@@ -12,7 +12,7 @@ use Rattle.signed_clause.specs.Clauses.{Boxes, Literals, box_of}
 use Rattle.clause_watches.specs.declared.rest.Rest.{Rest}
 use Rattle.clause_watches.specs.declared.rest.Rest.TheVariants.{Listed}
 use Rattle.clause_watches.specs.Watching.{clause_of, rest_of, IsKnown, DifferAt, NarrowsAt, WidensAt}
-use Rattle.fd_store.specs.Levels.{AreWider}
+use Rattle.fd_store.specs.Undo.{AreWider}
 
 valid_boxes : (boxes : Boxes) → All (λ s. IsValid s) boxes → (x : ℕ) → IsValid (box_of boxes x)
 valid_boxes boxes a x =

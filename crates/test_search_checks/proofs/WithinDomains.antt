@@ -6,7 +6,8 @@ use Rattle.std.specs.List.{All}
 use Rattle.signed_clause.specs.Ranges.{Ranges, has, IsSubset}
 use Rattle.signed_clause.specs.Clauses.{Boxes, Literals, box_of, set_of}
 use Rattle.signed_clause.proofs.ResolventLaws.{set_here, set_later}
-use Rattle.learn_clauses.specs.Walk.{clause_at, IsWithinDomains}
+use Rattle.learn_clauses.specs.Walk.{clause_at}
+use Rattle.learn_clauses.specs.Learnt.{IsWithinDomains}
 
 pub clause_within : (domains : Boxes) (c : Literals) →
     All (λ l. IsSubset l.1 (box_of domains l.0)) c → IsWithinDomains domains c

@@ -5,7 +5,7 @@ use Rattle.signed_clause.specs.Clauses.{Boxes, Literals, box_of}
 use Rattle.fd_store.specs.declared.trail.Moved.{Moved}
 use Rattle.fd_store.specs.Levels.{Stack}
 use Rattle.fd_store.specs.Trails.{entries_of, stack_of}
-use Rattle.learn_clauses.specs.Walk.{domains_of, IsFrom, AreFrom, CameFrom}
+use Rattle.learn_clauses.specs.Learnt.{domains_of, IsFrom, AreFrom, CameFrom}
 
 -- the boxes before the entry are those behind it with its box put back, and it is from its clause
 pub record IsStepBack (clauses : List Literals) (m : Moved) (behind before : Boxes) : Type 0 where

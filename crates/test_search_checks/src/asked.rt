@@ -2,7 +2,8 @@
 ghost use Rattle.std.specs.Prelude.{◌≡◌, ◌<◌, true, length, IfOk};
 ghost use Rattle.std.specs.List.{All};
 ghost use Rattle.signed_clause.specs.Clauses.{false_in};
-ghost use Rattle.learn_clauses.specs.Walk.{clause_at, domains_of, CameFrom, IsWithinDomains};
+ghost use Rattle.learn_clauses.specs.Walk.{clause_at};
+ghost use Rattle.learn_clauses.specs.Learnt.{domains_of, CameFrom, IsWithinDomains};
 
 use crate::came::domains_behind;
 use crate::within::{are_clauses_within, has_boxes};

@@ -1,7 +1,7 @@
 //! Whether the prunings of a trail came from clauses.
 ghost use Rattle.std.specs.Prelude.{◌≡◌, ◌<◌, true, length, Some, IfOk, IfSome};
 ghost use Rattle.signed_clause.specs.Clauses.{unit_of};
-ghost use Rattle.learn_clauses.specs.Walk.{domains_of, CameFrom, IsFrom};
+ghost use Rattle.learn_clauses.specs.Learnt.{domains_of, CameFrom, IsFrom};
 ghost use Rattle.test_search_checks.specs.Backwards.{IsStepBack};
 
 use crate::within::has_boxes;

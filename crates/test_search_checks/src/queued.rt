@@ -1,7 +1,7 @@
 //! `Queued`, a problem, boxes of its variables, and a queue that fits them.
 ghost use Rattle.std.specs.Prelude.{◌≡◌, ◌<◌, ◌^◌, length};
 ghost use Rattle.ground_form.specs.declared.ground.Ground.{Ground};
-ghost use Rattle.fd_store.specs.Levels.{AreWider};
+ghost use Rattle.fd_store.specs.Undo.{AreWider};
 ghost use Rattle.prop_queue.specs.Work.{IsOver, AreKnown};
 
 use crate::quiet::{are_all_quiet, is_pruning, is_quiet};

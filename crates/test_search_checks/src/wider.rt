@@ -4,7 +4,7 @@ ghost use Rattle.std.specs.List.{All};
 ghost use Rattle.signed_clause.specs.Ranges.{IsValid, is_nil};
 ghost use Rattle.signed_clause.specs.SetAlgebra.{is_within};
 ghost use Rattle.signed_clause.specs.Clauses.{box_of};
-ghost use Rattle.fd_store.specs.Levels.{AreWider};
+ghost use Rattle.fd_store.specs.Undo.{AreWider};
 
 use signed_clause::{Clause, IntSet};
 

@@ -3,7 +3,8 @@ ghost use Rattle.std.specs.Prelude.{◌≡◌, ◌<◌, true, length};
 ghost use Rattle.std.specs.List.{All};
 ghost use Rattle.signed_clause.specs.Clauses.{IsWithinBoxes, box_of};
 ghost use Rattle.signed_clause.specs.Ranges.{IsSubset};
-ghost use Rattle.learn_clauses.specs.Walk.{clause_at, IsWithinDomains};
+ghost use Rattle.learn_clauses.specs.Walk.{clause_at};
+ghost use Rattle.learn_clauses.specs.Learnt.{IsWithinDomains};
 
 use numbered_clauses::Clauses;
 use signed_clause::{Clause, IntSet};

@@ -1,9 +1,8 @@
 use Rattle.std.proofs.Common.{◌≡◌, ◌<◌, length, map}
 use Rattle.std.specs.Prelude.{position}
 use Rattle.graph_walk.specs.Cycles.{rank}
-use Rattle.class_table.specs.Outline.{attributes}
+use Rattle.class_table.specs.Outline.{attributes, variable_name}
 use Rattle.class_table.specs.Same.{same_name}
-use Rattle.class_table.specs.Tables.{variable_name}
 use Rattle.class_table.proofs.class_table.number_of.Given as goal
 
 -- the number is that of the class where the search stands

@@ -1,5 +1,6 @@
 use Rattle.std.proofs.Common.{◌≡◌, ◌++◌, true, map, drop}
-use Rattle.class_table.specs.Tables.{all_differ, variable_name}
+use Rattle.class_table.specs.Tables.{all_differ}
+use Rattle.class_table.specs.Outline.{variable_name}
 use Rattle.class_table.proofs.paths.add_names.Given as goal
 
 -- with what is left the names are those of all variables, and those that are left differ from them

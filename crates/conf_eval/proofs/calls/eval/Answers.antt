@@ -1,6 +1,6 @@
 use Rattle.std.proofs.Common.{◌≡◌, sym, ◌∙◌, subst}
 use Rattle.std.proofs.lemmas.Result.{IfOk-weaker}
-use Rattle.conf_types.specs.Trees.{tree_of}
+use Rattle.conf_types.specs.TreeOf.{tree_of}
 use Rattle.object_alloc.specs.Configurations.{IsConfiguration}
 use Rattle.conf_eval.proofs.CallLaws.{evaluable_there, value_there}
 use Rattle.conf_eval.proofs.calls.eval.Goals as goal

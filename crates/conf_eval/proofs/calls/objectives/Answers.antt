@@ -1,6 +1,6 @@
 use Rattle.std.proofs.Common.{◌≡◌, ◌<◌, None, [], sym, ap, ◌∙◌, subst, refl, length, get_or}
 use Rattle.conf_types.specs.Programs.{ResolvedGoal}
-use Rattle.conf_types.specs.Trees.{tree_of}
+use Rattle.conf_types.specs.TreeOf.{tree_of}
 use Rattle.conf_eval.specs.Fitting.{IsEvaluable}
 use Rattle.conf_eval.specs.Meaning.{int_of}
 use Rattle.conf_eval.specs.Satisfying.{setting, objective, objectives}

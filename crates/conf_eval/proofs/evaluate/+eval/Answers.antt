@@ -1,7 +1,7 @@
 use Rattle.std.proofs.Common.{◌≡◌, ◌<◌, ◌+◌, ◌+ℤ◌, ℕ, sym, ap, ◌∙◌, subst, arith, drop, length, map, true, false, pos}
 use Rattle.std.specs.Prelude.{count_by}
 use Rattle.conf_syntax.specs.declared.tree.QuantKind.TheVariants as kind
-use Rattle.conf_types.specs.Trees.{tree_of, node_tree, quant_tree, optional_tree, trees_of}
+use Rattle.conf_types.specs.TreeOf.{tree_of, node_tree, quant_tree, optional_tree, trees_of}
 use Rattle.conf_types.specs.Trees as tree
 use Rattle.conf_types.specs.declared.tree.RQuant as quant
 use Rattle.std.proofs.lemmas.Result.{IfOk-weaker}

@@ -1,7 +1,7 @@
 use Rattle.std.proofs.Common.{◌≡◌, ◌≤◌, ◌+◌, ◌-◌, ◌*◌, ◌++◌, ◌+ℤ◌, max, drop, map, true, false}
 use Rattle.std.specs.Prelude.{All, count_by}
 use Rattle.std.specs.List.{list_all, list_any}
-use Rattle.conf_types.specs.Trees.{tree_of, quant_tree, optional_tree, trees_of}
+use Rattle.conf_types.specs.TreeOf.{tree_of, quant_tree, optional_tree, trees_of}
 use Rattle.conf_eval.specs.Evaluating.{IsRoom, AllEvaluable, AreInner, setting_at, holds, term_of, height, filter_height, bodies_height}
 use Rattle.conf_eval.specs.Listing.{slots, held, members}
 use Rattle.conf_eval.specs.Meaning.{bind, all_true, values_of, first_of, item_of, total}

@@ -2,7 +2,7 @@ use Rattle.std.proofs.Common.{◌≡◌, ℕ, ◌+◌, List, [], ◌∷◌, ◌+
 use Rattle.std.specs.Prelude.{IsSome}
 use Rattle.std.specs.List.{All}
 use Rattle.std.proofs.lemmas.List.Elements.{All-push}
-use Rattle.object_alloc.specs.Named.{object_named}
+use Rattle.object_alloc.specs.Paths.{object_named}
 use Rattle.conf_events.specs.declared.event.Event.{Event}
 use Rattle.conf_events.specs.Texts.{ended, unended, bad_from, bad_line, events_of}
 use Rattle.conf_events.proofs.reading.read_events.Goals as goal

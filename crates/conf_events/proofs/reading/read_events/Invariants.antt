@@ -1,7 +1,7 @@
 use Rattle.std.proofs.Common.{◌≡◌, ◌+◌, ◌≤◌, ◌++◌, [], length}
 use Rattle.std.specs.Prelude.{IsSome}
 use Rattle.std.specs.List.{All}
-use Rattle.object_alloc.specs.Named.{object_named}
+use Rattle.object_alloc.specs.Paths.{object_named}
 use Rattle.command_limits.specs.Limits.{most_events}
 use Rattle.conf_events.specs.Texts.{ended, unended, bad_from, bad_line, events_of}
 use Rattle.conf_events.proofs.reading.read_events.Given as goal

@@ -1,6 +1,6 @@
 use Rattle.std.proofs.Common.{ℕ, ◌+◌, ◌*◌, ◌&&◌, sym, subst}
 use Rattle.conf_types.specs.Resolved.{ResolvedConstraint}
-use Rattle.conf_types.specs.Trees.{tree_of}
+use Rattle.conf_types.specs.TreeOf.{tree_of}
 use Rattle.conf_limits.specs.Limits.{IsConstraintThere, IsTotal}
 use Rattle.conf_limits.specs.Measures.{constraint_weight, constraint_narrow, times_stated}
 use Rattle.conf_limits.proofs.TotalLaws.{step, done, first_there, rest_there}

@@ -1,6 +1,6 @@
 use Rattle.std.proofs.Common.{◌≡◌, ◌+◌, ◌*◌, ◌&&◌, refl, arith, sym, subst}
 use Rattle.conf_types.specs.Resolved.{ResolvedGoal}
-use Rattle.conf_types.specs.Trees.{tree_of}
+use Rattle.conf_types.specs.TreeOf.{tree_of}
 use Rattle.conf_limits.specs.Limits.{IsGoalThere, IsTotal}
 use Rattle.conf_limits.specs.Measures.{goal_weight, goal_narrow, narrow, weight}
 use Rattle.conf_limits.proofs.TotalLaws.{step, done, first_there, rest_there}

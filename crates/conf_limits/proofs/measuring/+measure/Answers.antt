@@ -1,7 +1,7 @@
 use Rattle.std.proofs.Common.{◌+◌, drop, ap, sym, subst, arith}
 use Rattle.conf_types.specs.declared.tree.RExpr.{RExpr}
 use Rattle.conf_types.specs.declared.tree.RQuant as quant
-use Rattle.conf_types.specs.Trees.{node_tree, quant_tree, tree_of, trees_of, optional_tree}
+use Rattle.conf_types.specs.TreeOf.{node_tree, quant_tree, tree_of, trees_of, optional_tree}
 use Rattle.conf_limits.specs.Limits.{size, bodies_size, IsMeasure, IsFilterMeasure, IsBodiesMeasure, IsThere, AreBodiesThere}
 use Rattle.conf_limits.proofs.BodyLaws.{quant_is, quant_size, quant_there, there_quant, next_trees, no_more, step, done}
 use Rattle.conf_limits.proofs.measuring.+measure.Goals as goal

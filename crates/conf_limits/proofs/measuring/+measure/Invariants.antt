@@ -1,5 +1,5 @@
 use Rattle.std.proofs.Common.{◌+◌, ◌*◌, ◌-◌, drop}
-use Rattle.conf_types.specs.Trees.{tree_of, optional_tree, trees_of, quant_tree}
+use Rattle.conf_types.specs.TreeOf.{tree_of, optional_tree, trees_of, quant_tree}
 use Rattle.conf_limits.specs.Counting.{IsMeasuring}
 use Rattle.conf_limits.specs.Limits.{size, filter_size, bodies_size}
 use Rattle.conf_limits.proofs.measuring.+measure.Given as goal

@@ -1,5 +1,5 @@
 use Rattle.std.proofs.Common.{◌≡◌, ◌++◌, drop}
-use Rattle.conf_session.specs.Standing.{without_word}
+use Rattle.conf_session.specs.Failed.{without_word}
 use Rattle.conf_session.proofs.words.without_word.Given as goal
 
 abbrev pub invariant-loop-other : goal.invariant-loop-other

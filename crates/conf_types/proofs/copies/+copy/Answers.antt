@@ -1,6 +1,6 @@
 use Rattle.std.proofs.Common.{rules, ap, ◌∙◌}
 use Rattle.conf_types.specs.declared.tree.RQuant as rquant
-use Rattle.conf_types.specs.Trees.{trees_of}
+use Rattle.conf_types.specs.TreeOf.{trees_of}
 use Rattle.conf_types.proofs.CheckLaws.{rquant_is}
 use Rattle.conf_types.proofs.CopyLaws.{quant_copied, body_copied, bodies_copied}
 use Rattle.conf_types.proofs.copies.+copy.Goals as goal

@@ -1,6 +1,6 @@
 use Rattle.std.proofs.Common.{◌≡◌, drop}
 use Rattle.conf_types.specs.Checked.{trees_onto}
-use Rattle.conf_types.specs.Trees.{trees_of}
+use Rattle.conf_types.specs.TreeOf.{trees_of}
 use Rattle.conf_types.proofs.copies.+copy.Given as goal
 
 -- with what is left it is all bodies

@@ -1,6 +1,6 @@
 use Rattle.std.proofs.Common.{rules, ap, ◌∙◌}
 use Rattle.conf_types.specs.declared.tree.RQuant as rquant
-use Rattle.conf_types.specs.Trees.{node_tree}
+use Rattle.conf_types.specs.TreeOf.{node_tree}
 use Rattle.conf_types.proofs.CheckLaws.{rquant_is, quantifier_read}
 use Rattle.conf_types.proofs.rules.quantifier.Goals as goal
 

@@ -1,7 +1,7 @@
 use Rattle.std.proofs.Common.{◌≡◌, ℕ, ◌+◌, ◌-◌, ◌*◌, Option, length, drop}
 use Rattle.std.specs.Option.{option_map_or}
 use Rattle.class_table.specs.Outline.{Outline}
-use Rattle.object_alloc.specs.Laid.{variables_of}
+use Rattle.object_alloc.specs.Variables.{variables_of}
 use Rattle.object_alloc.specs.Walk.{objects}
 use Rattle.serde_json.specs.View.{items_view, members_view}
 use Rattle.config_json.specs.Growing.{items_append}

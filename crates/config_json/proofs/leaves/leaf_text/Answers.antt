@@ -1,4 +1,4 @@
-use Rattle.object_alloc.specs.Laid.{variables_of}
+use Rattle.object_alloc.specs.Variables.{variables_of}
 use Rattle.config_json.proofs.Known.{item_within}
 use Rattle.config_json.proofs.leaves.leaf_text.Goals as goal
 

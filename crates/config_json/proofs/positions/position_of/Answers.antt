@@ -1,6 +1,6 @@
 use Rattle.std.proofs.Common.{◌∙◌, ◌<◌, sym, ap, subst}
 use Rattle.std.specs.Prelude.{option_and_then, IfSome}
-use Rattle.object_alloc.specs.Laid.{variables_of}
+use Rattle.object_alloc.specs.Variables.{variables_of}
 use Rattle.serde_json.specs.View.{view}
 use Rattle.config_json.specs.Former.{step_to}
 use Rattle.config_json.specs.Positions.{seen}

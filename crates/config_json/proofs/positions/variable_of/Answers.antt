@@ -1,7 +1,7 @@
 use Rattle.std.proofs.Common.{◌∙◌, ◌<◌, length, sym, ap, subst}
 use Rattle.std.specs.Prelude.{slice_get}
 use Rattle.class_table.specs.Outline.{Outline}
-use Rattle.object_alloc.specs.Laid.{variables_of}
+use Rattle.object_alloc.specs.Variables.{variables_of}
 use Rattle.config_json.proofs.Known.{variables_told, variable_told}
 use Rattle.config_json.proofs.positions.variable_of.Goals as goal
 

@@ -1,5 +1,5 @@
 use Rattle.std.proofs.Common.{◌≡◌, length, reverse}
-use Rattle.fd_store.specs.Levels.{dropped}
+use Rattle.fd_store.specs.Undo.{dropped}
 use Rattle.fd_store.specs.Trails.{stack_of, IsStore}
 use Rattle.fd_store.proofs.trail.undo.Given as goal
 

@@ -1,5 +1,5 @@
 use Rattle.std.proofs.Common.{◌≡◌, ◌++◌, drop, map}
-use Rattle.signed_clause.specs.Union.{fuse_pending}
+use Rattle.signed_clause.specs.Merging.{fuse_pending}
 use Rattle.ground_cells.specs.CellBoxes.{single, number_ranges}
 use Rattle.ground_cells.proofs.numbers.ranges_of.Given as goal
 

@@ -1,5 +1,5 @@
 use Rattle.std.proofs.Common.{◌∙◌, ap, sym}
-use Rattle.conf_types.specs.Trees.{node_tree}
+use Rattle.conf_types.specs.TreeOf.{node_tree}
 use Rattle.conf_eval.proofs.EvalLaws.{quant_is}
 use Rattle.ground_expr.specs.Fixed.{is_fixed_path}
 use Rattle.ground_expr.proofs.constraints.+is_fixed_path.Goals as goal

@@ -1,6 +1,6 @@
 use Rattle.std.proofs.Common.{◌∙◌, true, [], ap, sym}
 use Rattle.std.proofs.lemmas.Result.{on_ok_weaker}
-use Rattle.conf_types.specs.Trees.{tree_of, node_tree, quant_tree}
+use Rattle.conf_types.specs.TreeOf.{tree_of, node_tree, quant_tree}
 use Rattle.conf_eval.proofs.EvalLaws.{quant_moved}
 use Rattle.expr_forms.specs.Standing.{bare_setting}
 use Rattle.ground_expr.proofs.Stating.{says_at, says_moved}

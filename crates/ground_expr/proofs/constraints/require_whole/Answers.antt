@@ -1,6 +1,7 @@
 use Rattle.std.proofs.Common.{List, [], true, sym, subst}
 use Rattle.conf_types.specs.declared.tree.RQuant as quant
-use Rattle.conf_types.specs.Trees.{Tree, tree_of, optional_tree, trees_of}
+use Rattle.conf_types.specs.Trees.{Tree}
+use Rattle.conf_types.specs.TreeOf.{tree_of, optional_tree, trees_of}
 use Rattle.conf_eval.specs.Meaning.{truth_of}
 use Rattle.conf_eval.proofs.EvalLaws.{quant_is}
 use Rattle.form_build.specs.Worlds.{Adds}

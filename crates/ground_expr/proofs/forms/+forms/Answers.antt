@@ -4,7 +4,8 @@ use Rattle.std.proofs.lemmas.List.Elements.{All-nil}
 use Rattle.std.proofs.lemmas.Result.{IfOk-weaker}
 use Rattle.conf_types.specs.declared.tree.RExpr.{RExpr}
 use Rattle.conf_types.specs.declared.tree.RQuant as quant
-use Rattle.conf_types.specs.Trees.{Tree, NoFilter, tree_of, node_tree, quant_tree, optional_tree, trees_of}
+use Rattle.conf_types.specs.Trees.{Tree, NoFilter}
+use Rattle.conf_types.specs.TreeOf.{tree_of, node_tree, quant_tree, optional_tree, trees_of}
 use Rattle.conf_types.specs.Trees as tree
 use Rattle.object_alloc.specs.Walk.{objects}
 use Rattle.conf_types.specs.Typing.{Place}

@@ -1,6 +1,6 @@
 use Rattle.std.proofs.Common.{◌≡◌, ◌≤◌, ◌+◌, ◌-◌, ◌*◌, ◌++◌, ◌∷◌, [], ℕ, ℤ, List, max, drop, take, length}
 use Rattle.std.specs.List.{All}
-use Rattle.conf_types.specs.Trees.{tree_of, quant_tree, optional_tree, trees_of}
+use Rattle.conf_types.specs.TreeOf.{tree_of, quant_tree, optional_tree, trees_of}
 use Rattle.conf_types.specs.Typing.{Place}
 use Rattle.conf_eval.specs.Fitting.{Fits}
 use Rattle.conf_eval.specs.Evaluating.{IsRoom, height, filter_height, bodies_height}

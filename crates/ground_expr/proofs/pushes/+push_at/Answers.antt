@@ -1,6 +1,6 @@
 use Rattle.std.proofs.Common.{ap, sym, ◌∙◌, arith}
 use Rattle.std.proofs.lemmas.Result.{on_ok_weaker}
-use Rattle.conf_types.specs.Trees.{tree_of, node_tree}
+use Rattle.conf_types.specs.TreeOf.{tree_of, node_tree}
 use Rattle.conf_types.specs.Trees as tree
 use Rattle.conf_eval.specs.Evaluating.{height}
 use Rattle.expr_forms.proofs.Configured.{cells_still}

@@ -1,4 +1,4 @@
-use Rattle.conf_types.specs.Trees.{tree_of}
+use Rattle.conf_types.specs.TreeOf.{tree_of}
 use Rattle.conf_eval.specs.Evaluating.{height}
 use Rattle.ground_expr.proofs.pushes.+push_at.Given as goal
 

@@ -1,5 +1,5 @@
 use Rattle.ground_expr.proofs.Pushing.{pushes_form}
-use Rattle.conf_types.specs.Trees.{tree_of}
+use Rattle.conf_types.specs.TreeOf.{tree_of}
 use Rattle.ground_expr.proofs.pushes.push_form.Goals as goal
 
 pub returns : goal.returns

@@ -1,7 +1,7 @@
 use Rattle.std.proofs.Common.{◌+◌, ◌*◌, ◌++◌, ◌∷◌, [], true, take, ◌-◌}
 use Rattle.std.specs.List.{list_all}
 use Rattle.conf_types.specs.declared.tree.RExpr.{RExpr}
-use Rattle.conf_types.specs.Trees.{tree_of, trees_of, quant_tree, optional_tree}
+use Rattle.conf_types.specs.TreeOf.{tree_of, trees_of, quant_tree, optional_tree}
 use Rattle.conf_eval.specs.Evaluating.{IsRoom, height, bodies_height}
 use Rattle.form_build.specs.Worlds.{Adds}
 use Rattle.expr_forms.specs.declared.form.Member.{Member}

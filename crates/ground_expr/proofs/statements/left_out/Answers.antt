@@ -1,6 +1,6 @@
 use Rattle.std.proofs.Common.{◌∙◌, ◌&&◌, not, Option, ap, sym, subst, []}
 use Rattle.conf_types.specs.declared.tree.RExpr.{RExpr}
-use Rattle.conf_types.specs.Trees.{tree_of, optional_tree}
+use Rattle.conf_types.specs.TreeOf.{tree_of, optional_tree}
 use Rattle.conf_eval.specs.Meaning.{keeps}
 use Rattle.signed_clause.specs.Clauses.{Boxes}
 use Rattle.form_build.specs.Forms.{truth_at}

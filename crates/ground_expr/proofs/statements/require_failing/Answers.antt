@@ -1,5 +1,5 @@
 use Rattle.expr_forms.proofs.Configured.{cells_still}
-use Rattle.conf_types.specs.Trees.{optional_tree}
+use Rattle.conf_types.specs.TreeOf.{optional_tree}
 use Rattle.ground_expr.proofs.Stating.{some_failing}
 use Rattle.ground_expr.proofs.statements.require_failing.Goals as goal
 

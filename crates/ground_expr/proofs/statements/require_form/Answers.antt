@@ -1,4 +1,4 @@
-use Rattle.conf_types.specs.Trees.{tree_of}
+use Rattle.conf_types.specs.TreeOf.{tree_of}
 use Rattle.ground_expr.proofs.Stating.{says_form}
 use Rattle.ground_expr.proofs.statements.require_form.Goals as goal
 

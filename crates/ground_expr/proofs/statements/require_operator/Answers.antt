@@ -1,4 +1,4 @@
-use Rattle.conf_types.specs.Trees.{tree_of}
+use Rattle.conf_types.specs.TreeOf.{tree_of}
 use Rattle.conf_types.specs.Trees as tree
 use Rattle.expr_forms.proofs.Configured.{cells_still}
 use Rattle.expr_forms.proofs.Inside.{in_right}

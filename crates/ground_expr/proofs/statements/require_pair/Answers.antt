@@ -1,4 +1,4 @@
-use Rattle.conf_types.specs.Trees.{tree_of}
+use Rattle.conf_types.specs.TreeOf.{tree_of}
 use Rattle.expr_forms.proofs.Configured.{cells_still}
 use Rattle.ground_expr.proofs.Stating.{says_either}
 use Rattle.ground_expr.proofs.statements.require_pair.Goals as goal

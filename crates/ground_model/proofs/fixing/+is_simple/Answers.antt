@@ -1,5 +1,5 @@
 use Rattle.std.proofs.Common.{sym, ap, ◌∙◌}
-use Rattle.conf_types.specs.Trees.{node_tree}
+use Rattle.conf_types.specs.TreeOf.{node_tree}
 use Rattle.ground_model.specs.Fixing.{is_simple}
 use Rattle.ground_model.proofs.Fixings.{no_simple}
 use Rattle.ground_model.proofs.fixing.+is_simple.Goals as goal

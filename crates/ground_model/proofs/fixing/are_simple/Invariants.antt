@@ -1,5 +1,5 @@
 use Rattle.std.proofs.Common.{◌≡◌, drop}
-use Rattle.conf_types.specs.Trees.{trees_of}
+use Rattle.conf_types.specs.TreeOf.{trees_of}
 use Rattle.ground_model.specs.Fixing.{are_simple}
 use Rattle.ground_model.proofs.fixing.are_simple.Given as goal
 

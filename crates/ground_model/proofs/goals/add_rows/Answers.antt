@@ -1,6 +1,6 @@
 use Rattle.std.proofs.Common.{◌^◌, None, ◌∙◌, sym, ap, take, arith}
 use Rattle.conf_types.specs.Resolved.{ResolvedGoal}
-use Rattle.conf_types.specs.Trees.{tree_of}
+use Rattle.conf_types.specs.TreeOf.{tree_of}
 use Rattle.conf_eval.specs.Satisfying.{objective}
 use Rattle.form_build.proofs.Growth.{defines_more, no_less}
 use Rattle.ground_model.proofs.FormSteps.{known_number, number_linear}

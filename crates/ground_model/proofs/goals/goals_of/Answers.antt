@@ -1,7 +1,7 @@
 use Rattle.std.proofs.Common.{[], List, All, ◌<◌, length, take, sym, ap, ◌∙◌, subst}
 use Rattle.conf_types.specs.Resolved.{ResolvedGoal}
 use Rattle.ground_form.specs.StandsFor.{AreGoalValues}
-use Rattle.ground_expr.specs.Asked.{functions}
+use Rattle.ground_expr.specs.Objectives.{functions}
 use Rattle.form_build.proofs.Growth.{adds_nothing}
 use Rattle.ground_form.specs.declared.ground.GroundGoal.{GroundGoal}
 use Rattle.conf_eval.proofs.CallLaws.{nth_of_all}

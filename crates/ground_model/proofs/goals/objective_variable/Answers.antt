@@ -1,7 +1,7 @@
 use Rattle.std.proofs.Common.{◌^◌, [], None, ◌∙◌, ap, take, arith}
 use Rattle.std.proofs.lemmas.List.Elements.{All-nil}
 use Rattle.conf_types.specs.Resolved.{ResolvedGoal}
-use Rattle.conf_types.specs.Trees.{tree_of}
+use Rattle.conf_types.specs.TreeOf.{tree_of}
 use Rattle.conf_eval.specs.Satisfying.{objective}
 use Rattle.form_build.proofs.Growth.{defines_more}
 use Rattle.ground_model.specs.Known.{IsKnownCell}

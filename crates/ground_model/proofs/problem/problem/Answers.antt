@@ -2,7 +2,8 @@ use Rattle.std.proofs.Common.{◌∙◌, subst}
 use Rattle.signed_clause.specs.Clauses.{Boxes}
 use Rattle.ground_form.specs.StandsFor.{StandsFor}
 use Rattle.ground_cells.specs.CellBoxes.{cell_boxes}
-use Rattle.ground_expr.specs.Asked.{satisfied_by, functions}
+use Rattle.ground_expr.specs.Asked.{satisfied_by}
+use Rattle.ground_expr.specs.Objectives.{functions}
 use Rattle.ground_model.proofs.Endings.{cells_are, function_count}
 use Rattle.ground_model.proofs.problem.problem.Goals as goal
 

@@ -7,7 +7,8 @@ use Rattle.ground_form.specs.WellMade.{IsWellMade}
 use Rattle.ground_build.specs.Growing.{with_goals}
 use Rattle.ground_cells.specs.CellBoxes.{cell_boxes}
 use Rattle.form_build.proofs.Growth.{defines_more}
-use Rattle.ground_expr.specs.Asked.{satisfied_by, functions}
+use Rattle.ground_expr.specs.Asked.{satisfied_by}
+use Rattle.ground_expr.specs.Objectives.{functions}
 use Rattle.ground_model.specs.Known.{HasKnown, AreFixed}
 use Rattle.ground_model.specs.Stated.{IsReadyGoal}
 use Rattle.ground_model.proofs.KnownCells.{known_still, fixed_still}

@@ -1,4 +1,4 @@
-use Rattle.conf_types.specs.Trees.{tree_of}
+use Rattle.conf_types.specs.TreeOf.{tree_of}
 use Rattle.ground_model.proofs.FormSteps.{tree_required}
 use Rattle.ground_model.proofs.required.require_tree.Goals as goal
 

@@ -1,5 +1,5 @@
 use Rattle.std.proofs.Common.{[], ap, sym, ◌∙◌}
-use Rattle.conf_types.specs.Trees.{tree_of, node_tree, quant_tree}
+use Rattle.conf_types.specs.TreeOf.{tree_of, node_tree, quant_tree}
 use Rattle.conf_eval.proofs.EvalLaws.{quant_moved}
 use Rattle.expr_forms.specs.Standing.{bare_setting}
 use Rattle.form_build.proofs.Growth.{adds_nothing}

@@ -1,5 +1,5 @@
 use Rattle.std.proofs.Common.{List, ℤ, Option, IfSome, subst}
-use Rattle.conf_types.specs.Trees.{tree_of}
+use Rattle.conf_types.specs.TreeOf.{tree_of}
 use Rattle.form_build.proofs.Growth.{defines_more}
 use Rattle.expr_forms.proofs.Configured.{cells_still}
 use Rattle.quantifier_forms.specs.declared.part.Part.{Part}

@@ -1,7 +1,7 @@
 use Rattle.std.proofs.Common.{◌∙◌, None, [], refl, sym, subst, arith}
 use Rattle.std.specs.Prelude.{All}
 use Rattle.conf_types.specs.Programs.{ResolvedGoal}
-use Rattle.conf_types.specs.Trees.{tree_of}
+use Rattle.conf_types.specs.TreeOf.{tree_of}
 use Rattle.conf_eval.specs.Fitting.{IsEvaluable}
 use Rattle.conf_eval.specs.Satisfying.{setting}
 use Rattle.conf_eval.proofs.CallLaws.{evaluable_there}

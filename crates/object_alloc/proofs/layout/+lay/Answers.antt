@@ -2,7 +2,8 @@ use Rattle.std.proofs.lemmas.Result.{on_ok_weaker, IfErr-weaker}
 use Rattle.std.proofs.Common.{rules, ◌≡◌, ◌+◌, ◌-◌, length, drop, arith, refl}
 use Rattle.object_alloc.specs.declared.layout.Layout.{Layout}
 use Rattle.object_alloc.specs.declared.object.Object.{Object}
-use Rattle.object_alloc.specs.Sums.{variables, weight, deep}
+use Rattle.object_alloc.specs.Sums.{weight, deep}
+use Rattle.object_alloc.specs.Variables.{variables}
 use Rattle.object_alloc.specs.Walk.{visit, members, attribute, elements}
 use Rattle.object_alloc.proofs.LayingLaws.{ready_next, refused_next, laid_next, members_split, elements_split, held_shallow, element_shallow, object_depth, object_shallow, object_ready, object_refused, object_laid}
 use Rattle.object_alloc.proofs.Members.{variable_at, variable_there}

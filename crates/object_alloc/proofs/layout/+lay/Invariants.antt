@@ -1,6 +1,6 @@
 use Rattle.std.proofs.Common.{◌+◌, ◌-◌, ◌*◌, drop}
 use Rattle.object_alloc.specs.Laying.{IsLaying}
-use Rattle.object_alloc.specs.Sums.{variables}
+use Rattle.object_alloc.specs.Variables.{variables}
 use Rattle.object_alloc.specs.Walk.{visit, members, elements}
 use Rattle.object_alloc.proofs.layout.+lay.Given as goal
 

@@ -3,7 +3,7 @@ use Rattle.std.specs.Prelude.{IfSome}
 use Rattle.std.proofs.lemmas.Result.{on_ok_weaker}
 use Rattle.object_alloc.specs.declared.object.Object.{Object}
 use Rattle.object_alloc.specs.Paths.{owner_path, path_within}
-use Rattle.object_alloc.specs.Sums.{variables}
+use Rattle.object_alloc.specs.Variables.{variables}
 use Rattle.object_alloc.proofs.Asked.{class_there}
 use Rattle.object_alloc.proofs.PathLaws.{attribute_there, owner_before, owner_is_there, path_made, owner_made, read_again, owner_measure}
 use Rattle.object_alloc.proofs.paths.+path.Goals as goal

@@ -1,6 +1,6 @@
 use Rattle.std.proofs.Common.{◌∙◌}
 use Rattle.std.proofs.lemmas.Result.{on_ok_weaker}
-use Rattle.object_alloc.specs.Sums.{variables}
+use Rattle.object_alloc.specs.Variables.{variables}
 use Rattle.object_alloc.proofs.PathLaws.{step_made}
 use Rattle.object_alloc.proofs.paths.push_step.Goals as goal
 

@@ -1,5 +1,6 @@
 use Rattle.std.proofs.Common.{rules, ◌++◌}
-use Rattle.object_alloc.specs.Sums.{variables, kinds_of}
+use Rattle.object_alloc.specs.Sums.{kinds_of}
+use Rattle.object_alloc.specs.Variables.{variables}
 use Rattle.object_alloc.proofs.Members.{push_next, push_excess}
 use Rattle.object_alloc.proofs.queue.push_members.Goals as goal
 

@@ -1,6 +1,7 @@
 use Rattle.std.proofs.Common.{◌≡◌, ◌≤◌, ◌++◌, length, drop}
 use Rattle.model_limits.specs.Limits.{most_objects}
-use Rattle.object_alloc.specs.Sums.{variables, kinds_of}
+use Rattle.object_alloc.specs.Sums.{kinds_of}
+use Rattle.object_alloc.specs.Variables.{variables}
 use Rattle.object_alloc.proofs.queue.push_members.Given as goal
 
 -- with what the other variables hold it is what all hold

@@ -1,6 +1,6 @@
 use Rattle.std.proofs.Common.{List, ℕ, ◌++◌, sym, ap, ◌∙◌}
 use Rattle.std.specs.Option.{option_to_list}
-use Rattle.object_alloc.specs.Named.{object_named}
+use Rattle.object_alloc.specs.Paths.{object_named}
 use Rattle.reconfigure.proofs.NamingLaws.{named_next}
 use Rattle.reconfigure.proofs.failed.objects_named.Goals as goal
 

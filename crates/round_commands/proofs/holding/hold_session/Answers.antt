@@ -1,7 +1,7 @@
 use Rattle.std.proofs.Common.{◌∙◌, refl, sym, subst, arith, IsSome}
 use Rattle.std.proofs.lemmas.List.Elements.{All-get_or}
 use Rattle.conf_events.specs.declared.event.Event.{Event}
-use Rattle.object_alloc.specs.Named.{object_named}
+use Rattle.object_alloc.specs.Paths.{object_named}
 use Rattle.round_commands.proofs.Answering.{up_to_none, up_to_more, begun_cut}
 use Rattle.round_commands.proofs.Stepping.{on_err}
 use Rattle.round_commands.specs.Events.{situation_of}

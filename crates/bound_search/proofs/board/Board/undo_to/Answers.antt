@@ -1,6 +1,6 @@
 use Rattle.std.proofs.Common.{◌≡◌, ◌<◌, ◌≤◌, ◌∙◌, ℕ, List, arith, ap, length, sym}
 use Rattle.signed_clause.specs.Clauses.{Literals}
-use Rattle.fd_store.specs.Levels.{dropped}
+use Rattle.fd_store.specs.Undo.{dropped}
 use Rattle.bound_search.proofs.BoardLaws.{lower_dropped, dropped_now, widens_at, valid_wider}
 use Rattle.bound_search.proofs.board.Board.undo_to.Goals as goal
 

@@ -1,6 +1,6 @@
 use Rattle.std.proofs.Common.{◌≡◌, length}
 use Rattle.signed_clause.specs.Running.{AreValid}
-use Rattle.fd_store.specs.Levels.{dropped, entries_in}
+use Rattle.fd_store.specs.Undo.{dropped, entries_in}
 use Rattle.prop_queue.specs.Work.{IsOver, AreKnown}
 use Rattle.clause_watches.specs.Watching.{Fits}
 use Rattle.bound_search.proofs.board.Board.undo_to.Given as goal

@@ -1,5 +1,6 @@
 use Rattle.std.proofs.Common.{◌<◌, ap, arith, reverse}
-use Rattle.fd_store.specs.Levels.{Stack, dropped}
+use Rattle.fd_store.specs.Levels.{Stack}
+use Rattle.fd_store.specs.Undo.{dropped}
 use Rattle.fd_store.specs.Trails.{level_of}
 use Rattle.fd_store.proofs.StackLaws.{level_is, undone_levels}
 use Rattle.fd_store.proofs.store.Store.undo_last.Goals as goal

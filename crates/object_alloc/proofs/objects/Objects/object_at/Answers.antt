@@ -1,7 +1,6 @@
 use Rattle.std.proofs.Common.{◌≡◌, ◌<◌, ◌-◌, ℕ, Some, None, length, take, drop, refl, ap, sym, ◌∙◌, subst, arith, length-drop}
 use Rattle.std.specs.Prelude.{IfSome}
-use Rattle.object_alloc.specs.Named.{object_named}
-use Rattle.object_alloc.specs.Paths.{path}
+use Rattle.object_alloc.specs.Paths.{object_named, path}
 use Rattle.object_alloc.specs.Walk.{objects}
 use Rattle.object_alloc.proofs.ChainLaws.{path_leads, object_found}
 use Rattle.object_alloc.proofs.PlaceLaws.{rest_is}

@@ -1,7 +1,7 @@
 use Rattle.std.proofs.Common.{◌≡◌, ℕ, Some, None, ap, sym, ◌∙◌, subst}
 use Rattle.std.specs.Prelude.{slice_index_or}
 use Rattle.class_table.specs.declared.table.Variable.{Variable}
-use Rattle.object_alloc.specs.Laid.{variables_of}
+use Rattle.object_alloc.specs.Variables.{variables_of}
 use Rattle.object_alloc.specs.Parts.{IsElement}
 use Rattle.object_alloc.proofs.PlaceLaws.{rest_is}
 use Rattle.object_alloc.proofs.PartNames.{has_low, part_step, named_by, same_found}

@@ -1,6 +1,6 @@
 use Rattle.std.proofs.Common.{◌<◌, length, sym, ap, ◌∙◌, subst}
 use Rattle.std.specs.Prelude.{IfSome}
-use Rattle.object_alloc.specs.Laid.{class_in}
+use Rattle.object_alloc.specs.Variables.{class_in}
 use Rattle.object_alloc.proofs.Asked.{class_there, variables_are, owner_there}
 use Rattle.object_alloc.proofs.objects.Objects.shape_count.Goals as goal
 

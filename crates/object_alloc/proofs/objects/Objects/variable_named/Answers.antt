@@ -3,10 +3,10 @@ use Rattle.std.specs.Prelude.{IfSome, position, slice_index_or}
 use Rattle.std.specs.Cmp.Lexicographic.{bytes_decides}
 use Rattle.std.proofs.lemmas.Bool.{false≢true}
 use Rattle.class_table.specs.Names.{means}
-use Rattle.class_table.specs.Outline.{Outline, attributes}
+use Rattle.class_table.specs.Outline.{Outline, attributes, variable_name}
 use Rattle.class_table.specs.Same.{same_name}
-use Rattle.class_table.specs.Tables.{variable_name, root_meant}
-use Rattle.object_alloc.specs.Laid.{variables_of}
+use Rattle.class_table.specs.Tables.{root_meant}
+use Rattle.object_alloc.specs.Variables.{variables_of}
 use Rattle.object_alloc.specs.Named.{HasName}
 use Rattle.object_alloc.specs.Walk.{objects}
 use Rattle.object_alloc.proofs.StepLaws.{class_low, variables_in, name_found, name_finds, name_read, name_is_read, root_found}
