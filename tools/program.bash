@@ -1,7 +1,7 @@
 # Which program a script runs: one that was built here; else that of dist/, where dist/MADE-FROM
-# says that it was made from these sources; else one that is built. `confsolve` and `confsolve-view`
-# read this file, and so do tools/release, tools/install and the tests, so that what one writes the
-# others understand.
+# says that it was made from these sources; else one that is built. `confsolve`, `confsolve-view` and
+# `confsolve-site` read this file, and so do tools/release, tools/install and the tests, so that what
+# one writes the others understand.
 #
 # Whoever reads it has set `here`, the top of the repository, and `script`, its own name. Where
 # tools/install put the scripts somewhere, `here` has a file INSTALLED-FROM, which says from which
@@ -299,7 +299,7 @@ tell_version() {
 print_help() {
     cat -- "$here/tools/help/$script" || exit 70
     echo "read on: man $script, and in $(readlink -f -- "$here/docs"):"
-    echo "         TUTORIAL.md, LANGUAGE.md, COMMANDS.md, MESSAGES.md, VIEW.md"
+    echo "         TUTORIAL.md, LANGUAGE.md, COMMANDS.md, MESSAGES.md, VIEW.md, SITE.md"
 }
 
 # Answers a word that is the script's own, where it stands alone, and ends.

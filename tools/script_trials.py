@@ -18,10 +18,10 @@ NONE = "var x as 0..3; where x >= 2; where x < 1;\n"
 
 
 class Scripts:
-    """Copies of the scripts and of one program or both, and a folder in which they run."""
+    """Copies of the scripts and of one program or all, and a folder in which they run."""
 
     def __init__(self, work, programs):
-        names = ("confsolve", "confsolve-view")[: len(programs)]
+        names = ("confsolve", "confsolve-view", "confsolve-site")[: len(programs)]
         self.work, self.top, self.files = work, f"{work}/copy", f"{work}/files"
         self.temporary = f"{work}/temporary"
         self.tried = self.wrong = 0

@@ -1,6 +1,7 @@
 """Models that look harmless, whose search took more than in proportion to their size. Here a size
 is a number of objects, cells or constraints, and not of bytes."""
 import json
+import random
 
 from texts import Text
 
@@ -90,6 +91,36 @@ def packed(n):
             f"var m as M[{n}]; where pack v in M {{ v.host; 1; 3; }};")
 
 
+def drawn(rng, count, total):
+    """So many sizes from 1 to 16 that add up to a total."""
+    sizes = [rng.choice((2, 2, 4, 4, 6, 8, 12)) for _ in range(count)]
+    while sum(sizes) != total:
+        step, k = (1 if sum(sizes) < total else -1), rng.randrange(count)
+        sizes[k] = min(16, max(1, sizes[k] + step))
+    return sizes
+
+
+def full_zone(n):
+    """Services and a third as many hosts in three zones, where each fact is a constraint of its
+    own. Three of ten services stand in the first zone, and take one unit more than it has."""
+    rng, hosts, inner = random.Random(n), 3 * n // 10, 3 * n // 10
+    rooms = [(32 if k % 4 == 3 else 16, k * 3 // hosts) for k in range(hosts)]
+    first = sum(room for room, zone in rooms if zone == 0)
+    others = sum(room for room, zone in rooms) - first
+    sizes = drawn(rng, inner, first + 1) + drawn(rng, n - inner, others * 9 // 10)
+    return ("class Host { var cpu as 1..64; var mem as 1..256;"
+            "where sum s in Service where s.host = this { s.cpu } <= cpu;"
+            "where sum s in Service where s.host = this { s.mem } <= mem; }"
+            + numbered(3, lambda z: f"class Z{z} extends Host {{ }}")
+            + "class Service { var cpu as 1..64; var mem as 1..256; var host as ref Host; }"
+            "class Inner extends Service { where host in Z0; }"
+            + numbered(hosts, lambda k: f"var h{k} as Z{rooms[k][1]};"
+                       f"where h{k}.cpu = {rooms[k][0]};where h{k}.mem = {4 * rooms[k][0]};")
+            + numbered(n, lambda k: f"var s{k} as {'Inner' if k < inner else 'Service'};"
+                       f"where s{k}.cpu = {sizes[k]};where s{k}.mem = {4 * sizes[k]};")
+            + numbered(n // 4, lambda k: f"where s{4 * k}.host != s{4 * k + 1}.host;"))
+
+
 def failures(n):
     """A hundred events: hosts that fail and come back."""
     return numbered(50, lambda k: f"fail h[{k}]\nrepair h[{k}]\n")
@@ -126,6 +157,7 @@ TEXTS = [
     Grown("over 10,000 free cells", 20_000, cells("0..9", lambda n: "")),
     Grown("a core of an order chain", 200, lambda n: ascending(n, n - 2), CORE),
     Grown("a core of implications", 1_000, implications, CORE),
+    Grown("a core of a site, a zone too full", 40, full_zone, CORE),
     Grown("a repair in which nothing changes", 10_000, cells("0..9", lambda n: ""), REPAIR,
           {"former.json": lambda n: json.dumps({"c": [{"x": k % 10} for k in range(n)]})}),
     Grown("a repair of references to 100 hosts", 8_000, placed, REPAIR, {"former.json": places}),

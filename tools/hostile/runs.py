@@ -26,6 +26,16 @@ FORMER = """{"hosts":[{"cap":2},{"cap":2}],"vms":[{"host":"hosts[0]"},{"host":"h
 SET = """class N { var v as 0..9; } class P { var best as ref N[2]; } var a as N; var b as N;
 var c as N; var p as P; where { a.v = 1; b.v = 5; c.v = 3; } maximize sum n in p.best { n.v };
 """
+FACTS = """class H { var cpu as 0..9; where sum v in V where v.host = this { v.cpu } <= cpu; }
+class V { var cpu as 0..9; var host as ref H; } var a as H; var b as V; var c as V;
+where a.cpu = 4; where b.cpu = 3; where c.cpu = 2;
+"""
+LOAD = """class H { var cpu as 0..9; where cpu = 5;
+  where sum v in V where v.host = this { v.cpu } <= cpu; }
+class V { var cpu as 0..9; var host as ref H; } var hs as H[4]; var vs as V[5];
+where forall v in V { v.cpu = 2; };
+minimize count h in H { exists v in V { v.host = h; } };
+"""
 FILES = {
     "least.conf": "var x as 1..3; where x >= 2; minimize x;",
     "least.json": '{"x":3}',
@@ -36,6 +46,10 @@ FILES = {
     "hosts.txt": "fail hosts[0]\nfail hosts[1]\nrepair hosts[1]\n",
     "goals.conf": "var x as 0..3; var y as 0..3; where x + y <= 4; maximize x; maximize y;",
     "blame.conf": "var x as 0..3; where x >= 2; where x <= 3; where x < 1;",
+    "facts.conf": FACTS,
+    "load.conf": LOAD,
+    "site.txt": "fail home.hosts[0]\nrepair home.hosts[0]\n",
+    "torn.log": "axiom 0\n",
     "twice.conf": "class A { var x as 0..1; var x as bool; }",
 }
 
@@ -55,9 +69,13 @@ RUNS = [
     ("check of a repair", ["check", "hosts.conf", "hosts.log", "hosts.json", "hosts[0]"]),
     ("verify", ["verify", "least.conf", "least.json"]),
     ("verify, broken", ["verify", "least.conf", "low.json"]),
+    ("solve, a packing", ["solve", "--log", LOG, "load.conf"]),
+    ("session, a site", ["session", "site.conf", "site.json", "site.txt"]),
+    ("check, a torn log", ["check", "least.conf", "torn.log"]),
     ("gen", ["gen", "3"]),
     ("solve, refused", ["solve", "twice.conf"]),
     ("core", ["core", "blame.conf"]),
+    ("core, of facts", ["core", "facts.conf"]),
 ]
 
 

@@ -2,7 +2,7 @@
 from dataclasses import dataclass
 
 from .common import (
-    HOSTS, MACHINES, arrays, drawn_counts, drawn_until, facts, goal_lines, hosts_first,
+    HOSTS, MACHINES, Placement, arrays, drawn_counts, drawn_until, facts, goal_lines, hosts_first,
     includes, listed, room, spread,
 )
 
@@ -23,7 +23,7 @@ JOBS = {"s": 5, "m": 8, "l": 16}
 
 
 @dataclass
-class Ports:
+class Ports(Placement):
     """Services of which those on one host have different ports, on as few hosts as can be."""
 
     GOAL, SENSE = "used", "minimize"
@@ -46,7 +46,7 @@ class Host {{
 abstract class Service {{ var port as 1024..10000; var host as ref Host; }}
 {classes}
 var hosts as Host[{self.hosts}];
-{arrays([name for name, *_ in SERVICES], self.counts)}
+{arrays(SERVICES, self.counts)}
 where forall a in Service {{
   forall b in Service where a != b {{ a.host = b.host -> a.port != b.port; }};
 }};
@@ -103,7 +103,7 @@ def draw_ports(rng, size):
 
 
 @dataclass
-class Flavours:
+class Flavours(Placement):
     """Machines with a flavour that is large enough, as cheap as can be; hosts have room."""
 
     GOAL, SENSE = "obj", "minimize"
@@ -135,7 +135,7 @@ abstract class Vm {{ var flavour as ref Flavour; var host as ref Host; }}
 {classes}
 {flavours}
 var hosts as Host[{self.hosts}];
-{arrays([name for name, *_ in NEEDS], self.counts)}
+{arrays(NEEDS, self.counts)}
 minimize sum v in Vm {{ v.flavour.cost }};
 """
 
@@ -191,7 +191,7 @@ def draw_flavours(rng, size):
 
 
 @dataclass
-class Versions:
+class Versions(Placement):
     """A version of each component, by what goes with what, as cheap as can be.
 
     A rule is two components with a version of each, and whether the second one is needed beside
@@ -203,12 +203,23 @@ class Versions:
     rules: list
 
     def conf(self):
+        return self.told("var version as Version; var cost as 0..20;", lambda part, costs: "")
+
+    def fast(self):
+        """The cost first, and of each component the least one."""
+        return self.told(
+            "var cost as 0..20; var version as Version;",
+            lambda part, costs: f"  {part}.cost >= {min(costs)};\n",
+        )
+
+    def told(self, attributes, more):
+        """In ConfSolve, with the attributes so, and more of each component."""
         parts = "\n".join(f"var part{k} as Component;" for k in range(len(self.costs)))
         costs = "\n".join(
             "where {\n" + "".join(
                 f"  part{k}.version = Version.{name} -> part{k}.cost = {cost};\n"
                 for name, cost in zip(VERSIONS, costs)
-            ) + "}"
+            ) + more(f"part{k}", costs) + "}"
             for k, costs in enumerate(self.costs)
         )
         rules = "\n".join(
@@ -219,7 +230,7 @@ class Versions:
         return f"""\
 // Versions of components: which go together, and what each costs a month.
 enum Version {{ {", ".join(VERSIONS)} }}
-class Component {{ var version as Version; var cost as 0..20; }}
+class Component {{ {attributes} }}
 {parts}
 {costs}
 {rules}
@@ -271,18 +282,29 @@ def draw_versions(rng, size):
 
 
 @dataclass
-class Jobs:
+class Jobs(Placement):
     """Jobs on machines, each on one of its own, as cheap as can be by a table."""
 
     GOAL, SENSE = "obj", "minimize"
     costs: list
 
     def conf(self):
+        return self.told("var by as ref Machine; var cost as 0..40;", lambda job, costs: "")
+
+    def fast(self):
+        """The cost first, and of each job the least one."""
+        return self.told(
+            "var cost as 0..40; var by as ref Machine;",
+            lambda job, costs: f"  {job}.cost >= {min(costs)};\n",
+        )
+
+    def told(self, attributes, more):
+        """In ConfSolve, with the attributes so, and more of each job."""
         numbers = range(len(self.costs))
         costs = "\n".join(
             "where {\n" + "".join(
                 f"  job{k}.by = m{m} -> job{k}.cost = {cost};\n" for m, cost in enumerate(row)
-            ) + "}"
+            ) + more(f"job{k}", row) + "}"
             for k, row in enumerate(self.costs)
         )
         machines = "\n".join(f"var m{k} as Machine;" for k in numbers)
@@ -290,7 +312,7 @@ class Jobs:
         return f"""\
 // Jobs on machines, each on one of its own, by a table of costs.
 class Machine {{ }}
-class Job {{ var by as ref Machine; var cost as 0..40; }}
+class Job {{ {attributes} }}
 {machines}
 {jobs}
 {costs}

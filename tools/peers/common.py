@@ -10,9 +10,17 @@ KINDS = (
     ("Batch", 8, 10, 1),
     ("Mail", 1, 3, 3),
 )
-MACHINES = {"s": 12, "m": 40, "l": 80}
-HOSTS = {"s": 4, "m": 12, "l": 24}
+MACHINES = {"s": 12, "m": 40, "l": 120}
+HOSTS = {"s": 4, "m": 12, "l": 30}
 MOST_DRAWS = 1000
+
+
+class Placement:
+    """What each family draws; those below say how it is told in each language."""
+
+    def fast(self):
+        """In ConfSolve, as `docs/FAST.md` teaches; as somebody writes it where that is the same."""
+        return self.conf()
 
 
 def drawn_counts(rng, total, shares):
@@ -77,14 +85,24 @@ def machine_classes():
     return "\n".join(lines)
 
 
-def arrays(names, counts):
-    """The top-level arrays of objects, in ConfSolve."""
-    lines = [f"var {name.lower()} as {name}[{n}];" for name, n in zip(names, counts)]
-    return "\n".join(lines)
+def arrays(kinds, counts, key=None):
+    """The top-level arrays of objects, in ConfSolve; by a key of their kinds where one is given."""
+    named = list(zip(kinds, counts))
+    if key:
+        named.sort(key=lambda it: key(it[0]))
+    return "\n".join(f"var {kind[0].lower()} as {kind[0]}[{n}];" for kind, n in named)
 
 
-def machine_arrays(counts):
-    return arrays([kind[0] for kind in KINDS], counts)
+def machine_arrays(counts, key=None):
+    return arrays(KINDS, counts, key)
+
+
+def small_first(kind):
+    return kind[1:3]
+
+
+def large_first(kind):
+    return [-size for size in kind[1:3]]
 
 
 def machine_lists(counts):

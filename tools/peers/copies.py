@@ -1,10 +1,11 @@
 """Copies on different hosts, zones or controllers, and a site that bears a host's failure."""
+import itertools
 from dataclasses import dataclass
 
 from .common import (
-    KINDS, MACHINES, arrays, drawn_counts, drawn_until, facts, first_fit, goal_lines,
-    hosts_first, includes, listed, machine_arrays, machine_classes, machine_facts,
-    machine_lists, machine_sizes, room, spread,
+    KINDS, MACHINES, Placement, arrays, drawn_counts, drawn_until, facts, first_fit, goal_lines,
+    hosts_first, includes, large_first, listed, machine_arrays, machine_classes, machine_facts,
+    machine_lists, machine_sizes, room, small_first, spread,
 )
 
 APPS = (("Shop", 2), ("Search", 4), ("Queue", 3))
@@ -13,11 +14,12 @@ SETS = {"s": (5, 5), "m": (12, 16), "l": (24, 32)}
 SET_APPS = (("Small", 2), ("Middle", 3), ("Large", 5))
 CONTROLLERS = {"s": (2, 3, 8), "m": (3, 4, 24), "l": (4, 6, 48)}
 VOLUMES = (("Log", 2), ("Home", 5), ("Data", 9))
-SITE_HOSTS = {"s": 3, "m": 6, "l": 12}
+SITE_HOSTS = {"s": 3, "m": 6, "l": 15}
+SITES = "var home as Site;\nvar away as Site;\n"
 
 
 @dataclass
-class Zones:
+class Zones(Placement):
     """Three copies of each application, in different zones, on as few hosts as can be."""
 
     GOAL, SENSE = "used", "minimize"
@@ -40,6 +42,27 @@ class Zones:
         return [f"zone{z}.hosts[{k}]" for z in range(self.zones) for k in range(self.each)]
 
     def conf(self):
+        return self.told(
+            arrays(APPS, self.counts), "", "",
+            "minimize count h in Host { exists r in Replica { r.host = h; } };",
+        )
+
+    def fast(self):
+        """Large applications first, and how many copies stand outside of one zone, or of two."""
+        rows, total = [], sum(self.sizes())
+        for away in (1, 2):
+            for zones in itertools.combinations(range(self.zones), away):
+                out = " and ".join(f"h.zone != zone{z}" for z in zones)
+                room = f"sum h in Host where h.used and {out} {{ h.mem }}"
+                rows.append(f"where {room} >= {(3 - away) * total};")
+        rows.append("minimize count h in Host { h.used };")
+        return self.told(
+            arrays(APPS, self.counts, large_first), "  var used as bool;\n",
+            " where host.used;", "\n".join(rows),
+        )
+
+    def told(self, apps, used, where, last):
+        """In ConfSolve, with the applications in this order, and what tells which host is used."""
         classes = "\n".join(
             f"class {name} extends App {{ where forall r in replicas {{ r.mem = {size}; }}; }}"
             for name, size in APPS
@@ -52,19 +75,20 @@ class Zone {{
   where forall h in hosts {{ h.zone = this; }};
 }}
 class Host {{
+{used}\
   var zone as ref Zone;
   var mem as {self.memory}..{self.memory};
   where sum r in Replica where r.host = this {{ r.mem }} <= mem;
 }}
-class Replica {{ var mem as 1..8; var host as ref Host; }}
+class Replica {{ var mem as 1..8; var host as ref Host;{where} }}
 abstract class App {{
   var replicas as Replica[3];
   where alldifferent r in replicas {{ r.host.zone }};
 }}
 {classes}
 {zones}
-{arrays([name for name, _ in APPS], self.counts)}
-minimize count h in Host {{ exists r in Replica {{ r.host = h; }} }};
+{apps}
+{last}
 """
 
     def mzn_body(self):
@@ -109,7 +133,7 @@ def draw_zones(rng, size, spare=0):
 
 
 @dataclass
-class Sets:
+class Sets(Placement):
     """Each application on a set of three hosts; as few hosts as can be."""
 
     GOAL, SENSE = "obj", "minimize"
@@ -118,6 +142,14 @@ class Sets:
     counts: list
 
     def conf(self):
+        return self.told(arrays(SET_APPS, self.counts))
+
+    def fast(self):
+        """Large applications first."""
+        return self.told(arrays(SET_APPS, self.counts, large_first))
+
+    def told(self, apps):
+        """In ConfSolve, with the applications in this order."""
         classes = "\n".join(
             f"class {name} extends App {{ where size = {size}; }}" for name, size in SET_APPS
         )
@@ -130,7 +162,7 @@ class Host {{
 abstract class App {{ var size as 1..5; var hosts as ref Host[3]; }}
 {classes}
 var rack as Host[{self.hosts}];
-{arrays([name for name, _ in SET_APPS], self.counts)}
+{apps}
 minimize count h in Host {{ exists a in App {{ h in a.hosts; }} }};
 """
 
@@ -169,7 +201,7 @@ def draw_sets(rng, size):
 
 
 @dataclass
-class Mirrors:
+class Mirrors(Placement):
     """Volumes with a mirror behind another controller, on as few disks as can be."""
 
     GOAL, SENSE = "used", "minimize"
@@ -179,10 +211,33 @@ class Mirrors:
     counts: list
 
     def conf(self):
+        return self.told(
+            f"{self.behind()}\n{arrays(VOLUMES, self.counts)}", "", "",
+            "minimize count d in Disk { exists v in Volume { v.main = d or v.mirror = d; } };",
+        )
+
+    def behind(self):
+        """The controllers, in ConfSolve."""
+        return "\n".join(f"var c{k} as Controller;" for k in range(self.controllers))
+
+    def fast(self):
+        """Large volumes first, then controllers; and a copy of each stands behind another one."""
+        total = sum(self.sizes())
+        rows = [
+            f"where sum d in Disk where d.used and d.controller != c{k} {{ d.room }} >= {total};"
+            for k in range(self.controllers)
+        ]
+        rows.append("minimize count d in Disk { d.used };")
+        return self.told(
+            f"{arrays(VOLUMES, self.counts, large_first)}\n{self.behind()}",
+            "  var used as bool;\n", "  where main.used and mirror.used;\n", "\n".join(rows),
+        )
+
+    def told(self, variables, used, where, last):
+        """In ConfSolve, with these variables, and what tells which disk is used."""
         classes = "\n".join(
             f"class {name} extends Volume {{ where size = {size}; }}" for name, size in VOLUMES
         )
-        controllers = "\n".join(f"var c{k} as Controller;" for k in range(self.controllers))
         return f"""\
 // Volumes with a mirror behind another controller. As few disks in use as can be.
 class Controller {{
@@ -190,6 +245,7 @@ class Controller {{
   where forall d in disks {{ d.controller = this; }};
 }}
 class Disk {{
+{used}\
   var controller as ref Controller;
   var room as {self.room}..{self.room};
   where (sum v in Volume where v.main = this {{ v.size }})
@@ -200,11 +256,11 @@ abstract class Volume {{
   var main as ref Disk;
   var mirror as ref Disk;
   where main.controller != mirror.controller;
+{where}\
 }}
 {classes}
-{controllers}
-{arrays([name for name, _ in VOLUMES], self.counts)}
-minimize count d in Disk {{ exists v in Volume {{ v.main = d or v.mirror = d; }} }};
+{variables}
+{last}
 """
 
     def sizes(self):
@@ -246,7 +302,7 @@ def draw_mirrors(rng, size):
 
 
 @dataclass
-class Spare:
+class Spare(Placement):
     """Two sites of which each bears that a host fails; as many machines at home as can be."""
 
     GOAL, SENSE = "obj", "maximize"
@@ -255,6 +311,18 @@ class Spare:
     counts: list
 
     def conf(self):
+        return self.told("", f"{SITES}{machine_arrays(self.counts)}\n")
+
+    def fast(self):
+        """Small machines first, the hosts, whose loads follow, last, and what a site bears."""
+        most = (self.each - 1) * self.cpu
+        return self.told(
+            f"  where sum v in Vm where v.host in hosts {{ v.cpu }} <= {most};\n",
+            f"{machine_arrays(self.counts, small_first)}\n{SITES}",
+        )
+
+    def told(self, total, variables):
+        """In ConfSolve, with a total of each site, and these variables."""
         return f"""\
 // Two sites. If any one host of a site fails, what it carries has to fit on the others there.
 class Host {{
@@ -265,13 +333,11 @@ class Host {{
 class Site {{
   var hosts as Host[{self.each}];
   where forall h in hosts {{ sum o in hosts where o != h {{ o.cpu - o.load }} >= h.load; }};
+{total}\
 }}
 {machine_classes()}
 
-var home as Site;
-var away as Site;
-{machine_arrays(self.counts)}
-
+{variables}
 maximize count v in Vm {{ v.host in home.hosts }};
 """
 

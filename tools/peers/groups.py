@@ -2,7 +2,7 @@
 from dataclasses import dataclass
 
 from .common import (
-    HOSTS, MACHINES, drawn_counts, drawn_until, arrays, facts, first_fit, goal_lines,
+    HOSTS, MACHINES, Placement, drawn_counts, drawn_until, arrays, facts, first_fit, goal_lines,
     hosts_first, includes, listed, room, spread,
 )
 
@@ -14,7 +14,7 @@ RACKS = {"s": (3, 2, 3, 12), "m": (4, 3, 4, 30), "l": (6, 4, 4, 60)}
 
 
 @dataclass
-class Wishes:
+class Wishes(Placement):
     """Wishes of pairs, with weights; some pairs have to be apart."""
 
     GOAL, SENSE = "obj", "maximize"
@@ -24,13 +24,30 @@ class Wishes:
     wishes: list
 
     def conf(self):
+        machines, wishes = self.variables(("=", "!="), "kept")
+        goal = "sum w in Wish where w.kept { w.weight }"
+        return self.told("kept", f"{machines}\n{wishes}", goal)
+
+    def fast(self):
+        """What is lost, and before the machines: `false` is tried first."""
+        machines, wishes = self.variables(("!=", "="), "lost")
+        total = sum(weight for *_, weight in self.wishes)
+        goal = f"{total} - sum w in Wish where w.lost {{ w.weight }}"
+        return self.told("lost", f"{wishes}\n{machines}", goal)
+
+    def variables(self, signs, flag):
+        """Machines and wishes in ConfSolve, where the flag is true by one sign or the other."""
         machines = "\n".join(f"var vm{k} as Vm;" for k in range(self.machines))
-        apart = "\n".join(f"where vm{a}.host != vm{b}.host;" for a, b in self.apart)
         wishes = "\n".join(
             f"var wish{k} as Wish;\nwhere {{ wish{k}.weight = {weight}; "
-            f"wish{k}.kept = (vm{a}.host {'=' if together else '!='} vm{b}.host); }}"
+            f"wish{k}.{flag} = (vm{a}.host {signs[0] if together else signs[1]} vm{b}.host); }}"
             for k, (a, b, together, weight) in enumerate(self.wishes)
         )
+        return machines, wishes
+
+    def told(self, flag, variables, goal):
+        """In ConfSolve, with this flag of wishes, these variables, and this goal."""
+        apart = "\n".join(f"where vm{a}.host != vm{b}.host;" for a, b in self.apart)
         return f"""\
 // Wishes of pairs: together or apart, each with a weight. Some pairs have to be apart.
 class Host {{
@@ -38,12 +55,11 @@ class Host {{
   where count v in Vm {{ v.host = this }} <= slots;
 }}
 class Vm {{ var host as ref Host; }}
-class Wish {{ var weight as 1..5; var kept as bool; }}
+class Wish {{ var weight as 1..5; var {flag} as bool; }}
 var hosts as Host[{self.hosts}];
-{machines}
+{variables}
 {apart}
-{wishes}
-maximize sum w in Wish where w.kept {{ w.weight }};
+maximize {goal};
 """
 
     def mzn(self):
@@ -91,7 +107,7 @@ def draw_wishes(rng, size):
 
 
 @dataclass
-class Home:
+class Home(Placement):
     """Machines with sizes of their own at two sites, as many at home as can be."""
 
     GOAL, SENSE = "obj", "maximize"
@@ -107,10 +123,19 @@ class Home:
         return [f"{site}.hosts[{k}]" for site in ("home", "away") for k in half]
 
     def conf(self):
+        return self.told(range(len(self.sizes)))
+
+    def fast(self):
+        """Small machines first, by the shares of a host that they take."""
+        shares = [sum(size / room for size, room in zip(it, self.rooms)) for it in self.sizes]
+        return self.told(sorted(range(len(self.sizes)), key=shares.__getitem__))
+
+    def told(self, order):
+        """In ConfSolve, with the machines in this order."""
         cpu, mem, disk = self.rooms
         machines = "\n".join(
             f"var vm{k} as Vm;\nwhere {{ vm{k}.cpu = {c}; vm{k}.mem = {m}; vm{k}.disk = {d}; }}"
-            for k, (c, m, d) in enumerate(self.sizes)
+            for k, (c, m, d) in ((k, self.sizes[k]) for k in order)
         )
         return f"""\
 // Machines with sizes of their own, at two sites: as many at home as can be.
@@ -178,7 +203,7 @@ def draw_home(rng, size, spare=0):
 
 
 @dataclass
-class Licences:
+class Licences(Placement):
     """A host with a product on it needs a licence; as cheap as can be."""
 
     GOAL, SENSE = "obj", "minimize"
@@ -201,7 +226,7 @@ class Host {{
 abstract class Service {{ var mem as 1..8; var host as ref Host; }}
 {classes}
 var hosts as Host[{self.hosts}];
-{arrays([name for name, *_ in PRODUCTS], self.counts)}
+{arrays(PRODUCTS, self.counts)}
 where count h in Host {{ exists o in Oracle {{ o.host = h; }} }} <= {self.most};
 where forall o in Oracle {{ forall t in Tomcat {{ o.host != t.host; }}; }};
 minimize 8 * (count h in Host {{ exists o in Oracle {{ o.host = h; }} }})
@@ -251,7 +276,7 @@ def draw_licences(rng, size):
 
 
 @dataclass
-class Network:
+class Network(Placement):
     """Services that talk stand in one rack, where they can."""
 
     GOAL, SENSE = "obj", "minimize"
@@ -262,29 +287,51 @@ class Network:
     links: list
 
     def conf(self):
-        racks = "\n".join(f"var rack{k} as Rack;" for k in range(self.racks))
+        services, links = self.variables()
+        return self.told(
+            "var host as ref Host;", "", "", "", f"{services}\n{links}",
+            "l.from.host.rack != l.to.host.rack",
+        )
+
+    def fast(self):
+        """The rack of each service before its host, what a rack bears, and which links go far."""
+        services, links = self.variables()
+        return self.told(
+            "var rack as ref Rack; var host as ref Host; where host.rack = rack;",
+            f"  where count s in Service {{ s.rack = this }} <= {self.each * self.slots};\n",
+            "var far as bool; ", " where far = (from.rack != to.rack);",
+            f"{services}\n{links}", "l.far",
+        )
+
+    def variables(self):
+        """Services and links, in ConfSolve."""
         services = "\n".join(f"var s{k} as Service;" for k in range(self.services))
         links = "\n".join(
             f"var link{k} as Link;\nwhere {{ link{k}.from = s{a}; link{k}.to = s{b}; }}"
             for k, (a, b) in enumerate(self.links)
         )
+        return services, links
+
+    def told(self, service, of_rack, flag, of_flag, variables, counted):
+        """In ConfSolve, with what stands in services, racks and links, and what is counted."""
+        racks = "\n".join(f"var rack{k} as Rack;" for k in range(self.racks))
         return f"""\
 // Services that talk much stand in one rack where they can.
 class Rack {{
   var hosts as Host[{self.each}];
   where forall h in hosts {{ h.rack = this; }};
+{of_rack}\
 }}
 class Host {{
   var rack as ref Rack;
   var slots as {self.slots}..{self.slots};
   where count s in Service {{ s.host = this }} <= slots;
 }}
-class Service {{ var host as ref Host; }}
-class Link {{ var from as ref Service; var to as ref Service; }}
+class Service {{ {service} }}
+class Link {{ {flag}var from as ref Service; var to as ref Service;{of_flag} }}
 {racks}
-{services}
-{links}
-minimize count l in Link {{ l.from.host.rack != l.to.host.rack }};
+{variables}
+minimize count l in Link {{ {counted} }};
 """
 
     def mzn(self):

@@ -2,21 +2,26 @@
 from dataclasses import dataclass
 
 from .common import (
-    HOSTS, KINDS, MACHINES, drawn_counts, drawn_until, first_fit, goal_lines, hosts_first,
-    includes, listed, machine_arrays, machine_classes, machine_facts, machine_lists,
-    machine_paths, machine_sizes, paths, room,
+    HOSTS, KINDS, MACHINES, Placement, drawn_counts, drawn_until, first_fit, goal_lines,
+    hosts_first, includes, large_first, listed, machine_arrays, machine_classes, machine_facts,
+    machine_lists, machine_paths, machine_sizes, paths, room, small_first,
 )
 
 SHARES = [kind[3] for kind in KINDS]
 HOST_KINDS = (("Large", 4, 9), ("Medium", 3, 6), ("Small", 2, 5))
-HOST_COUNTS = {"s": (1, 1, 2), "m": (3, 4, 5), "l": (6, 8, 10)}
+HOST_COUNTS = {"s": (1, 1, 2), "m": (3, 4, 5), "l": (7, 10, 13)}
 
 
 @dataclass
-class Balance:
+class Balance(Placement):
     """As small a greatest load of processors as can be; memory has to fit."""
 
     GOAL, SENSE = "most", "minimize"
+    MOST = """\
+var most as 0..64;
+where forall h in Host { sum v in Vm where v.host = h { v.cpu } <= most; };
+minimize most;
+"""
     hosts: int
     memory: int
     counts: list
@@ -29,19 +34,30 @@ class Balance:
 
     def conf(self):
         return f"""\
+{self.classes()}
+var hosts as Host[{self.hosts}];
+{machine_arrays(self.counts)}
+
+{self.MOST}"""
+
+    def fast(self):
+        """Large machines first, the greatest load last, and what all hosts together bear."""
+        return f"""\
+{self.classes()}
+var hosts as Host[{self.hosts}];
+{machine_arrays(self.counts, large_first)}
+
+{self.MOST}where {self.hosts} * most >= sum v in Vm {{ v.cpu }};
+"""
+
+    def classes(self):
+        return f"""\
 // The load of processors spread evenly; memory has to fit.
 class Host {{
   var mem as {self.memory}..{self.memory};
   where sum v in Vm where v.host = this {{ v.mem }} <= mem;
 }}
 {machine_classes()}
-
-var hosts as Host[{self.hosts}];
-{machine_arrays(self.counts)}
-
-var most as 0..64;
-where forall h in Host {{ sum v in Vm where v.host = h {{ v.cpu }} <= most; }};
-minimize most;
 """
 
     def mzn_body(self):
@@ -88,7 +104,7 @@ def draw_balance(rng, size, spare=0):
 
 
 @dataclass
-class PricedHosts:
+class PricedHosts(Placement):
     """Machines on three kinds of hosts with prices; what costs is told by those below."""
 
     SENSE = "minimize"
@@ -110,13 +126,21 @@ class PricedHosts:
         return [(*rooms, cost) for n, rooms, cost in named for _ in range(n)]
 
     def conf(self):
+        return self.told(zip(HOST_KINDS, self.host_counts), machine_arrays(self.counts))
+
+    def fast(self):
+        """Cheap hosts first, and the machines by their sizes."""
+        hosts = sorted(zip(HOST_KINDS, self.host_counts), key=lambda it: self.price(*it[0]))
+        return self.told(hosts, machine_arrays(self.counts, self.ORDER))
+
+    def told(self, hosts, machines):
+        """In ConfSolve, with hosts and machines in this order."""
         classes = "\n".join(
             f"class {name} extends Host {{ "
             f"where {{ cpu = {cpu}; mem = {mem}; cost = {cost}; }} }}"
             for (name, _, cost), (cpu, mem) in zip(HOST_KINDS, self.rooms)
         )
-        named = zip(HOST_KINDS, self.host_counts)
-        variables = "\n".join(f"var {k[0].lower()} as {k[0]}[{n}];" for k, n in named)
+        variables = "\n".join(f"var {k[0].lower()} as {k[0]}[{n}];" for k, n in hosts)
         return f"""\
 // {self.TITLE}
 abstract class Host {{
@@ -130,7 +154,7 @@ abstract class Host {{
 {machine_classes()}
 
 {variables}
-{machine_arrays(self.counts)}
+{machines}
 
 minimize {self.CONF_GOAL};
 """
@@ -167,23 +191,33 @@ host(1..{len(each)}).
 
 
 class HostCost(PricedHosts):
-    """Each machine pays the price of its host."""
+    """Each machine pays the price of its host, so many small ones are to be on cheap hosts."""
 
-    GOAL = "obj"
+    GOAL, ORDER = "obj", staticmethod(small_first)
     TITLE = "Each machine pays the price of the host on which it stands."
     CONF_GOAL = "sum v in Vm { v.host.cost }"
     MZN_GOAL = "sum(v in 1..V)(cost[host[v]])"
     LP_GOAL = "#minimize { P,V : at(V,H), cost(H,P) }."
 
+    @staticmethod
+    def price(_, _room, cost):
+        """By this the hosts are declared."""
+        return cost
+
 
 class UseCost(PricedHosts):
     """A host in use is paid once."""
 
-    GOAL = "obj"
+    GOAL, ORDER = "obj", staticmethod(large_first)
     TITLE = "A host in use is paid once, and hosts have different prices."
     CONF_GOAL = "sum h in Host where exists v in Vm { v.host = h; } { h.cost }"
     MZN_GOAL = "sum(h in 1..H)(cost[h] * bool2int(exists(v in 1..V)(host[v] = h)))"
     LP_GOAL = "used(H) :- at(_,H).\n#minimize { P,H : used(H), cost(H,P) }."
+
+    @staticmethod
+    def price(_, room, cost):
+        """By this the hosts are declared."""
+        return cost / room
 
 
 def draw_priced(rng, size, priced, percent, spare):

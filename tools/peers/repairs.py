@@ -3,6 +3,8 @@ from dataclasses import dataclass
 
 from .common import facts, hosts_first, listed
 
+DERIVED = ("used",)
+
 
 @dataclass
 class Repair:
@@ -20,6 +22,12 @@ class Repair:
     @property
     def SENSE(self):
         return self.placement.SENSE
+
+    def conf(self):
+        return self.placement.conf()
+
+    def failed_place(self):
+        return self.placement.places()[self.failed - 1]
 
     def changes(self, least):
         """The changes in a weighted sum of them and the goal."""
@@ -52,6 +60,14 @@ output ["OBJ \\(changes) \\({goal})\\n"];
 :- at(_,{self.failed}).
 #minimize {{ 1@1,V : at(V,H), not former(V,H){most} }}.
 """
+
+
+def former_values(value):
+    """A configuration without what only follows, which would count as changes."""
+    if isinstance(value, dict):
+        kept = {key: one for key, one in value.items() if key not in DERIVED}
+        return {key: former_values(one) for key, one in kept.items()}
+    return [former_values(one) for one in value] if isinstance(value, list) else value
 
 
 def at_path(configuration, path):

@@ -6,12 +6,14 @@ import shutil
 import signal
 import subprocess
 import threading
-from dataclasses import dataclass
+from dataclasses import dataclass, replace
 
 from .linear import NotLinear, program
 from .repairs import Repair
 
 ALL_LINES = re.MULTILINE
+FIRST_BUDGET, MOST_BUDGET = 1_000, 1_000_000
+PEERS = ("minizinc", "clingo", "cbc", "plain")
 # What MiniZinc writes where it sees that no placement satisfies a text.
 NEVER = "constraint bool_eq(false,true);"
 
@@ -21,16 +23,23 @@ class Answer:
     """What a program found: a value, or that there is none, and whether that is proved.
 
     A value is a tuple: the objective, or the changes and the objective. `failure` says why a
-    program gave no answer at all.
+    program gave no answer at all; `ended` says that the limit ended it.
     """
 
     seconds: float
     value: tuple = None
     proved: bool = False
     failure: str = ""
+    ended: bool = False
 
     def none(self):
         return self.proved and self.value is None
+
+    def key(self, maximized):
+        """What is smaller where the value is better; nothing at all is the worst."""
+        if self.value is None:
+            return (1,)
+        return 0, *self.value[:-1], -self.value[-1] if maximized else self.value[-1]
 
     def text(self):
         value = "" if self.value is None else " " + ", ".join(map(str, self.value))
@@ -108,9 +117,30 @@ class Confsolve:
     def __init__(self, program, runner):
         self.program, self.runner = program, runner
 
-    def answer(self, words):
-        """Its answer, and its configuration as a line, or an empty text."""
-        run = self.runner.run([self.program, *words])
+    def longest(self, words, maximized):
+        """Its best answer by all orders, with more decisions each time, while seconds are left."""
+        orders = ["first", "small"] if words[0] == "solve" else ["former", "first", "small"]
+        best, line, spent, budget = Answer(0), "", 0, FIRST_BUDGET
+        while orders and budget <= MOST_BUDGET:
+            for order in list(orders):
+                left = int(self.runner.limit - spent)
+                if left < 1:
+                    return replace(best, seconds=spent), line
+                more = ["--order", order, "--budget", str(budget)]
+                own, found = self.answer([*words, *more], left - self.runner.limit)
+                spent += own.seconds
+                if own.proved or own.failure:
+                    return replace(own, seconds=spent), found
+                if own.key(maximized) < best.key(maximized):
+                    best, line = own, found
+                if own.ended:
+                    orders.remove(order)
+            budget *= 4
+        return replace(best, seconds=spent), line
+
+    def answer(self, words, more=0):
+        """Its answer, and its configuration as a line, or an empty text; `more` is for the run."""
+        run = self.runner.run([self.program, *words], more)
         first = run.out.split("\n", 1)[0]
         line = first if first.startswith("{") else ""
         goals = run.numbers("objective")
@@ -121,13 +151,29 @@ class Confsolve:
         if run.status == 0 and value is None or run.status == 1 and "none exists" not in run.out:
             failure = "no answer in its output"
         failure += f": {run.err.strip()[:100]}" if failure and run.err else ""
-        return Answer(run.seconds, value, run.status in (0, 1), failure), line
+        return Answer(run.seconds, value, run.status in (0, 1), failure, run.status < 0), line
 
     def verified(self, model, configuration):
         """What `verify` says of a configuration: whether it's satisfied, and its objective."""
         run = self.runner.run([self.program, "verify", model, configuration])
         goals = run.numbers("objective")
         return run.out.startswith("satisfied\n"), goals[0] if goals else None
+
+
+class Plain:
+    """confsolve on the model as somebody writes it, which has to mean the same."""
+
+    NAME, ENDING = "plain", "-plain.conf"
+
+    def __init__(self, confsolve):
+        self.confsolve = confsolve
+
+    def answer(self, model, placement):
+        words = ["solve", model]
+        if isinstance(placement, Repair):
+            former = model[: -len(self.ENDING)] + "-former.json"
+            words = ["reconfigure", model, former, placement.failed_place()]
+        return self.confsolve.answer(words)[0]
 
 
 class MiniZinc:
@@ -214,23 +260,21 @@ class Cbc:
         return changes, sign * (least - placement.WEIGHT * changes)
 
 
-def peers(runner):
-    """The peers that are installed, and a line for each that isn't."""
-    found, missing = [], []
-    solvers = ""
-    if shutil.which("minizinc"):
-        solvers = runner.run(["minizinc", "--solvers"]).out
-        found.append(MiniZinc("MiniZinc", runner))
-    else:
-        missing.append("MiniZinc isn't installed, and left out")
-    if shutil.which("clingo"):
-        found.append(Clingo(runner))
-    else:
-        missing.append("clingo isn't installed, and left out")
+def peers(confsolve, asked):
+    """Those of the peers asked for that are installed, and a line for each that isn't."""
+    runner = confsolve.runner
+    minizinc = shutil.which("minizinc")
+    solvers = runner.run(["minizinc", "--solvers"]).out if minizinc else ""
+    linear = None
     if re.search(r"coin-?bc|\bcbc\b", solvers, re.IGNORECASE):
-        found.append(MiniZinc("cbc", runner, ("--solver", "cbc")))
-    elif solvers and shutil.which("cbc"):
-        found.append(Cbc(runner))
-    else:
-        missing.append("cbc isn't installed, or MiniZinc isn't, and left out")
-    return found, missing
+        linear = MiniZinc("cbc", runner, ("--solver", "cbc"))
+    elif minizinc and shutil.which("cbc"):
+        linear = Cbc(runner)
+    there = {
+        "minizinc": minizinc and MiniZinc("MiniZinc", runner),
+        "clingo": shutil.which("clingo") and Clingo(runner),
+        "cbc": linear,
+        "plain": Plain(confsolve),
+    }
+    missing = [f"{it} isn't installed, and left out" for it in asked if not there[it]]
+    return [there[it] for it in asked if there[it]], missing
