@@ -53,6 +53,7 @@ service_fits k service.With = not (k == 0)
 service_fits k (service.Within h) = not (k == 0)
 service_fits k (service.Without h) = not (k == 0)
 service_fits k service.Pin = not (k == 0)
+service_fits k service.Moves = not (k == 0)
 service_fits k service.Nothing = false
 
 abbrev pub service_columns_fault : List GridCell → List GridCell → List GridCell → Option Fault

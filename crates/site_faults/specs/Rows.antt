@@ -55,10 +55,15 @@ values_fault known k t =
     else if are_known known k (slice_split (λ b. b == 124) t) then None
     else Some kind.NoSuchValue
 
+-- what a move costs; an empty cell says 1
+abbrev pub moves_fault : List ℕ → Option FaultKind
+moves_fault t = if length t == 0 then None else amount_fault t
+
 abbrev pub service_cell_fault : List (List (List ℕ)) → ServiceColumn → List ℕ → Option FaultKind
 service_cell_fault known service.Name t = name_fault t
 service_cell_fault known (service.Amount k) t = amount_fault t
 service_cell_fault known service.Pin t = pin_fault known t
+service_cell_fault known service.Moves t = moves_fault t
 service_cell_fault known (service.Within k) t = values_fault known k t
 service_cell_fault known (service.Without k) t = values_fault known k t
 service_cell_fault known service.Apart t = None

@@ -81,7 +81,8 @@ fn service_fits(number: usize, column: ServiceColumn) -> bool
         | ServiceColumn::With
         | ServiceColumn::Within(_)
         | ServiceColumn::Without(_)
-        | ServiceColumn::Pin => number != 0,
+        | ServiceColumn::Pin
+        | ServiceColumn::Moves => number != 0,
         ServiceColumn::Nothing => false,
     }
 }

@@ -1,6 +1,6 @@
 //! What is wrong with the rows of the services.
 ghost use Rattle.std.specs.Prelude.{◌≡◌, IfOk, map};
-ghost use Rattle.site_faults.specs.Rows.{pin_fault, values_fault, service_cell_fault, service_cells_fault, service_row_fault, service_rows_fault};
+ghost use Rattle.site_faults.specs.Rows.{moves_fault, pin_fault, values_fault, service_cell_fault, service_cells_fault, service_row_fault, service_rows_fault};
 ghost use Rattle.site_tables.specs.Views.{cell_seen, row_seen};
 
 use crate::columns::fault_at;
@@ -9,6 +9,17 @@ use crate::known::{are_known, is_known};
 use site_names::Names;
 use site_tables::{Cell, Fault, FaultKind, Row, ServiceColumn, TableName, parts, service_kind_at};
 use std::alloc::{AllocError, Global};
+
+/// What is wrong with a cell that says what a move costs.
+fn moves_fault(text: &[u8]) -> Option<FaultKind>
+    ensures { result ≡ moves_fault text.now }
+{
+    if text.is_empty() {
+        None
+    } else {
+        amount_fault(text)
+    }
+}
 
 /// What is wrong with a cell that names a host.
 fn pin_fault(alloc: Global, known: &[Names], text: &[u8]) -> Result<Option<FaultKind>, AllocError>
@@ -56,6 +67,7 @@ fn service_cell_fault(
     match column {
         ServiceColumn::Name => Ok(name_fault(text)),
         ServiceColumn::Amount(_) => Ok(amount_fault(text)),
+        ServiceColumn::Moves => Ok(moves_fault(text)),
         ServiceColumn::Pin => pin_fault(alloc, known, text),
         ServiceColumn::Within(label) => values_fault(alloc, known, label, text),
         ServiceColumn::Without(label) => values_fault(alloc, known, label, text),

@@ -26,6 +26,11 @@ word_listed vs k v before text all here h =
     append_assoc text (joined (before ∷ word_of v ∷ [])) (listed (codes ", ") (drop (k + 1) vs))
     ∙ ap (λ xs. text ++ listed before xs) (sym e) ∙ h
 
+-- two pieces
+pub two_written : (was one all a b : List ℕ) → one ≡ was ++ a → all ≡ one ++ b
+    → all ≡ was ++ (a ++ b)
+two_written was one all a b h1 h2 = h2 ∙ ap (λ t. t ++ b) h1 ∙ append_assoc was a b
+
 -- three pieces
 pub three_written : (was one two all a b c : List ℕ) → one ≡ was ++ a → two ≡ one ++ b
     → all ≡ two ++ c → all ≡ was ++ (a ++ b ++ c)

@@ -9,6 +9,7 @@ use Rattle.site_tables.specs.declared.columns.HostColumn.{HostColumn}
 use Rattle.site_tables.specs.declared.columns.HostColumn.TheVariants as host
 use Rattle.site_tables.specs.declared.columns.ServiceColumn.{ServiceColumn}
 use Rattle.site_tables.specs.declared.columns.ServiceColumn.TheVariants as service
+use Rattle.site_model.specs.Goals.{Aim, own_attributes}
 use Rattle.site_model.specs.Lines.{joined, values_word, nines}
 
 -- words, with commas between them
@@ -65,9 +66,14 @@ capacity_by host.Nothing c = []
 abbrev pub capacity_of : List HostColumn → GridCell → List ℕ
 capacity_of kinds c = capacity_by (host_kind_at kinds c.0) c
 
+-- what it costs to move a service
+abbrev pub moves_attribute : ℕ → List ℕ
+moves_attribute digits = joined (codes "  var moves as 0.." ∷ nines digits ∷ codes ";\n" ∷ [])
+
 -- an attribute of a service
 abbrev pub service_attribute_by : ServiceColumn → List GridRow → GridCell → List ℕ
 service_attribute_by (service.Amount k) rows c = number_attribute c.1 (longest_at c.0 1 rows)
+service_attribute_by service.Moves rows c = moves_attribute (longest_at c.0 1 rows)
 service_attribute_by service.Name rows c = []
 service_attribute_by service.Apart rows c = []
 service_attribute_by (service.ApartBy k) rows c = []
@@ -89,7 +95,12 @@ abbrev pub host_class : List HostColumn → List GridCell → List GridRow → L
 host_class kinds columns rows =
     codes "class Host {\n" ++ host_members kinds columns rows ++ codes "}\n"
 
-abbrev pub service_class : List ServiceColumn → List GridCell → List GridRow → List ℕ
-service_class kinds columns rows =
-    codes "class Service {\n" ++ flat_map (service_attribute kinds rows) columns
+-- the last attribute of a service is its host
+abbrev pub service_members : List ServiceColumn → List GridCell → List GridRow → Aim → List ℕ
+service_members kinds columns rows aim =
+    flat_map (service_attribute kinds rows) columns ++ own_attributes aim
+
+abbrev pub service_class : List ServiceColumn → List GridCell → List GridRow → Aim → List ℕ
+service_class kinds columns rows aim =
+    codes "class Service {\n" ++ service_members kinds columns rows aim
     ++ codes "  var host as ref Host;\n}\n"

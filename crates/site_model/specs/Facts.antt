@@ -49,9 +49,16 @@ pin_fact name t =
     if length t == 0 then []
     else joined (codes "where " ∷ word_of name ∷ codes ".host = " ∷ word_of t ∷ remark name)
 
+-- what it costs to move a service; 1 where nothing is said
+abbrev pub moves_fact : List ℕ → List ℕ → List ℕ
+moves_fact name t =
+    joined (codes "where " ∷ word_of name ∷ codes ".moves = "
+    ∷ (if length t == 0 then codes "1" else t) ∷ remark name)
+
 abbrev pub service_fact_by : ServiceColumn → List GridCell → List ℕ → List ℕ → List ℕ → List ℕ
 service_fact_by (service.Amount k) hosts name column t = number_fact name column t
 service_fact_by service.Pin hosts name column t = pin_fact name t
+service_fact_by service.Moves hosts name column t = moves_fact name t
 service_fact_by (service.Within k) hosts name column t =
     choice_fact (within name (text_in k hosts)) t
 service_fact_by (service.Without k) hosts name column t =

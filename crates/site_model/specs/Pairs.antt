@@ -66,6 +66,7 @@ column_pairs_by (service.Amount h) hosts rows k = []
 column_pairs_by (service.Within h) hosts rows k = []
 column_pairs_by (service.Without h) hosts rows k = []
 column_pairs_by service.Pin hosts rows k = []
+column_pairs_by service.Moves hosts rows k = []
 column_pairs_by service.Nothing hosts rows k = []
 
 abbrev pub column_pairs : List ServiceColumn → List GridCell → List GridRow → ℕ → List ℕ

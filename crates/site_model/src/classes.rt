@@ -1,11 +1,13 @@
 //! The enumerations of labels, and the classes of hosts and services.
 ghost use Rattle.std.specs.Prelude.{◌≡◌, ◌∷◌, ◌++◌, [], OnOk, map};
 ghost use Rattle.std.specs.List.{flat_map};
-ghost use Rattle.site_model.specs.Classes.{listed, enumeration, enumeration_of, number_attribute, label_attribute, host_attribute, capacity_of, service_attribute, host_members, host_class, service_class};
+ghost use Rattle.site_model.specs.Classes.{listed, enumeration, enumeration_of, number_attribute, label_attribute, host_attribute, capacity_of, moves_attribute, service_attribute, host_members, host_class, service_members, service_class};
+ghost use Rattle.site_model.specs.Goals.{aim_of};
 ghost use Rattle.site_model.specs.Lines.{joined};
 ghost use Rattle.site_names.specs.Words.{word_of};
 ghost use Rattle.site_tables.specs.Views.{cell_seen, row_seen};
 
+use crate::goals::{Goal, push_own_attributes};
 use crate::lines::{nines, push_all, values_word};
 use site_names::{Names, word_of};
 use site_tables::{
@@ -250,6 +252,21 @@ pub(crate) fn push_host_class(
     text.extend_from_slice(b"}\n")
 }
 
+/// Writes the attribute that says what it costs to move a service.
+fn push_moves(alloc: Global, text: &mut Vec<u8>, digits: usize) -> Result<(), AllocError>
+    ensures { OnOk result (text.new.items ≡ text.old.items ++ moves_attribute digits) }
+{
+    let most = nines(alloc, digits)?;
+    push_all(
+        text,
+        &[
+            b"  var moves as 0..".as_slice(),
+            most.as_slice(),
+            b";\n".as_slice(),
+        ],
+    )
+}
+
 /// Writes an attribute of the class of services.
 fn push_service_attribute(
     alloc: Global,
@@ -265,6 +282,7 @@ fn push_service_attribute(
         ServiceColumn::Amount(_) => {
             push_number(alloc, text, cell.text, longest_at(rows, cell.column))
         }
+        ServiceColumn::Moves => push_moves(alloc, text, longest_at(rows, cell.column)),
         ServiceColumn::Name
         | ServiceColumn::Apart
         | ServiceColumn::ApartBy(_)
@@ -294,6 +312,22 @@ fn push_service_attributes(
     Ok(())
 }
 
+/// Writes the attributes of the class of services, but for the host.
+fn push_service_members(
+    alloc: Global,
+    text: &mut Vec<u8>,
+    kinds: &[ServiceColumn],
+    columns: &[Cell<'_>],
+    rows: &[Row<'_>],
+    goal: Goal<'_>,
+) -> Result<(), AllocError>
+    ensures { OnOk result (text.new.items ≡ text.old.items ++ service_members kinds.now
+        (map cell_seen columns.now) (map row_seen rows.now) (aim_of goal.entry)) }
+{
+    push_service_attributes(alloc, text, kinds, columns, rows)?;
+    push_own_attributes(text, goal)
+}
+
 /// Writes the class of services.
 pub(crate) fn push_service_class(
     alloc: Global,
@@ -301,12 +335,13 @@ pub(crate) fn push_service_class(
     kinds: &[ServiceColumn],
     columns: &[Cell<'_>],
     rows: &[Row<'_>],
+    goal: Goal<'_>,
 ) -> Result<(), AllocError>
-    ensures { OnOk result (text.new.items ≡ text.old.items
-        ++ service_class kinds.now (map cell_seen columns.now) (map row_seen rows.now)) }
+    ensures { OnOk result (text.new.items ≡ text.old.items ++ service_class kinds.now
+        (map cell_seen columns.now) (map row_seen rows.now) (aim_of goal.entry)) }
 {
     text.extend_from_slice(b"class Service {\n")?;
-    push_service_attributes(alloc, text, kinds, columns, rows)?;
+    push_service_members(alloc, text, kinds, columns, rows, goal)?;
     text.extend_from_slice(b"  var host as ref Host;\n}\n")?;
     Ok(())
 }

@@ -1,7 +1,7 @@
 //! The lines of a host, and those of a service alone.
-ghost use Rattle.std.specs.Prelude.{◌≡◌, ◌++◌, OnOk, map};
+ghost use Rattle.std.specs.Prelude.{◌≡◌, ◌==◌, ◌++◌, if◌then◌else◌, OnOk, codes, length, map};
 ghost use Rattle.std.specs.List.{flat_map};
-ghost use Rattle.site_model.specs.Facts.{number_fact, label_fact, host_fact, variable, host_lines, pin_fact, service_fact, service_lines};
+ghost use Rattle.site_model.specs.Facts.{number_fact, label_fact, host_fact, variable, host_lines, pin_fact, moves_fact, service_fact, service_lines};
 ghost use Rattle.site_tables.specs.Views.{cell_seen, row_seen};
 
 use crate::choosing::{push_within, push_without};
@@ -196,6 +196,32 @@ fn push_pin(alloc: Global, text: &mut Vec<u8>, name: &[u8], host: &[u8]) -> Resu
     )
 }
 
+/// What it costs to move a service: 1 where nothing is said.
+fn cost_in(cell: &[u8]) -> &[u8]
+    ensures { result.now ≡ (if length cell.now == 0 then codes "1" else cell.now) }
+{
+    if cell.is_empty() { b"1" } else { cell }
+}
+
+/// Writes what it costs to move a service.
+fn push_moves(alloc: Global, text: &mut Vec<u8>, name: &[u8], cell: &[u8]) -> Result<(), AllocError>
+    ensures { OnOk result (text.new.items ≡ text.old.items ++ moves_fact name.now cell.now) }
+{
+    let word = word_of(alloc, name)?;
+    push_all(
+        text,
+        &[
+            b"where ".as_slice(),
+            word.as_slice(),
+            b".moves = ".as_slice(),
+            cost_in(cell),
+            b";  // ".as_slice(),
+            name,
+            b"\n".as_slice(),
+        ],
+    )
+}
+
 /// The columns of both tables, and what those of the services are.
 #[derive(Clone, Copy)]
 pub(crate) struct Columns<'c> {
@@ -222,6 +248,7 @@ fn push_service_fact(
             push_number(alloc, text, name, column, cell.text)
         }
         ServiceColumn::Pin => push_pin(alloc, text, name, cell.text),
+        ServiceColumn::Moves => push_moves(alloc, text, name, cell.text),
         ServiceColumn::Within(label) => {
             push_within(alloc, text, name, text_in(columns.hosts, label), cell.text)
         }

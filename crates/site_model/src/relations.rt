@@ -201,6 +201,7 @@ fn push_column(
         | ServiceColumn::Within(_)
         | ServiceColumn::Without(_)
         | ServiceColumn::Pin
+        | ServiceColumn::Moves
         | ServiceColumn::Nothing => Ok(()),
     }
 }

@@ -28,7 +28,7 @@ keywords =
 abbrev pub own_words : List (List ℕ)
 own_words =
     codes "Host" ∷ codes "Service" ∷ codes "host" ∷ codes "most" ∷ codes "h" ∷ codes "s"
-    ∷ codes "used" ∷ []
+    ∷ codes "used" ∷ codes "moves" ∷ codes "moved" ∷ []
 
 abbrev pub kept_words : List (List ℕ)
 kept_words = keywords ++ own_words

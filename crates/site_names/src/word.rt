@@ -7,7 +7,7 @@ use std::alloc::{AllocError, Global};
 
 /// What can't be a name in a model that is made of tables: the keywords of the language, and the
 /// words that such a model uses for itself.
-const KEPT: [&str; 33] = [
+const KEPT: [&str; 35] = [
     "enum",
     "abstract",
     "class",
@@ -41,6 +41,8 @@ const KEPT: [&str; 33] = [
     "h",
     "s",
     "used",
+    "moves",
+    "moved",
 ];
 
 /// A byte as it stands in a word.

@@ -1,161 +1,153 @@
 -- From the steps of a run to what its status says.
-use Rattle.std.proofs.Common.{arith, ◌≡◌, ◌≤◌, ℕ, List, Option, sym, subst}
+use Rattle.std.proofs.Common.{arith, ◌≡◌, ◌≤◌, ◌<◌, ℕ, List, length, Option, Some, ap, sym, subst, refl, ◌∙◌}
 use Rattle.std.proofs.lemmas.Grind.{common_steps}
-use Rattle.desk_io.specs.Desk.{Files, OfFile}
+use Rattle.desk_io.specs.Desk.{Files}
 use Rattle.desk_io.specs.Fault.{HasRisen}
-use Rattle.site_model.specs.declared.making.Goal.{Goal}
-use Rattle.site_run.specs.Drafts.{IsMade, IsUnmade}
-use Rattle.site_run.specs.Ending.{Trace, IsNoFile, IsRead, IsUnread, IsHandedOut, IsUnanswered, Ends, Answers}
-use Rattle.site_run.specs.Words.{ModelAsked}
-use Rattle.site_tables.specs.declared.fault.TableName.TheVariants.{Hosts, Services}
+use Rattle.model_limits.specs.Limits.{config_bytes}
+use Rattle.site_drafts.specs.Answers.{Given, IsAnswer, IsUnanswered}
+use Rattle.site_run.specs.Ending.{Trace, OfAsked, IsText, IsRead, IsNoFile, IsUnread, IsHandedOut, Ends, named, state_file, beside_file}
+use Rattle.site_run.specs.Runs.{Answers}
+use Rattle.site_words.specs.Words.{Asked, Job, Plain, Fewest, Spread, Keep, Former, Table, Changes}
+use Rattle.site_drafts.specs.declared.refusal.FileName.{FileName}
+use Rattle.site_drafts.specs.declared.refusal.FileName.TheVariants as file
+use Rattle.site_drafts.specs.declared.refusal.Refusal.{Refusal}
 use Rattle.site_run.specs.declared.status.Status.{Status as Ended}
-use Rattle.site_run.specs.declared.status.Status.TheVariants.{Done, Usage, Unreadable, TooLong, NotText, Faulty, LongModel, Refused, WriteFault, Memory}
+use Rattle.site_run.specs.declared.status.Status.TheVariants as ended
+use Rattle.site_run.specs.declared.status.Unread.{Unread}
+use Rattle.site_run.specs.declared.status.Unread.TheVariants as unread
 
-pub is_read : (files later : Option Files) (a : ModelAsked) (hosts services : List ℕ)
-    → later ≡ files → OfFile files a.hosts (λ bytes. bytes ≡ hosts)
-    → OfFile later a.services (λ bytes. bytes ≡ services) → IsRead files a hosts services
-is_read files later a hosts services same hosts_read services_read = record {
-  hosts_read = hosts_read;
-  services_read = subst (λ fs. OfFile fs a.services (λ bytes. bytes ≡ services)) same services_read;
+pub is_read : (files : Option Files) (a : Asked) (given : Given)
+    → IsText files (Some a.hosts) given.hosts → IsText files (Some a.services) given.services
+    → IsText files a.state given.state → IsText files a.beside given.beside
+    → IsRead files a given
+is_read files a given hosts services state beside = record {
+  hosts_read = hosts;
+  services_read = services;
+  state_read = state;
+  beside_read = beside;
 }
+
+-- files are the same at a later read
+pub later_text : (files later : Option Files) (name : Option (List ℕ)) (text : List ℕ)
+    → later ≡ files → IsText later name text → IsText files name text
+later_text files later name text same h = subst (λ fs. IsText fs name text) same h
 
 risen_earlier : (start reads now : ℕ) → start ≤ reads → HasRisen reads now → HasRisen start now
 risen_earlier start reads now le h = grind (arith, common_steps)
 
--- a file that was refused, as that of the hosts
-pub hosts_unread : (files : Option Files) (a : ModelAsked) (reads now : ℕ) (s : Ended)
-    → IsNoFile files a.hosts Hosts reads now s → IsUnread files a reads now s
-hosts_unread files a reads now Done h = h
-hosts_unread files a reads now Usage h = h
-hosts_unread files a reads now (Unreadable u) h = h.1
-hosts_unread files a reads now (TooLong u) h =
-    subst (λ q. IsUnread files a reads now (TooLong q)) (sym h.0) h.1
-hosts_unread files a reads now (NotText u) h = h
-hosts_unread files a reads now (Faulty f) h = h
-hosts_unread files a reads now LongModel h = h
-hosts_unread files a reads now (Refused r) h = h
-hosts_unread files a reads now WriteFault h = h
-hosts_unread files a reads now Memory h = h
+-- a file of this name that wasn't read at a later point
+pub unread_at : (files later : Option Files) (a : Asked) (name : Option (List ℕ))
+    (which : FileName) (start reads now : ℕ) (u : Unread) → named a which ≡ name → later ≡ files
+    → start ≤ reads → IsNoFile later name which reads now u → IsUnread files a start now u
+unread_at files later a name which start reads now (unread.Unreadable f) is same le h =
+    risen_earlier start reads now le h
+unread_at files later a name which start reads now (unread.TooLong f) is same le h =
+    subst (λ g. OfAsked files (named a g) (λ bytes. config_bytes < length bytes)) (sym h.0)
+    (subst (λ n. OfAsked files n (λ bytes. config_bytes < length bytes)) (sym is)
+    (subst (λ fs. OfAsked fs name (λ bytes. config_bytes < length bytes)) same h.1))
+unread_at files later a name which start reads now unread.Memory is same le h = tt
 
-services_unread_here : (files : Option Files) (a : ModelAsked) (reads now : ℕ) (s : Ended)
-    → IsNoFile files a.services Services reads now s → IsUnread files a reads now s
-services_unread_here files a reads now Done h = h
-services_unread_here files a reads now Usage h = h
-services_unread_here files a reads now (Unreadable u) h = h.1
-services_unread_here files a reads now (TooLong u) h =
-    subst (λ q. IsUnread files a reads now (TooLong q)) (sym h.0) h.1
-services_unread_here files a reads now (NotText u) h = h
-services_unread_here files a reads now (Faulty f) h = h
-services_unread_here files a reads now LongModel h = h
-services_unread_here files a reads now (Refused r) h = h
-services_unread_here files a reads now WriteFault h = h
-services_unread_here files a reads now Memory h = h
+pub state_named : (a : Asked) (job : Job) → named a (state_file job) ≡ a.state
+state_named a Plain = refl
+state_named a Fewest = refl
+state_named a (Spread resource) = refl
+state_named a Keep = refl
+state_named a Former = refl
+state_named a Table = refl
+state_named a Changes = refl
 
--- faults since the start are no fewer than since a later point
-earlier : (files : Option Files) (a : ModelAsked) (start reads now : ℕ) (s : Ended)
-    → start ≤ reads → IsUnread files a reads now s → IsUnread files a start now s
-earlier files a start reads now Done le h = h
-earlier files a start reads now Usage le h = h
-earlier files a start reads now (Unreadable u) le h = risen_earlier start reads now le h
-earlier files a start reads now (TooLong u) le h = h
-earlier files a start reads now (NotText u) le h = h
-earlier files a start reads now (Faulty f) le h = h
-earlier files a start reads now LongModel le h = h
-earlier files a start reads now (Refused r) le h = h
-earlier files a start reads now WriteFault le h = h
-earlier files a start reads now Memory le h = h
+pub beside_named : (a : Asked) (job : Job) → named a (beside_file job) ≡ a.beside
+beside_named a Plain = refl
+beside_named a Fewest = refl
+beside_named a (Spread resource) = refl
+beside_named a Keep = refl
+beside_named a Former = refl
+beside_named a Table = refl
+beside_named a Changes = refl
 
--- and as that of the services
-pub services_unread : (files later : Option Files) (a : ModelAsked) (start reads now : ℕ)
-    (s : Ended) → later ≡ files → start ≤ reads
-    → IsNoFile later a.services Services reads now s → IsUnread files a start now s
-services_unread files later a start reads now s same le h =
-    earlier files a start reads now s le
-    (services_unread_here files a reads now s
-    (subst (λ fs. IsNoFile fs a.services Services reads now s) same h))
+-- the files one after the other, which stay the same
+pub are_read : (files f1 f2 f3 : Option Files) (a : Asked) (g : Given) → f1 ≡ files → f2 ≡ f1
+    → f3 ≡ f2 → IsText files (Some a.hosts) g.hosts → IsText f1 (Some a.services) g.services
+    → IsText f2 a.state g.state → IsText f3 a.beside g.beside → IsRead files a g
+are_read files f1 f2 f3 a g e1 e2 e3 hosts services state beside =
+    is_read files a g hosts (later_text files f1 (Some a.services) g.services e1 services)
+    (later_text files f2 a.state g.state (e2 ∙ e1) state)
+    (later_text files f3 a.beside g.beside (e3 ∙ e2 ∙ e1) beside)
 
-pub unread_ends : (files : Option Files) (a : ModelAsked) (t : Trace) (s : Ended)
-    → IsUnread files a t.reads t.reads_now s → t.printed_now ≡ t.printed → Ends files a t s
-unread_ends files a t Done h silent = absurd h
-unread_ends files a t Usage h silent = absurd h
-unread_ends files a t (Unreadable u) h silent = (silent, h)
-unread_ends files a t (TooLong u) h silent = (silent, h)
-unread_ends files a t (NotText u) h silent = absurd h
-unread_ends files a t (Faulty f) h silent = absurd h
-unread_ends files a t LongModel h silent = absurd h
-unread_ends files a t (Refused r) h silent = absurd h
-unread_ends files a t WriteFault h silent = absurd h
-unread_ends files a t Memory h silent = tt
+pub hosts_unread : (files : Option Files) (a : Asked) (r0 now : ℕ) (u : Unread)
+    → IsNoFile files (Some a.hosts) file.Hosts r0 now u → IsUnread files a r0 now u
+hosts_unread files a r0 now u h =
+    unread_at files files a (Some a.hosts) file.Hosts r0 r0 now u refl refl (omega arith) h
 
-pub unmade_answers : (hosts services : List ℕ) (goal : Goal) (before now : Option (List ℕ))
-    (writes writes_now : ℕ) (s : Ended) → IsUnmade hosts services goal s → now ≡ before
-    → Answers hosts services goal before now writes writes_now s
-unmade_answers hosts services goal before now writes writes_now Done h silent = absurd h
-unmade_answers hosts services goal before now writes writes_now Usage h silent = absurd h
-unmade_answers hosts services goal before now writes writes_now (Unreadable u) h silent = absurd h
-unmade_answers hosts services goal before now writes writes_now (TooLong u) h silent = absurd h
-unmade_answers hosts services goal before now writes writes_now (NotText u) h silent = (silent, h)
-unmade_answers hosts services goal before now writes writes_now (Faulty f) h silent = (silent, h)
-unmade_answers hosts services goal before now writes writes_now LongModel h silent = (silent, h)
-unmade_answers hosts services goal before now writes writes_now (Refused r) h silent = (silent, h)
-unmade_answers hosts services goal before now writes writes_now WriteFault h silent = absurd h
-unmade_answers hosts services goal before now writes writes_now Memory h silent = tt
+pub services_unread : (files f1 : Option Files) (a : Asked) (r0 r1 now : ℕ) (u : Unread)
+    → f1 ≡ files → r0 ≤ r1 → IsNoFile f1 (Some a.services) file.Services r1 now u
+    → IsUnread files a r0 now u
+services_unread files f1 a r0 r1 now u e1 l1 h =
+    unread_at files f1 a (Some a.services) file.Services r0 r1 now u refl e1 l1 h
 
-pub handed_out_answers : (hosts services : List ℕ) (goal : Goal) (before now : Option (List ℕ))
-    (writes writes_now : ℕ) (text : List ℕ) (s : Ended) → IsMade hosts services goal text
+pub state_unread : (files f1 f2 : Option Files) (a : Asked) (f : FileName)
+    (r0 r1 r2 now : ℕ) (u : Unread) → f1 ≡ files → f2 ≡ f1 → r0 ≤ r1 → r1 ≤ r2
+    → f ≡ state_file a.job → IsNoFile f2 a.state f r2 now u → IsUnread files a r0 now u
+state_unread files f1 f2 a f r0 r1 r2 now u e1 e2 l1 l2 is h =
+    unread_at files f2 a a.state f r0 r2 now u (ap (named a) is ∙ state_named a a.job)
+    (e2 ∙ e1) (omega arith) h
+
+pub beside_unread : (files f1 f2 f3 : Option Files) (a : Asked) (f : FileName)
+    (r0 r1 r2 r3 now : ℕ) (u : Unread) → f1 ≡ files → f2 ≡ f1 → f3 ≡ f2 → r0 ≤ r1 → r1 ≤ r2
+    → r2 ≤ r3 → f ≡ beside_file a.job → IsNoFile f3 a.beside f r3 now u
+    → IsUnread files a r0 now u
+beside_unread files f1 f2 f3 a f r0 r1 r2 r3 now u e1 e2 e3 l1 l2 l3 is h =
+    unread_at files f3 a a.beside f r0 r3 now u (ap (named a) is ∙ beside_named a a.job)
+    (e3 ∙ e2 ∙ e1) (omega arith) h
+
+pub unread_ends : (files : Option Files) (a : Asked) (t : Trace) (u : Unread)
+    → IsUnread files a t.reads t.reads_now u → t.printed_now ≡ t.printed
+    → Ends files a t (ended.Unread u)
+unread_ends files a t u h silent = record { silent = silent; unread = h }
+
+pub unanswered_answers : (job : Job) (given : Given) (before now : Option (List ℕ))
+    (writes writes_now : ℕ) (r : Refusal) → IsUnanswered job given r → now ≡ before
+    → Answers job given before now writes writes_now (ended.Refused r)
+unanswered_answers job given before now writes writes_now r h silent = (silent, h)
+
+pub handed_out_answers : (job : Job) (given : Given) (before now : Option (List ℕ))
+    (writes writes_now : ℕ) (text : List ℕ) (s : Ended) → IsAnswer job given text
     → IsHandedOut text before now writes writes_now s
-    → Answers hosts services goal before now writes writes_now s
-handed_out_answers hosts services goal before now writes writes_now text Done made h = (text, made, h)
-handed_out_answers hosts services goal before now writes writes_now text Usage made h = absurd h
-handed_out_answers hosts services goal before now writes writes_now text (Unreadable u) made h = absurd h
-handed_out_answers hosts services goal before now writes writes_now text (TooLong u) made h = absurd h
-handed_out_answers hosts services goal before now writes writes_now text (NotText u) made h = absurd h
-handed_out_answers hosts services goal before now writes writes_now text (Faulty f) made h = absurd h
-handed_out_answers hosts services goal before now writes writes_now text LongModel made h = absurd h
-handed_out_answers hosts services goal before now writes writes_now text (Refused r) made h = absurd h
-handed_out_answers hosts services goal before now writes writes_now text WriteFault made h =
+    → Answers job given before now writes writes_now s
+handed_out_answers job given before now writes writes_now text ended.Done made h =
+    (text, made, h)
+handed_out_answers job given before now writes writes_now text ended.Usage made h = absurd h
+handed_out_answers job given before now writes writes_now text (ended.Unread u) made h = absurd h
+handed_out_answers job given before now writes writes_now text (ended.Refused r) made h =
+    absurd h
+handed_out_answers job given before now writes writes_now text ended.WriteFault made h =
     (text, made, h.0, h.1)
-handed_out_answers hosts services goal before now writes writes_now text Memory made h = tt
+handed_out_answers job given before now writes writes_now text ended.Memory made h = tt
 
-unanswered : (files : Option Files) (a : ModelAsked) (hosts services : List ℕ) (s : Ended)
-    → IsRead files a hosts services → IsUnmade hosts services a.goal s → IsUnanswered files a s
-unanswered files a hosts services s read unmade = record {
-  hosts = hosts;
-  services = services;
-  read = read;
-  unmade = unmade;
-}
-
-pub answers_end : (files : Option Files) (a : ModelAsked) (hosts services : List ℕ) (t : Trace)
-    (s : Ended) → IsRead files a hosts services
-    → Answers hosts services a.goal t.printed t.printed_now t.writes t.writes_now s
-    → Ends files a t s
-answers_end files a hosts services t Done read h = record {
-  hosts = hosts;
-  services = services;
+pub answers_end : (files : Option Files) (a : Asked) (given : Given) (t : Trace) (s : Ended)
+    → IsRead files a given
+    → Answers a.job given t.printed t.printed_now t.writes t.writes_now s → Ends files a t s
+answers_end files a given t ended.Done read h = record {
+  given = given;
   text = h.0;
   read = read;
-  made = h.1;
+  answer = h.1;
   printed = h.2;
 }
-answers_end files a hosts services t Usage read h = absurd h
-answers_end files a hosts services t (Unreadable u) read h = absurd h
-answers_end files a hosts services t (TooLong u) read h = absurd h
-answers_end files a hosts services t (NotText u) read h =
-    (h.0, unanswered files a hosts services (NotText u) read h.1)
-answers_end files a hosts services t (Faulty f) read h =
-    (h.0, unanswered files a hosts services (Faulty f) read h.1)
-answers_end files a hosts services t LongModel read h =
-    (h.0, unanswered files a hosts services LongModel read h.1)
-answers_end files a hosts services t (Refused r) read h =
-    (h.0, unanswered files a hosts services (Refused r) read h.1)
-answers_end files a hosts services t WriteFault read h = record {
-  hosts = hosts;
-  services = services;
+answers_end files a given t ended.Usage read h = absurd h
+answers_end files a given t (ended.Unread u) read h = absurd h
+answers_end files a given t (ended.Refused r) read h = record {
+  silent = h.0;
+  given = given;
+  read = read;
+  unanswered = h.1;
+}
+answers_end files a given t ended.WriteFault read h = record {
+  given = given;
   text = h.0;
   read = read;
-  made = h.1;
+  answer = h.1;
   printed = h.2;
   risen = h.3;
 }
-answers_end files a hosts services t Memory read h = tt
+answers_end files a given t ended.Memory read h = tt

@@ -1,3 +1,1 @@
-pub mod DraftLaws
 pub mod EndingLaws
-pub mod MeasureLaws

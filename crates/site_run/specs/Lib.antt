@@ -1,4 +1,3 @@
-pub mod Drafts
 pub mod Ending
+pub mod Runs
 pub mod Status
-pub mod Words

@@ -35,6 +35,16 @@ abbrev pub prefixed : List ℕ → List ℕ → Option (List ℕ)
 prefixed prefix t =
     if pointwise nat_eq (take (length prefix) t) prefix then Some (drop (length prefix) t) else None
 
+-- the number of the resource of this name
+abbrev pub if_resource : HostColumn → Option ℕ → Option ℕ
+if_resource host.Amount o = o
+if_resource host.Name o = None
+if_resource host.Label o = None
+if_resource host.Nothing o = None
+
+abbrev pub resource_of : List GridCell → List GridCell → List ℕ → Option ℕ
+resource_of hosts services t = if_resource (host_column services t) (column_of t hosts)
+
 -- the number of the label of this name
 abbrev pub if_label : HostColumn → Option ℕ → Option ℕ
 if_label host.Label o = o
@@ -68,6 +78,7 @@ service_column hosts services t =
     else if bytes_eq t (codes "apart") then service.Apart
     else if bytes_eq t (codes "with") then service.With
     else if bytes_eq t (codes "pin") then service.Pin
+    else if bytes_eq t (codes "moves") then service.Moves
     else if is_own t then unwrap_or (labelled hosts services t) service.Nothing
     else amount (column_of t hosts)
 

@@ -1,6 +1,6 @@
 //! What each column of the hosts and of the services is.
 ghost use Rattle.std.specs.Prelude.{◌≡◌, map, option_map, IfOk};
-ghost use Rattle.site_tables.specs.Columns.{is_own, column_of, prefixed, host_column, host_columns, label_of, labelled, service_column, service_columns, host_kind_at, service_kind_at};
+ghost use Rattle.site_tables.specs.Columns.{is_own, column_of, prefixed, host_column, host_columns, resource_of, label_of, labelled, service_column, service_columns, host_kind_at, service_kind_at};
 ghost use Rattle.site_tables.specs.Views.{cell_seen};
 
 use crate::cells::is_name;
@@ -39,6 +39,8 @@ pub enum ServiceColumn {
     Without(usize),
     /// The host itself.
     Pin,
+    /// What it costs to move the service.
+    Moves,
     /// A column that means nothing.
     Nothing,
 }
@@ -56,7 +58,7 @@ fn is_own(text: &[u8]) -> bool
 }
 
 /// The number of the first column of this name.
-fn column_of(header: &[Cell<'_>], text: &[u8]) -> Option<usize>
+pub fn column_of(header: &[Cell<'_>], text: &[u8]) -> Option<usize>
     ensures { result ≡ column_of text.now (map cell_seen header.now) }
 {
     for cell in header {
@@ -105,6 +107,17 @@ fn prefixed<'a>(text: &'a [u8], prefix: &[u8]) -> Option<&'a [u8]>
     text.strip_prefix(prefix)
 }
 
+/// The number of the resource of this name.
+pub fn resource_of(hosts: &[Cell<'_>], services: &[Cell<'_>], text: &[u8]) -> Option<usize>
+    ensures { result ≡ resource_of (map cell_seen hosts.now) (map cell_seen services.now)
+        text.now }
+{
+    match host_column(services, text) {
+        HostColumn::Amount => column_of(hosts, text),
+        HostColumn::Name | HostColumn::Label | HostColumn::Nothing => None,
+    }
+}
+
 /// The number of the label of this name.
 fn label_of(hosts: &[Cell<'_>], services: &[Cell<'_>], text: &[u8]) -> Option<usize>
     ensures { result ≡ label_of (map cell_seen hosts.now) (map cell_seen services.now) text.now }
@@ -143,6 +156,8 @@ pub fn service_column(hosts: &[Cell<'_>], services: &[Cell<'_>], text: &[u8]) ->
         ServiceColumn::With
     } else if text == b"pin".as_slice() {
         ServiceColumn::Pin
+    } else if text == b"moves".as_slice() {
+        ServiceColumn::Moves
     } else if is_own(text) {
         labelled(hosts, services, text).unwrap_or(ServiceColumn::Nothing)
     } else {

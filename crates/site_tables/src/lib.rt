@@ -19,8 +19,8 @@ mod values;
 
 pub use cells::{is_amount, is_name, parts};
 pub use columns::{
-    HostColumn, ServiceColumn, host_column, host_columns, host_kind_at, service_column,
-    service_columns, service_kind_at,
+    HostColumn, ServiceColumn, column_of, host_column, host_columns, host_kind_at, resource_of,
+    service_column, service_columns, service_kind_at,
 };
 pub use fault::{Fault, FaultKind, Place, TableName};
 pub use grid::{Cell, Row, behind, grid_of, header, text_in};

@@ -1,11 +1,14 @@
-//! Tests of `confsolve-site`: the cases of its models. The program runs those of
-//! `data/model.cases` and `data/faults.cases`, and prints how many came out as they say.
+//! Tests of `confsolve-site`: the cases of its models, former texts and tables. The program runs
+//! those of `data/model.cases`, `data/faults.cases` and `data/tasks.cases`, and prints how many came
+//! out as they say.
 //!
 //! - `given TEXT` and `more TEXT`: the table of the hosts.
 //! - `model TEXT`: the model of it and of these services: what is printed, the status's number, and
 //!   its line.
 //! - `fewest TEXT`: the same, with as few hosts in use as can be.
 //! - `words TEXT`: a run of these words where there are no files.
+//! - `run TEXT`: a run of these words where the given text is four files, each behind a byte 30 but
+//!   the first: `hosts`, `services`, `state` and `beside`.
 //! - `fails N`: a model of the hosts and of a table that has their header alone, where the call of
 //!   the desk with that number fails, and each handles 16 bytes.
 //! - `lines N`: the same with so many empty lines behind the hosts.
@@ -76,6 +79,32 @@ fn modelled(
     )
 }
 
+/// The files that a given text is, named by what stands in them.
+fn files_of(alloc: Global, text: &[u8]) -> Result<Vec<StoredFile>, AllocError> {
+    let mut files = Vec::new(alloc);
+    for (place, bytes) in text.split(|byte| *byte == 30).enumerate() {
+        let name = match place {
+            0 => "hosts",
+            1 => "services",
+            2 => "state",
+            _ => "beside",
+        };
+        files.push(file(alloc, name, bytes)?)?;
+    }
+    Ok(files)
+}
+
+/// A run of words over the files that a given text is.
+fn ran_over(alloc: Global, text: &[u8], words: &[&str]) -> Result<String, AllocError> {
+    let words = owned(alloc, words)?;
+    let files = files_of(alloc, text)?;
+    ran(
+        alloc,
+        &words,
+        MemoryDesk::new(alloc, files, Vec::new(alloc)),
+    )
+}
+
 /// The first line of a text.
 fn first_line(text: &[u8]) -> &[u8] {
     match text.iter().position(|byte| *byte == b'\n') {
@@ -135,6 +164,7 @@ impl Subject for Runs {
                 let desk = MemoryDesk::new(alloc, Vec::new(alloc), Vec::new(alloc));
                 ran(alloc, &words, desk)
             }
+            "run" => ran_over(alloc, &case.given, &words_of(alloc, &case.text)?),
             "fails" => {
                 let mut failing = Vec::new(alloc);
                 for number in &numbers {
@@ -158,7 +188,7 @@ impl Subject for Runs {
 }
 
 fn main(rt: HostRuntime) -> ExitCode {
-    for file in ["model.cases", "faults.cases"] {
+    for file in ["model.cases", "faults.cases", "tasks.cases"] {
         if run_file(&rt, file, &mut Runs).is_err() {
             return ExitCode::from(12);
         }
