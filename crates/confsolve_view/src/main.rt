@@ -8,6 +8,7 @@ use std::alloc::AllocError;
 use std::io::ErrorKind;
 use std::process::ExitCode;
 use std::{env, io};
+use view_reports::is_report;
 use view_run::{Status, run};
 
 /// The words behind the program's name. A word that isn't UTF-8 is an error.
@@ -30,19 +31,41 @@ fn run_words(rt: &HostRuntime, words: &[String]) -> Result<Status, AllocError> {
     Ok(run(rt.alloc(), words, &mut desk))
 }
 
-/// The status of what the words behind the program's name ask for.
-fn status_of(rt: &HostRuntime) -> Result<Status, Status> {
-    let words = words_of(rt)?;
-    Ok(run_words(rt, &words)?)
-}
-
-fn main(rt: HostRuntime) -> ExitCode {
-    let status = match status_of(&rt) {
-        Ok(status) | Err(status) => status,
-    };
+/// Writes the line of a status, where it has one, and gives its number.
+fn told(rt: &HostRuntime, status: Status) -> u8 {
     let line = status.line();
     if !line.is_empty() {
         let _ = eprintln!(rt; "{line}");
     }
-    ExitCode::from(status.number())
+    status.number()
+}
+
+/// Does the words of a report over real files, and writes its line likewise.
+fn report(rt: &HostRuntime, words: &[String]) -> Result<u8, AllocError> {
+    let mut desk = RealDesk::new(rt.clone()?);
+    let status = view_reports::run(rt.alloc(), words, &mut desk);
+    let line = status.line(rt.alloc())?;
+    if !line.is_empty() {
+        let text = String::from_utf8_lossy(rt.alloc(), &line)?;
+        let _ = eprintln!(rt; "{text}");
+    }
+    Ok(status.number())
+}
+
+/// The number of the status of what the words behind the program's name ask for.
+fn number_of(rt: &HostRuntime) -> Result<u8, Status> {
+    let words = words_of(rt)?;
+    if is_report(&words) {
+        return Ok(report(rt, &words)?);
+    }
+    let status = run_words(rt, &words)?;
+    Ok(told(rt, status))
+}
+
+fn main(rt: HostRuntime) -> ExitCode {
+    let number = match number_of(&rt) {
+        Ok(number) => number,
+        Err(status) => told(&rt, status),
+    };
+    ExitCode::from(number)
 }

@@ -8,5 +8,6 @@ mod shapes;
 mod sheet;
 mod svg;
 
+pub use shapes::push_escaped;
 pub use sheet::lines_of;
 pub use svg::svg_of;

@@ -31,7 +31,7 @@ fn push_mark(text: &mut Vec<u8>, byte: u8) -> Result<(), AllocError>
 
 /// Writes a name as it may stand in SVG.
 #[tactic(auto, using(crate::proofs::DrawingLaws::escaped_tame))]
-pub(crate) fn push_escaped(text: &mut Vec<u8>, name: &[u8]) -> Result<(), AllocError>
+pub fn push_escaped(text: &mut Vec<u8>, name: &[u8]) -> Result<(), AllocError>
     ensures text { OnOk result (text.new.items ≡ text.old.items ++ escaped name.now) }
     ensures tame { is_tame (escaped name.now) ≡ true }
 {

@@ -12,7 +12,7 @@ mod ways;
 
 pub use holding::{Guest, Holding, Load, Scale, Size};
 pub use mentions::guest_by;
-pub use named::{are_parts, has_attribute};
+pub use named::{are_parts, has_attribute, has_object};
 pub use pictures::holdings;
 pub use scales::scales_of;
 pub use totals::amount;

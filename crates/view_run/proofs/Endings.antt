@@ -9,12 +9,12 @@ use Rattle.view_leaves.specs.Reading.{text_json}
 use Rattle.view_run.specs.Answers.{IsPlanText}
 use Rattle.view_run.specs.Ending.{Trace, IsAsked, IsAnswered, PlanEnds, IsFaulty, IsDenied, IsDelivered, PictureEnds, IsUndrawn, IsHandedOut, IsLedOut, StepsEnds, IsUnordered, IsSentOut, two_files}
 use Rattle.view_run.specs.Pictured.{IsPicture, IsBlank, IsDrawn}
-use Rattle.view_run.specs.Stepped.{IsStepped, IsUnstepped, IsOrdered, LacksSteps, HasSetAmong, has_known, has_failed}
+use Rattle.view_run.specs.Stepped.{IsStepped, IsUnstepped, IsOrdered, LacksSteps, HasSetAmong, has_known, has_failed, has_stop}
 use Rattle.view_run.specs.Words.{PlanAsked, PictureAsked, StepsAsked}
 use Rattle.view_steps.specs.declared.steps.Steps.{Steps}
 use Rattle.view_run.specs.declared.status.Source.TheVariants.{Former, New, Config}
 use Rattle.view_run.specs.declared.status.Status.{Status as Ended}
-use Rattle.view_run.specs.declared.status.Status.TheVariants.{Same, Differs, Shown, Stuck, Usage, Unreadable, TooLong, NotJson, NotObject, NoAttribute, NoPart, MovesSets, WriteFault, Memory}
+use Rattle.view_run.specs.declared.status.Status.TheVariants.{Same, Differs, Shown, Stuck, Usage, Unreadable, TooLong, NotJson, NotObject, NoAttribute, NoPart, NoStop, MovesSets, WriteFault, Memory}
 
 -- both files were read, and the plan between them made
 pub is_asked : (files later : Option Files) (a : PlanAsked) (d e : Data) (text : List ℕ) (b : Bool)
@@ -46,6 +46,7 @@ former_denied files a reads now (NotObject s) h =
     subst (λ q. IsDenied files a reads now (NotObject q)) (sym h.0) h.1
 former_denied files a reads now NoAttribute h = h
 former_denied files a reads now NoPart h = h
+former_denied files a reads now NoStop h = h
 former_denied files a reads now MovesSets h = h
 former_denied files a reads now WriteFault h = h
 former_denied files a reads now Memory h = h
@@ -67,6 +68,7 @@ new_denied_here files a reads now (NotObject s) h =
     subst (λ q. IsDenied files a reads now (NotObject q)) (sym h.0) h.1
 new_denied_here files a reads now NoAttribute h = h
 new_denied_here files a reads now NoPart h = h
+new_denied_here files a reads now NoStop h = h
 new_denied_here files a reads now MovesSets h = h
 new_denied_here files a reads now WriteFault h = h
 new_denied_here files a reads now Memory h = h
@@ -88,6 +90,7 @@ earlier files a start reads now (NotJson s) le h = h
 earlier files a start reads now (NotObject s) le h = h
 earlier files a start reads now NoAttribute le h = h
 earlier files a start reads now NoPart le h = h
+earlier files a start reads now NoStop le h = h
 earlier files a start reads now MovesSets le h = h
 earlier files a start reads now WriteFault le h = h
 earlier files a start reads now Memory le h = h
@@ -113,6 +116,7 @@ denied_ends files a t (NotJson s) h silent = (silent, h)
 denied_ends files a t (NotObject s) h silent = (silent, h)
 denied_ends files a t NoAttribute h silent = absurd h
 denied_ends files a t NoPart h silent = absurd h
+denied_ends files a t NoStop h silent = absurd h
 denied_ends files a t MovesSets h silent = absurd h
 denied_ends files a t WriteFault h silent = absurd h
 denied_ends files a t Memory h silent = tt
@@ -140,6 +144,7 @@ delivered_ends files a t text b (NotJson s) asked h = absurd h
 delivered_ends files a t text b (NotObject s) asked h = absurd h
 delivered_ends files a t text b NoAttribute asked h = absurd h
 delivered_ends files a t text b NoPart asked h = absurd h
+delivered_ends files a t text b NoStop asked h = absurd h
 delivered_ends files a t text b MovesSets asked h = absurd h
 delivered_ends files a t text b WriteFault asked h = record {
   text = text;
@@ -174,6 +179,7 @@ config_undrawn files a reads now (NotObject s) h =
     subst (λ q. IsUndrawn files a reads now (NotObject q)) (sym h.0) h.1
 config_undrawn files a reads now NoAttribute h = absurd h
 config_undrawn files a reads now NoPart h = absurd h
+config_undrawn files a reads now NoStop h = absurd h
 config_undrawn files a reads now MovesSets h = absurd h
 config_undrawn files a reads now WriteFault h = absurd h
 config_undrawn files a reads now Memory h = h
@@ -195,6 +201,7 @@ blank_undrawn files a d reads now NoAttribute config h =
     record { whole = d; config = config; lacks = h }
 blank_undrawn files a d reads now NoPart config h =
     record { whole = d; config = config; lacks = h }
+blank_undrawn files a d reads now NoStop config h = absurd h
 blank_undrawn files a d reads now MovesSets config h = absurd h
 blank_undrawn files a d reads now WriteFault config h = absurd h
 blank_undrawn files a d reads now Memory config h = tt
@@ -213,6 +220,7 @@ undrawn_ends files a t (NotJson s) h silent = (silent, h)
 undrawn_ends files a t (NotObject s) h silent = (silent, h)
 undrawn_ends files a t NoAttribute h silent = (silent, h)
 undrawn_ends files a t NoPart h silent = (silent, h)
+undrawn_ends files a t NoStop h silent = absurd h
 undrawn_ends files a t MovesSets h silent = absurd h
 undrawn_ends files a t WriteFault h silent = absurd h
 undrawn_ends files a t Memory h silent = tt
@@ -232,6 +240,7 @@ handed_out_ends files a t text (NotJson s) drawn h = absurd h
 handed_out_ends files a t text (NotObject s) drawn h = absurd h
 handed_out_ends files a t text NoAttribute drawn h = absurd h
 handed_out_ends files a t text NoPart drawn h = absurd h
+handed_out_ends files a t text NoStop drawn h = absurd h
 handed_out_ends files a t text MovesSets drawn h = absurd h
 handed_out_ends files a t text WriteFault drawn h =
     record { text = text; drawn = drawn; printed = h.0; risen = h.1 }
@@ -265,6 +274,7 @@ denied_unordered files a reads now (NotJson s) h = h
 denied_unordered files a reads now (NotObject s) h = h
 denied_unordered files a reads now NoAttribute h = absurd h
 denied_unordered files a reads now NoPart h = absurd h
+denied_unordered files a reads now NoStop h = absurd h
 denied_unordered files a reads now MovesSets h = absurd h
 denied_unordered files a reads now WriteFault h = absurd h
 denied_unordered files a reads now Memory h = tt
@@ -311,6 +321,8 @@ unstepped files later a d e reads now NoAttribute same former new h =
     lacks_steps files later a d e (λ x y. has_known x y a ≡ false) same former new h
 unstepped files later a d e reads now NoPart same former new h =
     lacks_steps files later a d e (λ x y. has_failed y a ≡ false) same former new h
+unstepped files later a d e reads now NoStop same former new h =
+    lacks_steps files later a d e (λ x y. has_stop y a ≡ false) same former new h
 unstepped files later a d e reads now MovesSets same former new h =
     lacks_steps files later a d e (HasSetAmong a) same former new h
 unstepped files later a d e reads now WriteFault same former new h = absurd h
@@ -348,6 +360,7 @@ unordered_ends files a t (NotJson s) h silent = (silent, h)
 unordered_ends files a t (NotObject s) h silent = (silent, h)
 unordered_ends files a t NoAttribute h silent = (silent, h)
 unordered_ends files a t NoPart h silent = (silent, h)
+unordered_ends files a t NoStop h silent = (silent, h)
 unordered_ends files a t MovesSets h silent = (silent, h)
 unordered_ends files a t WriteFault h silent = absurd h
 unordered_ends files a t Memory h silent = tt
@@ -375,6 +388,7 @@ sent_out_ends files a t text b (NotJson s) ordered h = absurd h
 sent_out_ends files a t text b (NotObject s) ordered h = absurd h
 sent_out_ends files a t text b NoAttribute ordered h = absurd h
 sent_out_ends files a t text b NoPart ordered h = absurd h
+sent_out_ends files a t text b NoStop ordered h = absurd h
 sent_out_ends files a t text b MovesSets ordered h = absurd h
 sent_out_ends files a t text b WriteFault ordered h =
     record { text = text; stuck = b; ordered = ordered; printed = h.0; risen = h.1 }

@@ -8,12 +8,12 @@ use Rattle.serde_json.specs.Data.{Data}
 use Rattle.view_leaves.specs.Reading.{text_json, IsOther}
 use Rattle.view_run.specs.Answers.{IsPlanText}
 use Rattle.view_run.specs.Pictured.{IsDrawn, LacksAttribute, LacksPart}
-use Rattle.view_run.specs.Stepped.{IsOrdered, LacksSteps, HasSetAmong, has_known, has_failed}
+use Rattle.view_run.specs.Stepped.{IsOrdered, LacksSteps, HasSetAmong, has_known, has_failed, has_stop}
 use Rattle.view_run.specs.Words.{Asked, PlanAsked, PictureAsked, StepsAsked, plan, picture, steps}
 use Rattle.view_run.specs.declared.status.Source.{Source}
 use Rattle.view_run.specs.declared.status.Source.TheVariants.{Former, New, Config}
 use Rattle.view_run.specs.declared.status.Status.{Status as Ended}
-use Rattle.view_run.specs.declared.status.Status.TheVariants.{Same, Differs, Shown, Stuck, Usage, Unreadable, TooLong, NotJson, NotObject, NoAttribute, NoPart, MovesSets, WriteFault, Memory}
+use Rattle.view_run.specs.declared.status.Status.TheVariants.{Same, Differs, Shown, Stuck, Usage, Unreadable, TooLong, NotJson, NotObject, NoAttribute, NoPart, NoStop, MovesSets, WriteFault, Memory}
 
 -- what was printed, and how often reading and writing had failed, before a run and behind it
 pub record Trace : Type 0 where
@@ -75,6 +75,7 @@ PlanEnds files asked t (NotJson s) =
 PlanEnds files asked t (NotObject s) = IsRefused t (OfSource files asked s IsOther)
 PlanEnds files asked t NoAttribute = ⊥
 PlanEnds files asked t NoPart = ⊥
+PlanEnds files asked t NoStop = ⊥
 PlanEnds files asked t MovesSets = ⊥
 PlanEnds files asked t WriteFault = IsCutOff files asked t
 PlanEnds files asked t Memory = ⊤
@@ -96,6 +97,7 @@ IsFaulty files name source reads reads_now (NotObject s) =
     (s ≡ source) × OfFile files name IsOther
 IsFaulty files name source reads reads_now NoAttribute = ⊥
 IsFaulty files name source reads reads_now NoPart = ⊥
+IsFaulty files name source reads reads_now NoStop = ⊥
 IsFaulty files name source reads reads_now MovesSets = ⊥
 IsFaulty files name source reads reads_now WriteFault = ⊥
 IsFaulty files name source reads reads_now Memory = ⊤
@@ -115,6 +117,7 @@ IsDenied files asked reads reads_now (NotJson s) =
 IsDenied files asked reads reads_now (NotObject s) = OfSource files asked s IsOther
 IsDenied files asked reads reads_now NoAttribute = ⊥
 IsDenied files asked reads reads_now NoPart = ⊥
+IsDenied files asked reads reads_now NoStop = ⊥
 IsDenied files asked reads reads_now MovesSets = ⊥
 IsDenied files asked reads reads_now WriteFault = ⊥
 IsDenied files asked reads reads_now Memory = ⊤
@@ -134,6 +137,7 @@ IsDelivered text differs before now writes writes_now (NotJson s) = ⊥
 IsDelivered text differs before now writes writes_now (NotObject s) = ⊥
 IsDelivered text differs before now writes writes_now NoAttribute = ⊥
 IsDelivered text differs before now writes writes_now NoPart = ⊥
+IsDelivered text differs before now writes writes_now NoStop = ⊥
 IsDelivered text differs before now writes writes_now MovesSets = ⊥
 IsDelivered text differs before now writes writes_now WriteFault =
     PrintsFront text before now × HasRisen writes writes_now
@@ -166,6 +170,7 @@ PictureEnds files asked t (NotJson s) =
 PictureEnds files asked t (NotObject s) = IsRefused t (OfConfig files asked s IsOther)
 PictureEnds files asked t NoAttribute = IsRefused t (LacksAttribute files asked)
 PictureEnds files asked t NoPart = IsRefused t (LacksPart files asked)
+PictureEnds files asked t NoStop = ⊥
 PictureEnds files asked t MovesSets = ⊥
 PictureEnds files asked t WriteFault = IsCutShort files asked t
 PictureEnds files asked t Memory = ⊤
@@ -185,6 +190,7 @@ IsUndrawn files asked reads reads_now (NotJson s) =
 IsUndrawn files asked reads reads_now (NotObject s) = OfConfig files asked s IsOther
 IsUndrawn files asked reads reads_now NoAttribute = LacksAttribute files asked
 IsUndrawn files asked reads reads_now NoPart = LacksPart files asked
+IsUndrawn files asked reads reads_now NoStop = ⊥
 IsUndrawn files asked reads reads_now MovesSets = ⊥
 IsUndrawn files asked reads reads_now WriteFault = ⊥
 IsUndrawn files asked reads reads_now Memory = ⊤
@@ -202,6 +208,7 @@ IsHandedOut text before now writes writes_now (NotJson s) = ⊥
 IsHandedOut text before now writes writes_now (NotObject s) = ⊥
 IsHandedOut text before now writes writes_now NoAttribute = ⊥
 IsHandedOut text before now writes writes_now NoPart = ⊥
+IsHandedOut text before now writes writes_now NoStop = ⊥
 IsHandedOut text before now writes writes_now MovesSets = ⊥
 IsHandedOut text before now writes writes_now WriteFault =
     PrintsFront text before now × HasRisen writes writes_now
@@ -243,6 +250,8 @@ IsUnordered files asked reads reads_now NoAttribute =
     LacksSteps files asked (λ d e. has_known d e asked ≡ false)
 IsUnordered files asked reads reads_now NoPart =
     LacksSteps files asked (λ d e. has_failed e asked ≡ false)
+IsUnordered files asked reads reads_now NoStop =
+    LacksSteps files asked (λ d e. has_stop e asked ≡ false)
 IsUnordered files asked reads reads_now MovesSets =
     LacksSteps files asked (HasSetAmong asked)
 IsUnordered files asked reads reads_now WriteFault = ⊥
@@ -265,6 +274,8 @@ StepsEnds files asked t NoAttribute =
     IsRefused t (LacksSteps files asked (λ d e. has_known d e asked ≡ false))
 StepsEnds files asked t NoPart =
     IsRefused t (LacksSteps files asked (λ d e. has_failed e asked ≡ false))
+StepsEnds files asked t NoStop =
+    IsRefused t (LacksSteps files asked (λ d e. has_stop e asked ≡ false))
 StepsEnds files asked t MovesSets =
     IsRefused t (LacksSteps files asked (HasSetAmong asked))
 StepsEnds files asked t WriteFault = IsBrokenOff files asked t
@@ -285,6 +296,7 @@ IsSentOut text stuck before now writes writes_now (NotJson s) = ⊥
 IsSentOut text stuck before now writes writes_now (NotObject s) = ⊥
 IsSentOut text stuck before now writes writes_now NoAttribute = ⊥
 IsSentOut text stuck before now writes writes_now NoPart = ⊥
+IsSentOut text stuck before now writes writes_now NoStop = ⊥
 IsSentOut text stuck before now writes writes_now MovesSets = ⊥
 IsSentOut text stuck before now writes writes_now WriteFault =
     PrintsFront text before now × HasRisen writes writes_now

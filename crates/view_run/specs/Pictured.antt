@@ -14,7 +14,7 @@ use Rattle.view_run.specs.Options.{sizes_of, failed_of, wants_svg, wants_table}
 use Rattle.view_run.specs.Words.{PictureAsked}
 use Rattle.view_tables.specs.Cells.{picture_rows}
 use Rattle.view_run.specs.declared.status.Status.{Status as Ended}
-use Rattle.view_run.specs.declared.status.Status.TheVariants.{Same, Differs, Shown, Stuck, Usage, Unreadable, TooLong, NotJson, NotObject, NoAttribute, NoPart, MovesSets, WriteFault, Memory}
+use Rattle.view_run.specs.declared.status.Status.TheVariants.{Same, Differs, Shown, Stuck, Usage, Unreadable, TooLong, NotJson, NotObject, NoAttribute, NoPart, NoStop, MovesSets, WriteFault, Memory}
 
 -- the picture that is asked for
 abbrev pub pictured : Data → PictureAsked → List PictureHolding
@@ -23,17 +23,17 @@ pictured d a = holdings d a.attribute (sizes_of false a.options) (leaves d)
 abbrev pub picture_text : Data → PictureAsked → List ℕ
 picture_text d a =
     if wants_svg false a.options
-    then svg_text (failed_of false a.options) (pictured d a)
+    then svg_text (failed_of a.options) (pictured d a)
     else if wants_table false a.options
-    then flat_map (row_text default_writer) (picture_rows (failed_of false a.options) (sizes_of false a.options) (pictured d a))
-    else sheet_text (failed_of false a.options) (pictured d a)
+    then flat_map (row_text default_writer) (picture_rows (failed_of a.options) (sizes_of false a.options) (pictured d a))
+    else sheet_text (failed_of a.options) (pictured d a)
 
 -- whether some leaf is such an attribute, and what is said to have failed is there
 abbrev pub is_known : Data → PictureAsked → Bool
 is_known d a = has_attribute a.attribute (leaves d)
 
 abbrev pub is_there : Data → PictureAsked → Bool
-is_there d a = are_parts (leaves d) (failed_of false a.options)
+is_there d a = are_parts (leaves d) (failed_of a.options)
 
 -- a text of the picture of a configuration
 pub record IsPicture (d : Data) (a : PictureAsked) (text : List ℕ) : Type 0 where
@@ -54,6 +54,7 @@ IsBlank d a (NotJson s) = ⊥
 IsBlank d a (NotObject s) = ⊥
 IsBlank d a NoAttribute = is_known d a ≡ false
 IsBlank d a NoPart = is_there d a ≡ false
+IsBlank d a NoStop = ⊥
 IsBlank d a MovesSets = ⊥
 IsBlank d a WriteFault = ⊥
 IsBlank d a Memory = ⊤

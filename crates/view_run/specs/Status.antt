@@ -2,7 +2,7 @@
 use Rattle.std.specs.Prelude.{ℕ, List, [], codes}
 use Rattle.view_run.specs.declared.status.Source.TheVariants.{Former, New, Config}
 use Rattle.view_run.specs.declared.status.Status.{Status as Ended}
-use Rattle.view_run.specs.declared.status.Status.TheVariants.{Same, Differs, Shown, Stuck, Usage, Unreadable, TooLong, NotJson, NotObject, NoAttribute, NoPart, MovesSets, WriteFault, Memory}
+use Rattle.view_run.specs.declared.status.Status.TheVariants.{Same, Differs, Shown, Stuck, Usage, Unreadable, TooLong, NotJson, NotObject, NoAttribute, NoPart, NoStop, MovesSets, WriteFault, Memory}
 
 abbrev pub number_of : Ended → ℕ
 number_of Same = 0
@@ -16,6 +16,7 @@ number_of (NotJson s) = 5
 number_of (NotObject s) = 5
 number_of NoAttribute = 6
 number_of NoPart = 6
+number_of NoStop = 6
 number_of MovesSets = 6
 number_of WriteFault = 7
 number_of Memory = 8
@@ -25,8 +26,7 @@ line_of Same = []
 line_of Differs = []
 line_of Shown = []
 line_of Stuck = codes "stuck"
-line_of Usage =
-    codes "usage: confsolve-view plan FORMER NEW .., picture CONFIG .., steps FORMER NEW .."
+line_of Usage = codes "usage: confsolve-view plan|picture|steps|breaks|page FILE .."
 line_of (Unreadable Former) = codes "former unreadable"
 line_of (Unreadable New) = codes "new unreadable"
 line_of (Unreadable Config) = codes "configuration unreadable"
@@ -41,6 +41,7 @@ line_of (NotObject New) = codes "new not an object"
 line_of (NotObject Config) = codes "configuration not an object"
 line_of NoAttribute = codes "no such attribute"
 line_of NoPart = codes "failed part not in the configuration"
+line_of NoStop = codes "stop not an object of the configuration"
 line_of MovesSets = codes "a set among the moves"
 line_of WriteFault = codes "output not written"
 line_of Memory = codes "no memory"

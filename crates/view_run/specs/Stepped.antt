@@ -1,28 +1,38 @@
 -- What is printed as the steps from one configuration to another, and why there are none.
-use Rattle.std.specs.Prelude.{ℕ, ◌≡◌, Bool, true, false, ◌||◌, List, Option, Some, ⊤}
+use Rattle.std.specs.Prelude.{ℕ, ◌≡◌, Bool, true, false, ◌||◌, List, Option, Some, option_map, ⊤}
+use Rattle.std.specs.Option.{option_map_or}
 use Rattle.desk_io.specs.Desk.{Files, OfFile}
-use Rattle.serde_json.specs.Data.{Data}
+use Rattle.serde_json.specs.Data.{Data, string}
 use Rattle.view_leaves.specs.Leaves.{leaves}
 use Rattle.view_leaves.specs.Reading.{text_json}
-use Rattle.view_picture.specs.Named.{has_attribute, are_parts}
-use Rattle.view_run.specs.Options.{sizes_of, failed_of}
+use Rattle.view_picture.specs.Named.{has_attribute, are_parts, has_object}
+use Rattle.view_run.specs.Options.{sizes_of, failed_of, stop_of}
 use Rattle.view_run.specs.Words.{StepsAsked}
 use Rattle.view_run.specs.declared.status.Status.{Status as Ended}
-use Rattle.view_run.specs.declared.status.Status.TheVariants.{Same, Differs, Shown, Stuck, Usage, Unreadable, TooLong, NotJson, NotObject, NoAttribute, NoPart, MovesSets, WriteFault, Memory}
+use Rattle.view_run.specs.declared.status.Status.TheVariants.{Same, Differs, Shown, Stuck, Usage, Unreadable, TooLong, NotJson, NotObject, NoAttribute, NoPart, NoStop, MovesSets, WriteFault, Memory}
 use Rattle.view_steps.specs.Answer.{IsSteps, MovesSets as MovesSomeSet}
 
--- whether one of both has such an attribute, and what is said to have failed is there
+-- whether one of both has such an attribute, what is said to have failed is there, and what is named
+-- as a stop is an object
 abbrev pub has_known : Data → Data → StepsAsked → Bool
 has_known d e a = has_attribute a.attribute (leaves e) || has_attribute a.attribute (leaves d)
 
 abbrev pub has_failed : Data → StepsAsked → Bool
-has_failed e a = are_parts (leaves e) (failed_of false a.options)
+has_failed e a = are_parts (leaves e) (failed_of a.options)
+
+abbrev pub has_stop : Data → StepsAsked → Bool
+has_stop e a = option_map_or (has_object e (leaves e)) (stop_of a.options) true
+
+-- the stop, as what refers to it
+abbrev pub stop_value : StepsAsked → Option Data
+stop_value a = option_map string (stop_of a.options)
 
 -- a text of an order of the moves from the first to the second, and whether some are left
 pub record IsStepped (d e : Data) (a : StepsAsked) (text : List ℕ) (stuck : Bool) : Type 0 where
   pub known : has_known d e a ≡ true
   pub there : has_failed e a ≡ true
-  pub steps : IsSteps d e a.attribute (sizes_of false a.options) text stuck
+  pub stopping : has_stop e a ≡ true
+  pub steps : IsSteps d e a.attribute (sizes_of false a.options) (stop_value a) text stuck
 
 -- a set is among what moves
 abbrev pub HasSetAmong : StepsAsked → Data → Data → Type 0
@@ -41,6 +51,7 @@ IsUnstepped d e a (NotJson s) = ⊥
 IsUnstepped d e a (NotObject s) = ⊥
 IsUnstepped d e a NoAttribute = has_known d e a ≡ false
 IsUnstepped d e a NoPart = has_failed e a ≡ false
+IsUnstepped d e a NoStop = has_stop e a ≡ false
 IsUnstepped d e a MovesSets = HasSetAmong a d e
 IsUnstepped d e a WriteFault = ⊥
 IsUnstepped d e a Memory = ⊤

@@ -1,5 +1,5 @@
 -- What words ask for.
-use Rattle.std.specs.Prelude.{ℕ, Bool, false, not, ◌&&◌, if◌then◌else◌, List, [], ◌∷◌, Option, None, Some, codes, bytes_eq, map, string_bytes}
+use Rattle.std.specs.Prelude.{ℕ, Bool, true, false, not, ◌&&◌, if◌then◌else◌, List, [], ◌∷◌, Option, None, Some, codes, bytes_eq, map, string_bytes}
 use Rattle.view_run.specs.Options.{is_option, are_options, are_choices, has_weights, lists_table, wants_svg, wants_table}
 use Rattle.view_run.specs.declared.request.PlanRequest.{PlanRequest}
 use Rattle.view_run.specs.declared.request.PictureRequest.{PictureRequest}
@@ -46,7 +46,8 @@ plan_asked (a ∷ b ∷ more) =
 
 -- the options of `picture`: sizes, `--failed`, and one of `--svg` and `--table`
 abbrev pub are_drawn : List (List ℕ) → Bool
-are_drawn words = are_options false words && not (wants_svg false words && wants_table false words)
+are_drawn words =
+    are_options false false words && not (wants_svg false words && wants_table false words)
 
 -- `picture` of a file and an attribute, with sizes, `--svg` or `--table`, and `--failed` behind
 abbrev pub picture_asked : List (List ℕ) → Option Asked
@@ -56,12 +57,12 @@ picture_asked (a ∷ b ∷ more) =
     if not (is_option a) && not (is_option b) && are_drawn more
     then Some (picture (record { config = a; attribute = b; options = more })) else None
 
--- the options of `steps`: sizes and `--failed`
+-- the options of `steps`: sizes, `--failed`, and `--by-way` at most once
 abbrev pub are_sizes : List (List ℕ) → Bool
 are_sizes words =
-    are_options false words && not (wants_svg false words) && not (wants_table false words)
+    are_options true false words && not (wants_svg false words) && not (wants_table false words)
 
--- `steps` of two files and an attribute, with sizes and `--failed` behind
+-- `steps` of two files and an attribute, with sizes, `--failed` and `--by-way` behind
 abbrev pub steps_asked : List (List ℕ) → Option Asked
 steps_asked [] = None
 steps_asked (a ∷ []) = None

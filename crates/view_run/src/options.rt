@@ -1,7 +1,7 @@
-//! The options of a picture, and those of a plan.
-ghost use Rattle.std.specs.Prelude.{◌≡◌, ◌++◌, ◌∷◌, [], if◌then◌else◌, false, map, string_bytes, IfOk, OnOk};
+//! The options of a picture, those of steps, and those of a plan.
+ghost use Rattle.std.specs.Prelude.{◌≡◌, ◌++◌, ◌∷◌, [], if◌then◌else◌, false, map, option_map, string_bytes, IfOk, OnOk};
 ghost use Rattle.view_picture.specs.PictureViews.{size_seen};
-ghost use Rattle.view_run.specs.Options.{size_of, sizes_of, failed_of, wants_svg, wants_table, takes_name, names_behind, only_of, weights_of, lists_table};
+ghost use Rattle.view_run.specs.Options.{size_of, sizes_of, takes_path, failed_of, stop_of, wants_svg, wants_table, takes_name, names_behind, only_of, weights_of, lists_table};
 
 use crate::request::is_option;
 use std::alloc::{AllocError, Global};
@@ -20,6 +20,13 @@ fn size_of(word: &str) -> Size<'_>
     }
 }
 
+/// Whether a word has a path behind it, among the options of a picture or of steps.
+fn takes_path(word: &str) -> bool
+    ensures { result ≡ takes_path word.now }
+{
+    word == "--failed" || word == "--by-way"
+}
+
 /// The sizes among the options.
 pub(crate) fn sizes_of(alloc: Global, words: &[String]) -> Result<Vec<Size<'_>>, AllocError>
     ensures { IfOk result (λ sizes. map size_seen sizes.items
@@ -30,7 +37,7 @@ pub(crate) fn sizes_of(alloc: Global, words: &[String]) -> Result<Vec<Size<'_>>,
     for word in words {
         if waits {
             waits = false;
-        } else if word.as_str() == "--failed" {
+        } else if takes_path(word) {
             waits = true;
         } else if !is_option(word) {
             sizes.push(size_of(word))?;
@@ -42,19 +49,42 @@ pub(crate) fn sizes_of(alloc: Global, words: &[String]) -> Result<Vec<Size<'_>>,
 /// The paths of what failed, among the options.
 pub(crate) fn failed_of(alloc: Global, words: &[String]) -> Result<Vec<&str>, AllocError>
     ensures { IfOk result (λ failed. map (λ w. w.now) failed.items
-        ≡ failed_of false (map string_bytes words.now)) }
+        ≡ failed_of (map string_bytes words.now)) }
 {
     let mut failed = Vec::new(alloc);
     let mut waits = false;
+    let mut wanted = false;
     for word in words {
         if waits {
-            failed.push(word.as_str())?;
+            take_name(&mut failed, word.as_str(), wanted)?;
             waits = false;
+            wanted = false;
         } else {
-            waits = word.as_str() == "--failed";
+            waits = takes_path(word);
+            wanted = word.as_str() == "--failed";
         }
     }
     Ok(failed)
+}
+
+/// The path of the stop, among the options.
+pub(crate) fn stop_of(words: &[String]) -> Option<&str>
+    ensures { option_map (λ w. w.now) result ≡ stop_of (map string_bytes words.now) }
+{
+    let mut waits = false;
+    let mut wanted = false;
+    for word in words {
+        if waits {
+            if wanted {
+                return Some(word.as_str());
+            }
+            waits = false;
+        } else {
+            waits = takes_path(word);
+            wanted = word.as_str() == "--by-way";
+        }
+    }
+    None
 }
 
 /// Whether SVG is asked for, among the options.
@@ -68,7 +98,7 @@ pub(crate) fn wants_svg(words: &[String]) -> bool
         } else if word.as_str() == "--svg" {
             return true;
         } else {
-            waits = word.as_str() == "--failed";
+            waits = takes_path(word);
         }
     }
     false
@@ -85,7 +115,7 @@ pub(crate) fn wants_table(words: &[String]) -> bool
         } else if word.as_str() == "--table" {
             return true;
         } else {
-            waits = word.as_str() == "--failed";
+            waits = takes_path(word);
         }
     }
     false

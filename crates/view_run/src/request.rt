@@ -36,7 +36,7 @@ pub struct StepsRequest<'a> {
     pub new: &'a str,
     /// The attribute by which guests refer to holders.
     pub attribute: &'a str,
-    /// The words behind: sizes and `--failed`.
+    /// The words behind: sizes, `--failed` and `--by-way`.
     pub options: &'a [String],
 }
 
@@ -65,15 +65,22 @@ fn is_wrong(word: &str) -> bool
     is_option(word) && word != "--svg" && word != "--table"
 }
 
-/// Whether words are the options of a picture.
-fn are_options(words: &[String]) -> bool
-    ensures { result ≡ are_options false (map string_bytes words.now) }
+/// Whether words are the options of a picture or of steps, of which one may name a stop.
+fn are_options(words: &[String], may_stop: bool) -> bool
+    ensures { result ≡ are_options may_stop false (map string_bytes words.now) }
 {
+    let mut may = may_stop;
     let mut waits = false;
     for word in words {
         if waits {
             waits = false;
         } else if word.as_str() == "--failed" {
+            waits = true;
+        } else if word.as_str() == "--by-way" {
+            if !may {
+                return false;
+            }
+            may = false;
             waits = true;
         } else if is_wrong(word) {
             return false;
@@ -148,7 +155,7 @@ fn plan_asked(words: &[String]) -> Option<Request<'_>>
 fn are_drawn(words: &[String]) -> bool
     ensures { result ≡ are_drawn (map string_bytes words.now) }
 {
-    are_options(words) && !(wants_svg(words) && wants_table(words))
+    are_options(words, false) && !(wants_svg(words) && wants_table(words))
 }
 
 /// What the words behind `picture` ask for.
@@ -176,7 +183,7 @@ fn picture_asked(words: &[String]) -> Option<Request<'_>>
 fn are_sizes(words: &[String]) -> bool
     ensures { result ≡ are_sizes (map string_bytes words.now) }
 {
-    are_options(words) && !wants_svg(words) && !wants_table(words)
+    are_options(words, true) && !wants_svg(words) && !wants_table(words)
 }
 
 /// What the words behind `steps` ask for.

@@ -25,7 +25,7 @@ pub enum Status {
     Differs,
     /// A picture was printed, or an order of all moves.
     Shown,
-    /// An order was printed, and moves of which none fits.
+    /// An order was printed, and moves of which none fits, nor may go to the stop.
     Stuck,
     /// The words are no request.
     Usage,
@@ -41,6 +41,8 @@ pub enum Status {
     NoAttribute,
     /// What is said to have failed isn't there.
     NoPart,
+    /// What is named as a stop is no object.
+    NoStop,
     /// A set is among what moves.
     MovesSets,
     /// The answer couldn't be written.
@@ -69,7 +71,7 @@ impl Status {
             Status::Unreadable(_) => 3,
             Status::TooLong(_) => 4,
             Status::NotJson(_) | Status::NotObject(_) => 5,
-            Status::NoAttribute | Status::NoPart | Status::MovesSets => 6,
+            Status::NoAttribute | Status::NoPart | Status::NoStop | Status::MovesSets => 6,
             Status::WriteFault => 7,
             Status::Memory => 8,
             Status::Stuck => 9,
@@ -84,8 +86,7 @@ impl Status {
         match self {
             Status::Same | Status::Differs | Status::Shown => "",
             Status::Stuck => "stuck",
-            Status::Usage =>
-                "usage: confsolve-view plan FORMER NEW .., picture CONFIG .., steps FORMER NEW ..",
+            Status::Usage => "usage: confsolve-view plan|picture|steps|breaks|page FILE ..",
             Status::Unreadable(Source::Former) => "former unreadable",
             Status::Unreadable(Source::New) => "new unreadable",
             Status::Unreadable(Source::Config) => "configuration unreadable",
@@ -100,6 +101,7 @@ impl Status {
             Status::NotObject(Source::Config) => "configuration not an object",
             Status::NoAttribute => "no such attribute",
             Status::NoPart => "failed part not in the configuration",
+            Status::NoStop => "stop not an object of the configuration",
             Status::MovesSets => "a set among the moves",
             Status::WriteFault => "output not written",
             Status::Memory => "no memory",

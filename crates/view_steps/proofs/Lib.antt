@@ -1,4 +1,6 @@
 pub mod AnswerLaws
+pub mod HalfLaws
+pub mod HaltLaws
 pub mod ListLaws
 pub mod MoveLaws
 pub mod OrderLaws

@@ -6,7 +6,6 @@ use Rattle.std.specs.Map.{lookup, lookup_key}
 use Rattle.std.proofs.lemmas.List.{drop_all}
 use Rattle.std.proofs.lemmas.Map.Made.{lookup_key_passes}
 use Rattle.std.proofs.lemmas.List.Elements.{All-nil, All-cons}
-use Rattle.view_steps.specs.Moves.{is_word}
 use Rattle.view_steps.specs.Rooms.{Room, Entries, allowed, taken, first, rest, all_allowed, all_taken, found, is_one, some_allowed, some_taken, word_allowed}
 use Rattle.view_steps.proofs.OrderLaws.{same_word}
 

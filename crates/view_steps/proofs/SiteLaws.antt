@@ -1,13 +1,11 @@
 -- The site of a plan: what is known of its moves, and the rooms before all of them.
-use Rattle.std.proofs.Common.{◌≡◌, ℕ, ◌+◌, ◌<◌, zero, suc, ℤ, ◌-ℤ◌, Bool, true, false, not, ◌&&◌, ◌||◌, ◌==◌, cond, if◌then◌else◌, List, [], ◌∷◌, ◌++◌, Option, Some, None, Ordering, Less, Equal, Greater, map, filter, reverse, option_map, is_eq, is_some, bytes_eq, refl, sym, ap, ◌∙◌, subst, arith, length}
-use Rattle.std.specs.Prelude.{All, IsPermutation}
+use Rattle.std.proofs.Common.{◌≡◌, ℕ, suc, ◌-ℤ◌, Bool, true, false, not, ◌&&◌, ◌||◌, ◌==◌, cond, if◌then◌else◌, List, [], ◌∷◌, ◌++◌, Option, Some, None, Less, map, filter, option_map, is_eq, is_some, bytes_eq, refl, sym, ap, ◌∙◌, subst, arith, length}
+use Rattle.std.specs.Prelude.{All}
 use Rattle.std.specs.Ordering.{ordering_reverse}
 use Rattle.std.specs.List.{AllByRecursion}
 use Rattle.std.specs.List.Sorted.{IsStrictlySortedBy}
 use Rattle.std.proofs.lemmas.List.Elements.{All-nil, All-cons}
-use Rattle.std.proofs.lemmas.List.Sorted.{IsPermutation-refl}
-use Rattle.std.proofs.lemmas.Slice.Eq.{bytes_eq-Decides}
-use Rattle.serde_json.specs.Data.{Num, Data, null, boolean, number, string, array, object, Items}
+use Rattle.serde_json.specs.Data.{Data, null, boolean, number, string, array, object, Items}
 use Rattle.serde_json.specs.Find.{as_array, as_str}
 use Rattle.view_leaves.specs.Ascending.{IsAscending, paths}
 use Rattle.view_leaves.specs.Leaves.{PathLeaf}
@@ -21,10 +19,10 @@ use Rattle.view_plan.specs.Changes.{PlanChange, Added, Removed, Changed, Members
 use Rattle.view_plan.specs.Words.{Words, words_of, lacking}
 use Rattle.view_plan.specs.Plan.{PlanLine, found_at, change_at, line_path, IsPlan}
 use Rattle.view_steps.specs.Moves.{is_single, is_plain, are_plain, from_word, to_word, is_word, refers_to}
-use Rattle.view_steps.specs.Rooms.{Room, room_of, rooms, load_room, first_rooms}
-use Rattle.view_steps.specs.Runs.{IsSite, put_by, all_back}
-use Rattle.view_steps.specs.Steps.{Site, is_among, waits, standing, load, spelled, site_of}
-use Rattle.view_steps.specs.Views.{move_line, move_path, goes_from, goes_to, IsSized, IsMove}
+use Rattle.view_steps.specs.Rooms.{room_of, rooms, load_room, first_rooms}
+use Rattle.view_steps.specs.Runs.{IsSite, all_back}
+use Rattle.view_steps.specs.Steps.{Site, is_among, waits, standing, spelled}
+use Rattle.view_steps.specs.Views.{move_line, move_path, IsSized, IsMove}
 use Rattle.view_steps.specs.declared.moves.Move.{Move}
 use Rattle.view_steps.proofs.OrderLaws.{lines_paths, same_word, word_itself}
 use Rattle.view_steps.proofs.RoomLaws.{contrary, rooms_back}
@@ -74,7 +72,7 @@ found_behind l ls [] h k = tt
 found_behind l ls (x ∷ xs) h k =
     (rw (is_after l.0 x.0 h.0) k.0, found_behind l ls xs h.1 k.1)
 
-lines_found : (ls : List PlanLine) → IsAscending (map line_path ls)
+pub lines_found : (ls : List PlanLine) → IsAscending (map line_path ls)
     → AllByRecursion (IsFound ls) ls
 unfolding IsStrictlySortedBy
 lines_found [] h = tt

@@ -1,5 +1,5 @@
 -- What one move changes of a load.
-use Rattle.std.proofs.Common.{◌≡◌, ℕ, ℤ, pos, ◌+ℤ◌, Bool, true, false, not, ◌&&◌, ◌||◌, cond, if◌then◌else◌, List, [], ◌∷◌, ◌++◌, Option, Some, None, map, filter, Ordering, Less, Equal, Greater, is_eq, nat_cmp, refl, sym, ap, ◌∙◌, subst, arith}
+use Rattle.std.proofs.Common.{◌≡◌, ℕ, ℤ, pos, ◌+ℤ◌, Bool, true, false, cond, List, [], ◌∷◌, ◌++◌, Option, Some, None, filter, Ordering, Less, Equal, Greater, is_eq, nat_cmp, refl, sym, ap, ◌∙◌, subst, arith}
 use Rattle.std.proofs.Math.IntN.{+ℤ_assoc, +ℤ_idl}
 use Rattle.std.proofs.lemmas.Int.{ints}
 use Rattle.std.proofs.lemmas.Map.Text.{is_eq-slice_cmp}
@@ -14,7 +14,7 @@ use Rattle.view_leaves.specs.Ascending.{IsAscending, paths}
 use Rattle.view_leaves.specs.Leaves.{PathLeaf}
 use Rattle.view_leaves.specs.Paths.{PathStep, Path, index, key, step_cmp, path_cmp}
 use Rattle.view_leaves.proofs.PathOrder.{path_total}
-use Rattle.view_picture.specs.Mentions.{is_named, owner, has_word, refers, guests}
+use Rattle.view_picture.specs.Mentions.{is_named, owner, refers, guests}
 use Rattle.view_picture.specs.Picture.{amount, total}
 use Rattle.view_plan.specs.Plan.{found_at}
 use Rattle.view_steps.specs.Moves.{refers_to}

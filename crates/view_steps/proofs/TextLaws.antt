@@ -4,7 +4,7 @@ use Rattle.std.specs.List.{flat_map, list_any}
 use Rattle.std.proofs.lemmas.List.Folds.{list_any-append}
 use Rattle.view_plan.specs.Plan.{PlanLine}
 use Rattle.view_plan.specs.Text.{line_text, shows_fraction}
-use Rattle.view_steps.specs.Text.{counted_text, steps_text, IsStepsText}
+use Rattle.view_steps.specs.Text.{counted_text, IsStepsText}
 use Rattle.view_steps.specs.Views.{move_line}
 use Rattle.view_steps.specs.declared.moves.Move.{Move}
 
@@ -28,48 +28,47 @@ none_second xs ys h =
     second_none (list_any shows_fraction xs) (list_any shows_fraction ys)
     (sym (list_any-append shows_fraction xs ys) ∙ h)
 
-lines_counted : (ms : List Move) → length (map move_line ms) ≡ length ms
-lines_counted [] = refl
-lines_counted (m ∷ ms) = ap suc (lines_counted ms)
+pub lines_counted : {X : Type 0} (f : X → PlanLine) (xs : List X) → length (map f xs) ≡ length xs
+lines_counted f [] = refl
+lines_counted f (x ∷ xs) = ap suc (lines_counted f xs)
 
 -- lines and their count
-pub counted : (ms : List Move) (what old mid new : List ℕ)
-    → (list_any shows_fraction (map move_line ms) ≡ false
-    → mid ≡ old ++ flat_map line_text (map move_line ms))
-    → new ≡ mid ++ decimal (length ms) ++ what
-    → list_any shows_fraction (map move_line ms) ≡ false
-    → new ≡ old ++ counted_text what (map move_line ms)
-counted ms what old mid new lines count h =
-    let all = flat_map line_text (map move_line ms) in
+pub counted : (ls : List PlanLine) (n : ℕ) (what old mid new : List ℕ) → length ls ≡ n
+    → (list_any shows_fraction ls ≡ false → mid ≡ old ++ flat_map line_text ls)
+    → new ≡ mid ++ decimal n ++ what
+    → list_any shows_fraction ls ≡ false
+    → new ≡ old ++ counted_text what ls
+counted ls n what old mid new many lines count h =
+    let all = flat_map line_text ls in
     count
-    ∙ ap (λ t. t ++ decimal (length ms) ++ what) (lines h)
-    ∙ ap (λ n. old ++ all ++ decimal n ++ what) (sym (lines_counted ms))
-    ∙ ap (λ t. t ++ what) (append_assoc old all (decimal (length (map move_line ms))))
-    ∙ append_assoc old (all ++ decimal (length (map move_line ms))) what
+    ∙ ap (λ t. t ++ decimal n ++ what) (lines h)
+    ∙ ap (λ k. old ++ all ++ decimal k ++ what) (sym many)
+    ∙ ap (λ t. t ++ what) (append_assoc old all (decimal (length ls)))
+    ∙ append_assoc old (all ++ decimal (length ls)) what
 
 -- no move is left
-pub text_done : (made left : List Move) (t : List ℕ)
-    → (list_any shows_fraction (map move_line made) ≡ false
-    → t ≡ counted_text (codes " steps\n") (map move_line made))
-    → length left ≡ 0 → IsStepsText (map move_line made) (map move_line left) t
+pub text_done : (made : List PlanLine) (left : List Move) (t : List ℕ)
+    → (list_any shows_fraction made ≡ false
+    → t ≡ counted_text (codes " steps\n") made)
+    → length left ≡ 0 → IsStepsText made (map move_line left) t
 text_done made [] t h none = record {
   needs = [];
-  same = λ k. h (none_first (map move_line made) [] k);
+  same = λ k. h (none_first made [] k);
 }
 text_done made (l ∷ ls) t h none = absurd (omega arith)
 
 -- some are left
-pub text_left : (made left : List Move) (t u v needs : List ℕ)
-    → (list_any shows_fraction (map move_line made) ≡ false
-    → t ≡ counted_text (codes " steps\n") (map move_line made))
+pub text_left : (made : List PlanLine) (left : List Move) (t u v needs : List ℕ)
+    → (list_any shows_fraction made ≡ false
+    → t ≡ counted_text (codes " steps\n") made)
     → (list_any shows_fraction (map move_line left) ≡ false
     → u ≡ t ++ counted_text (codes " left\n") (map move_line left))
     → v ≡ u ++ needs → (length left ≡ 0 → ⊥)
-    → IsStepsText (map move_line made) (map move_line left) v
+    → IsStepsText made (map move_line left) v
 text_left made [] t u v needs h k e some = absurd (some refl)
 text_left made (l ∷ ls) t u v needs h k e some = record {
   needs = needs;
   same = λ f.
-      e ∙ ap (λ x. x ++ needs) (k (none_second (map move_line made) (map move_line (l ∷ ls)) f)
-      ∙ ap (λ x. x ++ counted_text (codes " left\n") (map move_line (l ∷ ls))) (h (none_first (map move_line made) (map move_line (l ∷ ls)) f)));
+      e ∙ ap (λ x. x ++ needs) (k (none_second made (map move_line (l ∷ ls)) f)
+      ∙ ap (λ x. x ++ counted_text (codes " left\n") (map move_line (l ∷ ls))) (h (none_first made (map move_line (l ∷ ls)) f)));
 }

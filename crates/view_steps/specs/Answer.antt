@@ -1,5 +1,5 @@
 -- What is printed as the steps from one configuration to another.
-use Rattle.std.specs.Prelude.{◌≡◌, ℕ, Bool, true, false, List, [], ◌∷◌}
+use Rattle.std.specs.Prelude.{◌≡◌, ℕ, Bool, true, false, List, [], ◌∷◌, Option}
 use Rattle.serde_json.specs.Data.{Data}
 use Rattle.view_leaves.specs.Leaves.{leaves}
 use Rattle.view_picture.specs.Picture.{PictureSize}
@@ -14,11 +14,11 @@ abbrev pub has_some : List PlanLine → Bool
 has_some [] = false
 has_some (l ∷ ls) = true
 
--- a text of an order, and whether moves are left
-pub record IsSteps (d e : Data) (a : List ℕ) (sizes : List PictureSize) (text : List ℕ) (stuck : Bool) : Type 0 where
+-- a text of an order, by way of a stop where one is given, and whether moves are left
+pub record IsSteps (d e : Data) (a : List ℕ) (sizes : List PictureSize) (stop : Option Data) (text : List ℕ) (stuck : Bool) : Type 0 where
   pub made : List PlanLine
   pub left : List PlanLine
-  pub ordered : IsOrdered e a sizes (leaves d) (leaves e) made left
+  pub ordered : IsOrdered e a sizes stop (leaves d) (leaves e) made left
   pub some_left : stuck ≡ has_some left
   pub shown : IsStepsText made left text
 

@@ -1,5 +1,5 @@
--- Where a move goes from and to, and the sizes that it moves.
-use Rattle.std.specs.Prelude.{ℕ, ℤ, pos, ◌-ℤ◌, Bool, false, not, ◌&&◌, List, Option, None, Some, bytes_eq, filter, map, is_some}
+-- Where a move goes from and to, the sizes that it moves, and its halves by way of a stop.
+use Rattle.std.specs.Prelude.{ℕ, ℤ, pos, ◌-ℤ◌, Bool, false, not, ◌&&◌, if◌then◌else◌, List, Option, None, Some, bytes_eq, filter, map, is_some}
 use Rattle.std.specs.List.{list_all}
 use Rattle.serde_json.specs.Data.{Data}
 use Rattle.serde_json.specs.Find.{as_str, as_array}
@@ -52,3 +52,35 @@ amounts d sizes p = map (λ (s : PictureSize). amount d s.name p) sizes
 
 abbrev pub turned : List ℤ → List ℤ
 turned vs = map (λ v. pos 0 -ℤ v) vs
+
+-- ---- by way of a stop
+
+-- whether these are three words, of which the first is neither of the others
+abbrev pub is_other : Option (List ℕ) → Option (List ℕ) → Option (List ℕ) → Bool
+is_other None a b = false
+is_other (Some s) None b = false
+is_other (Some s) (Some a) None = false
+is_other (Some s) (Some a) (Some b) = not (bytes_eq a s) && not (bytes_eq b s)
+
+-- the first half of a move by way of a stop, where there is one and the move goes from one holder to
+-- another, of which neither is the stop
+abbrev pub to_stop : Option Data → PlanChange → Option PlanChange
+to_stop None c = None
+to_stop (Some s) (Added e) = None
+to_stop (Some s) (Removed d) = None
+to_stop (Some s) (Changed d e) =
+    if is_other (as_str s) (as_str d) (as_str e) then Some (Changed d s) else None
+to_stop (Some s) (Members added taken both) = None
+
+-- the second half
+abbrev pub from_stop : Option Data → PlanChange → PlanChange
+from_stop None c = c
+from_stop (Some s) (Added e) = Added e
+from_stop (Some s) (Removed d) = Removed d
+from_stop (Some s) (Changed d e) = Changed s e
+from_stop (Some s) (Members added taken both) = Members added taken both
+
+-- what stands where something went to the stop
+abbrev pub on_stop : Option Data → Data → Data
+on_stop None d = d
+on_stop (Some s) d = s

@@ -1,5 +1,5 @@
 -- The text of an order of moves.
-use Rattle.std.specs.Prelude.{◌≡◌, ℕ, Bool, false, List, [], ◌∷◌, ◌++◌, codes, decimal, length}
+use Rattle.std.specs.Prelude.{◌≡◌, ℕ, false, List, [], ◌∷◌, ◌++◌, codes, decimal, length}
 use Rattle.std.specs.List.{flat_map, list_any}
 use Rattle.view_plan.specs.Plan.{PlanLine}
 use Rattle.view_plan.specs.Text.{line_text, shows_fraction}

@@ -1,5 +1,5 @@
 -- Moves of the program, as what they stand for.
-use Rattle.std.specs.Prelude.{◌≡◌, ℕ, Bool, true, false, List, map}
+use Rattle.std.specs.Prelude.{◌≡◌, ℕ, Bool, true, false, List}
 use Rattle.serde_json.specs.Data.{Data}
 use Rattle.view_leaves.specs.Paths.{Path}
 use Rattle.view_picture.specs.Mentions.{is_named, owner}

@@ -1,39 +1,34 @@
 //! Which moves to try, so that none is looked at before room was made for it. Nothing rests on
 //! this: what is tried is asked once more whether it fits.
-ghost use Rattle.std.specs.Prelude.{OnOk};
+ghost use Rattle.std.specs.Prelude.{Option, OnOk, option_map};
+ghost use Rattle.serde_json.specs.Data.{Data};
+ghost use Rattle.serde_json.specs.View.{view};
 ghost use Rattle.view_steps.specs.Runs.{IsRun};
 ghost use Rattle.view_steps.specs.Steps.{Site};
 
+use crate::halts::{
+    Halts, Heap, Queue, Waiting, all_fresh, is_late, lacking, next_halt, room_at, stir,
+};
 use crate::moves::{Move, from_word, to_word};
-use crate::rooms::{Rooms, allowed, amount_at};
-use crate::run::{Run, is_fit, make};
+use crate::rooms::Rooms;
+use crate::run::{Run, halt, is_fit, make, may_halt};
 use indexmap::IndexMap;
+use serde_json::Value;
 use std::alloc::{AllocError, Global};
 use std::cmp::Reverse;
 use std::collections::BinaryHeap;
-
-/// Moves by number, the one that needs least room on top.
-type Heap = BinaryHeap<Reverse<(i128, usize)>>;
 
 /// What is known of the moves that are left.
 #[derive(Drop)]
 pub(crate) struct Agenda<'t> {
     /// Those to be tried: the urgent ones first, then by number.
-    ready: BinaryHeap<Reverse<(bool, usize)>>,
-    /// Whether a move may wait until the urgent ones were tried.
-    patient: Vec<bool>,
+    ready: Queue,
     /// Where each move stands among those that are left.
     indices: Vec<usize>,
     /// Those that wait for room, for each size by holder.
-    waiting: Vec<IndexMap<&'t [u8], Heap>>,
-}
-
-/// Whether a guest stands on a holder that failed.
-fn is_urgent(step: &Move<'_, '_>, failed: &[&str]) -> bool {
-    match from_word(&step.line.change) {
-        None => false,
-        Some(word) => failed.iter().any(|path| *path == word),
-    }
+    waiting: Vec<Waiting<'t>>,
+    /// Those that may go to the stop.
+    halts: Halts<'t>,
 }
 
 /// The first agenda: all moves are to be tried.
@@ -42,17 +37,17 @@ pub(crate) fn all_ready<'t>(
     moves: &[Move<'_, 't>],
     sizes: usize,
     failed: &[&str],
+    stop: Option<&'t Value>,
 ) -> Result<Agenda<'t>, AllocError> {
     let mut agenda = Agenda {
         ready: BinaryHeap::new(alloc),
-        patient: Vec::new(alloc),
         indices: Vec::new(alloc),
         waiting: Vec::new(alloc),
+        halts: all_fresh(alloc, moves, sizes, failed, stop)?,
     };
-    for (number, step) in moves.iter().enumerate() {
-        let patient = !is_urgent(step, failed);
-        agenda.ready.push(Reverse((patient, number)))?;
-        agenda.patient.push(patient)?;
+    for number in 0..moves.len() {
+        let late = is_late(&agenda.halts.patient, number);
+        agenda.ready.push(Reverse((late, number)))?;
         agenda.indices.push(number)?;
     }
     add_waiting(alloc, &mut agenda, sizes)?;
@@ -67,22 +62,11 @@ fn add_waiting(alloc: Global, agenda: &mut Agenda<'_>, sizes: usize) -> Result<(
     Ok(())
 }
 
-/// A size of which a holder lacks room, and how much is needed there.
-fn lacking(rooms: &Rooms<'_>, word: Option<&str>, amounts: &[i128]) -> Option<(usize, i128)> {
-    let list = rooms.get(word?.as_bytes())?;
-    for (size, room) in list.iter().enumerate() {
-        let amount = amount_at(amounts, size);
-        if !allowed(*room, amount) {
-            return Some((size, amount));
-        }
-    }
-    None
-}
-
 /// Lets a move wait for a holder's room.
 fn wait_at<'t>(
     alloc: Global,
     agenda: &mut Agenda<'t>,
+    rooms: &Rooms<'_>,
     word: Option<&'t str>,
     lack: Option<(usize, i128)>,
     number: usize,
@@ -96,6 +80,7 @@ fn wait_at<'t>(
             };
             heap.push(Reverse((amount, number)))?;
             map.insert(word.as_bytes(), heap)?;
+            stir(&mut agenda.halts, &agenda.waiting, rooms, word)?;
         }
     }
     Ok(())
@@ -111,23 +96,17 @@ fn wait<'t>(
     let to = to_word(&step.line.change);
     let lack = lacking(rooms, to, &step.more);
     if lack.is_some() {
-        wait_at(alloc, agenda, to, lack, step.number)
+        wait_at(alloc, agenda, rooms, to, lack, step.number)
     } else {
         let from = from_word(&step.line.change);
         let lack = lacking(rooms, from, &step.less);
-        wait_at(alloc, agenda, from, lack, step.number)
+        wait_at(alloc, agenda, rooms, from, lack, step.number)
     }
-}
-
-/// The room of a size, where it is bounded.
-fn room_at(rooms: &Rooms<'_>, word: &str, size: usize) -> Option<i128> {
-    let list = rooms.get(word.as_bytes())?;
-    if size < list.len() { list[size] } else { None }
 }
 
 /// Makes ready what now has room.
 fn release(
-    ready: &mut BinaryHeap<Reverse<(bool, usize)>>,
+    ready: &mut Queue,
     patient: &[bool],
     heap: &mut Heap,
     room: i128,
@@ -136,8 +115,7 @@ fn release(
         match heap.peek() {
             Some(Reverse((amount, number))) if *amount <= room => {
                 let number = *number;
-                let late = number < patient.len() && patient[number];
-                ready.push(Reverse((late, number)))?;
+                ready.push(Reverse((is_late(patient, number), number)))?;
             }
             _ => return Ok(()),
         }
@@ -156,7 +134,7 @@ fn wake_size(
     if size < agenda.waiting.len() {
         if let Some(room) = room_at(rooms, word, size) {
             if let Some(heap) = agenda.waiting[size].get_mut(word.as_bytes()) {
-                release(&mut agenda.ready, &agenda.patient, heap, room)?;
+                release(&mut agenda.ready, &agenda.halts.patient, heap, room)?;
             }
         }
     }
@@ -169,6 +147,7 @@ fn wake(agenda: &mut Agenda<'_>, rooms: &Rooms<'_>, word: Option<&str>) -> Resul
         for size in 0..agenda.waiting.len() {
             wake_size(agenda, rooms, word, size)?;
         }
+        stir(&mut agenda.halts, &agenda.waiting, rooms, word)?;
     }
     Ok(())
 }
@@ -180,7 +159,8 @@ fn attempt<'t>(
     agenda: &mut Agenda<'t>,
     number: usize,
 ) -> Result<(), AllocError>
-    ensures kept { OnOk result ((site : Site) → IsRun site run.old → IsRun site run.new) }
+    ensures kept { OnOk result ((site : Site) (stop : Option Data) → IsRun site stop run.old
+        → IsRun site stop run.new) }
 {
     if number >= agenda.indices.len() {
         return Ok(());
@@ -200,6 +180,39 @@ fn attempt<'t>(
     wake(agenda, &run.rooms, to)
 }
 
+/// Tries to send a move to the stop, and says whether one went there.
+fn attempt_halt<'t>(
+    alloc: Global,
+    run: &mut Run<'_, '_, 't>,
+    agenda: &mut Agenda<'t>,
+    stop: Option<&'t Value>,
+) -> Result<bool, AllocError>
+    ensures kept { OnOk result ((site : Site)
+        → IsRun site (option_map (λ v. view v.now) stop.entry) run.old
+        → IsRun site (option_map (λ v. view v.now) stop.entry) run.new) }
+{
+    match next_halt(
+        alloc,
+        run,
+        &mut agenda.halts,
+        &agenda.waiting,
+        &agenda.indices,
+        stop,
+    )? {
+        None => Ok(false),
+        Some(index) => {
+            if index >= run.left.len() || !may_halt(&run.rooms, &run.left[index], stop) {
+                return Ok(false);
+            }
+            let from = from_word(&run.left[index].line.change);
+            halt(alloc, run, index, stop)?;
+            note_halted(run, agenda, index)?;
+            wake(agenda, &run.rooms, from)?;
+            Ok(true)
+        }
+    }
+}
+
 /// Notes which move took this index.
 fn note_index(run: &Run<'_, '_, '_>, agenda: &mut Agenda<'_>, index: usize) {
     if index < run.left.len() {
@@ -210,18 +223,44 @@ fn note_index(run: &Run<'_, '_, '_>, agenda: &mut Agenda<'_>, index: usize) {
     }
 }
 
-/// Tries what may be tried, until nothing is left to try.
+/// Notes where a second half stands, and which move took the index of the first; the second half is
+/// to be tried.
+fn note_halted(
+    run: &Run<'_, '_, '_>,
+    agenda: &mut Agenda<'_>,
+    index: usize,
+) -> Result<(), AllocError> {
+    note_index(run, agenda, index);
+    if !run.left.is_empty() {
+        let last = run.left.len() - 1;
+        note_index(run, agenda, last);
+        let number = run.left[last].number;
+        let late = is_late(&agenda.halts.patient, number);
+        agenda.ready.push(Reverse((late, number)))?;
+    }
+    Ok(())
+}
+
+/// Tries what may be tried, until nothing is left to try. Only where no move may fit one goes to the
+/// stop.
 pub(crate) fn rush<'t>(
     alloc: Global,
     run: &mut Run<'_, '_, 't>,
     agenda: &mut Agenda<'t>,
+    stop: Option<&'t Value>,
 ) -> Result<(), AllocError>
-    ensures kept { OnOk result ((site : Site) → IsRun site run.old → IsRun site run.new) }
+    ensures kept { OnOk result ((site : Site)
+        → IsRun site (option_map (λ v. view v.now) stop.entry) run.old
+        → IsRun site (option_map (λ v. view v.now) stop.entry) run.new) }
 {
     for _ in 0..u64::MAX {
         match agenda.ready.pop() {
-            None => return Ok(()),
             Some(Reverse((_, number))) => attempt(alloc, run, agenda, number)?,
+            None => {
+                if !attempt_halt(alloc, run, agenda, stop)? {
+                    return Ok(());
+                }
+            }
         }
     }
     Ok(())

@@ -2,11 +2,13 @@
 //!
 //! - `steps`: the moves in order, or those that are stuck. `moves`: what goes where, and how much.
 //! - `rooms`: what each holder has room for, and what a move changes of it.
-//! - `run`: the next move that fits, until none does. `agenda`: which moves may fit now.
+//! - `run`: the next step that fits, until none does. `agenda`: which moves may fit now. `halts`:
+//!   which may go to the stop.
 //! - `text`: what is printed.
 #![tactic(auto)]
 
 mod agenda;
+mod halts;
 mod moves;
 mod rooms;
 mod run;

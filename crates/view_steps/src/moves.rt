@@ -5,7 +5,8 @@ ghost use Rattle.serde_json.specs.View.{view};
 ghost use Rattle.view_leaves.specs.Views.{step_seen};
 ghost use Rattle.view_picture.specs.PictureViews.{size_seen};
 ghost use Rattle.view_plan.specs.Views.{change_seen, line_seen, lines_seen};
-ghost use Rattle.view_steps.specs.Moves.{is_single, is_plain, are_plain, from_word, to_word, amounts, turned, moves_among};
+ghost use Rattle.serde_json.specs.Find.{as_str};
+ghost use Rattle.view_steps.specs.Moves.{is_single, is_plain, are_plain, from_word, to_word, is_other, to_stop, from_stop, amounts, turned, moves_among};
 ghost use Rattle.view_steps.specs.Views.{move_line, IsSized};
 
 use serde_json::Value;
@@ -86,6 +87,53 @@ pub(crate) fn to_word<'a>(change: &Change<'a>) -> Option<&'a str>
         Change::Removed(_) => None,
         Change::Changed(_, new) => new.as_str(),
         Change::Members(_, _, _) => None,
+    }
+}
+
+/// Whether three values are words, of which the first is neither of the others.
+fn is_other(stop: &Value, old: &Value, new: &Value) -> bool
+    ensures { result ≡ is_other (as_str (view stop.now)) (as_str (view old.now))
+        (as_str (view new.now)) }
+{
+    match (stop.as_str(), old.as_str(), new.as_str()) {
+        (Some(stop), Some(old), Some(new)) => old != stop && new != stop,
+        _ => false,
+    }
+}
+
+/// The first half of a move by way of a stop, where it may go there.
+pub(crate) fn to_stop<'a>(change: &Change<'a>, stop: Option<&'a Value>) -> Option<Change<'a>>
+    ensures { option_map change_seen result
+        ≡ to_stop (option_map (λ v. view v.now) stop.entry) (change_seen change.now) }
+{
+    match stop {
+        None => None,
+        Some(stop) => match change {
+            Change::Changed(old, new) => {
+                if is_other(stop, old, new) {
+                    Some(Change::Changed(*old, stop))
+                } else {
+                    None
+                }
+            }
+            Change::Added(_) => None,
+            Change::Removed(_) => None,
+            Change::Members(_, _, _) => None,
+        },
+    }
+}
+
+/// The second half.
+pub(crate) fn from_stop<'a>(change: Change<'a>, stop: Option<&'a Value>) -> Change<'a>
+    ensures { change_seen result
+        ≡ from_stop (option_map (λ v. view v.now) stop.entry) (change_seen change.entry) }
+{
+    match stop {
+        None => change,
+        Some(stop) => match change {
+            Change::Changed(_, new) => Change::Changed(stop, new),
+            other => other,
+        },
     }
 }
 

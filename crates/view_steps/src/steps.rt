@@ -1,6 +1,5 @@
 //! From two configurations to an order of the moves between them.
-ghost use Rattle.std.specs.Prelude.{◌≡◌, ℕ, List, [], false, map, IfErr, IfOk, OnOk};
-ghost use Rattle.std.specs.List.{All};
+ghost use Rattle.std.specs.Prelude.{◌≡◌, ℕ, List, [], false, map, option_map, IfErr, IfOk, OnOk};
 ghost use Rattle.std.specs.Borrow.{Bor};
 ghost use Rattle.serde_json.specs.View.{view};
 ghost use Rattle.view_leaves.specs.Ascending.{IsAscending, paths};
@@ -9,7 +8,7 @@ ghost use Rattle.view_leaves.specs.Views.{leaves_seen};
 ghost use Rattle.view_picture.specs.PictureViews.{scale_seen, size_seen};
 ghost use Rattle.view_steps.specs.Answer.{has_some, IsSteps, IsStepsRefused};
 ghost use Rattle.view_steps.specs.Rooms.{found, first_rooms};
-ghost use Rattle.view_steps.specs.Runs.{all_back, is_fit, IsRun};
+ghost use Rattle.view_steps.specs.Runs.{all_back, IsAtEnd, IsRun};
 ghost use Rattle.view_steps.specs.Steps.{Site};
 ghost use Rattle.view_steps.specs.Views.{move_line};
 ghost use Rattle.view_steps.specs.declared.steps.StepsError.TheVariants.{Memory};
@@ -17,7 +16,7 @@ ghost use Rattle.view_steps.specs.declared.steps.StepsError.TheVariants.{Memory}
 use crate::agenda::{all_ready, rush};
 use crate::moves::{Measure, Move, are_plain, moves_of};
 use crate::rooms::{Rooms, rooms_of};
-use crate::run::{Run, arrange, make_fitting, put_back};
+use crate::run::{Run, arrange, finish, put_back};
 use crate::text::steps_text;
 use serde_json::Value;
 use std::alloc::{AllocError, Global};
@@ -86,22 +85,24 @@ fn begun<'t, 'l, 'a>(
     })
 }
 
-/// Makes the moves that fit, one after the other, until none of those that are left does. What
-/// stands on a holder that failed goes first.
+/// Makes the moves that fit, one after the other, and some by way of the stop where none fits, until
+/// nothing can be done. What stands on a holder that failed goes first.
 fn ran<'t, 'l, 'a>(
     alloc: Global,
     start: Run<'t, 'l, 'a>,
     sizes: usize,
     failed: &[&str],
+    stop: Option<&'a Value>,
 ) -> Result<Run<'t, 'l, 'a>, AllocError>
-    ensures kept { IfOk result (λ made. (site : Site) → IsRun site start.entry → IsRun site made) }
-    ensures none { IfOk result (λ made. All (λ m. is_fit made.rooms.entries m ≡ false)
-        made.left.items) }
+    ensures kept { IfOk result (λ made. (site : Site)
+        → IsRun site (option_map (λ v. view v.now) stop.entry) start.entry
+        → IsRun site (option_map (λ v. view v.now) stop.entry) made) }
+    ensures end { IfOk result (λ made. IsAtEnd (option_map (λ v. view v.now) stop.entry) made) }
 {
     let mut run = start;
-    let mut agenda = all_ready(alloc, &run.left, sizes, failed)?;
-    rush(alloc, &mut run, &mut agenda)?;
-    make_fitting(alloc, &mut run)?;
+    let mut agenda = all_ready(alloc, &run.left, sizes, failed, stop)?;
+    rush(alloc, &mut run, &mut agenda, stop)?;
+    finish(alloc, &mut run, stop)?;
     arrange(&mut run)?;
     Ok(run)
 }
@@ -121,14 +122,15 @@ fn steps_between<'v>(
     new: &[Leaf<'v>],
     measure: Measure<'_, 'v>,
     failed: &[&str],
+    stop: Option<&'v Value>,
 ) -> Result<Steps, StepsError>
     requires old { leaves_seen old.now ≡ leaves (view former.now) }
     requires new { leaves_seen new.now ≡ leaves (view measure.whole.now) }
     requires before { IsAscending (paths (leaves_seen old.now)) }
     requires behind { IsAscending (paths (leaves_seen new.now)) }
     ensures steps { IfOk result (λ made. IsSteps (view former.now) (view measure.entry.whole.now)
-        measure.entry.attribute.now (map size_seen measure.entry.sizes.now) made.text.items
-        made.stuck) }
+        measure.entry.attribute.now (map size_seen measure.entry.sizes.now)
+        (option_map (λ v. view v.now) stop.entry) made.text.items made.stuck) }
     ensures refused { IfErr result (IsStepsRefused (view former.now) (view measure.entry.whole.now)
         measure.entry.attribute.now) }
 {
@@ -139,27 +141,29 @@ fn steps_between<'v>(
     }
     let scales = scales_of(alloc, measure.whole, new, measure.attribute, measure.sizes)?;
     let start = begun(alloc, &scales, moves)?;
-    let ended = ran(alloc, start, measure.sizes.len(), failed)?;
-    let text = steps_text(alloc, &ended, measure.sizes)?;
+    let ended = ran(alloc, start, measure.sizes.len(), failed, stop)?;
+    let text = steps_text(alloc, &ended, measure.sizes, stop)?;
     let stuck = has_left(&ended);
     Ok(Steps { text, stuck })
 }
 
-/// An order of the moves from one configuration to another.
+/// An order of the moves from one configuration to another, some by way of the stop, if one is
+/// given, where no move fits.
 pub fn steps_of<'v>(
     alloc: Global,
     former: &'v Value,
     measure: Measure<'_, 'v>,
     failed: &[&str],
+    stop: Option<&'v Value>,
 ) -> Result<Steps, StepsError>
     ensures steps { IfOk result (λ made. IsSteps (view former.now) (view measure.entry.whole.now)
-        measure.entry.attribute.now (map size_seen measure.entry.sizes.now) made.text.items
-        made.stuck) }
+        measure.entry.attribute.now (map size_seen measure.entry.sizes.now)
+        (option_map (λ v. view v.now) stop.entry) made.text.items made.stuck) }
     ensures refused { IfErr result (IsStepsRefused (view former.now) (view measure.entry.whole.now)
         measure.entry.attribute.now) }
 {
     let old = leaves_of(alloc, former)?;
     let new = leaves_of(alloc, measure.whole)?;
-    let steps = steps_between(alloc, former, &old, &new, measure, failed)?;
+    let steps = steps_between(alloc, former, &old, &new, measure, failed, stop)?;
     Ok(steps)
 }

@@ -1,9 +1,9 @@
-use Rattle.std.proofs.Common.{◌≡◌, ◌++◌, false, drop, map, string_bytes}
-use Rattle.view_run.specs.Options.{failed_of}
+use Rattle.std.proofs.Common.{◌≡◌, ◌++◌, drop, map, string_bytes}
+use Rattle.view_run.specs.Options.{failed_among, failed_of}
 use Rattle.view_run.proofs.options.failed_of.Given as goal
 
 -- what was read, with the words that are left, decides
 abbrev pub invariant-loop-word : goal.invariant-loop-word
 invariant-loop-word l =
-    map (λ w. w.now) l.failed.items ++ failed_of l.waits (map string_bytes (drop l.word-index l.words))
-    ≡ failed_of false (map string_bytes l.words)
+    map (λ w. w.now) l.failed.items ++ failed_among l.waits l.wanted (map string_bytes (drop l.word-index l.words))
+    ≡ failed_of (map string_bytes l.words)

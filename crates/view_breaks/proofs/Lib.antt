@@ -1,0 +1,3 @@
+pub mod AnswerLaws
+pub mod BreakLaws
+pub mod FirstLaws

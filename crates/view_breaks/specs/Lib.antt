@@ -1,0 +1,4 @@
+pub mod Answer
+pub mod Breaks
+pub mod Lines
+pub mod Text

@@ -1,0 +1,14 @@
+use Rattle.std.proofs.Common.{option_map}
+use Rattle.serde_json.specs.View.{view}
+use Rattle.view_steps.specs.Runs.{steps_of, IsRun}
+use Rattle.view_steps.specs.Steps.{Site}
+use Rattle.view_steps.proofs.run.finish.Given as goal
+
+-- what was so stays so
+abbrev pub invariant-loop : goal.invariant-loop
+invariant-loop l =
+    (site : Site) → IsRun site (option_map (λ v. view v.now) l.stop) l.initial.run
+    → IsRun site (option_map (λ v. view v.now) l.stop) l.run
+
+abbrev pub decreases-loop : goal.decreases-loop
+decreases-loop l = steps_of (option_map (λ v. view v.now) l.stop) l.run.left.items
