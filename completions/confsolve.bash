@@ -85,32 +85,47 @@ _confsolve() {
 _confsolve_view() {
     local _confsolve_current _confsolve_option _confsolve_plain _confsolve_named
     COMPREPLY=()
-    _confsolve_read --failed --only --weights
+    _confsolve_read --failed --by-way --only --weights
     [ -z "$_confsolve_option" ] || return
     case ${_confsolve_plain[0]-}:${#_confsolve_plain[@]} in
         :0)
-            _confsolve_words plan picture steps
+            _confsolve_words plan picture steps breaks page
             [[ $_confsolve_current != -* ]] || _confsolve_words --help --version --prove
             ;;
-        plan:1 | plan:2 | picture:1 | steps:1 | steps:2) _confsolve_files .json ;;
+        plan:1 | plan:2 | picture:1 | steps:1 | steps:2 | breaks:2 | page:1) _confsolve_files .json ;;
+        breaks:1) _confsolve_files .conf ;;
+        page:2) _confsolve_files ;;
         plan:*) [[ $_confsolve_current != -* ]] || _confsolve_words --only --weights --table ;;
         picture:*) [[ $_confsolve_current != -* ]] || _confsolve_words --svg --table --failed ;;
-        steps:*) [[ $_confsolve_current != -* ]] || _confsolve_words --failed ;;
+        steps:*) [[ $_confsolve_current != -* ]] || _confsolve_words --failed --by-way ;;
     esac
 }
 
 _confsolve_site() {
     local _confsolve_current _confsolve_option _confsolve_plain _confsolve_named
     COMPREPLY=()
-    _confsolve_read --goal
-    [ -z "$_confsolve_option" ] || { _confsolve_words none fewest; return; }
+    _confsolve_read --goal --extra --from
+    case $_confsolve_option in
+        --goal) _confsolve_words none fewest keep spread:; return ;;
+        --extra) _confsolve_files .conf; return ;;
+        --from) _confsolve_files .json; return ;;
+    esac
     case ${_confsolve_plain[0]-}:${#_confsolve_plain[@]} in
         :0)
-            _confsolve_words model
+            _confsolve_words model former table
             [[ $_confsolve_current != -* ]] || _confsolve_words --help --version --prove
             ;;
-        model:1 | model:2) _confsolve_files .csv ;;
-        model:3) [[ $_confsolve_current != -* ]] || _confsolve_words --goal ;;
+        *:1 | *:2 | former:3) _confsolve_files .csv ;;
+        model:3)
+            if [[ $_confsolve_current == -* ]]; then
+                _confsolve_words --goal --extra
+            else
+                _confsolve_files .csv
+            fi
+            ;;
+        model:4) [[ $_confsolve_current != -* ]] || _confsolve_words --goal --extra ;;
+        table:3) _confsolve_files .json ;;
+        table:4) [[ $_confsolve_current != -* ]] || _confsolve_words --from ;;
     esac
 }
 
