@@ -6,9 +6,8 @@ ghost use Rattle.serde_json.specs.View.{view};
 ghost use Rattle.view_steps.specs.Runs.{IsRun};
 ghost use Rattle.view_steps.specs.Steps.{Site};
 
-use crate::halts::{
-    Halts, Heap, Queue, Waiting, all_fresh, is_late, lacking, next_halt, room_at, stir,
-};
+use crate::halts::{Halts, Queue, all_fresh, is_late, lacking, next_halt, room_at, stir};
+use crate::lines::{Waiting, join, release};
 use crate::moves::{Move, from_word, to_word};
 use crate::rooms::Rooms;
 use crate::run::{Run, halt, is_fit, make, may_halt};
@@ -74,12 +73,12 @@ fn wait_at<'t>(
     if let (Some(word), Some((size, amount))) = (word, lack) {
         if size < agenda.waiting.len() {
             let map = &mut agenda.waiting[size];
-            let mut heap = match map.swap_remove(word.as_bytes()) {
-                Some(heap) => heap,
-                None => BinaryHeap::new(alloc),
+            let mut lines = match map.swap_remove(word.as_bytes()) {
+                Some(lines) => lines,
+                None => Vec::new(alloc),
             };
-            heap.push(Reverse((amount, number)))?;
-            map.insert(word.as_bytes(), heap)?;
+            join(alloc, &mut lines, &agenda.halts.patient, amount, number)?;
+            map.insert(word.as_bytes(), lines)?;
             stir(&mut agenda.halts, &agenda.waiting, rooms, word)?;
         }
     }
@@ -104,50 +103,35 @@ fn wait<'t>(
     }
 }
 
-/// Makes ready what now has room.
-fn release(
-    ready: &mut Queue,
-    patient: &[bool],
-    heap: &mut Heap,
-    room: i128,
-) -> Result<(), AllocError> {
-    for _ in 0..heap.len() {
-        match heap.peek() {
-            Some(Reverse((amount, number))) if *amount <= room => {
-                let number = *number;
-                ready.push(Reverse((is_late(patient, number), number)))?;
-            }
-            _ => return Ok(()),
-        }
-        heap.pop();
-    }
-    Ok(())
-}
-
-/// Makes ready what waits for this size of a holder, where it has room now.
+/// Makes ready the first that waits for this size of a holder and has room now.
 fn wake_size(
     agenda: &mut Agenda<'_>,
-    rooms: &Rooms<'_>,
+    run: &Run<'_, '_, '_>,
     word: &str,
     size: usize,
 ) -> Result<(), AllocError> {
     if size < agenda.waiting.len() {
-        if let Some(room) = room_at(rooms, word, size) {
-            if let Some(heap) = agenda.waiting[size].get_mut(word.as_bytes()) {
-                release(&mut agenda.ready, &agenda.halts.patient, heap, room)?;
+        if let Some(room) = room_at(&run.rooms, word, size) {
+            if let Some(lines) = agenda.waiting[size].get_mut(word.as_bytes()) {
+                release(&mut agenda.ready, lines, room, &run.left, &agenda.indices)?;
             }
         }
     }
     Ok(())
 }
 
-/// Makes ready what waits for a holder and now has room there.
-fn wake(agenda: &mut Agenda<'_>, rooms: &Rooms<'_>, word: Option<&str>) -> Result<(), AllocError> {
+/// Makes ready the first that waits for a holder and now has room there, for each size. The next one
+/// is made ready when this one was tried.
+fn wake(
+    agenda: &mut Agenda<'_>,
+    run: &Run<'_, '_, '_>,
+    word: Option<&str>,
+) -> Result<(), AllocError> {
     if let Some(word) = word {
         for size in 0..agenda.waiting.len() {
-            wake_size(agenda, rooms, word, size)?;
+            wake_size(agenda, run, word, size)?;
         }
-        stir(&mut agenda.halts, &agenda.waiting, rooms, word)?;
+        stir(&mut agenda.halts, &agenda.waiting, &run.rooms, word)?;
     }
     Ok(())
 }
@@ -169,15 +153,16 @@ fn attempt<'t>(
     if index >= run.left.len() || run.left[index].number != number {
         return Ok(());
     }
-    if !is_fit(&run.rooms, &run.left[index]) {
-        return wait(alloc, agenda, &run.rooms, &run.left[index]);
-    }
     let from = from_word(&run.left[index].line.change);
     let to = to_word(&run.left[index].line.change);
-    make(alloc, run, index)?;
-    note_index(run, agenda, index);
-    wake(agenda, &run.rooms, from)?;
-    wake(agenda, &run.rooms, to)
+    if is_fit(&run.rooms, &run.left[index]) {
+        make(alloc, run, index)?;
+        note_index(run, agenda, index);
+    } else {
+        wait(alloc, agenda, &run.rooms, &run.left[index])?;
+    }
+    wake(agenda, run, from)?;
+    wake(agenda, run, to)
 }
 
 /// Tries to send a move to the stop, and says whether one went there.
@@ -207,7 +192,7 @@ fn attempt_halt<'t>(
             let from = from_word(&run.left[index].line.change);
             halt(alloc, run, index, stop)?;
             note_halted(run, agenda, index)?;
-            wake(agenda, &run.rooms, from)?;
+            wake(agenda, run, from)?;
             Ok(true)
         }
     }

@@ -1,6 +1,7 @@
 //! Which move to send to the stop: the first that fits there and whose going makes room for one that
 //! waits; where there is none, the first that fits there. They are looked at by number, the urgent
 //! ones first. Nothing rests on this: what is to go is asked once more whether it may.
+use crate::lines::{Waiting, least};
 use crate::moves::{Move, from_word, to_stop};
 use crate::rooms::{Rooms, allowed, amount_at};
 use crate::run::{Run, may_halt};
@@ -11,13 +12,10 @@ use std::cmp::Reverse;
 use std::collections::BinaryHeap;
 
 /// Moves by number, the one that needs least room on top.
-pub(crate) type Heap = BinaryHeap<Reverse<(i128, usize)>>;
+type Heap = BinaryHeap<Reverse<(i128, usize)>>;
 
 /// Moves in the order in which they are tried: whether they are patient, and their number.
 pub(crate) type Queue = BinaryHeap<Reverse<(bool, usize)>>;
-
-/// The moves that wait for a holder's room, by its spelling.
-pub(crate) type Waiting<'t> = IndexMap<&'t [u8], Heap>;
 
 /// Moves by number, the one that makes most room on top, by the spelling of where they stand.
 type Asleep<'t> = IndexMap<&'t [u8], BinaryHeap<(i128, usize)>>;
@@ -119,10 +117,7 @@ fn gap(waiting: &[Waiting<'_>], rooms: &Rooms<'_>, word: &str, size: usize) -> O
         return None;
     }
     let room = room_at(rooms, word, size)?;
-    match waiting[size].get(word.as_bytes())?.peek() {
-        None => None,
-        Some(Reverse((amount, _))) => amount.checked_sub(room),
-    }
+    least(waiting[size].get(word.as_bytes())?)?.checked_sub(room)
 }
 
 /// Whether a move makes room for one that waits.
