@@ -5,3 +5,4 @@ pub mod Points
 pub mod Named
 pub mod Crowding
 pub mod FixedItems
+pub mod Gaps

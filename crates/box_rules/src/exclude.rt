@@ -15,13 +15,14 @@ use crate::packing::excludes_packing;
 use box_view::View;
 use ground_form::{Con, Number};
 
-/// Whether the constraint is refuted in the boxes that the view stands for.
+/// Whether the constraint is refuted in the boxes that the view stands for. The rule is asked
+/// first: where a clause is justified it nearly always tells, and then no variable is asked for.
 pub fn refutes_in<V: View>(con: &Con, view: &V) -> bool
     requires named { IsNamed con.now (V.boxes view.now) }
     requires bounded { IsBounded con.now (V.outer view.now) }
     ensures { result ≡ refuted con.now (V.boxes view.now) }
 {
-    has_empty(con, view) || excludes(con, view)
+    excludes(con, view) || has_empty(con, view)
 }
 
 /// Whether the rule of the constraint's kind excludes the boxes.

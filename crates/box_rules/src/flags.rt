@@ -3,13 +3,14 @@
 //!
 //! One function for each rule, and small ones that ask of one variable. None takes memory; a list
 //! is walked once, up to the first item that decides.
-ghost use Rattle.std.specs.Prelude.{◌≡◌, ◌<◌, ◌&&◌, ◌||◌, not, pos, true, false, length};
+ghost use Rattle.std.specs.Prelude.{◌≡◌, ◌<◌, ◌&&◌, ◌||◌, not, pos, int_le, int_lt, true, false, length};
 ghost use Rattle.std.specs.List.{All};
 ghost use Rattle.signed_clause.specs.Ranges.{has};
 ghost use Rattle.signed_clause.specs.SetAlgebra.{is_disjoint, is_within};
 ghost use Rattle.signed_clause.specs.Clauses.{box_of, false_in};
 ghost use Rattle.ground_form.specs.Meaning.{bit};
 ghost use Rattle.ground_form.specs.Bounds.{low_of, high_of};
+ghost use Rattle.box_rules.specs.Gaps.{IsGap};
 ghost use Rattle.box_rules.specs.Refuted.{fixed_at, barred, some_barred, all_fixed, same_single, none_picked};
 
 use box_view::View;
@@ -172,7 +173,70 @@ fn is_not_picked<V: View>(view: &V, out: u32, index: u32, t: (i64, u32)) -> bool
     !view.has(index, t.0) || view.are_disjoint(t.1, out)
 }
 
-/// The rule of an element.
+/// Numbers from one up to another one, this one left out, none of which the index's box has.
+#[derive(Clone, Copy)]
+pub struct Gap {
+    /// The first of them.
+    pub from: Number,
+    /// The one behind them.
+    pub to: Number,
+}
+
+/// Whether the item's value is in the gap.
+fn is_in_gap(gap: Gap, t: (i64, u32)) -> bool
+    ensures { result ≡ (int_le gap.from.value t.0 && int_lt t.0 gap.to.value) }
+{
+    gap.from.value <= t.0 && t.0 < gap.to.value
+}
+
+/// The gap that begins with the number; it is empty where the index's box has that.
+fn gap_from<V: View>(view: &V, index: u32, from: Number) -> Gap
+    requires { index < length (V.boxes view.now) }
+    ensures { IsGap (box_of (V.boxes view.now) index) result }
+{
+    match view.first_from(index, from) {
+        Some(to) => Gap { from, to },
+        None => Gap {
+            from,
+            to: Number { value: i64::MAX },
+        },
+    }
+}
+
+/// The item's value.
+fn value_of(t: (i64, u32)) -> Number
+    ensures { result.value ≡ t.0 }
+{
+    Number { value: t.0 }
+}
+
+/// Whether the item can't be picked, which a gap may tell at once.
+fn is_passed_over<V: View>(view: &V, out: u32, index: u32, gap: Gap, t: (i64, u32)) -> bool
+    requires out { out < length (V.boxes view.now) }
+    requires index { index < length (V.boxes view.now) }
+    requires item { t.1 < length (V.boxes view.now) }
+    requires gap { IsGap (box_of (V.boxes view.now) index) gap }
+    ensures { result ≡ (not (has (box_of (V.boxes view.now) index) t.0)
+        || is_disjoint (box_of (V.boxes view.now) t.1) (box_of (V.boxes view.now) out)) }
+{
+    is_in_gap(gap, t) || is_not_picked(view, out, index, t)
+}
+
+/// The gap for the items behind this one: another one where the index's box lacks its value.
+fn next_gap<V: View>(view: &V, index: u32, gap: Gap, t: (i64, u32)) -> Gap
+    requires index { index < length (V.boxes view.now) }
+    requires gap { IsGap (box_of (V.boxes view.now) index) gap }
+    ensures { IsGap (box_of (V.boxes view.now) index) result }
+{
+    if is_in_gap(gap, t) || view.has(index, t.0) {
+        gap
+    } else {
+        gap_from(view, index, value_of(t))
+    }
+}
+
+/// The rule of an element. Items whose values lie between two values of the index's box are passed
+/// over by a comparison, where they stand in the order of their values.
 pub fn excludes_element<V: View>(view: &V, out: u32, index: u32, items: &[(i64, u32)]) -> bool
     requires out { out < length (V.boxes view.now) }
     requires index { index < length (V.boxes view.now) }
@@ -180,10 +244,12 @@ pub fn excludes_element<V: View>(view: &V, out: u32, index: u32, items: &[(i64, 
     ensures { result ≡ none_picked (box_of (V.boxes view.now) out) (box_of (V.boxes view.now) index)
         items.now (V.boxes view.now) }
 {
+    let mut gap = gap_from(view, index, Number { value: i64::MIN });
     for t in items {
-        if !is_not_picked(view, out, index, *t) {
+        if !is_passed_over(view, out, index, gap, *t) {
             return false;
         }
+        gap = next_gap(view, index, gap, *t);
     }
     true
 }
