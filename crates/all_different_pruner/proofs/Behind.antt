@@ -15,7 +15,7 @@ use Rattle.box_rules.proofs.CrowdLaws.{in_parts, in_from, at_least}
 use Rattle.box_view.proofs.EndLaws.{has_high}
 use Rattle.signed_clause.proofs.RangeLaws.{Ascends-ends}
 use Rattle.signed_clause.proofs.RangeSteps.{left_at}
-use Rattle.all_different_pruner.specs.Intervals.{is_outside, AreOutside, IsFixpointAt, IsFixpointFrom, AreAtFixpoint, is_narrow}
+use Rattle.all_different_pruner.specs.Intervals.{is_outside, AreOutside, IsFixpointAt, IsFixpointFrom, AreSwept, begins_sweep}
 use Rattle.all_different_pruner.specs.Counters.{begins_in, count_begun, reaches}
 use Rattle.all_different_pruner.specs.Sweeps.{ReachesEnd, IsFixpointBehind, ArePassed, IsKept, newest}
 use Rattle.all_different_pruner.proofs.FixpointQuiet.{disjoint_none}
@@ -238,9 +238,9 @@ none_map P Q (Some x) f k = k
 
 -- ---- one variable more
 
-fixpoint_cons : (x : ℕ) (ys xs : List ℕ) (boxes : Boxes) → (is_narrow (length xs) (box_of boxes x) ≡ true → IsFixpointFrom (low_of (box_of boxes x)) xs boxes) → AreAtFixpoint ys xs boxes → AreAtFixpoint (x ∷ ys) xs boxes
-fixpoint_cons x ys xs boxes here rest zero d lt = here
-fixpoint_cons x ys xs boxes here rest (suc k) d lt = rest k d (omega arith)
+swept_cons : (x : ℕ) (ys xs : List ℕ) (boxes : Boxes) → (begins_sweep (length xs) (box_of boxes x) ≡ true → IsFixpointFrom (low_of (box_of boxes x)) xs boxes) → AreSwept ys xs boxes → AreSwept (x ∷ ys) xs boxes
+swept_cons x ys xs boxes here rest zero d lt = here
+swept_cons x ys xs boxes here rest (suc k) d lt = rest k d (omega arith)
 
-pub fixpoint_step : (xs : List ℕ) (boxes : Boxes) (k x : ℕ) → k < length xs → x ≡ get_or xs k 0 → (is_narrow (length xs) (box_of boxes x) ≡ true → IsFixpointFrom (low_of (box_of boxes x)) xs boxes) → AreAtFixpoint (drop (k + 1) xs) xs boxes → AreAtFixpoint (drop k xs) xs boxes
-fixpoint_step xs boxes k x h e here rest = subst (λ (z : List ℕ). AreAtFixpoint z xs boxes) (sym (left_at xs k x 0 h e)) (fixpoint_cons x (drop (k + 1) xs) xs boxes here rest)
+pub swept_step : (xs : List ℕ) (boxes : Boxes) (k x : ℕ) → k < length xs → x ≡ get_or xs k 0 → (begins_sweep (length xs) (box_of boxes x) ≡ true → IsFixpointFrom (low_of (box_of boxes x)) xs boxes) → AreSwept (drop (k + 1) xs) xs boxes → AreSwept (drop k xs) xs boxes
+swept_step xs boxes k x h e here rest = subst (λ (z : List ℕ). AreSwept z xs boxes) (sym (left_at xs k x 0 h e)) (swept_cons x (drop (k + 1) xs) xs boxes here rest)

@@ -7,3 +7,5 @@ pub mod Kept
 pub mod DiffReasons
 pub mod DiffExplained
 pub mod Taking
+pub mod SingleLaws
+pub mod SweepLaws

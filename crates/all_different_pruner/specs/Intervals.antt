@@ -1,9 +1,9 @@
 -- Intervals in which variables that differ stand close. What a reader believes after this file:
 -- where no narrow box begins a crowded interval, and each full one keeps the other boxes out, the
 -- variables are at a fixpoint.
-use Rattle.std.specs.Prelude.{◌≡◌, ℕ, suc, ◌<◌, ◌≤◌, ◌≤ℤ◌, Bool, true, false, ◌||◌, List, [], ◌∷◌, ℤ, pos, ◌+ℤ◌, length, nat_lt}
+use Rattle.std.specs.Prelude.{◌≡◌, ℕ, suc, ◌<◌, ◌≤◌, ◌≤ℤ◌, Bool, true, false, not, ◌&&◌, ◌||◌, ◌==◌, List, [], ◌∷◌, ℤ, pos, ◌+ℤ◌, length, nat_lt, int_lt}
 use Rattle.std.specs.List.{All}
-use Rattle.signed_clause.specs.Ranges.{Ranges}
+use Rattle.signed_clause.specs.Ranges.{Ranges, has}
 use Rattle.signed_clause.specs.SetAlgebra.{is_disjoint}
 use Rattle.signed_clause.specs.Clauses.{Boxes, box_of}
 use Rattle.ground_form.specs.Bounds.{low_of, high_of}
@@ -33,7 +33,38 @@ IsFixpointFrom a xs boxes = (d : ℕ) → d < length xs → IsFixpointAt a d xs 
 abbrev pub is_narrow : ℕ → Ranges → Bool
 is_narrow n box = nat_lt (width (low_of box) (high_of box)) n
 
--- that is so from where any narrow box of the first list begins
+-- the same, and it has more than one: a sweep begins where it does
+abbrev pub begins_sweep : ℕ → Ranges → Bool
+begins_sweep n box = int_lt (low_of box) (high_of box) && is_narrow n box
+
+-- all intervals are so from where a sweep begins for a box of the first list
+abbrev pub AreSwept : List ℕ → List ℕ → Boxes → Type 0
+AreSwept ys xs boxes =
+    All (λ y. begins_sweep (length xs) (box_of boxes y) ≡ true
+    → IsFixpointFrom (low_of (box_of boxes y)) xs boxes) ys
+
+-- at most one box is the value alone, and the others don't have it
+pub record IsAlone (a : ℤ) (xs : List ℕ) (boxes : Boxes) : Type 0 where
+  pub few : count_in a a xs boxes ≤ 1
+  pub outside : AreOutside a a xs boxes
+
+-- that is so of the value of each box of the first list that has one value
+abbrev pub AreAlone : List ℕ → List ℕ → Boxes → Type 0
+AreAlone ys xs boxes =
+    All (λ y. int_lt (low_of (box_of boxes y)) (high_of (box_of boxes y)) ≡ false
+    → IsAlone (low_of (box_of boxes y)) xs boxes) ys
+
+-- y is another variable of the list than x, and can have the value
+pub record IsRival (x : ℕ) (a : ℤ) (y : ℕ) (xs : List ℕ) (boxes : Boxes) : Type 0 where
+  pub differ : y ≡ x → ⊥
+  pub there : has_number y xs ≡ true
+  pub can : has (box_of boxes y) a ≡ true
+
+-- no other variable of the list than x can have it
+abbrev pub HaveNoRival : ℕ → ℤ → List ℕ → Boxes → Type 0
+HaveNoRival x a xs boxes = All (λ y. (y == x || not (has (box_of boxes y) a)) ≡ true) xs
+
+-- all intervals are so from where any narrow box of the first list begins
 abbrev pub AreAtFixpoint : List ℕ → List ℕ → Boxes → Type 0
 AreAtFixpoint ys xs boxes =
     All (λ y. is_narrow (length xs) (box_of boxes y) ≡ true

@@ -1,20 +1,21 @@
 //! The sweep for crowded and full intervals, known as Hall intervals: from where each narrow box
-//! begins, interval by interval.
+//! begins, interval by interval, but for boxes of one number (`single_values`).
 //!
 //! Two rows of counters tell for all intervals from one beginning how many boxes begin and end in
 //! them.
 ghost use Rattle.std.specs.Prelude.{◌≡◌, ◌<◌, ◌≤◌, ◌≤ℤ◌, ◌+ℤ◌, ℕ, suc, pos, true, false, ◌⊎◌, ◌==◌, ◌&&◌, nat_lt, IfOk, IfSome, IfNone, length};
 ghost use Rattle.std.specs.List.{All};
-ghost use Rattle.signed_clause.specs.Ranges.{IsValid};
+ghost use Rattle.signed_clause.specs.Ranges.{IsValid, is_nil};
 ghost use Rattle.signed_clause.specs.Clauses.{box_of};
 ghost use Rattle.ground_form.specs.Bounds.{low_of};
 ghost use Rattle.box_rules.specs.Refuted.{count_in};
-ghost use Rattle.all_different_pruner.specs.Intervals.{AreOutside, IsFinding, IsFixpointFrom, AreAtFixpoint, is_narrow};
+ghost use Rattle.rule_law.specs.Reasons.{no_repeat};
+ghost use Rattle.all_different_pruner.specs.Intervals.{AreOutside, IsFinding, IsFixpointFrom, AreSwept, AreAtFixpoint, begins_sweep};
 ghost use Rattle.all_different_pruner.specs.Counters.{total, count_begun, reaches};
 ghost use Rattle.all_different_pruner.specs.Sweeps.{ReachesEnd, IsFixpointBehind, newest, IsKept};
 
 use crate::counters::{count_ends, count_starts, with_slot};
-use crate::interval::{Finding, intruder, is_narrow};
+use crate::interval::{Finding, begins_sweep, intruder};
 use crate::single_values::find_single;
 use box_view::ends_in_order;
 use ground_form::Number;
@@ -196,14 +197,14 @@ fn look(
     Ok(found)
 }
 
-/// The least value of the box of `x`, where the box is narrow for `n` variables.
-fn narrow_start(boxes: &[IntSet], x: u32, n: usize) -> Option<Number>
+/// The least value of the box of `x`, where a sweep begins there for `n` variables.
+fn sweep_start(boxes: &[IntSet], x: u32, n: usize) -> Option<Number>
     requires { x < length boxes.now }
     ensures some { IfSome result (λ a. a.value ≡ low_of (box_of boxes.now x)) }
-    ensures none { IfNone result (is_narrow n (box_of boxes.now x) ≡ false) }
+    ensures none { IfNone result (begins_sweep n (box_of boxes.now x) ≡ false) }
 {
     let set = &boxes[x as usize];
-    if is_narrow(set, n) {
+    if begins_sweep(set, n) {
         Some(Number {
             value: ends_in_order(set).0,
         })
@@ -212,7 +213,7 @@ fn narrow_start(boxes: &[IntSet], x: u32, n: usize) -> Option<Number>
     }
 }
 
-/// What is found from where the box of `x` begins, where it is narrow.
+/// What is found from where the box of `x` begins, where a sweep begins there.
 fn look_at(
     alloc: Global,
     counters: &mut Counters,
@@ -224,16 +225,16 @@ fn look_at(
     requires sets { All (λ s. IsValid s) boxes.now }
     requires var { x < length boxes.now }
     ensures some { IfOk result (λ r. IfSome r (λ f. IsFinding f vars.now boxes.now)) }
-    ensures none { IfOk result (λ r. IfNone r (is_narrow (length vars.now) (box_of boxes.now x)
+    ensures none { IfOk result (λ r. IfNone r (begins_sweep (length vars.now) (box_of boxes.now x)
         ≡ true → IsFixpointFrom (low_of (box_of boxes.now x)) vars.now boxes.now)) }
 {
-    match narrow_start(boxes, x, vars.len()) {
+    match sweep_start(boxes, x, vars.len()) {
         Some(a) => look(alloc, counters, vars, boxes, a),
         None => Ok(None),
     }
 }
 
-/// What is found from where narrow boxes begin. It takes no memory where no box is narrow.
+/// What is found by sweeps. It takes no memory where none begins.
 fn sweep(
     alloc: Global,
     counters: &mut Counters,
@@ -243,7 +244,7 @@ fn sweep(
     requires named { All (λ x. x < length boxes.now) vars.now }
     requires sets { All (λ s. IsValid s) boxes.now }
     ensures some { IfOk result (λ r. IfSome r (λ f. IsFinding f vars.now boxes.now)) }
-    ensures none { IfOk result (λ r. IfNone r (AreAtFixpoint vars.now vars.now boxes.now)) }
+    ensures none { IfOk result (λ r. IfNone r (AreSwept vars.now vars.now boxes.now)) }
 {
     for x in vars {
         let found = look_at(alloc, counters, vars, boxes, *x)?;
@@ -255,6 +256,7 @@ fn sweep(
 }
 
 /// What is found of the variables: nothing where they are at a fixpoint.
+#[tactic(auto, using(crate::proofs::SweepLaws::at_fixpoint))]
 pub fn find(
     alloc: Global,
     counters: &mut Counters,
@@ -263,10 +265,12 @@ pub fn find(
 ) -> Result<Option<Finding>, AllocError>
     requires named { All (λ x. x < length boxes.now) vars.now }
     requires sets { All (λ s. IsValid s) boxes.now }
+    requires some { (x : ℕ) → x < length boxes.now → is_nil (box_of boxes.now x) ≡ false }
+    requires once { no_repeat vars.now ≡ true }
     ensures some { IfOk result (λ r. IfSome r (λ f. IsFinding f vars.now boxes.now)) }
     ensures none { IfOk result (λ r. IfNone r (AreAtFixpoint vars.now vars.now boxes.now)) }
 {
-    let single = find_single(alloc, vars, boxes);
+    let single = find_single(vars, boxes);
     if single.is_some() {
         return Ok(single);
     }

@@ -5,7 +5,7 @@ ghost use Rattle.signed_clause.specs.Ranges.{IsValid};
 ghost use Rattle.signed_clause.specs.Clauses.{box_of};
 ghost use Rattle.ground_form.specs.Bounds.{low_of, high_of};
 ghost use Rattle.box_rules.specs.Refuted.{lies_in, width, count_in};
-ghost use Rattle.all_different_pruner.specs.Intervals.{is_narrow, is_outside, AreOutside, IsIntruder};
+ghost use Rattle.all_different_pruner.specs.Intervals.{is_narrow, begins_sweep, is_outside, AreOutside, IsIntruder};
 ghost use Rattle.all_different_pruner.specs.Counters.{is_upto, begins_in};
 
 use box_view::ends_in_order;
@@ -24,11 +24,19 @@ pub enum Finding {
 }
 
 /// Whether the box has fewer than `n` numbers between its ends.
-pub fn is_narrow(set: &IntSet, n: usize) -> bool
+fn is_narrow(set: &IntSet, n: usize) -> bool
     ensures { result ≡ is_narrow n set.now }
 {
     let ends = ends_in_order(set);
     1 < n && ends.1.abs_diff(ends.0) < n as u64 - 1
+}
+
+/// Whether the box has more than one number, and fewer than `n` between its ends.
+pub fn begins_sweep(set: &IntSet, n: usize) -> bool
+    ensures { result ≡ begins_sweep n set.now }
+{
+    let ends = ends_in_order(set);
+    ends.0 < ends.1 && is_narrow(set, n)
 }
 
 /// How far the box ends from `a`, where it begins no earlier and that is below `n`.
