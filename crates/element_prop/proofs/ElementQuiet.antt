@@ -12,7 +12,6 @@ use Rattle.signed_clause.specs.Clauses.{Boxes, box_of}
 use Rattle.signed_clause.proofs.SetFacts.{within_law}
 use Rattle.ground_form.specs.declared.con.Con.{Con}
 use Rattle.ground_form.specs.declared.con.Con.TheVariants.{ElementDef}
-use Rattle.ground_form.specs.Meaning.{term_vars, vars_of}
 use Rattle.ground_form.specs.WellMade.{IsWellMadeCon, lacks_value}
 use Rattle.box_rules.specs.Refuted.{none_picked}
 use Rattle.box_view.specs.Views.{fixing}

@@ -10,3 +10,4 @@ pub mod OfferLaws
 pub mod OutsideLaws
 pub mod ItemCount
 pub mod NearLaws
+pub mod WalkLaws

@@ -1,16 +1,14 @@
 -- What is found of an element in the boxes. What a reader believes after this file: which clauses
 -- an element has to state there, where its variables are different, and when it has nothing to
 -- state.
-use Rattle.std.specs.Prelude.{◌≡◌, ℕ, suc, ◌<◌, ◌≤◌, Bool, true, false, not, ◌&&◌, ◌||◌, cond, ◌==◌, List, [], ◌∷◌, ℤ, length, slice_index_or, ◌⊎◌}
+use Rattle.std.specs.Prelude.{◌≡◌, ℕ, suc, ◌≤◌, Bool, true, false, not, ◌&&◌, ◌||◌, cond, ◌==◌, List, [], ◌∷◌, ℤ, ◌⊎◌}
 use Rattle.signed_clause.specs.Ranges.{Ranges, has, count_of}
 use Rattle.signed_clause.specs.SetAlgebra.{is_disjoint, is_within, less}
 use Rattle.signed_clause.specs.Clauses.{Boxes, Literals, box_of}
 use Rattle.box_rules.specs.Refuted.{fixed_at}
 use Rattle.box_rules.specs.Quiet.{probed}
-use Rattle.element_prop.specs.declared.element.Finding.{Finding}
 use Rattle.element_prop.specs.declared.element.Further.{Further}
 use Rattle.element_prop.specs.declared.element.Further.TheVariants.{Idle, Unoffered, OutOfSet}
-use Rattle.element_prop.specs.declared.element.Finding.TheVariants.{Open, Item, Out}
 
 -- the index can be the value though the boxes have no common value, or is it though the one box
 -- isn't inside the other
@@ -142,13 +140,3 @@ IsFurther items o x boxes (OutOfSet y) =
     (some_with items y (box_of boxes o) (box_of boxes x) boxes ≡ true)
     × (some_other items y (box_of boxes o) (box_of boxes x) boxes ≡ false)
     × (is_within (box_of boxes y) (box_of boxes o) ≡ false)
-
--- what a finding says
-abbrev pub Says : List (ℤ × ℕ) → Ranges → Ranges → Boxes → Finding → Type 0
-Says items out index boxes Open = all_meet items out index boxes ≡ true
-Says items out index boxes (Item i) =
-    (i < length items) × ((d : ℤ × ℕ) → HasToPick index (slice_index_or items i d).0
-    (box_of boxes (slice_index_or items i d).1) out)
-Says items out index boxes (Out i) =
-    (i < length items) × ((d : ℤ × ℕ) → HasToPick index (slice_index_or items i d).0 out
-    (box_of boxes (slice_index_or items i d).1))

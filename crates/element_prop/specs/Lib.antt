@@ -4,3 +4,4 @@ pub mod Equalities
 pub mod Conditionals
 pub mod Elements
 pub mod Near
+pub mod Walks

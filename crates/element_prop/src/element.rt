@@ -15,35 +15,57 @@
 //!
 //! Only items that the index may pick are looked at (`near`), so a call costs no more where the
 //! index is nearly known, however many items there are.
-ghost use Rattle.std.specs.Prelude.{◌≡◌, ◌<◌, ◌≤◌, ◌&&◌, ◌||◌, ◌++◌, ◌∷◌, [], ◌↔◌, IsTrue, not, cond, true, false, IfOk, OnOk, IfSome, IfNone, length, slice_index_or};
+ghost use Rattle.std.specs.Prelude.{◌≡◌, ◌<◌, ◌≤◌, ◌==◌, ◌&&◌, ◌||◌, ◌++◌, ◌∷◌, [], ◌↔◌, IsTrue, not, cond, true, false, IfOk, OnOk, IfSome, IfNone, length, slice_index_or};
 ghost use Rattle.std.specs.List.{All};
 ghost use Rattle.signed_clause.specs.Ranges.{has, is_nil, count_of, IsValid};
 ghost use Rattle.signed_clause.specs.SetAlgebra.{is_disjoint, less};
 ghost use Rattle.signed_clause.specs.Clauses.{Literals, box_of};
 ghost use Rattle.ground_form.specs.declared.con.Con.TheVariants.{ElementDef};
 ghost use Rattle.ground_form.specs.Meaning.{vars_of};
-ghost use Rattle.ground_form.specs.WellMade.{IsWellMadeCon};
+ghost use Rattle.ground_form.specs.WellMade.{IsWellMadeCon, distinct_values};
 ghost use Rattle.rule_law.specs.Answers.{AreBoxesWithin, IsAnswer, IsPruning};
 ghost use Rattle.rule_law.specs.Reasons.{IsReason, no_repeat};
 ghost use Rattle.box_rules.specs.Refuted.{none_picked};
 ghost use Rattle.box_rules.specs.Quiet.{probed};
 ghost use Rattle.rule_law.specs.Plans.{literals_of};
-ghost use Rattle.element_prop.specs.Elements.{HasToPick, pick_plan, Says, all_meet, count_possible, some_other, without_one, without_items, without_boxes, out_plan, some_offers, all_offered, lacks_var, AreHeadsDifferent, IsFurther};
+ghost use Rattle.element_prop.specs.Elements.{HasToPick, pick_plan, all_meet, count_possible, some_other, without_one, without_items, without_boxes, out_plan, some_offers, all_offered, lacks_var, AreHeadsDifferent, IsFurther};
 ghost use Rattle.element_prop.specs.Near.{IsNear};
+ghost use Rattle.element_prop.specs.Walks.{AreApart, Says, Tells};
 
 use crate::equality::{alone, is_value};
-use crate::near::{Near, near_items, possible_items};
+use crate::near::{Near, all_items, is_possible, near_items, possible_items};
 use crate::offers::unoffered;
 use ground_form::Number;
 use rule_law::{Repeats, Subject, keep_out, planned_pruning, probe, pruning};
 use signed_clause::{Clause, IntSet};
 use std::alloc::{AllocError, Global};
 
+/// What was met on a walk over items each of which can be out.
+#[derive(Clone, Copy)]
+pub struct Met {
+    /// Of how many of them the index can have the value.
+    pub count: usize,
+    /// Whether none of these has the variable of out or of the index.
+    pub apart: bool,
+}
+
+/// What a walk over some of the items tells.
+#[derive(Clone, Copy)]
+pub enum Walk {
+    /// No single one of them tells anything.
+    Met(Met),
+    /// The index isn't the value of the item at the index, or the item has a value that out's box
+    /// has.
+    Item(usize),
+    /// The same, with out and the item exchanged.
+    Out(usize),
+}
+
 /// What the items tell.
 #[derive(Clone, Copy)]
 pub enum Finding {
-    /// No single item tells anything.
-    Open,
+    /// No single item tells anything; these are all that the index may pick.
+    Open(Near),
     /// The index isn't the value of the item at the index, or the item has a value that out's box
     /// has.
     Item(usize),
@@ -63,44 +85,150 @@ pub enum Further {
 }
 
 /// Whether the index can be the item's value though its box and that of out have no common value,
-/// or is it though the item's box isn't inside that of out.
-fn is_item_out(t: (i64, u32), out: &IntSet, index: &IntSet, boxes: &[IntSet]) -> bool
-    requires { t.1 < length boxes.now }
+/// or is it though the item's box isn't inside that of out. The latter is asked only where the
+/// index is said to be a single value.
+fn is_item_out(
+    t: (i64, u32),
+    can: bool,
+    single: bool,
+    out: &IntSet,
+    index: &IntSet,
+    boxes: &[IntSet],
+) -> bool
+    requires variable { t.1 < length boxes.now }
+    requires can { can ≡ has index.now t.0 }
     ensures said { result ≡ true → HasToPick index.now t.0 (box_of boxes.now t.1) out.now }
     ensures met { result ≡ false → (not (has index.now t.0)
         || not (is_disjoint (box_of boxes.now t.1) out.now)) ≡ true }
 {
     let at = &boxes[t.1 as usize];
-    index.contains(t.0)
-        && (at.disjoint(out) || (is_value(index, Number { value: t.0 }) && !at.within(out)))
+    can && (at.disjoint(out)
+        || (single && is_value(index, Number { value: t.0 }) && !at.within(out)))
 }
 
-/// Whether the index is the item's value though out's box isn't inside that of the item.
-fn is_out_out(t: (i64, u32), out: &IntSet, index: &IntSet, boxes: &[IntSet]) -> bool
+/// Whether the index, said to be a single value, is the item's value though out's box isn't inside
+/// that of the item.
+fn is_out_out(t: (i64, u32), single: bool, out: &IntSet, index: &IntSet, boxes: &[IntSet]) -> bool
     requires { t.1 < length boxes.now }
     ensures { result ≡ true → HasToPick index.now t.0 out.now (box_of boxes.now t.1) }
 {
-    is_value(index, Number { value: t.0 }) && !out.within(&boxes[t.1 as usize])
+    single && is_value(index, Number { value: t.0 }) && !out.within(&boxes[t.1 as usize])
 }
 
-/// The first item that tells something.
-#[tactic(auto, using(crate::proofs::NearLaws::meet_from, crate::proofs::NearLaws::meet_to))]
-fn find(items: &[(i64, u32)], near: Near, out: &IntSet, index: &IntSet, boxes: &[IntSet]) -> Finding
-    requires items { All (λ t. t.1 < length boxes.now) items.now }
-    requires near { IsNear items.now index.now near }
-    ensures { Says items.now out.now index.now boxes.now result }
+/// The item at the index.
+fn item_at(items: &[(i64, u32)], i: usize) -> (i64, u32)
+    requires { i < length items.now }
+    ensures { (d : _) → result ≡ slice_index_or items.now i d }
 {
+    items[i]
+}
+
+/// Whether the item's variable is neither of two, and none before was.
+fn is_still_apart(apart: bool, t: (i64, u32), vars: (u32, u32)) -> bool
+    ensures before { result ≡ true → apart ≡ true }
+    ensures out { result ≡ true → (t.1 == vars.0) ≡ false }
+    ensures index { result ≡ true → (t.1 == vars.1) ≡ false }
+{
+    apart && t.1 != vars.0 && t.1 != vars.1
+}
+
+/// 1 for an item whose value the index can have, else 0.
+fn count_one(can: bool) -> usize
+    ensures value { result ≡ cond can 1 0 }
+    ensures most { result ≤ 1 }
+{
+    if can { 1 } else { 0 }
+}
+
+/// What the items from one place up to another one tell: the first that tells something.
+fn walk_over(
+    items: &[(i64, u32)],
+    near: Near,
+    vars: (u32, u32),
+    out: &IntSet,
+    index: &IntSet,
+    boxes: &[IntSet],
+) -> Walk
+    requires items { All (λ t. t.1 < length boxes.now) items.now }
+    requires order { near.from ≤ near.to }
+    requires within { near.to ≤ length items.now }
+    ensures { Tells items.now near vars.0 vars.1 out.now index.now boxes.now result }
+{
+    let single = index.is_single();
+    let mut count = 0;
+    let mut apart = true;
     let mut i = near.from;
     while i < near.to {
-        if is_item_out(items[i], out, index, boxes) {
-            return Finding::Item(i);
+        let t = item_at(items, i);
+        let can = is_possible(t, index);
+        if is_item_out(t, can, single, out, index, boxes) {
+            return Walk::Item(i);
         }
-        if is_out_out(items[i], out, index, boxes) {
-            return Finding::Out(i);
+        if is_out_out(t, single, out, index, boxes) {
+            return Walk::Out(i);
         }
+        apart = is_still_apart(apart, t, vars);
+        count += count_one(can);
         i += 1;
     }
-    Finding::Open
+    Walk::Met(Met { count, apart })
+}
+
+/// What the items tell, all of which are looked at.
+fn find_in_all(
+    items: &[(i64, u32)],
+    vars: (u32, u32),
+    out: &IntSet,
+    index: &IntSet,
+    boxes: &[IntSet],
+) -> Finding
+    requires items { All (λ t. t.1 < length boxes.now) items.now }
+    ensures { Says items.now vars.0 vars.1 out.now index.now boxes.now result }
+{
+    let all = all_items(items, index);
+    match walk_over(items, all, vars, out, index, boxes) {
+        Walk::Item(i) => Finding::Item(i),
+        Walk::Out(i) => Finding::Out(i),
+        Walk::Met(met) => Finding::Open(Near {
+            from: all.from,
+            to: all.to,
+            full: false,
+            apart: met.apart,
+        }),
+    }
+}
+
+/// What the items tell. Where those that the index's ends lead to are as many as the index has
+/// values, no other ones are looked at.
+fn find(
+    items: &[(i64, u32)],
+    vars: (u32, u32),
+    out: &IntSet,
+    index: &IntSet,
+    boxes: &[IntSet],
+) -> Finding
+    requires items { All (λ t. t.1 < length boxes.now) items.now }
+    requires distinct { distinct_values items.now ≡ true }
+    requires index { IsValid index.now }
+    ensures { Says items.now vars.0 vars.1 out.now index.now boxes.now result }
+{
+    let guess = near_items(items, index);
+    match walk_over(items, guess, vars, out, index, boxes) {
+        Walk::Item(i) => Finding::Item(i),
+        Walk::Out(i) => Finding::Out(i),
+        Walk::Met(met) => {
+            if index.at_most(met.count as u64) {
+                Finding::Open(Near {
+                    from: guess.from,
+                    to: guess.to,
+                    full: true,
+                    apart: met.apart,
+                })
+            } else {
+                find_in_all(items, vars, out, index, boxes)
+            }
+        }
+    }
 }
 
 /// Whether the index can be the item's value, and the item can be out.
@@ -181,9 +309,12 @@ fn has_var(items: &[(i64, u32)], near: Near, x: u32, index: &IntSet) -> bool
 /// picked.
 fn are_heads_different(items: &[(i64, u32)], near: Near, vars: (u32, u32), index: &IntSet) -> bool
     requires near { IsNear items.now index.now near }
+    requires apart { AreApart items.now near vars.0 vars.1 index.now }
     ensures { result ≡ true → AreHeadsDifferent vars.0 vars.1 items.now index.now }
 {
-    vars.0 != vars.1 && !has_var(items, near, vars.0, index) && !has_var(items, near, vars.1, index)
+    vars.0 != vars.1
+        && (near.apart
+            || (!has_var(items, near, vars.0, index) && !has_var(items, near, vars.1, index)))
 }
 
 /// What there is to find where each value of out that is probed is offered: whether two items of
@@ -432,6 +563,7 @@ fn prune_open(
     requires boxes { AreBoxesWithin subject.domains.now subject.boxes.now }
     requires sets { All (λ d. IsValid d) subject.domains.now }
     requires near { IsNear items.now (box_of subject.boxes.now vars.1) near }
+    requires apart { AreApart items.now near vars.0 vars.1 (box_of subject.boxes.now vars.1) }
     requires domain { vars.1 < length subject.domains.now }
     requires domain_out { vars.0 < length subject.domains.now }
     requires domain_items { All (λ t. t.1 < length subject.domains.now) items.now }
@@ -551,9 +683,8 @@ pub fn prune_element(
     let (con, domains, boxes) = (subject.con, subject.domains, subject.boxes);
     let (out, index) = vars;
     let index_box = &boxes[index as usize];
-    let near = near_items(items, index_box);
-    match find(items, near, &boxes[out as usize], index_box, boxes) {
-        Finding::Open => prune_open(alloc, repeats, k, subject, vars, items, near),
+    match find(items, vars, &boxes[out as usize], index_box, boxes) {
+        Finding::Open(near) => prune_open(alloc, repeats, k, subject, vars, items, near),
         Finding::Item(i) => {
             let t = items[i];
             if !are_different(index, t.1, out) {

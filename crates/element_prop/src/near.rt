@@ -3,12 +3,11 @@
 //! An element over many objects has an item for each, and most calls come with an index that has
 //! few values left. Where items stand in the order of their values, as grounding makes them, two
 //! searches by halves find those of the index's box. No contract promises that order, so what is
-//! found is a guess, and a count tells whether it is right: as many items as the index has values
-//! are all that it may pick, since items' values are distinct. Where they are fewer, all items are
-//! looked at.
-ghost use Rattle.std.specs.Prelude.{◌≡◌, ◌≤◌, ◌+◌, ◌-◌, true, drop, length};
-ghost use Rattle.signed_clause.specs.Ranges.{has, IsValid};
-ghost use Rattle.ground_form.specs.WellMade.{distinct_values};
+//! found is a guess, and the walk over them counts whether it is right: as many items as the index
+//! has values are all that it may pick, since items' values are distinct. Where they are fewer, all
+//! items are looked at.
+ghost use Rattle.std.specs.Prelude.{◌≡◌, ◌≤◌, ◌+◌, ℕ, drop, length};
+ghost use Rattle.signed_clause.specs.Ranges.{has};
 ghost use Rattle.element_prop.specs.Elements.{count_possible};
 ghost use Rattle.element_prop.specs.Near.{IsNear};
 
@@ -24,6 +23,8 @@ pub struct Near {
     pub to: usize,
     /// Whether each value of the index is known to be an item's.
     pub full: bool,
+    /// Whether none of them is known to have the variable of out or of the index.
+    pub apart: bool,
 }
 
 /// The number of a value.
@@ -73,7 +74,7 @@ fn end_of(items: &[(i64, u32)], n: Number) -> usize
 }
 
 /// Whether the index can be the item's value.
-fn is_possible(t: (i64, u32), index: &IntSet) -> bool
+pub fn is_possible(t: (i64, u32), index: &IntSet) -> bool
     ensures { result ≡ has index.now t.0 }
 {
     index.contains(t.0)
@@ -99,40 +100,40 @@ pub fn possible_items(items: &[(i64, u32)], from: usize, to: usize, index: &IntS
 
 /// All items.
 #[tactic(auto, using(crate::proofs::NearLaws::near_all))]
-fn all_items(items: &[(i64, u32)], index: &IntSet) -> Near
+pub fn all_items(items: &[(i64, u32)], index: &IntSet) -> Near
     ensures { IsNear items.now index.now result }
 {
     let near = Near {
         from: 0,
         to: items.len(),
         full: false,
+        apart: false,
     };
     near
 }
 
-/// Where the items stand that the index may pick. It costs two searches by halves, and a walk over
-/// these items.
-#[tactic(auto, using(crate::proofs::NearLaws::near_counted))]
+/// The place, but no earlier one than the other.
+fn later(at: usize, from: usize) -> usize
+    ensures order { from ≤ result }
+    ensures within { (n : ℕ) → at ≤ n → from ≤ n → result ≤ n }
+{
+    if at < from { from } else { at }
+}
+
+/// Where the items stand that the index may pick, where items ascend; else some places. It costs
+/// two searches by halves.
 pub fn near_items(items: &[(i64, u32)], index: &IntSet) -> Near
-    requires distinct { distinct_values items.now ≡ true }
-    requires index { IsValid index.now }
-    ensures { IsNear items.now index.now result }
+    ensures order { result.from ≤ result.to }
+    ensures within { result.to ≤ length items.now }
 {
     let ends = ends_of(index);
     let from = first_from(items, number(ends.0));
-    let to = end_of(items, number(ends.1));
-    if from > to {
-        return all_items(items, index);
-    }
-    let count = possible_items(items, from, to, index);
-    if index.at_most(count as u64) {
-        let near = Near {
-            from,
-            to,
-            full: true,
-        };
-        near
-    } else {
-        all_items(items, index)
-    }
+    let to = later(end_of(items, number(ends.1)), from);
+    let near = Near {
+        from,
+        to,
+        full: false,
+        apart: false,
+    };
+    near
 }
