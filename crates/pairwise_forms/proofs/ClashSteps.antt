@@ -25,6 +25,16 @@ three_is s t u d d' d'' r e f g h = h ∙ ap not (g ∙ ap (λ (b : Bool). not u
     by false false true = refl
     by false false false = refl
 
+-- where one truth is that none of these is, that it doesn't hold is that some is
+pub row_is : (some d r n d' : Bool) → r ≡ (false || some) → n ≡ not r → d' ≡ (not n || d) → d' ≡ (d || some)
+row_is some d r n d' e f g = g ∙ ap (λ (b : Bool). not b || d) (f ∙ ap not e) ∙ by some d
+  where
+    by : (some d : Bool) → (not (not (false || some)) || d) ≡ (d || some)
+    by true true = refl
+    by true false = refl
+    by false true = refl
+    by false false = refl
+
 and_none : (b : Bool) → (b && false) ≡ false
 and_none true = refl
 and_none false = refl

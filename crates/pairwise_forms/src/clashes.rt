@@ -1,4 +1,8 @@
 //! Whether some two members have one value.
+//!
+//! Of few members all pairs are the parts of one conjunction. Where a conjunction holds it tells of
+//! one part in each call, and looks for that part from the first on, so of many members each has a
+//! conjunction of its own, of its pairs with those behind it.
 ghost use Rattle.std.specs.Prelude.{◌≡◌, ◌&&◌, ◌||◌, true, false, not, List, [], ◌∷◌, ℤ, length, IfOk, OnOk};
 ghost use Rattle.std.specs.List.{All, list_any};
 ghost use Rattle.form_build.specs.Forms.{truth_at, HasVariable};
@@ -13,6 +17,9 @@ use form_build::{Maker, Truth};
 use form_truths::{Disjunction, copy_truth};
 use quantifier_forms::{Part, none_from, push_turned};
 use std::alloc::AllocError;
+
+/// How many members have all their pairs in one conjunction.
+const FEW: usize = 64;
 
 /// The part as a member by its value.
 fn keyed_part(maker: &mut Maker, p: &Part) -> Result<Keyed, AllocError>
@@ -129,6 +136,52 @@ fn push_clashes(
     Ok(())
 }
 
+/// Adds that the member clashes with one of these, as one truth.
+fn push_row(
+    maker: &mut Maker,
+    d: &mut Disjunction,
+    e: &Keyed,
+    others: &[Keyed],
+) -> Result<(), AllocError>
+    requires left { IsKeyed (length maker.old.domains) e.now }
+    requires right { All (IsKeyed (length maker.old.domains)) others.now }
+    requires exist { IsWithin (length maker.old.domains) d.old.1 }
+    ensures value { OnOk result ((a : List ℤ) → IsWorld maker.new a → disjunction_at d.new a
+        ≡ (disjunction_at d.old a || list_any (λ f. clash_at e.now f a) others.now)) }
+    ensures exist { OnOk result (IsWithin (length maker.new.domains) d.new.1) }
+    ensures adds { OnOk result (Defines maker.old maker.new) }
+{
+    let mut row = Disjunction::new(maker.alloc());
+    push_clashes(maker, &mut row, e, others)?;
+    let apart = none_from(maker, &row)?;
+    push_turned(maker, d, &apart)?;
+    Ok(())
+}
+
+/// Adds that the member clashes with one of these, of many members as one truth.
+fn push_member(
+    maker: &mut Maker,
+    d: &mut Disjunction,
+    many: bool,
+    e: &Keyed,
+    others: &[Keyed],
+) -> Result<(), AllocError>
+    requires left { IsKeyed (length maker.old.domains) e.now }
+    requires right { All (IsKeyed (length maker.old.domains)) others.now }
+    requires exist { IsWithin (length maker.old.domains) d.old.1 }
+    ensures value { OnOk result ((a : List ℤ) → IsWorld maker.new a → disjunction_at d.new a
+        ≡ (disjunction_at d.old a || list_any (λ f. clash_at e.now f a) others.now)) }
+    ensures exist { OnOk result (IsWithin (length maker.new.domains) d.new.1) }
+    ensures adds { OnOk result (Defines maker.old maker.new) }
+{
+    if many {
+        push_row(maker, d, e, others)?;
+        return Ok(());
+    }
+    push_clashes(maker, d, e, others)?;
+    Ok(())
+}
+
 /// Whether no two members clash.
 pub(crate) fn no_clash(maker: &mut Maker, members: &[Keyed]) -> Result<Truth, AllocError>
     requires members { All (IsKeyed (length maker.old.domains)) members.now }
@@ -137,9 +190,10 @@ pub(crate) fn no_clash(maker: &mut Maker, members: &[Keyed]) -> Result<Truth, Al
         → truth_at t a ≡ not (some_clash members.now a)) }
     ensures adds { IfOk result (λ t. Defines maker.old maker.new) }
 {
+    let many = members.len() > FEW;
     let mut clashes = Disjunction::new(maker.alloc());
     for i in 0..members.len() {
-        push_clashes(maker, &mut clashes, &members[i], &members[i + 1..])?;
+        push_member(maker, &mut clashes, many, &members[i], &members[i + 1..])?;
     }
     let t = none_from(maker, &clashes)?;
     Ok(t)

@@ -1,4 +1,4 @@
-use Rattle.std.proofs.Common.{ℕ, ◌<◌, ◌++◌, length, All}
+use Rattle.std.proofs.Common.{◌<◌, ◌++◌, length, All}
 use Rattle.pairwise_forms.proofs.BlockLaws.{AreStated}
 use Rattle.pairwise_forms.proofs.blocks.state_block.Given as goal
 

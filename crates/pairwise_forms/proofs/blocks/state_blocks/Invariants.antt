@@ -1,4 +1,4 @@
-use Rattle.std.proofs.Common.{ℕ, ◌<◌, length, All}
+use Rattle.std.proofs.Common.{◌<◌, length, All}
 use Rattle.pairwise_forms.proofs.BlockLaws.{AreApart}
 use Rattle.pairwise_forms.proofs.blocks.state_blocks.Given as goal
 

@@ -17,24 +17,24 @@ loop-i-init c = record {
   adds = adds_nothing [] c.args.maker.now;
 }
 
-pub push_clashes-requires-clause-left : goal.push_clashes-requires-clause-left
-push_clashes-requires-clause-left c = member_at (length c.loop-i.maker.domains) c.args.members.now c.loop-i.i c.index-members-i.result c.loop-i.invariant.members c.loop-i-test.true c.index-members-i.is
+pub push_member-requires-clause-left : goal.push_member-requires-clause-left
+push_member-requires-clause-left c = member_at (length c.loop-i.maker.domains) c.args.members.now c.loop-i.i c.index-members-i.result c.loop-i.invariant.members c.loop-i-test.true c.index-members-i.is
 
-pub push_clashes-requires-clause-right : goal.push_clashes-requires-clause-right
-push_clashes-requires-clause-right c = members_behind (length c.loop-i.maker.domains) c.args.members.now (c.loop-i.i + 1) c.loop-i.invariant.members
+pub push_member-requires-clause-right : goal.push_member-requires-clause-right
+push_member-requires-clause-right c = members_behind (length c.loop-i.maker.domains) c.args.members.now (c.loop-i.i + 1) c.loop-i.invariant.members
 
 pub loop-i-preserved : goal.loop-i-preserved
 loop-i-preserved c =
     let there = c.loop-i.invariant in
-    let more = c.in_ok-push_clashes.ensures in
+    let more = c.in_ok-push_member.ensures in
     record {
       value = λ a w.
-          rest_step c.args.members.now c.loop-i.i c.index-members-i.result a (some_clash c.args.members.now a) (disjunction_at c.loop-i.clashes a) (disjunction_at c.push_clashes.new.d a)
+          rest_step c.args.members.now c.loop-i.i c.index-members-i.result a (some_clash c.args.members.now a) (disjunction_at c.loop-i.clashes a) (disjunction_at c.push_member.new.d a)
           c.loop-i-test.true c.index-members-i.is
-          (there.value a (world_before c.loop-i.maker c.push_clashes.new.maker a more.adds.grows w)) (more.value a w);
+          (there.value a (world_before c.loop-i.maker c.push_member.new.maker a more.adds.grows w)) (more.value a w);
       exist = more.exist;
-      members = members_kept c.loop-i.maker c.push_clashes.new.maker c.args.members.now more.adds.grows there.members;
-      adds = defines_more c.args.maker.now c.loop-i.maker c.push_clashes.new.maker there.adds more.adds;
+      members = members_kept c.loop-i.maker c.push_member.new.maker c.args.members.now more.adds.grows there.members;
+      adds = defines_more c.args.maker.now c.loop-i.maker c.push_member.new.maker there.adds more.adds;
     }
 
 pub returns-clause-value : goal.returns-clause-value

@@ -1,4 +1,4 @@
-use Rattle.std.proofs.Common.{◌∙◌, ◌<◌, ℕ, length, sym, subst, All}
+use Rattle.std.proofs.Common.{◌∙◌, ◌<◌, length, sym, subst, All}
 use Rattle.signed_clause.specs.Clauses.{Boxes}
 use Rattle.pairwise_forms.proofs.CountLaws.{items_exist, packing_follows}
 use Rattle.pairwise_forms.proofs.counted.state_counted.Goals as goal

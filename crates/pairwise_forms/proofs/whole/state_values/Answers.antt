@@ -1,4 +1,3 @@
-use Rattle.std.proofs.Common.{length}
 use Rattle.ground_form.specs.Meaning.{all_differ}
 use Rattle.pairwise_forms.proofs.BlockLaws.{variables_kept}
 use Rattle.pairwise_forms.proofs.CountLaws.{said_already}
