@@ -21,7 +21,7 @@ ghost use Rattle.bound_search.specs.Engines.{added_of, Shows, Reached, IsKeptBy,
 use crate::after::After;
 use crate::awaited::keep;
 use crate::board::Board;
-use crate::recent::Recent;
+use crate::repeated::Repeated;
 use ground_form::Ground;
 use learn_clauses::analyse;
 use log_form::Line;
@@ -43,8 +43,8 @@ pub struct Engine {
     pub asked: Vec<(u64, ClauseHandle)>,
     /// Those that were learnt and are true at level 0. No step looks at them.
     pub sure: Vec<ClauseHandle>,
-    /// Those that each constraint made last.
-    pub recent: Recent,
+    /// Those that constraints made, found again by what they say.
+    pub repeated: Repeated,
     /// The table in which conflicts are analysed.
     pub running: RunningClause,
 }
@@ -91,7 +91,7 @@ pub fn add_axiom(
     journal.push(Line::Axiom(k, handle.copy()?))?;
     let n = e.clauses.count();
     let after = e.board.apply(g, n, handle.clause())?;
-    e.recent.note(k, n);
+    e.repeated.note(handle.clause(), n)?;
     e.clauses.push(handle)?;
     Ok(after)
 }
@@ -179,11 +179,13 @@ fn backjump(
     Ok(after)
 }
 
-/// The first owner of the clause.
+/// The first owner of the clause, whose literals stand in a block that has room for them and no
+/// more.
 fn handle_of(alloc: Global, c: Clause) -> Result<ClauseHandle, AllocError>
     ensures { IfOk result (λ h. h ≡ c) }
 {
-    match ClauseHandle::of(alloc, c) {
+    let exact = c.copy()?;
+    match ClauseHandle::of(alloc, exact) {
         Ok(handle) => Ok(handle),
         Err(_) => Err(AllocError),
     }

@@ -6,7 +6,7 @@
 //! journal holds a run, and nothing has to be made up afterwards. An engine is tied to its lines by
 //! one record of equations (`Shows`), and each kind of line is one lemma on it. Choosers, kit and
 //! budget are the caller's. A decision costs a fixpoint, by far the most of which is propagators
-//! and opened clauses; and some 240 bytes of memory a line by sums, 540 by packings.
+//! and opened clauses; and some 150 bytes of memory a line by sums, 280 by packings.
 //!
 //! MiniSat's loop (Een and Sorensson, 2003) over lazy clauses (Ohrimenko et al., 2009), with
 //! objectives one after the other as bounds.
@@ -18,7 +18,7 @@
 //! - `bounding`: the lines behind a solution.
 //! - `awaited`: clauses that a run waits for and that aren't watched.
 //! - `board`: the boxes of a search, and what is still to be looked at in them.
-//! - `recent`: the clauses that each constraint made last.
+//! - `repeated`: the clauses that constraints made, found again by what they say.
 //! - `after`: what a search has come to behind a line.
 #![tactic(auto)]
 
@@ -28,7 +28,7 @@ mod board;
 mod bounding;
 mod engine;
 mod lines;
-mod recent;
+mod repeated;
 mod settling;
 mod solving;
 

@@ -1,8 +1,7 @@
 //! Lines up to the next fixpoint of a search.
 //!
 //! Constraints are asked before clauses, and those that are watched before those of the last Bound
-//! line. A constraint that says again what it said lately uses that clause; else its clause is
-//! written.
+//! line. A constraint that says what was said before uses that clause; else its clause is written.
 ghost use Rattle.std.specs.Prelude.{◌≡◌, length, IfOk, OnOk, IfSome};
 ghost use Rattle.run_law.specs.Replay.{Going};
 ghost use Rattle.bound_search.specs.Standing.{IsReason};
@@ -17,7 +16,7 @@ use rule_law::Kit;
 use signed_clause::Clause;
 use std::alloc::AllocError;
 
-/// Uses the clause that constraint `k` has to say, where it made it lately; else writes it.
+/// Uses the clause that constraint `k` has to say, where it was said before; else writes it.
 fn explain(
     g: &Ground,
     e: &mut Engine,
@@ -32,7 +31,7 @@ fn explain(
     ensures turn { IfOk result (λ a. IsTurn e.old e.new a) }
     ensures alike { OnOk result (DecideAlike journal.old.lines journal.new.lines) }
 {
-    match e.recent.find(&e.clauses, k, &c) {
+    match e.repeated.find(&e.clauses, &c) {
         Some(n) => use_clause(g, e, journal, n),
         None => add_axiom(g, e, journal, k, c),
     }

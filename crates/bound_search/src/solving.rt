@@ -16,7 +16,7 @@ ghost use Rattle.bound_search.specs.Ends.{EndsOf};
 
 use crate::board::Board;
 use crate::engine::{Engine, decide};
-use crate::recent::Recent;
+use crate::repeated::Repeated;
 use crate::settling::until_decision;
 use branch_choice::{Chooser, Split};
 use ground_form::Ground;
@@ -69,7 +69,7 @@ fn start(alloc: Global, g: &Ground) -> Result<Engine, AllocError>
     ensures below { IfOk result (λ e. length e.board.store.below ≡ 0) }
 {
     let board = Board::new(alloc, g)?;
-    let recent = Recent::new(alloc, g.cons.items().len())?;
+    let repeated = Repeated::new(alloc);
     let running = RunningClause::new(alloc, g.domains.items().len() as u32)?;
     Ok(Engine {
         alloc,
@@ -77,7 +77,7 @@ fn start(alloc: Global, g: &Ground) -> Result<Engine, AllocError>
         clauses: Clauses::new(alloc),
         asked: Vec::new(alloc),
         sure: Vec::new(alloc),
-        recent,
+        repeated,
         running,
     })
 }

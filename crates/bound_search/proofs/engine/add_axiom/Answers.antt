@@ -14,7 +14,7 @@ step : (c : goal.In_ok-push-2) → IsStep c.args.g.now c.args.journal.now c.push
       clauses = c.push-2.new.self;
       asked = c.args.e.now.asked;
       sure = c.args.e.now.sure;
-      recent = c.note.new.self;
+      repeated = c.note.new.self;
       running = c.args.e.now.running;
     }) c.in_ok-after.after
 step c =
@@ -75,6 +75,18 @@ returns-in_err-after-clause-kept c =
 
 pub returns-in_err-push-2-clause-kept : goal.returns-in_err-push-2-clause-kept
 returns-in_err-push-2-clause-kept c =
+    let k = c.args.k in
+    let lines = c.args.journal.now.lines in
+    let copy = c.in_ok-copy.ensures ∙ c.in_ok-handle.ensures in
+    axiom_kept c.args.g.now c.args.journal.now c.push.new.self c.args.e.now k c.args.c
+    c.requires.at c.requires.reason (record {
+      lines = c.in_ok-push.ensures.ok ∙ ap (λ (d : Literals). lines ++ Axiom k d ∷ []) copy;
+      problem = c.in_ok-push.ensures.ground;
+      rounds = c.in_ok-push.ensures.rounds;
+    })
+
+pub returns-in_err-note-clause-kept : goal.returns-in_err-note-clause-kept
+returns-in_err-note-clause-kept c =
     let k = c.args.k in
     let lines = c.args.journal.now.lines in
     let copy = c.in_ok-copy.ensures ∙ c.in_ok-handle.ensures in

@@ -173,7 +173,7 @@ taken c =
       clauses = d.clauses;
       asked = d.asked;
       sure = d.sure;
-      recent = d.recent;
+      repeated = d.repeated;
       running = c.analyse.new.running;
     } in
     let now = c.backjump.new.e in

@@ -23,7 +23,7 @@ step : (c : goal.In_ok-after) → IsStep c.args.g.now c.args.journal.now c.push.
       clauses = c.args.e.now.clauses;
       asked = c.args.e.now.asked;
       sure = c.args.e.now.sure;
-      recent = c.args.e.now.recent;
+      repeated = c.args.e.now.repeated;
       running = c.args.e.now.running;
     }) c.in_ok-after.after
 step c =

@@ -37,7 +37,7 @@ returns-in-None-clause-at g c =
       clauses = d.clauses;
       asked = d.asked;
       sure = d.sure;
-      recent = d.recent;
+      repeated = d.repeated;
       running = d.running;
     } in
     let shows = shows_asked c.args.g.now lines d e Going c.requires.at (record {
