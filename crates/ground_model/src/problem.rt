@@ -35,6 +35,7 @@ use signed_clause::IntSet;
 use stated_cases::tabulate_stated;
 use stated_pairs::differ_stated;
 use stated_rows::pack_stated;
+use stated_sets::join_stated;
 use std::alloc::{AllocError, Global};
 
 /// More variables than these, or more constraints, no ground problem of a model has.
@@ -85,8 +86,8 @@ fn require_model(
     Ok(known)
 }
 
-/// Adds the packings, the bounds of tables and the differences that follow from what is stated,
-/// where they are wanted.
+/// Adds the packings, the bounds of tables, the differences and the joined sets that follow from
+/// what is stated, where they are wanted.
 fn add_packings(maker: &mut Maker, wanted: bool) -> Result<(), AllocError>
     ensures { OnOk result (Defines maker.old maker.new) }
 {
@@ -94,6 +95,7 @@ fn add_packings(maker: &mut Maker, wanted: bool) -> Result<(), AllocError>
         pack_stated(maker)?;
         tabulate_stated(maker)?;
         differ_stated(maker)?;
+        join_stated(maker)?;
     }
     Ok(())
 }
