@@ -91,6 +91,12 @@ def packed(n):
             f"var m as M[{n}]; where pack v in M {{ v.host; 1; 3; }};")
 
 
+def summed(n):
+    """The same, by a sum for each host."""
+    return (f"class H {{ where sum v in M where v.host = this {{ 1 }} <= 3; }}"
+            f"class M {{ var host as ref H; }} var h as H[{n // 3 + 1}]; var m as M[{n}];")
+
+
 def drawn(rng, count, total):
     """So many sizes from 1 to 16 that add up to a total."""
     sizes = [rng.choice((2, 2, 4, 4, 6, 8, 12)) for _ in range(count)]
@@ -151,6 +157,7 @@ TEXTS = [
     Grown("`alldifferent` of n over 2n values", 800, lambda n: f"class C {{ var x as 1..{2 * n}; }}"
           f"var c as C[{n}]; where alldifferent i in C {{ i.x }};"),
     Grown("`pack` over n / 3 hosts", 512, packed),
+    Grown("a sum for each of n / 3 hosts", 512, summed),
     Grown("fixed references, `x <= next.x`", 1_000, followers),
     Grown("`d = next.d + 1 or d = 0`", 80, distances),
     Grown("100 machines, `host.room >= 5`", 1_000, rooms),
