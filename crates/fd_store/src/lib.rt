@@ -2,7 +2,7 @@
 //!
 //! There is one box for each variable. A change moves the old box into an entry of the trail, with
 //! the clause that made it, and going back moves it into its place again: so no set is copied, a
-//! change costs one entry of 72 bytes, and a way back what it takes away, whatever the number of
+//! change costs one entry of 48 bytes, and a way back what it takes away, whatever the number of
 //! variables. Levels are where decisions stand in the trail. Contracts don't see the trail but
 //! what it stands for: the boxes of each level, as a list of stores; taking back the last entry is
 //! then a law on these, and not on pointers.

@@ -15,8 +15,8 @@ use signed_clause::IntSet;
 use std::alloc::AllocError;
 use std::mem;
 
-/// What was done to a box. It takes 72 bytes, and more only where the box before has more than two
-/// ranges.
+/// What was done to a box. It takes 48 bytes, and more only where the box before has more than one
+/// range.
 #[derive(Drop)]
 pub struct Moved {
     /// The variable.

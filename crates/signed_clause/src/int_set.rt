@@ -1,8 +1,8 @@
 //! `IntSet`, a finite set of integers of 64 bits.
 //!
 //! A set is the list of its ranges in order; no two of them overlap or touch, so equal sets are
-//! equal lists. Up to two ranges stand in the value itself and take no memory; the copies of a set
-//! of more ranges share its memory. Whatever looks at two sets walks both lists once, `contains`
+//! equal lists. One range stands in the value itself and takes no memory; the copies of a set of
+//! more ranges share its memory. Whatever looks at two sets walks both lists once, `contains`
 //! halves the list, and the other questions look at its ends. Contracts see a set as its list,
 //! `has` says which values that holds, and every set is valid (`IsValid`), which `ranges` promises
 //! to whoever asks.
@@ -49,7 +49,7 @@ impl Model for IntSet {
 }
 
 impl IntSet {
-    /// The empty set. It takes no memory until it grows past two ranges.
+    /// The empty set. It takes no memory.
     pub fn empty(alloc: Global) -> IntSet
         ensures list { result ≡ [] }
         ensures valid { IsValid result }

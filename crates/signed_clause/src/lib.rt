@@ -3,9 +3,9 @@
 //! A literal says that a variable's value is in a set, so one clause says of large domains what
 //! took a Boolean variable for each value. Two clauses that both speak of a variable give a third:
 //! the sets of that variable meet, all others are joined. A set is its ranges in order, so equal
-//! sets are equal lists, and a proof speaks of lists alone; up to two ranges stand in the value
-//! itself, and copies of longer ones share their memory, as a domain stands in a problem, in each
-//! box and in each round. A chain of steps runs through a table by variable, so that a step costs
+//! sets are equal lists, and a proof speaks of lists alone; one range stands in the value itself,
+//! and copies of longer sets share their memory, as a domain stands in a problem, in each box and
+//! in each round. A chain of steps runs through a table by variable, so that a step costs
 //! the literals of the other clause, however long the running one is (MiniSat's `seen`).
 //!
 //! Signed clauses: Beckert, Haehnle and Manya (2000); as nogoods of searches Katsirelos and Bacchus

@@ -1,10 +1,10 @@
 //! `RangeList`, where the ranges of a set stand.
 //!
-//! Up to two ranges stand in the value itself. More are counted: the copies of a list share its
-//! memory, so that many sets over the same values take the memory of one.
-ghost use Rattle.std.specs.Prelude.{◌≡◌, ◌≤◌, ◌∷◌, [], take, IfOk};
+//! One range stands in the value itself. More are counted: the copies of a list share its memory,
+//! so that many sets over the same values take the memory of one. Nearly all sets that a search
+//! keeps are one range, and so a set takes 24 bytes.
+ghost use Rattle.std.specs.Prelude.{◌≡◌, ◌∷◌, [], IfOk};
 
-use arrayvec::ArrayVec;
 use std::alloc::{AllocError, Global};
 use std::marker::Model;
 use std::rc::RcSlice;
@@ -12,8 +12,10 @@ use std::rc::RcSlice;
 /// The memory of a list.
 #[derive(Drop)]
 enum Place {
-    /// The value itself.
-    Few(ArrayVec<(i64, i64), 2, Global>),
+    /// There is no range.
+    Nowhere,
+    /// The value itself has the range.
+    Here([(i64, i64); 1]),
     /// Memory that the list's copies share.
     Shared(RcSlice<(i64, i64)>),
 }
@@ -40,26 +42,29 @@ impl RangeList {
     pub fn none(alloc: Global) -> RangeList
         ensures { result ≡ [] }
     {
-        let place = Place::Few(first_of(alloc, [(0, 0), (0, 0)], 0));
-        RangeList { alloc, place }
+        RangeList {
+            alloc,
+            place: Place::Nowhere,
+        }
     }
 
     /// One range. It takes no memory.
     pub fn one(alloc: Global, r: (i64, i64)) -> RangeList
         ensures { result ≡ r ∷ [] }
     {
-        let place = Place::Few(first_of(alloc, [r, r], 1));
-        RangeList { alloc, place }
+        RangeList {
+            alloc,
+            place: Place::Here([r]),
+        }
     }
 
-    /// These ranges. Up to two take no memory.
+    /// These ranges. One takes no memory.
     pub fn of(alloc: Global, ranges: &[(i64, i64)]) -> Result<RangeList, AllocError>
         ensures { IfOk result (λ l. l ≡ ranges.now) }
     {
         let place = match ranges {
-            [] => Place::Few(first_of(alloc, [(0, 0), (0, 0)], 0)),
-            [r] => Place::Few(first_of(alloc, [*r, *r], 1)),
-            [r, s] => Place::Few(first_of(alloc, [*r, *s], 2)),
+            [] => Place::Nowhere,
+            [r] => Place::Here([*r]),
             more => Place::Shared(RcSlice::from_slice(alloc, more)?),
         };
         Ok(RangeList { alloc, place })
@@ -70,7 +75,8 @@ impl RangeList {
         ensures { result.now ≡ self.now }
     {
         match &self.place {
-            Place::Few(ranges) => ranges.as_slice(),
+            Place::Nowhere => &[],
+            Place::Here(range) => range,
             Place::Shared(ranges) => ranges.as_slice(),
         }
     }
@@ -84,21 +90,15 @@ impl RangeList {
     {
         let alloc = self.alloc;
         match &self.place {
-            Place::Few(ranges) => RangeList::of(alloc, ranges.as_slice()),
+            Place::Nowhere => Ok(RangeList::none(alloc)),
+            Place::Here(range) => Ok(RangeList {
+                alloc,
+                place: Place::Here(*range),
+            }),
             Place::Shared(ranges) => {
                 let place = Place::Shared(ranges.clone()?);
                 Ok(RangeList { alloc, place })
             }
         }
     }
-}
-
-/// The first of two ranges, or both, or none.
-fn first_of(alloc: Global, ranges: [(i64, i64); 2], count: usize) -> ArrayVec<(i64, i64), 2, Global>
-    requires { count ≤ 2 }
-    ensures { result.items ≡ take count ranges }
-{
-    let mut list = ArrayVec::from_array_in(alloc, ranges);
-    list.truncate(count);
-    list
 }
