@@ -1,3 +1,4 @@
+pub mod FactLaws
 pub mod ShareLaws
 pub mod LoadLaws
 pub mod RowLaws

@@ -1,9 +1,10 @@
 -- Loads that are put among others, and loads that are fewer.
-use Rattle.std.proofs.Common.{Option, None, Some, IfSome, ◌≡◌, ℕ, ◌+◌, ◌<◌, ◌≤◌, true, false, cond, List, [], ◌∷◌, ◌++◌, ℤ, pos, ◌+ℤ◌, ◌-ℤ◌, ◌*ℤ◌, ◌≤ℤ◌, length, take, drop, get_or, refl, sym, ap, ◌∙◌, subst, arith}
+use Rattle.std.proofs.Common.{Bool, Option, None, Some, IfSome, ◌≡◌, ℕ, ◌+◌, ◌<◌, ◌≤◌, true, false, cond, List, [], ◌∷◌, ◌++◌, ℤ, pos, ◌+ℤ◌, ◌-ℤ◌, ◌*ℤ◌, ◌≤ℤ◌, length, take, drop, get_or, refl, sym, ap, ◌∙◌, subst, arith}
 use Rattle.std.specs.Ordering.{int_eq}
 use Rattle.std.proofs.lemmas.Int.{ints}
 use Rattle.std.proofs.lemmas.List.{take-append-drop, take_more, take_all}
 use Rattle.ground_form.specs.Meaning.{value_of, sum_at}
+use Rattle.form_build.specs.Worlds.{AllHold}
 use Rattle.packed_rows.specs.Loads.{load_of}
 use Rattle.packed_rows.proofs.PackedLaws.{items_behind}
 use Rattle.stated_rows.specs.declared.shares.Share.{Share}
@@ -114,6 +115,22 @@ left_end loads room left i past some before bin a =
     let all = ap (λ (z : List (ℕ × ℤ)). load_of bin z a) (take_all i loads past) in
     let h = before bin a in
     omega (arith, ints, all, some, h)
+
+-- ---- loads that are elsewhere
+
+-- of the first loads none is in the bin
+abbrev pub AreElsewhere : Ground → ℤ → List (ℕ × ℤ) → ℕ → Type 0
+AreElsewhere g bin loads i = (a : List ℤ) → AllHold g a → load_of bin (take i loads) a ≡ pos 0
+
+pub elsewhere_next : (g : Ground) (bin : ℤ) (loads : List (ℕ × ℤ)) (i : ℕ) (d l : ℕ × ℤ) → i < length loads → l ≡ get_or loads i d → ((a : List ℤ) → AllHold g a → int_eq (value_of a l.0) bin ≡ false) → AreElsewhere g bin loads i → AreElsewhere g bin loads (i + 1)
+elsewhere_next g bin loads i d l lt is other before a all =
+    let next = one_more bin loads i d l a lt is in
+    let none : own bin l a ≡ pos 0 = ap (λ (b : Bool). cond b l.1 (pos 0)) (other a all) in
+    let h = before a all in
+    omega (arith, ints, next, none, h)
+
+pub elsewhere_end : (g : Ground) (bin : ℤ) (loads : List (ℕ × ℤ)) (i : ℕ) → length loads ≤ i → AreElsewhere g bin loads i → (a : List ℤ) → AllHold g a → load_of bin loads a ≡ pos 0
+elsewhere_end g bin loads i past before a all = ap (λ (z : List (ℕ × ℤ)). load_of bin z a) (sym (take_all i loads past)) ∙ before a all
 
 -- ---- terms
 

@@ -1,11 +1,17 @@
 -- A packing of rows that follow says nothing new.
-use Rattle.std.proofs.Common.{Option, Some, IfSome, subst, ◌≡◌, Bool, true, false, not, ◌||◌, ◌&&◌, List, [], ◌∷◌, ℤ, All, refl, ap, ◌∙◌}
-use Rattle.std.proofs.lemmas.List.Elements.{All-head, All-tail, All-weaker}
+use Rattle.std.proofs.Common.{Option, Some, IfSome, subst, ◌≡◌, ℕ, Bool, true, false, not, ◌||◌, ◌&&◌, List, [], ◌∷◌, ℤ, pos, ◌≤ℤ◌, All, refl, ap, ◌∙◌, arith}
+use Rattle.std.specs.Prelude.{Contains, int_le}
+use Rattle.std.specs.Ordering.{int_eq}
+use Rattle.std.proofs.lemmas.Int.{ints}
+use Rattle.std.proofs.lemmas.List.Elements.{All-head, All-tail, All-weaker, All-contains}
+use Rattle.ground_form.specs.declared.con.Con.{Con}
+use Rattle.ground_form.specs.declared.con.Con.TheVariants.{ReifLe}
+use Rattle.ground_form.specs.Meaning.{value_of, bit, sum_at, con_true}
 use Rattle.ground_form.specs.declared.ground.Ground.{Ground}
 use Rattle.form_build.specs.Worlds.{IsWorld, AllHold, Grows, Adds, Defines}
 use Rattle.form_build.proofs.Growth.{world_before, all_before}
 use Rattle.packed_rows.specs.declared.row.Row.{Row}
-use Rattle.packed_rows.specs.Loads.{rows_hold}
+use Rattle.packed_rows.specs.Loads.{row_holds, rows_hold}
 use Rattle.stated_rows.specs.Following.{FollowsIn}
 
 all_hold : (g : Ground) (rows : List Row) (a : List ℤ) → All (FollowsIn g) rows → IsWorld g a → AllHold g a → rows_hold rows a ≡ true
@@ -30,3 +36,16 @@ follow_still old new rows g f = All-weaker (FollowsIn old) (FollowsIn new) (λ r
 
 pub of_some : {X : Type 0} (o : Option X) (x : X) (P : X → Type 0) → o ≡ Some x → IfSome o P → P x
 of_some o x P e h = subst (λ (z : Option _). IfSome z P) e h
+
+-- ---- rows behind flags
+
+below_by : (t : Bool) (v s b : ℤ) → int_le s b ≡ t → int_eq v (bit t) ≡ true → int_eq v (pos 0) ≡ false → s ≤ℤ b
+below_by true v s b is e n = grind (arith, ints)
+below_by false v s b is e n = absurd (grind (arith, ints))
+
+-- a row that a sum says by its bound, where a flag that isn't 0 tells that the sum is bounded
+pub flag_row : (g : Ground) (flag : ℕ) (terms : List (ℤ × ℕ)) (bound : ℤ) (row : Row) → Contains g.cons (ReifLe flag terms bound) → ((a : List ℤ) → AllHold g a → int_eq (value_of a flag) (pos 0) ≡ false) →
+    ((a : List ℤ) → IsWorld g a → AllHold g a → sum_at terms a ≤ℤ bound → row_holds a row ≡ true) → FollowsIn g row
+flag_row g flag terms bound row has_it other says a w all =
+    let e = All-contains (λ (c : Con). con_true c a ≡ true) g.cons (ReifLe flag terms bound) all has_it in
+    says a w all (below_by (int_le (sum_at terms a) bound) (value_of a flag) (sum_at terms a) bound refl e (other a all))

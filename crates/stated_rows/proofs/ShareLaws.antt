@@ -1,35 +1,27 @@
 -- What a term of a sum is at least, by the definition of its variable.
-use Rattle.std.proofs.Common.{◌≡◌, ℕ, ◌<◌, Bool, true, false, ◌&&◌, ◌||◌, cond, List, [], ◌∷◌, ℤ, pos, negsuc, ◌*ℤ◌, ◌≤ℤ◌, Contains, All, length, sym, ap, ◌∙◌, subst, arith}
+use Rattle.std.proofs.Common.{◌≡◌, ℕ, Bool, true, false, ◌&&◌, ◌||◌, cond, List, [], ◌∷◌, ℤ, pos, negsuc, ◌*ℤ◌, ◌≤ℤ◌, Contains, sym, ap, ◌∙◌, subst, arith}
 use Rattle.std.specs.Int.{int_min}
 use Rattle.std.specs.Ordering.{int_eq}
 use Rattle.std.proofs.lemmas.Int.{ints}
 use Rattle.std.proofs.lemmas.Bool.Decides.{Decides-int_eq}
 use Rattle.std.proofs.lemmas.List.Elements.{All-contains}
-use Rattle.signed_clause.specs.Ranges.{has, IsValid}
-use Rattle.signed_clause.specs.Clauses.{box_of}
+use Rattle.signed_clause.specs.Ranges.{has}
 use Rattle.ground_form.specs.declared.con.Con.{Con}
 use Rattle.ground_form.specs.declared.con.Con.TheVariants.{MemberDef, CondDef}
 use Rattle.ground_form.specs.declared.ground.Ground.{Ground}
 use Rattle.ground_form.specs.declared.sums.Number.{Number}
 use Rattle.ground_form.specs.Meaning.{value_of, bit, con_true}
-use Rattle.ground_form.specs.Bounds.{low_of, high_of}
-use Rattle.ground_form.proofs.Ends.{low_le, le_high}
 use Rattle.ground_form.proofs.Products.{mul_up, mul_least}
-use Rattle.form_build.specs.Worlds.{AllHold}
+use Rattle.form_build.specs.Worlds.{IsWorld, AllHold}
 use Rattle.stated_rows.specs.declared.shares.Share.TheVariants.{Load, Least}
-use Rattle.stated_rows.specs.Following.{IsShareOf}
+use Rattle.stated_rows.specs.Following.{AreEnds, IsShareOf}
 
 -- ---- in any case
 
-pub least_share : (g : Ground) (bin : ℤ) (t : ℤ × ℕ) (low high : ℤ) (v : Number) → All (λ d. IsValid d) g.domains → t.1 < length g.domains → low ≡ low_of (box_of g.domains t.1) → high ≡ high_of (box_of g.domains t.1) →
-    v.value ≡ int_min (t.0 *ℤ low) (t.0 *ℤ high) → IsShareOf g bin t (Least v)
-least_share g bin t low high v valid lt l h is a w all =
-    let box = box_of g.domains t.1 in
-    let here = valid t.1 [] lt in
-    let there = w.within t.1 lt in
-    let above = subst (λ (z : ℤ). z ≤ℤ value_of a t.1) (sym l) (low_le box (value_of a t.1) here there) in
-    let below = subst (λ (z : ℤ). value_of a t.1 ≤ℤ z) (sym h) (le_high box (value_of a t.1) here there) in
-    subst (λ (z : ℤ). z ≤ℤ (t.0 *ℤ value_of a t.1)) (sym is) (mul_least t.0 low high (value_of a t.1) above below)
+pub least_share : (g : Ground) (bin : ℤ) (t : ℤ × ℕ) (low high : ℤ) (v : Number) → AreEnds g t.1 low high → v.value ≡ int_min (t.0 *ℤ low) (t.0 *ℤ high) → IsShareOf g bin t (Least v)
+least_share g bin t low high v ends is a w all =
+    let e = ends a w all in
+    subst (λ (z : ℤ). z ≤ℤ (t.0 *ℤ value_of a t.1)) (sym is) (mul_least t.0 low high (value_of a t.1) e.0 e.1)
 
 -- ---- by a flag
 
@@ -57,20 +49,24 @@ mul_more : (c x y : ℤ) → pos 0 ≤ℤ c → x ≤ℤ y → (c *ℤ x) ≤ℤ
 mul_more (pos n) x y h le = mul_up n x y le
 mul_more (negsuc n) x y h le = absurd (omega (arith, ints, h))
 
-chosen : (b : Bool) (f w item c low : ℤ) → pos 0 ≤ℤ c → f ≡ bit b → low ≤ℤ item → ((int_eq f (pos 1) && int_eq w item) || (int_eq f (pos 0) && int_eq w (pos 0))) ≡ true → cond b (c *ℤ low) (pos 0) ≤ℤ (c *ℤ w)
-chosen true f w item c low some e le h =
-    let is : w ≡ item = grind (arith, ints) in
-    subst (λ (z : ℤ). (c *ℤ low) ≤ℤ (c *ℤ z)) (sym is) (mul_more c low item some le)
-chosen false f w item c low some e le h =
-    let is : w ≡ pos 0 = grind (arith, ints) in
-    subst (λ (z : ℤ). pos 0 ≤ℤ (c *ℤ z)) (sym is) (omega (arith, ints))
+-- so much of an item's low end is at most so much of its value
+pub least_product : (g : Ground) (t : ℤ × ℕ) (item : ℕ) (low high : ℤ) (p : Number) → AreEnds g item low high → pos 0 ≤ℤ t.0 → p.value ≡ (t.0 *ℤ low) → (a : List ℤ) → IsWorld g a → AllHold g a → p.value ≤ℤ (t.0 *ℤ value_of a item)
+least_product g t item low high p ends some is a w all =
+    let e = ends a w all in
+    subst (λ (z : ℤ). z ≤ℤ (t.0 *ℤ value_of a item)) (sym is) (mul_more t.0 low (value_of a item) some e.0)
 
-pub chosen_share : (g : Ground) (x bin f item : ℕ) (t : ℤ × ℕ) (p : Number) → All (λ d. IsValid d) g.domains → Contains g.cons (CondDef t.1 f item) → Contains g.cons (MemberDef f x ((pos bin, pos bin) ∷ [])) →
-    item < length g.domains → pos 0 ≤ℤ t.0 → p.value ≡ (t.0 *ℤ low_of (box_of g.domains item)) → IsShareOf g (pos bin) t (Load x p)
-chosen_share g x bin f item t p valid has_it asks lt some is a w all =
-    let box = box_of g.domains item in
-    let low = low_of box in
+by_one : (f w item : ℤ) → f ≡ pos 1 → ((int_eq f (pos 1) && int_eq w item) || (int_eq f (pos 0) && int_eq w (pos 0))) ≡ true → w ≡ item
+by_one f w item e h = grind (arith, ints)
+
+by_nought : (f w item : ℤ) → f ≡ pos 0 → ((int_eq f (pos 1) && int_eq w item) || (int_eq f (pos 0) && int_eq w (pos 0))) ≡ true → w ≡ pos 0
+by_nought f w item e h = grind (arith, ints)
+
+chosen : (b : Bool) (f w item c v : ℤ) → f ≡ bit b → v ≤ℤ (c *ℤ item) → ((int_eq f (pos 1) && int_eq w item) || (int_eq f (pos 0) && int_eq w (pos 0))) ≡ true → cond b v (pos 0) ≤ℤ (c *ℤ w)
+chosen true f w item c v e le h = subst (λ (z : ℤ). v ≤ℤ (c *ℤ z)) (sym (by_one f w item e h)) le
+chosen false f w item c v e le h = subst (λ (z : ℤ). pos 0 ≤ℤ (c *ℤ z)) (sym (by_nought f w item e h)) (omega (arith, ints))
+
+pub chosen_share : (g : Ground) (x bin f item : ℕ) (t : ℤ × ℕ) (p : Number) → Contains g.cons (CondDef t.1 f item) → Contains g.cons (MemberDef f x ((pos bin, pos bin) ∷ [])) →
+    ((a : List ℤ) → IsWorld g a → AllHold g a → p.value ≤ℤ (t.0 *ℤ value_of a item)) → IsShareOf g (pos bin) t (Load x p)
+chosen_share g x bin f item t p has_it asks le a w all =
     let e = All-contains (λ (c : Con). con_true c a ≡ true) g.cons (CondDef t.1 f item) all has_it in
-    let above = low_le box (value_of a item) (valid item [] lt) (w.within item lt) in
-    subst (λ (z : ℤ). cond (int_eq (value_of a x) (pos bin)) z (pos 0) ≤ℤ (t.0 *ℤ value_of a t.1)) (sym is)
-    (chosen (int_eq (value_of a x) (pos bin)) (value_of a f) (value_of a t.1) (value_of a item) t.0 low some (flag_value g x bin f a asks all) above e)
+    chosen (int_eq (value_of a x) (pos bin)) (value_of a f) (value_of a t.1) (value_of a item) t.0 p.value (flag_value g x bin f a asks all) (le a w all) e

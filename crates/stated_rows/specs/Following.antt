@@ -13,6 +13,11 @@ use Rattle.stated_rows.specs.declared.shares.Share.TheVariants.{Load, Least}
 abbrev pub FollowsIn : Ground → Row → Type 0
 FollowsIn g r = (a : List ℤ) → IsWorld g a → AllHold g a → row_holds a r ≡ true
 
+-- the variable is between the ends
+abbrev pub AreEnds : Ground → ℕ → ℤ → ℤ → Type 0
+AreEnds g x low high =
+    (a : List ℤ) → IsWorld g a → AllHold g a → (low ≤ℤ value_of a x) × (value_of a x ≤ℤ high)
+
 -- what a share adds to the bin
 abbrev pub share_at : ℤ → Share → List ℤ → ℤ
 share_at bin (Load x size) a = cond (int_eq (value_of a x) bin) size.value (pos 0)
