@@ -132,6 +132,13 @@ elsewhere_next g bin loads i d l lt is other before a all =
 pub elsewhere_end : (g : Ground) (bin : ℤ) (loads : List (ℕ × ℤ)) (i : ℕ) → length loads ≤ i → AreElsewhere g bin loads i → (a : List ℤ) → AllHold g a → load_of bin loads a ≡ pos 0
 elsewhere_end g bin loads i past before a all = ap (λ (z : List (ℕ × ℤ)). load_of bin z a) (sym (take_all i loads past)) ∙ before a all
 
+-- of one load more none is in the bin
+pub told_next : (bin : ℤ) (loads : List (ℕ × ℤ)) (i : ℕ) (d l : ℕ × ℤ) (a : List ℤ) → i < length loads → l ≡ get_or loads i d → int_eq (value_of a l.0) bin ≡ false → load_of bin (take i loads) a ≡ pos 0 → load_of bin (take (i + 1) loads) a ≡ pos 0
+told_next bin loads i d l a lt is other h =
+    let next = one_more bin loads i d l a lt is in
+    let none : own bin l a ≡ pos 0 = ap (λ (b : Bool). cond b l.1 (pos 0)) other in
+    omega (arith, ints, next, none, h)
+
 -- ---- terms
 
 -- with one load more

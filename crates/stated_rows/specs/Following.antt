@@ -1,7 +1,9 @@
 -- Rows that follow from what is stated. What a reader believes after this file: such a row holds in
 -- every world in which all constraints hold.
-use Rattle.std.specs.Prelude.{◌≡◌, ℕ, true, cond, List, ℤ, pos, ◌+ℤ◌, ◌*ℤ◌, ◌≤ℤ◌}
+use Rattle.std.specs.Prelude.{◌≡◌, ℕ, true, false, cond, List, ℤ, pos, ◌+ℤ◌, ◌*ℤ◌, ◌≤ℤ◌}
+use Rattle.std.specs.List.{All}
 use Rattle.std.specs.Ordering.{int_eq}
+use Rattle.signed_clause.specs.Ranges.{Ranges, has}
 use Rattle.ground_form.specs.declared.ground.Ground.{Ground}
 use Rattle.ground_form.specs.Meaning.{value_of, sum_at}
 use Rattle.form_build.specs.Worlds.{IsWorld, AllHold}
@@ -12,6 +14,15 @@ use Rattle.stated_rows.specs.declared.shares.Share.TheVariants.{Load, Least}
 
 abbrev pub FollowsIn : Ground → Row → Type 0
 FollowsIn g r = (a : List ℤ) → IsWorld g a → AllHold g a → row_holds a r ≡ true
+
+-- where the variable is in the set, the row holds
+abbrev pub FollowsIf : Ground → ℕ → Ranges → Row → Type 0
+FollowsIf g x s r =
+    (a : List ℤ) → IsWorld g a → AllHold g a → has s (value_of a x) ≡ true → row_holds a r ≡ true
+
+-- the variables don't have the values
+abbrev pub ArentThere : List ℤ → List (ℕ × ℕ) → Type 0
+ArentThere a others = All (λ q. int_eq (value_of a q.0) (pos q.1) ≡ false) others
 
 -- the variable is between the ends
 abbrev pub AreEnds : Ground → ℕ → ℤ → ℤ → Type 0

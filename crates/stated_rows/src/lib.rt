@@ -12,6 +12,7 @@
 //! - `facts`: where something is said of a variable.
 //! - `finding`: the rows that constraints say.
 //! - `groups`: rows of different bins that agree.
+//! - `guards`: the row that stands behind a guard.
 //! - `packings`: the packings that follow, stated.
 //! - `reading`: the row that one constraint says.
 //! - `shares`: what one term of a sum adds to a bin.
@@ -20,6 +21,7 @@
 mod facts;
 mod finding;
 mod groups;
+mod guards;
 mod packings;
 mod reading;
 mod shares;
