@@ -22,6 +22,9 @@ use signed_clause::IntSet;
 use stated_facts::{Claims, claims_of, definition};
 use std::alloc::AllocError;
 
+/// Where more than so much is claimed nothing is looked for: packings have no more members.
+const MOST_CLAIMS: usize = 1 << 10;
+
 // ---- the literal by which a sum is bounded
 
 /// The row that the constraint says of a bin where the variable is in the set, where it defines the
@@ -117,7 +120,8 @@ fn is_bare(row: &Row, c: &Claims) -> bool
         → row_holds a row.now ≡ true }
 {
     let bin = bin_of(row);
-    row.room >= 0 && are_told(row.loads.as_slice(), c.others.as_slice(), bin)
+    let others = c.others.as_slice();
+    row.room >= 0 && others.len() <= MOST_CLAIMS && are_told(row.loads.as_slice(), others, bin)
 }
 
 /// The value of a set, where it has just one.
