@@ -30,7 +30,7 @@ same_bins others bin a same h k d lt = subst (λ (n : ℕ). int_eq (value_of a (
 
 -- ---- what stays
 
-sizes_push : (p : ℤ → Bool) (ss : List (ℕ × ℕ)) (s : ℕ × ℕ) (a : List ℤ) → sizes_where p (ss ++ s ∷ []) a ≡ sizes_where p ss a + cond (p (value_of a s.0)) s.1 0
+pub sizes_push : (p : ℤ → Bool) (ss : List (ℕ × ℕ)) (s : ℕ × ℕ) (a : List ℤ) → sizes_where p (ss ++ s ∷ []) a ≡ sizes_where p ss a + cond (p (value_of a s.0)) s.1 0
 sizes_push p [] s a = omega arith
 sizes_push p (t ∷ ss) s a = let rest = sizes_push p ss s a in omega (arith, rest)
 

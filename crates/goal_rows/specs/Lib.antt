@@ -2,3 +2,4 @@ pub mod Loads
 pub mod Packings
 pub mod Hosts
 pub mod Quotients
+pub mod Covers

@@ -1,11 +1,12 @@
 -- Packings with constant sizes and one room. What a reader believes after this file: where a
 -- packing holds, no bin has more than the room.
-use Rattle.std.specs.Prelude.{◌≡◌, ℕ, ◌^◌, ◌<◌, ◌≤◌, true, List, [], ◌∷◌, ℤ, length}
+use Rattle.std.specs.Prelude.{◌≡◌, ℕ, ◌^◌, ◌+◌, ◌<◌, ◌≤◌, true, Bool, cond, List, [], ◌∷◌, ℤ, length}
 use Rattle.std.specs.List.{All}
 use Rattle.std.specs.Ordering.{int_eq}
 use Rattle.signed_clause.specs.Ranges.{Ranges, has}
 use Rattle.signed_clause.specs.Clauses.{Boxes, box_of}
 use Rattle.ground_form.specs.declared.ground.Ground.{Ground}
+use Rattle.ground_form.specs.Meaning.{value_of}
 use Rattle.form_build.specs.Worlds.{IsWorld, AllHold}
 use Rattle.stated_facts.specs.Constants.{IsConstant}
 use Rattle.goal_rows.specs.declared.packing.Packing.{Packing}
@@ -42,3 +43,14 @@ pub record IsPacking (g : Ground) (p : Packing) : Type 0 where
   pub light : p.whole ≤ 2 ^ 38
   pub used : All (IsUsed g.domains p.used) p.items.items
   pub fits : AreFitting g p.room p.items.items
+
+-- some of the items: they exist where all do, and no test finds more of them
+pub record AreSome (all some : List (ℕ × ℕ)) : Type 0 where
+  pub exist : (n : ℕ) → All (λ s. s.0 < n) all → All (λ s. s.0 < n) some
+  pub fewer : (test : ℤ → Bool) (a : List ℤ) → sizes_where test some a ≤ sizes_where test all a
+
+-- the new items are the old ones, and maybe the item
+pub record MayHave (old : List (ℕ × ℕ)) (s : ℕ × ℕ) (new : List (ℕ × ℕ)) : Type 0 where
+  pub exist : (n : ℕ) → All (λ t. t.0 < n) old → s.0 < n → All (λ t. t.0 < n) new
+  pub fewer : (test : ℤ → Bool) (a : List ℤ) →
+      sizes_where test new a ≤ sizes_where test old a + cond (test (value_of a s.0)) s.1 0

@@ -14,6 +14,7 @@ use crate::choice::{Aim, aim_of, sets_asked};
 use crate::costs::with_costs;
 use crate::dividing::{Quotient, goal_quotient, state_link};
 use crate::packing::{Packing, packing_at};
+use crate::parts::add_parts;
 use crate::shares::add_for_set;
 use crate::used::add_used;
 use block_sums::settled_in_blocks;
@@ -82,6 +83,22 @@ fn add_for_packing(
     Ok(())
 }
 
+/// Adds the rows that follow from a packing, and from parts of it.
+fn add_with_parts(
+    maker: &mut Maker,
+    zero: &Nought,
+    p: &Packing,
+    aim: &Aim,
+) -> Result<(), AllocError>
+    requires nought { IsNought maker.old zero.now }
+    requires packing { IsPacking maker.old p.now }
+    ensures { OnOk result (Defines maker.old maker.new) }
+{
+    add_for_packing(maker, zero, p, aim)?;
+    add_parts(maker, zero, p, aim)?;
+    Ok(())
+}
+
 /// Adds the rows that follow from constraint k, where it is a packing.
 fn add_for(maker: &mut Maker, zero: &Nought, aim: &Aim, k: usize) -> Result<(), AllocError>
     requires nought { IsNought maker.old zero.now }
@@ -89,7 +106,7 @@ fn add_for(maker: &mut Maker, zero: &Nought, aim: &Aim, k: usize) -> Result<(), 
 {
     match packing_at(maker, k)? {
         Some(p) => {
-            add_for_packing(maker, zero, &p, aim)?;
+            add_with_parts(maker, zero, &p, aim)?;
             Ok(())
         }
         None => Ok(()),

@@ -86,7 +86,7 @@ fn times(maker: &Maker, f: &Linear, n: u64) -> Result<Linear, AllocError>
 }
 
 /// A sum less another.
-fn less(maker: &Maker, f: &Linear, o: &Linear) -> Result<Linear, AllocError>
+pub(crate) fn less(maker: &Maker, f: &Linear, o: &Linear) -> Result<Linear, AllocError>
     requires left { IsLinear (2 ^ 50) maker.now.domains f.now }
     requires right { IsLinear (2 ^ 50) maker.now.domains o.now }
     ensures linear { IfOk result (λ r. (m n : ℕ) → IsLinear m maker.now.domains f.now
@@ -127,7 +127,7 @@ fn sum_of(maker: &Maker, zero: &Nought, goal: u32) -> Result<Option<Linear>, All
 }
 
 /// What a sum is without a factor that its terms have in common.
-fn quotient_of(maker: &Maker, f: &Linear) -> Result<Option<Quotient>, AllocError>
+pub(crate) fn quotient_of(maker: &Maker, f: &Linear) -> Result<Option<Quotient>, AllocError>
     requires { IsLinear (2 ^ 21) maker.now.domains f.now }
     ensures { IfOk result (λ o. IfSome o (λ q. IsQuotient maker.now.domains f.now q)) }
 {

@@ -31,7 +31,7 @@ pub(crate) struct Host {
 }
 
 /// Whether the variable is found among these, which ascend.
-fn is_among(vars: &[u32], x: u32) -> bool
+pub(crate) fn is_among(vars: &[u32], x: u32) -> bool
     ensures { result ≡ true → Contains vars.now x }
 {
     match vars.binary_search(&x) {

@@ -102,7 +102,7 @@ fn used_by(alloc: Global, boxes: &[IntSet], items: &[(u32, u64)]) -> Result<IntS
 }
 
 /// A packing by its bins and sizes.
-fn with_items(
+pub(crate) fn with_items(
     maker: &Maker,
     items: Vec<(u32, u64)>,
     room: u64,

@@ -10,7 +10,7 @@ ghost use Rattle.form_build.specs.Worlds.{IsWorld, Defines};
 ghost use Rattle.form_build.specs.Sums.{IsLinear};
 ghost use Rattle.goal_rows.specs.Hosts.{use_of, IsHost, IsTaken};
 ghost use Rattle.goal_rows.specs.Packings.{IsPacking};
-ghost use Rattle.stated_facts.specs.Rows.{IsNought};
+ghost use Rattle.stated_facts.specs.Rows.{Follows, IsNought};
 
 use crate::amounts::{amount, amount_less, less_amount};
 use crate::choice::{Aim, distinct};
@@ -66,7 +66,7 @@ fn share_of(maker: &Maker, h: &Host) -> Result<Linear, AllocError>
 }
 
 /// The bins without one.
-fn without(maker: &Maker, rest: &IntSet, bin: u64) -> Result<IntSet, AllocError>
+pub(crate) fn without(maker: &Maker, rest: &IntSet, bin: u64) -> Result<IntSet, AllocError>
     requires { bin ≤ 2 ^ 38 }
     ensures { IfOk result (λ s. (v : ℤ) → has s v
         ≡ (has rest.now v && not (in_range (pos bin, pos bin) v))) }
@@ -105,7 +105,11 @@ fn none_taken(maker: &Maker, p: &Packing) -> Result<Taken, AllocError>
 }
 
 /// All of these bins are taken, where the numbers stay small.
-fn take_all(maker: &Maker, p: &Packing, hosts: &[Host]) -> Result<Option<Taken>, AllocError>
+pub(crate) fn take_all(
+    maker: &Maker,
+    p: &Packing,
+    hosts: &[Host],
+) -> Result<Option<Taken>, AllocError>
     requires packing { IsPacking maker.now p.now }
     requires hosts { All (IsHost maker.now p.now) hosts.now }
     ensures { IfOk result (λ o. IfSome o (λ t. IsTaken maker.now p.now t)) }
@@ -122,7 +126,12 @@ fn take_all(maker: &Maker, p: &Packing, hosts: &[Host]) -> Result<Option<Taken>,
 
 /// The bins of which flags tell that are terms of the sum, where use of a bin raises it, or where
 /// use lowers it.
-fn hosts_of(maker: &Maker, p: &Packing, aim: &Aim, rises: bool) -> Result<Vec<Host>, AllocError>
+pub(crate) fn hosts_of(
+    maker: &Maker,
+    p: &Packing,
+    aim: &Aim,
+    rises: bool,
+) -> Result<Vec<Host>, AllocError>
     requires { IsPacking maker.now p.now }
     ensures { IfOk result (λ hosts. All (IsHost maker.now p.now) hosts.items) }
 {
@@ -175,6 +184,25 @@ fn multiples(maker: &Maker, hosts: &[Host], aim: &Aim) -> Result<Vec<Multiple>, 
     Ok(out)
 }
 
+/// That all items fit into the bins, as a row. None where nothing follows.
+pub(crate) fn row_of_used(
+    maker: &Maker,
+    p: &Packing,
+    t: &Taken,
+) -> Result<Option<Linear>, AllocError>
+    requires packing { IsPacking maker.now p.now }
+    requires taken { IsTaken maker.now p.now t.now }
+    ensures linear { IfOk result (λ o. IfSome o (λ r. IsLinear (2 ^ 40) maker.now.domains r)) }
+    ensures follows { IfOk result (λ o. IfSome o (λ r. Follows maker.now r)) }
+{
+    let Some(most) = room_in(p, &t.rest) else {
+        return Ok(None);
+    };
+    let outside = amount_less(maker, p.whole, &t.sum)?;
+    let row = less_amount(maker, &outside, most)?;
+    Ok(Some(row))
+}
+
 /// States that all items fit into the bins, with multiples of what is 0.
 fn state_used(
     maker: &mut Maker,
@@ -189,13 +217,13 @@ fn state_used(
     requires taken { IsTaken maker.old p.now t.now }
     ensures { OnOk result (Defines maker.old maker.new) }
 {
-    let Some(most) = room_in(p, &t.rest) else {
-        return Ok(());
-    };
-    let outside = amount_less(maker, p.whole, &t.sum)?;
-    let row = less_amount(maker, &outside, most)?;
-    state_multiples(maker, &row, zero, sizes, rises)?;
-    Ok(())
+    match row_of_used(maker, p, t)? {
+        Some(row) => {
+            state_multiples(maker, &row, zero, sizes, rises)?;
+            Ok(())
+        }
+        None => Ok(()),
+    }
 }
 
 /// Adds the rows of a packing for the bins of which flags tell that are terms of the goal's sum.

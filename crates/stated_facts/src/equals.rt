@@ -203,7 +203,7 @@ fn balance_of(maker: &Maker, sum: Linear, k: usize) -> Result<Nought, AllocError
 }
 
 /// The row that constraint k says, with what the next one says of the same terms.
-fn balance_at(maker: &Maker, k: usize) -> Result<Option<Nought>, AllocError>
+pub fn balance_at(maker: &Maker, k: usize) -> Result<Option<Nought>, AllocError>
     ensures { IfOk result (λ o. IfSome o (λ z. IsNought maker.now z)) }
 {
     match row_at(maker, k)? {

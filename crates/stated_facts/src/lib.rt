@@ -24,7 +24,7 @@ mod weights;
 pub use claims::{Claims, bit_of, claims_of};
 pub use constants::{constant, only_value};
 pub use definitions::{definition, definition_indexes, question};
-pub use equals::with_rows;
+pub use equals::{balance_at, with_rows};
 pub use factors::{factor_at, factors_of};
 pub use noughts::{MOST_TIMES, Nought, combined, is_allowed, multiple_of, signed};
 pub use weights::{is_light, is_near, is_small, light_sum, weighs_within};
