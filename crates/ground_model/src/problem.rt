@@ -27,6 +27,7 @@ use crate::origins::Origins;
 use crate::sets::require_full_sets;
 use conf_types::TypedModel;
 use form_build::Maker;
+use goal_rows::add_totals;
 use ground_build::Builder;
 use ground_cells::cell_boxes;
 use ground_form::Ground;
@@ -86,8 +87,8 @@ fn require_model(
     Ok(known)
 }
 
-/// Adds the packings, the bounds of tables, the differences and the joined sets that follow from
-/// what is stated, where they are wanted.
+/// Adds the packings, the bounds of tables, the differences, the totals and the joined sets that
+/// follow from what is stated, where they are wanted.
 fn add_packings(maker: &mut Maker, wanted: bool) -> Result<(), AllocError>
     ensures { OnOk result (Defines maker.old maker.new) }
 {
@@ -95,6 +96,7 @@ fn add_packings(maker: &mut Maker, wanted: bool) -> Result<(), AllocError>
         pack_stated(maker)?;
         tabulate_stated(maker)?;
         differ_stated(maker)?;
+        add_totals(maker)?;
         join_stated(maker)?;
     }
     Ok(())
