@@ -6,9 +6,9 @@ use Rattle.std.specs.Ordering.{int_eq}
 use Rattle.ground_form.specs.Meaning.{value_of}
 use Rattle.ground_form.specs.declared.ground.Ground.{Ground}
 use Rattle.form_build.specs.Worlds.{IsWorld, AllHold}
-use Rattle.goal_rows.specs.Loads.{sizes_where}
-use Rattle.goal_rows.specs.Packings.{AreSome, MayHave, AreFitting}
-use Rattle.goal_rows.proofs.HostLaws.{sizes_push}
+use Rattle.packing_sums.specs.Loads.{sizes_where}
+use Rattle.packing_sums.specs.Packings.{AreSome, MayHave, AreFitting}
+use Rattle.packing_sums.proofs.HostLaws.{sizes_push}
 
 -- an item that is pushed
 pub may_push : (out : List (ℕ × ℕ)) (s : ℕ × ℕ) → MayHave out s (out ++ s ∷ [])

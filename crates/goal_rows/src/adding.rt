@@ -6,20 +6,17 @@ ghost use Rattle.ground_form.specs.Bounds.{reach_of, most_sum};
 ghost use Rattle.form_build.specs.Forms.{linear_at};
 ghost use Rattle.form_build.specs.Worlds.{IsWorld, AllHold, Defines};
 ghost use Rattle.form_build.specs.Sums.{IsLinear};
-ghost use Rattle.goal_rows.specs.Packings.{IsPacking};
+ghost use Rattle.packing_sums.specs.Packings.{IsPacking};
 ghost use Rattle.goal_rows.specs.Quotients.{IsGoalBy};
 ghost use Rattle.stated_facts.specs.Rows.{IsNought};
 
-use crate::choice::{Aim, aim_of, sets_asked};
 use crate::costs::with_costs;
 use crate::dividing::{Quotient, goal_quotient, state_link};
-use crate::packing::{Packing, packing_at};
 use crate::parts::add_parts;
-use crate::shares::add_for_set;
-use crate::used::add_used;
 use block_sums::settled_in_blocks;
 use form_build::{Linear, Maker, variable};
 use ground_form::Con;
+use packing_sums::{Aim, Packing, add_for_set, add_used, aim_of, packing_at, sets_asked};
 use stated_facts::{Nought, is_near, weighs_within, with_rows};
 use std::alloc::AllocError;
 

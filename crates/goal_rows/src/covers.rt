@@ -6,11 +6,9 @@ ghost use Rattle.ground_form.specs.Bounds.{reach_of};
 ghost use Rattle.goal_rows.specs.Covers.{IsCover};
 ghost use Rattle.stated_facts.specs.Rows.{IsNought};
 
-use crate::amounts::amount;
 use crate::dividing::less;
-use crate::packing::HEAVIEST;
-use crate::used::without;
 use form_build::{Linear, Maker, variable};
+use packing_sums::{HEAVIEST, amount, without};
 use signed_clause::IntSet;
 use stated_facts::{Nought, is_near, is_small, question};
 use std::alloc::AllocError;

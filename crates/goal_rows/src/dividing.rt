@@ -13,9 +13,8 @@ ghost use Rattle.form_build.specs.Worlds.{IsWorld, AllHold, Defines};
 ghost use Rattle.goal_rows.specs.Quotients.{IsQuotient, IsGoalBy};
 ghost use Rattle.stated_facts.specs.Rows.{IsNought};
 
-use crate::amounts::amount;
-use crate::rows::{Multiple, state_multiples};
 use form_build::{Linear, Maker, variable};
+use packing_sums::{Multiple, amount, state_multiples};
 use stated_facts::{MOST_TIMES, Nought, is_near, is_small, light_sum, signed};
 use std::alloc::{AllocError, Global};
 

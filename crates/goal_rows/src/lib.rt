@@ -10,41 +10,23 @@
 //! Surrogate constraints (Glover, 1968); that good multiples are dual values is linear programming.
 //!
 //! - `adding`: what is added for a goal.
-//! - `amounts`: sizes as numbers with a sign, and as sums.
-//! - `away`: variables that don't have a value where a flag is 1.
-//! - `choice`: the sets that a goal's flags ask about, and which multiples are added.
 //! - `costs`: a goal whose terms follow from where an item is.
 //! - `counting`: rows that count the same items, each in a bin of its own.
 //! - `covers`: that a variable has one of its values, as a row over flags.
 //! - `dividing`: a goal whose terms have a factor in common.
-//! - `hosts`: bins of which a flag tells whether some item is there that may be elsewhere.
-//! - `inside`: the sizes of the items in a set, as a sum.
-//! - `packing`: packings whose sizes and rooms are constants, as lists of bins and sizes.
 //! - `parts`: items of which some of a goal's flags ask, as packings of their own.
 //! - `rounding`: rows without a factor that their terms have in common, rounded up.
-//! - `rows`: rows that follow, with multiples of what is 0.
-//! - `shares`: what the items in a set, and those outside it, have room for.
 //! - `totals`: totals of rows that count the same items.
-//! - `used`: rows of a packing for a goal that counts bins in use.
 #![tactic(auto)]
 
 mod adding;
-mod amounts;
-mod away;
-mod choice;
 mod costs;
 mod counting;
 mod covers;
 mod dividing;
-mod hosts;
-mod inside;
-mod packing;
 mod parts;
 mod rounding;
-mod rows;
-mod shares;
 mod totals;
-mod used;
 
 pub use adding::{add_goal_sums, has_packing};
 pub use totals::add_totals;

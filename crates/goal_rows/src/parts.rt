@@ -5,17 +5,15 @@
 //! rounded up, adds up to what the goal is at least.
 ghost use Rattle.std.specs.Prelude.{IfOk, IfSome, OnOk};
 ghost use Rattle.form_build.specs.Worlds.{Defines};
-ghost use Rattle.goal_rows.specs.Packings.{AreSome, MayHave, IsPacking};
+ghost use Rattle.packing_sums.specs.Packings.{AreSome, MayHave, IsPacking};
 ghost use Rattle.stated_facts.specs.Rows.{IsNought};
 
-use crate::away::away_from;
-use crate::choice::Aim;
-use crate::hosts::is_among;
-use crate::packing::{Packing, with_items};
 use crate::rounding::rounded;
 use crate::totals::{nothing, state_row};
-use crate::used::{hosts_of, row_of_used, take_all};
 use form_build::Maker;
+use packing_sums::{
+    Aim, Packing, away_from, hosts_of, is_among, row_of_used, take_all, with_items,
+};
 use stated_facts::{Nought, combined, factor_at};
 use std::alloc::{AllocError, Global};
 

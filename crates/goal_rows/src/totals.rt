@@ -9,11 +9,10 @@ ghost use Rattle.std.specs.Prelude.{IfOk, IfSome, OnOk};
 ghost use Rattle.form_build.specs.Worlds.{Defines};
 ghost use Rattle.stated_facts.specs.Rows.{IsNought};
 
-use crate::amounts::amount;
 use crate::counting::{Counting, flags_of, groups_of};
 use crate::covers::cover_of;
-use crate::rows::{Multiple, state_multiples};
 use form_build::Maker;
+use packing_sums::{Multiple, amount, state_multiples};
 use stated_facts::{Nought, balance_at, combined, definition_indexes};
 use std::alloc::AllocError;
 

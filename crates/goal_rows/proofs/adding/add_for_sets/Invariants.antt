@@ -1,5 +1,5 @@
 use Rattle.form_build.specs.Worlds.{Defines}
-use Rattle.goal_rows.specs.Packings.{IsPacking}
+use Rattle.packing_sums.specs.Packings.{IsPacking}
 use Rattle.stated_facts.specs.Rows.{IsNought}
 use Rattle.goal_rows.proofs.adding.add_for_sets.Given as goal
 

@@ -1,5 +1,5 @@
 use Rattle.form_build.proofs.Growth.{defines_more}
-use Rattle.goal_rows.proofs.PackingLaws.{packing_kept}
+use Rattle.packing_sums.proofs.PackingLaws.{packing_kept}
 use Rattle.stated_facts.proofs.NoughtLaws.{nought_kept}
 use Rattle.goal_rows.proofs.adding.add_with_parts.Goals as goal
 

@@ -3,7 +3,7 @@ use Rattle.std.proofs.lemmas.Int.{to_z-of_z}
 use Rattle.form_build.specs.Forms.{linear_at}
 use Rattle.form_build.specs.Sums.{IsLinear, AreNumbersWithin}
 use Rattle.form_build.proofs.Linears.{linear_more}
-use Rattle.goal_rows.proofs.RowLaws.{times_numbers, few_signed}
+use Rattle.packing_sums.proofs.RowLaws.{times_numbers, few_signed}
 use Rattle.goal_rows.proofs.dividing.times.Goals as goal
 
 pub times-requires : goal.times-requires

@@ -1,6 +1,6 @@
 use Rattle.std.proofs.Common.{[]}
 use Rattle.form_build.proofs.Growth.{adds_nothing, defines_more}
-use Rattle.goal_rows.proofs.PackingLaws.{packing_kept}
+use Rattle.packing_sums.proofs.PackingLaws.{packing_kept}
 use Rattle.stated_facts.proofs.NoughtLaws.{nought_kept}
 use Rattle.goal_rows.proofs.parts.add_parts.Goals as goal
 

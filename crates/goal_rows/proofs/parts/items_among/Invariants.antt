@@ -1,6 +1,6 @@
 use Rattle.std.proofs.Common.{ℕ, ℤ, Bool, List, ◌<◌, ◌≤◌, take}
 use Rattle.std.specs.List.{All}
-use Rattle.goal_rows.specs.Loads.{sizes_where}
+use Rattle.packing_sums.specs.Loads.{sizes_where}
 use Rattle.goal_rows.proofs.parts.items_among.Given as goal
 
 abbrev pub invariant-loop-s : goal.invariant-loop-s

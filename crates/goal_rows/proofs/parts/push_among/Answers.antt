@@ -1,5 +1,5 @@
 use Rattle.std.proofs.Common.{List, ℕ, sym, subst}
-use Rattle.goal_rows.specs.Packings.{MayHave}
+use Rattle.packing_sums.specs.Packings.{MayHave}
 use Rattle.goal_rows.proofs.PartLaws.{may_push, may_stay}
 use Rattle.goal_rows.proofs.parts.push_among.Goals as goal
 

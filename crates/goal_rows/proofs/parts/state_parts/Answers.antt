@@ -1,6 +1,6 @@
 use Rattle.std.proofs.Common.{[]}
 use Rattle.form_build.proofs.Growth.{defines_more}
-use Rattle.goal_rows.proofs.PackingLaws.{packing_kept}
+use Rattle.packing_sums.proofs.PackingLaws.{packing_kept}
 use Rattle.goal_rows.proofs.parts.state_parts.Goals as goal
 
 pub loop-part-init : goal.loop-part-init

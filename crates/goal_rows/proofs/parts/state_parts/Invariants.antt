@@ -1,5 +1,5 @@
 use Rattle.form_build.specs.Worlds.{Defines}
-use Rattle.goal_rows.specs.Packings.{IsPacking}
+use Rattle.packing_sums.specs.Packings.{IsPacking}
 use Rattle.goal_rows.proofs.parts.state_parts.Given as goal
 
 abbrev pub invariant-loop-part : goal.invariant-loop-part

@@ -1,6 +1,0 @@
-use Rattle.std.proofs.Common.{◌≡◌, ◌+◌, drop}
-use Rattle.goal_rows.specs.Loads.{size_of}
-use Rattle.goal_rows.proofs.packing.whole_of.Given as goal
-
-abbrev pub invariant-loop-s : goal.invariant-loop-s
-invariant-loop-s l = l.sum + size_of (drop l.s-index l.items) ≡ size_of l.items

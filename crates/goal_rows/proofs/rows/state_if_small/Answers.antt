@@ -1,6 +1,0 @@
-use Rattle.std.proofs.Common.{[]}
-use Rattle.form_build.proofs.Growth.{adds_nothing}
-use Rattle.goal_rows.proofs.rows.state_if_small.Goals as goal
-
-pub returns-then-not-is_small : goal.returns-then-not-is_small
-returns-then-not-is_small c = adds_nothing [] c.args.maker.now

@@ -1,6 +1,0 @@
-use Rattle.std.specs.List.{All}
-use Rattle.goal_rows.specs.Hosts.{IsHost}
-use Rattle.goal_rows.proofs.used.hosts_of.Given as goal
-
-abbrev pub invariant-loop-t : goal.invariant-loop-t
-invariant-loop-t l = All (IsHost l.maker l.p) l.hosts.items

@@ -1,0 +1,12 @@
+use Rattle.std.proofs.Common.{[]}
+use Rattle.form_build.proofs.Growth.{adds_nothing}
+use Rattle.packing_sums.proofs.RowLaws.{inside_follows}
+use Rattle.packing_sums.proofs.shares.state_inside.Goals as goal
+
+pub returns-in_default : goal.returns-in_default
+returns-in_default c = adds_nothing [] c.args.maker.now
+
+pub state_multiples-requires-clause-follows : goal.state_multiples-requires-clause-follows
+state_multiples-requires-clause-follows c =
+    inside_follows c.args.maker.now c.args.p.now c.args.asked.now.set c.in_ok-there.there c.args.f.now c.in_ok-row.row c.in-Some.most
+    c.requires.packing c.in_ok-there.ensures.values c.in-Some.ensures.room c.requires.value c.in_ok-row.ensures.value
