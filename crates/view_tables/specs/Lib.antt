@@ -1,4 +1,3 @@
 pub mod Cells
 pub mod Chosen
-pub mod Rows
 pub mod Weights

@@ -5,7 +5,6 @@ mod cells;
 mod choice;
 mod pictures;
 mod plans;
-mod rows;
 mod weights;
 
 pub use choice::chosen;

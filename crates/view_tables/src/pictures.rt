@@ -8,8 +8,8 @@ ghost use Rattle.view_picture.specs.PictureViews.{guest_seen, holding_seen, hold
 ghost use Rattle.view_tables.specs.Cells.{capacity_cell, count_cell, is_among, guests_cell, holding_cells, load_cells, picture_head, picture_rows, size_heads};
 
 use crate::cells::path_cell;
-use crate::rows::{push_cell, rows_text};
 use csv::ByteRecord;
+use csv_rows::{push_cell, rows_text};
 use itoa::Buffer;
 use std::alloc::{AllocError, Global};
 use view_leaves::push_path;

@@ -9,8 +9,8 @@ ghost use Rattle.view_plan.specs.Views.{change_seen, line_seen, lines_seen};
 ghost use Rattle.view_tables.specs.Cells.{change_name, old_cell, new_cell, count_cell, line_cells, plan_head, plan_rows};
 
 use crate::cells::{path_cell, value_cell, words_cell};
-use crate::rows::rows_text;
 use csv::ByteRecord;
+use csv_rows::rows_text;
 use std::alloc::{AllocError, Global};
 use view_plan::{Change, Line};
 

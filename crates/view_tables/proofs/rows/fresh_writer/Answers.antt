@@ -1,7 +1,0 @@
-use Rattle.view_tables.proofs.RowLaws.{none_written}
-use Rattle.view_tables.proofs.rows.fresh_writer.Goals as goal
-
-pub returns : goal.returns
-returns c =
-    let from = c.from_writer-writer.ensures in
-    none_written _ _ from.wtr c.new-bytes.ensures.items from.empty from.cfg from.fields from.wrote
