@@ -1,25 +1,20 @@
 -- Rows that follow.
-use Rattle.std.proofs.Common.{◌≡◌, ℕ, ◌*◌, ◌^◌, ◌≤◌, Bool, true, false, not, ◌&&◌, ◌||◌, List, [], ℤ, pos, ◌+ℤ◌, ◌-ℤ◌, ◌*ℤ◌, unsigned_abs, length, All, refl, sym, ap, ◌∙◌, subst, arith, ◌<◌}
+use Rattle.std.proofs.Common.{◌≡◌, ℕ, ◌*◌, ◌^◌, ◌≤◌, Bool, true, false, not, ◌&&◌, ◌||◌, List, [], ℤ, pos, ◌-ℤ◌, unsigned_abs, All, refl, ap, ◌∙◌, arith}
 use Rattle.std.proofs.lemmas.Int.{ints}
 use Rattle.std.proofs.Math.Nat.{mul-le-mul_left, mul-le-mul_right}
 use Rattle.std.proofs.lemmas.List.Elements.{All-weaker}
-use Rattle.signed_clause.specs.Clauses.{Boxes, box_of}
-use Rattle.ground_form.specs.Bounds.{reach_of}
+use Rattle.signed_clause.specs.Clauses.{Boxes}
 use Rattle.form_build.specs.Sums.{IsLinear, AreNumbersWithin}
 use Rattle.form_build.proofs.Linears.{numbers_within, linear_more}
 use Rattle.signed_clause.specs.Ranges.{Ranges, has, count_of}
 use Rattle.ground_form.specs.declared.ground.Ground.{Ground}
-use Rattle.ground_form.specs.Meaning.{value_of, sum_at}
 use Rattle.form_build.specs.declared.form.Linear.{Linear}
 use Rattle.form_build.specs.Forms.{linear_at}
-use Rattle.form_build.specs.Worlds.{IsWorld, AllHold, Grows, Adds, Defines}
-use Rattle.form_build.proofs.Growth.{world_before, all_before, box_kept}
-use Rattle.form_build.proofs.Keeping.{linear_kept}
+use Rattle.form_build.specs.Worlds.{IsWorld, AllHold, Adds, Defines}
+use Rattle.form_build.proofs.Growth.{world_before}
 use Rattle.packing_sums.specs.declared.packing.Packing.{Packing}
 use Rattle.packing_sums.specs.Loads.{sizes_where}
 use Rattle.packing_sums.specs.Packings.{IsPacking}
-use Rattle.packing_sums.specs.declared.dividing.Quotient.{Quotient}
-use Rattle.packing_sums.specs.Quotients.{IsGoalBy}
 use Rattle.stated_facts.specs.Rows.{Follows}
 use Rattle.packing_sums.proofs.LoadLaws.{split, none_there, all_there, set_room}
 use Rattle.packing_sums.proofs.PackingLaws.{bins_used}
@@ -64,12 +59,6 @@ times_linear boxes f c h k = linear_more (unsigned_abs c * 2 ^ 40) (2 ^ 58) boxe
 pub few_signed : (v : ℤ) (n : ℕ) → v ≡ pos n → n ≤ 2 ^ 18 → unsigned_abs v ≤ 2 ^ 18
 few_signed v n e h = let size = ap unsigned_abs e in omega (arith, size, h)
 
--- a sum by a quotient of its terms
-pub quotient_value : (f whole rest sum : Linear) (n : ℕ) (a : List ℤ) → rest.terms ≡ [] → linear_at whole a ≡ (pos n *ℤ linear_at sum a) → linear_at rest a ≡ (linear_at f a -ℤ linear_at whole a) → linear_at f a ≡ ((pos n *ℤ linear_at sum a) +ℤ rest.offset)
-quotient_value f whole rest sum n a none times less =
-    let nil = ap (λ (z : List (ℤ × ℕ)). sum_at z a) none in
-    omega (arith, ints, nil, times, less)
-
 pub small_signed : (v : ℤ) (n : ℕ) → v ≡ pos n → n ≤ 2 ^ 38 → unsigned_abs v ≤ 2 ^ 38
 small_signed v n e h = let size = ap unsigned_abs e in omega (arith, size, h)
 
@@ -105,19 +94,3 @@ outside_follows g p set rest f outside row most h others room inside turned less
     let out = turned a in
     let row_is = less a in
     omega (arith, ints, parts, whole, total, fits, room, value, out, row_is)
-
--- ---- a goal by a quotient
-
-pub near_kept : (old new : Ground) (x : ℕ) → Grows old new → x < length old.domains → reach_of (box_of old.domains x) ≤ 2 ^ 19 → reach_of (box_of new.domains x) ≤ 2 ^ 19
-near_kept old new x g lt h = subst (λ (z : Ranges). reach_of z ≤ 2 ^ 19) (sym (box_kept old new x g lt)) h
-
-pub goal_kept : (old new : Ground) (goal : ℕ) (q : Quotient) → Grows old new → IsGoalBy old goal q → IsGoalBy new goal q
-goal_kept old new goal q g h = record {
-  linear = linear_kept (2 ^ 19) old new q.sum g h.linear;
-  times = h.times;
-  value = λ a w all. h.value a (world_before old new a g w) (all_before old new a g all);
-}
-
--- by the variable of the sum
-pub goal_by_own : (g : Ground) (goal own : ℕ) (q : Quotient) → IsGoalBy g goal q → ((a : List ℤ) → IsWorld g a → value_of a own ≡ linear_at q.sum a) → (a : List ℤ) → IsWorld g a → AllHold g a → value_of a goal ≡ ((pos q.times *ℤ value_of a own) +ℤ q.rest)
-goal_by_own g goal own q h is a w all = h.value a w all ∙ ap (λ (v : ℤ). (pos q.times *ℤ v) +ℤ q.rest) (sym (is a w))

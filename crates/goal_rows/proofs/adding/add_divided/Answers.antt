@@ -2,7 +2,7 @@ use Rattle.std.proofs.Common.{◌^◌, arith}
 use Rattle.form_build.proofs.Growth.{defines_more, no_less, world_before}
 use Rattle.form_build.proofs.Keeping.{linear_kept}
 use Rattle.form_build.proofs.Linears.{linear_more}
-use Rattle.packing_sums.proofs.RowLaws.{near_kept, goal_kept, goal_by_own}
+use Rattle.goal_rows.proofs.QuotientLaws.{near_kept, goal_kept, goal_by_own}
 use Rattle.goal_rows.proofs.adding.add_divided.Goals as goal
 
 pub settled_in_blocks-requires : goal.settled_in_blocks-requires

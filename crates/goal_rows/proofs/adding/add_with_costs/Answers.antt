@@ -1,6 +1,6 @@
 use Rattle.std.proofs.Common.{arith}
 use Rattle.form_build.proofs.Growth.{defines_more, no_less}
-use Rattle.packing_sums.proofs.RowLaws.{near_kept}
+use Rattle.goal_rows.proofs.QuotientLaws.{near_kept}
 use Rattle.goal_rows.proofs.adding.add_with_costs.Goals as goal
 
 pub add_whole-requires-clause-goal : goal.add_whole-requires-clause-goal

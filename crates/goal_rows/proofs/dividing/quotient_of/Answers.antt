@@ -2,7 +2,7 @@ use Rattle.std.proofs.Common.{rules, w64, ℤ, pos, ◌^◌, ◌+ℤ◌, ◌*ℤ
 use Rattle.std.proofs.lemmas.Int.{to_z-of_z}
 use Rattle.form_build.specs.Forms.{linear_at}
 use Rattle.form_build.proofs.Linears.{linear_more}
-use Rattle.packing_sums.proofs.RowLaws.{quotient_value}
+use Rattle.goal_rows.proofs.QuotientLaws.{quotient_value}
 use Rattle.goal_rows.proofs.dividing.quotient_of.Goals as goal
 
 pub divided_terms-requires : goal.divided_terms-requires
