@@ -90,7 +90,7 @@ tried_accepted o ks budget part rounds now end h =
       more = h.more;
       well_made = h.is.ground;
       taken = subst (λ g. accepted g h.round.lines ≡ true)
-          (sym (some_same h.round.ground run.ground run.kept)) run.taken;
+          (sym (some_same h.round.ground run.ground run.kept)) run.whole.taken;
     }
 
 pub tried_begins : (o : Outline) (ks : List ResolvedConstraint) (budget : ℕ) (part : List ℕ)

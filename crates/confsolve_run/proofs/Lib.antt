@@ -1,5 +1,6 @@
 pub mod AskedParts
 pub mod Endings
+pub mod LeftBehind
 pub mod LogFiles
 pub mod OneAnswer
 pub mod RepairParts
