@@ -7,9 +7,9 @@ ghost use Rattle.desk_io.specs.Desk.{with_printed};
 ghost use Rattle.desk_io.specs.Fault.{HasRisen};
 ghost use Rattle.proof_log.specs.Rounds.{empty};
 ghost use Rattle.run_status.specs.declared.status.Status.{Status as AStatus};
-ghost use Rattle.run_promise.specs.Answer.{IsAnswer, IsAnswerBegun, IsAnswerSearched};
+ghost use Rattle.run_promise.specs.Answer.{IsAnswer, IsAnswerSearched};
 ghost use Rattle.run_promise.specs.Asking.{Reads, Writes, IsFurther, OfRequest, OfText, closes_rounds, leaves_journal, log_file, text_of};
-ghost use Rattle.run_promise.specs.Delivery.{outside, IsLogged, IsLogFront, IsCutOff};
+ghost use Rattle.run_promise.specs.Delivery.{outside, IsLogged, IsLogFront, IsBrokenOff};
 ghost use Rattle.round_commands.specs.Ending.{RunEnds, trace};
 ghost use Rattle.run_promise.specs.Recorded.{AreRoundsFor, HasLeft, IsRecorded};
 ghost use Rattle.run_promise.specs.Refusal.{IsReason, IsStanding};
@@ -103,9 +103,8 @@ pub fn run<D: Desk>(
     // writing broke off within the log or the text of an answer; of a session the rounds are those
     // of the events that were answered, and all answers but the last were printed whole
     ensures write_fault { result ≡ Status.WriteFault → OfRequest (D.files desk.old) words.now
-        (λ r asked p. (s : AStatus) × (whole : List ℕ) × (text : List ℕ)
-        × IsAnswerBegun (map (λ c. c.order) choosers.now) journal.new asked p s whole text
-        × IsCutOff r journal.new whole text (outside (D.files desk.old) (D.printed desk.old))
+        (IsBrokenOff (map (λ c. c.order) choosers.now) journal.new
+        (outside (D.files desk.old) (D.printed desk.old))
         (outside (D.files desk.new) (D.printed desk.new))) }
     // want of memory came before writing and before a round was closed; or the same is so; or it
     // came among the searches for what to blame, before writing
@@ -113,9 +112,8 @@ pub fn run<D: Desk>(
         → ((outside (D.files desk.new) (D.printed desk.new)
         ≡ outside (D.files desk.old) (D.printed desk.old)) × (journal.new.rounds ≡ []))
         ⊎ (OfRequest (D.files desk.old) words.now
-        (λ r asked p. (s : AStatus) × (whole : List ℕ) × (text : List ℕ)
-        × IsAnswerBegun (map (λ c. c.order) choosers.now) journal.new asked p s whole text
-        × IsCutOff r journal.new whole text (outside (D.files desk.old) (D.printed desk.old))
+        (IsBrokenOff (map (λ c. c.order) choosers.now) journal.new
+        (outside (D.files desk.old) (D.printed desk.old))
         (outside (D.files desk.new) (D.printed desk.new)))
         ⊎ ((outside (D.files desk.new) (D.printed desk.new)
         ≡ outside (D.files desk.old) (D.printed desk.old))
