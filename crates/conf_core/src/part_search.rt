@@ -7,6 +7,7 @@ ghost use Rattle.conf_limits.specs.Measures.{model_narrow};
 ghost use Rattle.conf_types.specs.Typing.{IsTypedModel};
 ghost use Rattle.ground_form.specs.WellMade.{IsWellMade};
 ghost use Rattle.model_search.specs.Problems.{IsProblemOf};
+ghost use Rattle.run_finder.specs.Searched.{AreSoFar};
 
 use conf_types::TypedModel;
 use ground_form::Ground;
@@ -107,6 +108,7 @@ fn closed_round<F: Finder>(
     ensures rounds { OnErr result (journal.new.rounds ≡ journal.old.rounds) }
     ensures ground { OnOk result (journal.new.ground ≡ None) }
     ensures lines { OnOk result (journal.new.lines ≡ []) }
+    ensures so_far { AreSoFar journal.new.lines }
     ensures budget { F.allowed finder.new ≡ F.allowed finder.old }
 {
     let mut origins = Origins::new(with.alloc);
@@ -143,6 +145,7 @@ pub(crate) fn try_part<F: Finder>(
     ensures rounds { OnErr result (journal.new.rounds ≡ journal.old.rounds) }
     ensures ground { OnOk result (journal.new.ground ≡ None) }
     ensures lines { OnOk result (journal.new.lines ≡ []) }
+    ensures so_far { AreSoFar journal.new.lines }
     ensures budget { F.allowed finder.new ≡ F.allowed finder.old }
 {
     let model = with.model.only(with.alloc, &part)?;
@@ -180,6 +183,7 @@ fn part_end<F: Finder>(
         with.entry.budget journal.old.rounds journal.new.rounds }
     ensures ground { OnOk result (journal.new.ground ≡ None) }
     ensures lines { OnOk result (journal.new.lines ≡ []) }
+    ensures so_far { AreSoFar journal.new.lines }
     ensures budget { F.allowed finder.new ≡ F.allowed finder.old }
 {
     let tried = try_part(with, part.to_vec(with.alloc)?, found, finder, journal)?;
@@ -222,6 +226,7 @@ pub(crate) fn decide_part<F: Finder>(
         with.entry.budget journal.old.rounds journal.new.rounds }
     ensures ground { OnOk result (journal.new.ground ≡ None) }
     ensures lines { OnOk result (journal.new.lines ≡ []) }
+    ensures so_far { AreSoFar journal.new.lines }
     ensures budget { F.allowed finder.new ≡ F.allowed finder.old }
 {
     let end = part_end(with, part, found, finder, journal)?;

@@ -1,8 +1,8 @@
 pub mod AskedParts
 pub mod Endings
-pub mod LeftBehind
 pub mod LogFiles
 pub mod OneAnswer
+pub mod PresentRound
 pub mod RepairParts
 pub mod RunLaws
 pub mod SearchRecords

@@ -175,7 +175,8 @@ pub(crate) fn check<D: Desk>(
         (D.read_faults desk.new) s (OfFile (D.files desk.old) file.now
         (λ bytes. IsUnchecked built.entry.objects.now built.entry.model.now.constraints
         built.entry.model.now.goals (option_copied repair.entry) journal.new bytes s))) }
-    ensures left { IfErr result (λ s. is_of_log s ≡ true → HasChecked journal.new) }
+    ensures problem { IfErr result (λ s. is_of_log s ≡ true → HasChecked journal.new) }
+    ensures lines { journal.new.lines ≡ journal.old.lines }
     ensures rounds { journal.new.rounds ≡ journal.old.rounds }
     ensures files { D.files desk.new ≡ D.files desk.old }
     ensures printed { D.printed desk.new ≡ D.printed desk.old }

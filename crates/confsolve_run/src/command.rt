@@ -11,7 +11,7 @@ ghost use Rattle.run_promise.specs.Answer.{IsAnswer, IsAnswerSearched};
 ghost use Rattle.run_promise.specs.Asking.{Reads, Writes, IsFurther, OfRequest, OfText, closes_rounds, leaves_journal, log_file, text_of};
 ghost use Rattle.run_promise.specs.Delivery.{outside, IsLogged, IsLogFront, IsBrokenOff};
 ghost use Rattle.round_commands.specs.Ending.{RunEnds, trace};
-ghost use Rattle.run_promise.specs.Recorded.{AreRoundsFor, HasLeft, IsRecorded};
+ghost use Rattle.run_promise.specs.Recorded.{AreRoundsFor, AreLinesFor, KeepsProblem, IsRecorded};
 ghost use Rattle.run_promise.specs.Refusal.{IsReason, IsStanding};
 ghost use Rattle.run_status.specs.Stages.{Refused, Answered, stage_of, is_silent, is_partial, IsSettled, IsUnless};
 
@@ -53,8 +53,9 @@ fn run_request<D: Desk>(
         → IsUnless s result }
     ensures rounds { closes_rounds request.now ≡ false → journal.new.rounds ≡ journal.old.rounds }
     ensures kept { leaves_journal request.now ≡ true → journal.new ≡ journal.old }
-    ensures left { HasLeft (map (λ c. c.order) with.entry.choosers.now) request.now result
-        journal.new }
+    ensures lines { AreLinesFor (map (λ c. c.order) with.entry.choosers.now) request.now
+        journal.new.lines }
+    ensures problem { KeepsProblem request.now result journal.new }
 {
     match text_of(with.alloc, desk, request) {
         Ok(text) => run_text(with, desk, &text, request, kit, journal),
@@ -145,9 +146,11 @@ pub fn run<D: Desk>(
     // no command but a session and `core` has rounds
     ensures rounds { IfSome (request words.now) (λ r. closes_rounds r ≡ false
         → journal.new.rounds ≡ journal.old.rounds) }
-    // the lines of a search are a run however it ends, of a log that is refused the problem is kept
-    ensures left { IfSome (request words.now)
-        (λ r. HasLeft (map (λ c. c.order) choosers.now) r result journal.new) }
+    // the lines of the present round are a run, however it ends
+    ensures lines { IfSome (request words.now)
+        (λ r. AreLinesFor (map (λ c. c.order) choosers.now) r journal.new.lines) }
+    // where the log of `check` is refused, the journal has the problem that it was checked against
+    ensures problem { IfSome (request words.now) (λ r. KeepsProblem r result journal.new) }
     // `verify` has nothing in the journal, however it ends
     ensures untouched { IfSome (request words.now) (λ r. leaves_journal r ≡ true
         → journal.new ≡ journal.old) }

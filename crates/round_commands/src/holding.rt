@@ -9,6 +9,7 @@ ghost use Rattle.model_search.specs.Runs.{is_open};
 ghost use Rattle.model_search.specs.declared.finding.Finding.{Finding as AFinding};
 ghost use Rattle.object_alloc.specs.Paths.{object_named};
 ghost use Rattle.round_commands.specs.Events.{IsBetween, StandsAt, situation_of};
+ghost use Rattle.run_finder.specs.Searched.{AreSoFar};
 ghost use Rattle.run_promise.specs.Sessions.{subject, is_none_told, session_status, AreHeld, AreBegun};
 
 use crate::event::{Setting, answer_event};
@@ -101,6 +102,7 @@ pub(crate) fn hold_session<D: Desk, F: Finder>(
         with.entry.built.model.now.goals with.entry.budget) (situation_of session.state) events.now
         journal.new.rounds whole text
         × PrintsFront text (with_printed whole (D.printed desk.old)) (D.printed desk.new)) }
+    ensures so_far { AreSoFar journal.new.lines }
     ensures fault { IsErrOf result WriteError.WriteFault → HasRisen (D.write_faults desk.old)
         (D.write_faults desk.new) }
     ensures files { D.files desk.new ≡ D.files desk.old }

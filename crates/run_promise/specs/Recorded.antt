@@ -18,6 +18,7 @@ use Rattle.model_search.specs.Rounds.{told_by}
 use Rattle.model_search.specs.Runs.{IsRunBy, IsWholeRun}
 use Rattle.proof_log.specs.Rounds.{Journal, empty}
 use Rattle.proof_log.specs.declared.journal.Round.{Round}
+use Rattle.run_finder.specs.Searched.{AreSoFar}
 use Rattle.run_promise.specs.Answer.{searched_status, order_at}
 use Rattle.run_promise.specs.Sessions.{session_status}
 use Rattle.run_status.specs.declared.status.LimitKind.TheVariants as kind
@@ -79,16 +80,18 @@ AreRoundsFor (Session model former events budget order) rounds = All (IsRoundOf 
 AreRoundsFor (Core model budget order) rounds = All (IsRoundOf budget) rounds
 AreRoundsFor r rounds = Unit {0}
 
--- what the present round holds however a request ends: of a search its lines so far, of a check
--- whose log is refused the problem
-abbrev pub HasLeft : List Order → Request → Status → Journal → Type 0
-HasLeft os (Solve model budget log order) s journal =
-    AreLinesBy false (order_at os order) journal.lines
-HasLeft os (Reconfigure model former failed budget log order) s journal =
-    AreLinesBy true (order_at os order) journal.lines
-HasLeft os (Gen n) s journal = AreLinesBy false (order_at os names.First) journal.lines
-HasLeft os (Check model log former failed) s journal = is_of_log s ≡ true → HasChecked journal
-HasLeft os r s journal = Unit {0}
+-- the lines of the present round however a request ends: they are a run, or there are none
+abbrev pub AreLinesFor : List Order → Request → List Line → Type 0
+AreLinesFor os (Solve model budget log order) ls = AreLinesBy false (order_at os order) ls
+AreLinesFor os (Reconfigure model former failed budget log order) ls =
+    AreLinesBy true (order_at os order) ls
+AreLinesFor os (Gen n) ls = AreLinesBy false (order_at os names.First) ls
+AreLinesFor os r ls = AreSoFar ls
+
+-- where the log of a check is refused, the problem that it was checked against
+abbrev pub KeepsProblem : Request → Status → Journal → Type 0
+KeepsProblem (Check model log former failed) s journal = is_of_log s ≡ true → HasChecked journal
+KeepsProblem r s journal = Unit {0}
 
 abbrev pub IsRecorded : List Order → Request → Status → Journal → Type 0
 IsRecorded os (Solve model budget log order) s journal =
