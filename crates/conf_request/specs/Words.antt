@@ -90,9 +90,7 @@ behind e (Setting o value) = expected.Any
 -- the word itself where it is plain
 abbrev pub plain_part : Role → List ℕ → List (List ℕ)
 plain_part Plain word = word ∷ []
-plain_part Closing word = []
-plain_part (Opening o) word = []
-plain_part (Setting o value) word = []
+plain_part role word = []
 
 -- the plain words, in order, up to a word without a role
 abbrev pub plain_words : Expected → List (List ℕ) → List (List ℕ)
@@ -125,10 +123,8 @@ with_value Order value given =
 
 -- the values with the one that a word of this role gives
 abbrev pub take_in : Role → Given → Option Given
-take_in Plain given = Some given
-take_in Closing given = Some given
-take_in (Opening o) given = Some given
 take_in (Setting o value) given = with_value o value given
+take_in role given = Some given
 
 -- the values of the options, each at most once; none where a word has no role or a value is
 -- missing
@@ -173,10 +169,9 @@ has_none given = is_none given.budget && is_none given.log && is_none given.orde
 
 -- the log's file is one of the first two words, which are the files that are read
 abbrev pub is_read : Option (List ℕ) → List (List ℕ) → Bool
-is_read None plain = false
-is_read (Some log) [] = false
 is_read (Some log) (first ∷ []) = bytes_eq log first
 is_read (Some log) (first ∷ second ∷ more) = bytes_eq log first || bytes_eq log second
+is_read log plain = false
 
 abbrev pub solve_of :
     List (List ℕ) → Option ℕ → Option (List ℕ) → Option OrderName → Option Request
