@@ -14,8 +14,9 @@ use Rattle.model_search.specs.Runs.{HasBegun, values_for}
 use Rattle.proof_log.specs.Rounds.{Journal, empty}
 use Rattle.reconfigure.specs.declared.repair.Repair.{Repair}
 use Rattle.run_promise.specs.Answer.{order_at}
+use Rattle.round_commands.specs.Statuses.{is_of_log}
 use Rattle.run_finder.specs.Searched.{AreSoFar}
-use Rattle.run_promise.specs.Recorded.{AreLinesBy, AreLinesFor, HasChecked, KeepsProblem, is_of_log}
+use Rattle.run_promise.specs.Recorded.{AreLinesBy, AreLinesFor, HasChecked, KeepsProblem}
 use Rattle.run_status.specs.Stages.{Answered, Denied, stage_of}
 use Rattle.run_status.specs.declared.status.LimitKind.TheVariants as kind
 use Rattle.run_status.specs.declared.status.Status.{Status}
@@ -49,8 +50,17 @@ answered_fits s h = refl
 
 -- ---- the problem of a check
 
+check_keeps : (model log : List ℕ) (former : Option (List ℕ)) (failed : List (List ℕ)) (s : Status) (journal : Journal) → (is_of_log s ≡ true → HasChecked journal) → KeepsProblem (Check model log former failed) s journal
+check_keeps model log former failed (status.Rejected line) journal h = h refl
+check_keeps model log former failed (status.Limit kind.Log None) journal h = h refl
+check_keeps model log former failed s journal h = tt
+
+not_both : (b : Bool) → b ≡ false → b ≡ true → ⊥
+not_both b no_log of_log = cc
+
 pub other_problem : (r : Request) (s : Status) (journal : Journal) → is_of_log s ≡ false → KeepsProblem r s journal
-other_problem (Check model log former failed) s journal other = λ yes. absurd cc
+other_problem (Check model log former failed) s journal other =
+    check_keeps model log former failed s journal (λ is. absurd (not_both (is_of_log s) other is))
 other_problem (Solve model budget log order) s journal other = tt
 other_problem (Reconfigure model former failed budget log order) s journal other = tt
 other_problem (Verify model config) s journal other = tt
@@ -68,7 +78,8 @@ lost_problem (Some r) journal = other_problem r status.Memory journal refl
 
 module _ (q : Request) (s : Status) (journal : Journal) where
   pub check_problem : (model log : List ℕ) (former : Option (List ℕ)) (failed : List (List ℕ)) → q ≡ Check model log former failed → (is_of_log s ≡ true → HasChecked journal) → KeepsProblem q s journal
-  check_problem model log former failed is h = subst (λ x. KeepsProblem x s journal) (sym is) h
+  check_problem model log former failed is h =
+      subst (λ x. KeepsProblem x s journal) (sym is) (check_keeps model log former failed s journal h)
 
   pub session_problem : (model former events : List ℕ) (budget : ℕ) (order : OrderName) → q ≡ Session model former events budget order → KeepsProblem q s journal
   session_problem model former events budget order is = subst (λ x. KeepsProblem x s journal) (sym is) tt

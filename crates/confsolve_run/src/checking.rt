@@ -13,9 +13,10 @@ ghost use Rattle.run_promise.specs.Answer.{IsChecked, checked_status};
 ghost use Rattle.answer_text.specs.Texts.{check_text};
 ghost use Rattle.confsolve_run.specs.Checking.{IsShownBy, file_status};
 ghost use Rattle.model_reader.specs.Ready.{IsReady};
-ghost use Rattle.run_promise.specs.Recorded.{HasChecked, is_of_log};
+ghost use Rattle.run_promise.specs.Recorded.{HasChecked};
 ghost use Rattle.run_promise.specs.Refusal.{IsUnfit, IsUnchecked};
 ghost use Rattle.run_status.specs.Stages.{Answered, stage_of};
+ghost use Rattle.round_commands.specs.Statuses.{is_of_log};
 ghost use Rattle.round_commands.specs.Unreadable.{Unreadable};
 
 use answer_text::check_text;

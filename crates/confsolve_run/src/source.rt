@@ -5,8 +5,8 @@ ghost use Rattle.desk_io.specs.Desk.{OfFile};
 ghost use Rattle.model_generator.specs.Generated.{generated};
 ghost use Rattle.model_limits.specs.Limits.{model_bytes};
 ghost use Rattle.run_promise.specs.Asking.{OfText};
-ghost use Rattle.run_promise.specs.Recorded.{is_of_log};
 ghost use Rattle.run_promise.specs.Refusal.{IsTooLongText};
+ghost use Rattle.round_commands.specs.Statuses.{is_of_log};
 ghost use Rattle.round_commands.specs.Unreadable.{Unreadable};
 
 use conf_request::{FileName, Request};

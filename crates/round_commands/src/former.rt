@@ -8,10 +8,9 @@ ghost use Rattle.run_status.specs.Stages.{Denied};
 ghost use Rattle.serde_json.specs.Find.{as_object};
 ghost use Rattle.run_promise.specs.Answer.{IsRepairOf};
 ghost use Rattle.run_promise.specs.Asking.{IsShort, former_text};
-ghost use Rattle.run_promise.specs.Recorded.{is_of_log};
 ghost use Rattle.run_promise.specs.Refusal.{IsUnread, IsFormerLong, IsFormerRefused};
 ghost use Rattle.round_commands.specs.Unreadable.{Unreadable};
-ghost use Rattle.round_commands.specs.Statuses.{former_status};
+ghost use Rattle.round_commands.specs.Statuses.{former_status, is_of_log};
 
 use conf_request::FileName;
 use conf_session::copied_words;

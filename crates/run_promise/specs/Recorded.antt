@@ -43,12 +43,6 @@ AreLinesBy repaired order ls =
     ⊎ ((g : Ground) × (values : List (Option ℤ)) × IsWellMade g
     × (repaired ≡ false → values ≡ replicate g.search None) × IsRunBy g order values ls)
 
--- a log is refused
-abbrev pub is_of_log : Status → Bool
-is_of_log (status.Rejected line) = true
-is_of_log (status.Limit kind.Log None) = true
-is_of_log s = false
-
 -- of a check, the problem alone
 pub record HasChecked (journal : Journal) : Type 0 where
   pub ground : Ground
@@ -90,7 +84,9 @@ AreLinesFor os r ls = AreSoFar ls
 
 -- where the log of a check is refused, the problem that it was checked against
 abbrev pub KeepsProblem : Request → Status → Journal → Type 0
-KeepsProblem (Check model log former failed) s journal = is_of_log s ≡ true → HasChecked journal
+KeepsProblem (Check model log former failed) (status.Rejected line) journal = HasChecked journal
+KeepsProblem (Check model log former failed) (status.Limit kind.Log None) journal =
+    HasChecked journal
 KeepsProblem r s journal = Unit {0}
 
 abbrev pub IsRecorded : List Order → Request → Status → Journal → Type 0
