@@ -7,8 +7,8 @@ use Rattle.std.proofs.lemmas.List.Elements.{All-nil, All-cons, All-append, Conta
 use Rattle.branch_choice.specs.declared.split.Order.TheVariants as orders
 use Rattle.class_table.specs.Outline.{Outline}
 use Rattle.conf_core.specs.Cores.{HasRound, BeginsSo}
-use Rattle.conf_core.specs.Parts.{part_of, IsPart, IsPartRound, ArePartRounds, HasTried}
-use Rattle.conf_core.specs.Searching.{HasClosed, HasGrown, EndsAccepted}
+use Rattle.conf_core.specs.Parts.{part_of, IsPart, IsPartRound, ArePartRounds}
+use Rattle.conf_core.specs.Searching.{HasClosed, HasGrown, HasTried, EndsAccepted}
 use Rattle.conf_limits.specs.Measures.{model_narrow, constraint_narrow, goal_narrow}
 use Rattle.conf_limits.proofs.PartLaws.{part_passes}
 use Rattle.conf_types.specs.Programs.{ResolvedConstraint, ResolvedGoal, constraint_at}
@@ -20,7 +20,7 @@ use Rattle.model_search.specs.Rounds.{journal_of, told_by, end_of}
 use Rattle.model_search.specs.Runs.{HasRun}
 use Rattle.proof_log.specs.declared.journal.Round.{Round}
 use Rattle.log_check.specs.Verdicts.{Ending}
-use Rattle.run_finder.specs.Searched.{AreSoFar}
+use Rattle.run_finder.specs.SoFar.{AreSoFar}
 use Rattle.run_law.specs.Replay.{is_run}
 use Rattle.log_check.specs.declared.verdict.VerdictKind.{VerdictKind}
 

@@ -9,7 +9,7 @@ ghost use Rattle.conf_limits.specs.Measures.{model_narrow};
 ghost use Rattle.conf_types.specs.Typing.{IsTypedModel};
 ghost use Rattle.proof_log.specs.Rounds.{empty};
 ghost use Rattle.log_check.specs.declared.verdict.VerdictKind.TheVariants as kinds;
-ghost use Rattle.run_finder.specs.Searched.{AreSoFar};
+ghost use Rattle.run_finder.specs.SoFar.{AreSoFar};
 
 use crate::answer::CoreAnswer;
 use crate::blame::{Blamed, blamed_by};

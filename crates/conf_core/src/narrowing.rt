@@ -12,7 +12,7 @@ ghost use Rattle.conf_limits.specs.Measures.{model_narrow};
 ghost use Rattle.conf_types.specs.Programs.{ResolvedConstraint};
 ghost use Rattle.conf_types.specs.Typing.{IsTypedModel};
 ghost use Rattle.proof_log.specs.declared.journal.Round.{Round as ARound};
-ghost use Rattle.run_finder.specs.Searched.{AreSoFar};
+ghost use Rattle.run_finder.specs.SoFar.{AreSoFar};
 
 use crate::part_search::{Subject, decide_part};
 use crate::suspects::{Suspect, kept_indexes, settle, with_cleared};

@@ -1,13 +1,13 @@
 //! A search over a part of a model, which is a round of the journal.
 ghost use Rattle.std.specs.Prelude.{◌≡◌, [], true, None, length, IfOk, OnOk, OnErr};
-ghost use Rattle.conf_core.specs.Parts.{IsPart, HasTried};
+ghost use Rattle.conf_core.specs.Parts.{IsPart};
 ghost use Rattle.conf_core.specs.Cores.{HasRound};
-ghost use Rattle.conf_core.specs.Searching.{HasClosed, HasGrown};
+ghost use Rattle.conf_core.specs.Searching.{HasClosed, HasGrown, HasTried};
 ghost use Rattle.conf_limits.specs.Measures.{model_narrow};
 ghost use Rattle.conf_types.specs.Typing.{IsTypedModel};
 ghost use Rattle.ground_form.specs.WellMade.{IsWellMade};
 ghost use Rattle.model_search.specs.Problems.{IsProblemOf};
-ghost use Rattle.run_finder.specs.Searched.{AreSoFar};
+ghost use Rattle.run_finder.specs.SoFar.{AreSoFar};
 
 use conf_types::TypedModel;
 use ground_form::Ground;

@@ -7,7 +7,7 @@ ghost use Rattle.reconfigure.specs.Failing.{unknown_word};
 ghost use Rattle.reconfigure.specs.Repairing.{Extends};
 ghost use Rattle.conf_session.specs.Standing.{IsOver};
 ghost use Rattle.conf_session.specs.Steps.{RepairsFor, IsSearched};
-ghost use Rattle.run_finder.specs.Searched.{AreSoFar};
+ghost use Rattle.run_finder.specs.SoFar.{AreSoFar};
 
 use crate::state::{State, copied};
 use conf_syntax::PathText;

@@ -6,7 +6,7 @@ ghost use Rattle.object_alloc.specs.Paths.{object_named};
 ghost use Rattle.conf_session.specs.Standing.{IsOver};
 ghost use Rattle.conf_session.specs.Failed.{failed_behind};
 ghost use Rattle.conf_session.specs.Steps.{Steps, IsStep, IsSearched, IsClosed};
-ghost use Rattle.run_finder.specs.Searched.{AreSoFar};
+ghost use Rattle.run_finder.specs.SoFar.{AreSoFar};
 
 use crate::learning::behind;
 use crate::round::searched;

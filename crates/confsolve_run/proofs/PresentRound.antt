@@ -15,7 +15,7 @@ use Rattle.proof_log.specs.Rounds.{Journal, empty}
 use Rattle.reconfigure.specs.declared.repair.Repair.{Repair}
 use Rattle.run_promise.specs.Answer.{order_at}
 use Rattle.round_commands.specs.Statuses.{is_of_log}
-use Rattle.run_finder.specs.Searched.{AreSoFar}
+use Rattle.run_finder.specs.SoFar.{AreSoFar}
 use Rattle.run_promise.specs.Recorded.{AreLinesBy, AreLinesFor, HasChecked, KeepsProblem}
 use Rattle.run_status.specs.Stages.{Answered, Denied, stage_of}
 use Rattle.run_status.specs.declared.status.LimitKind.TheVariants as kind

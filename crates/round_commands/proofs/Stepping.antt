@@ -28,7 +28,7 @@ use Rattle.proof_log.specs.declared.journal.Round.{Round}
 use Rattle.reconfigure.specs.Failing.{unknown_word}
 use Rattle.reconfigure.specs.declared.repair.Repair.{Repair}
 use Rattle.round_commands.specs.Events.{IsAt, IsBetween, StandsAt, situation_of, IsHinted, HasStepped, HasRound, IsTried, IsCut}
-use Rattle.run_finder.specs.Searched.{AreSoFar}
+use Rattle.run_finder.specs.SoFar.{AreSoFar}
 use Rattle.run_promise.specs.Sessions.{Subject, Situation, situation_behind, former_told}
 
 -- ---- where a session stands

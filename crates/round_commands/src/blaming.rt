@@ -2,7 +2,7 @@
 ghost use Rattle.std.specs.Prelude.{◌≡◌, ◌⊎◌, ◌≤◌, [], None, IfOk, OnErr};
 ghost use Rattle.model_reader.specs.Ready.{IsReady};
 ghost use Rattle.proof_log.specs.Rounds.{empty};
-ghost use Rattle.run_finder.specs.Searched.{AreSoFar};
+ghost use Rattle.run_finder.specs.SoFar.{AreSoFar};
 ghost use Rattle.run_promise.specs.Blaming.{IsBlamed, IsSearchedSoFar};
 ghost use Rattle.run_promise.specs.CoreTexts.{core_status};
 ghost use Rattle.run_status.specs.Stages.{Answered, stage_of};

@@ -12,7 +12,7 @@ ghost use Rattle.model_search.specs.declared.finding.Finding.TheVariants as find
 ghost use Rattle.object_alloc.specs.Hints.{AreHints};
 ghost use Rattle.object_alloc.specs.Paths.{object_named};
 ghost use Rattle.round_commands.specs.Events.{IsBetween, IsHinted, StandsAt, situation_of, HasStepped, HasRound, IsTold, IsTried, IsCut};
-ghost use Rattle.run_finder.specs.Searched.{AreSoFar};
+ghost use Rattle.run_finder.specs.SoFar.{AreSoFar};
 ghost use Rattle.run_promise.specs.Sessions.{situation_behind, subject};
 
 use crate::answer::question_of;

@@ -9,7 +9,7 @@ ghost use Rattle.model_search.specs.Runs.{is_open};
 ghost use Rattle.model_search.specs.declared.finding.Finding.{Finding as AFinding};
 ghost use Rattle.object_alloc.specs.Paths.{object_named};
 ghost use Rattle.round_commands.specs.Events.{IsBetween, StandsAt, situation_of};
-ghost use Rattle.run_finder.specs.Searched.{AreSoFar};
+ghost use Rattle.run_finder.specs.SoFar.{AreSoFar};
 ghost use Rattle.run_promise.specs.Sessions.{subject, is_none_told, session_status, AreHeld, AreBegun};
 
 use crate::event::{Setting, answer_event};

@@ -12,7 +12,7 @@ ghost use Rattle.object_alloc.specs.Hints.{AreHints};
 ghost use Rattle.object_alloc.specs.Paths.{object_named};
 ghost use Rattle.proof_log.specs.Rounds.{Journal as AJournal, empty};
 ghost use Rattle.round_commands.specs.Events.{StandsAt, situation_of};
-ghost use Rattle.run_finder.specs.Searched.{AreSoFar};
+ghost use Rattle.run_finder.specs.SoFar.{AreSoFar};
 ghost use Rattle.run_promise.specs.Sessions.{situation, subject};
 ghost use Rattle.run_status.specs.Stages.{Denied};
 ghost use Rattle.run_promise.specs.Asking.{IsShort, OfAsked, former_text};

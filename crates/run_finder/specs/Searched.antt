@@ -1,7 +1,6 @@
 -- How searches end. What a reader believes after this file: what a search has left when it ends,
--- what the verdict says that comes of it, and what it leaves where it breaks off.
-use Rattle.std.specs.Prelude.{◌≡◌, ◌⊎◌, ℕ, ◌≤◌, true, false, List, []}
-use Rattle.ground_form.specs.WellMade.{IsWellMade}
+-- and what the verdict says that comes of it.
+use Rattle.std.specs.Prelude.{◌≡◌, ℕ, ◌≤◌, true, false, List}
 use Rattle.ground_form.specs.declared.ground.Ground.{Ground}
 use Rattle.log_form.specs.declared.line.Line.{Line}
 use Rattle.log_check.specs.Soundness.{Means, FoundSolves}
@@ -19,7 +18,3 @@ pub record HasSearched (g : Ground) (budget : ℕ) (ls : List Line) (v : Ending)
   pub found : FoundSolves g v.found
   pub within : decisions ls ≤ budget
   pub spent : v.closed ≡ false → (decisions ls ≡ budget) × MayDecide g ls
-
--- the lines of a search as far as it came: there are none, or they are a run over some problem
-abbrev pub AreSoFar : List Line → Type 0
-AreSoFar ls = (ls ≡ []) ⊎ ((g : Ground) × IsWellMade g × (is_run g ls ≡ true))

@@ -18,7 +18,7 @@ use Rattle.model_search.specs.Rounds.{told_by}
 use Rattle.model_search.specs.Runs.{IsRunBy, IsWholeRun}
 use Rattle.proof_log.specs.Rounds.{Journal, empty}
 use Rattle.proof_log.specs.declared.journal.Round.{Round}
-use Rattle.run_finder.specs.Searched.{AreSoFar}
+use Rattle.run_finder.specs.SoFar.{AreSoFar}
 use Rattle.run_promise.specs.Answer.{searched_status, order_at}
 use Rattle.run_promise.specs.Sessions.{session_status}
 use Rattle.run_status.specs.declared.status.LimitKind.TheVariants as kind
