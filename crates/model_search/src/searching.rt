@@ -1,5 +1,5 @@
 //! From a question to a journal of a search for its best configuration, and what it tells.
-ghost use Rattle.std.specs.Prelude.{◌≡◌, [], length, None, Some, replicate, option_copied, IfOk, IfSome, OnOk};
+ghost use Rattle.std.specs.Prelude.{◌≡◌, [], true, length, None, Some, replicate, option_copied, IfOk, IfSome, OnOk};
 ghost use Rattle.conf_limits.specs.Measures.{model_narrow};
 ghost use Rattle.conf_types.specs.Typing.{IsTypedModel};
 ghost use Rattle.ground_form.specs.WellMade.{IsWellMade};
