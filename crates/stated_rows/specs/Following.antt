@@ -1,6 +1,7 @@
 -- Rows that follow from what is stated. What a reader believes after this file: such a row holds in
 -- every world in which all constraints hold.
-use Rattle.std.specs.Prelude.{◌≡◌, ℕ, true, cond, List, ℤ, pos, ◌+ℤ◌, ◌*ℤ◌, ◌≤ℤ◌}
+use Rattle.std.specs.Prelude.{◌≡◌, ℕ, true, false, cond, List, ℤ, pos, ◌+ℤ◌, ◌*ℤ◌, ◌≤ℤ◌}
+use Rattle.std.specs.List.{All}
 use Rattle.std.specs.Ordering.{int_eq}
 use Rattle.ground_form.specs.declared.ground.Ground.{Ground}
 use Rattle.ground_form.specs.Meaning.{value_of, sum_at}
@@ -12,6 +13,20 @@ use Rattle.stated_rows.specs.declared.shares.Share.TheVariants.{Load, Least}
 
 abbrev pub FollowsIn : Ground → Row → Type 0
 FollowsIn g r = (a : List ℤ) → IsWorld g a → AllHold g a → row_holds a r ≡ true
+
+-- where the variable has the value, the row holds
+abbrev pub SaysOf : Ground → ℕ × ℤ → Row → Type 0
+SaysOf g k r =
+    (a : List ℤ) → IsWorld g a → AllHold g a → value_of a k.0 ≡ k.1 → row_holds a r ≡ true
+
+-- the variables don't have the values
+abbrev pub ArentThere : List ℤ → List (ℕ × ℕ) → Type 0
+ArentThere a others = All (λ q. int_eq (value_of a q.0) (pos q.1) ≡ false) others
+
+-- the variable is between the ends
+abbrev pub AreEnds : Ground → ℕ → ℤ → ℤ → Type 0
+AreEnds g x low high =
+    (a : List ℤ) → IsWorld g a → AllHold g a → (low ≤ℤ value_of a x) × (value_of a x ≤ℤ high)
 
 -- what a share adds to the bin
 abbrev pub share_at : ℤ → Share → List ℤ → ℤ

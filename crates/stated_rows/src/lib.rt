@@ -9,6 +9,8 @@
 //! and each row of the packing is compared with the row that it came from. It costs a walk over all
 //! constraints, and for each row that is found one over its items.
 //!
+//! - `clauses`: the rows that one clause says.
+//! - `facts`: where something is said of a variable.
 //! - `finding`: the rows that constraints say.
 //! - `groups`: rows of different bins that agree.
 //! - `packings`: the packings that follow, stated.
@@ -16,6 +18,8 @@
 //! - `shares`: what one term of a sum adds to a bin.
 #![tactic(auto)]
 
+mod clauses;
+mod facts;
 mod finding;
 mod groups;
 mod packings;

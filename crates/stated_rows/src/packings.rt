@@ -5,13 +5,13 @@ ghost use Rattle.form_build.specs.Worlds.{Defines};
 ghost use Rattle.packed_rows.specs.Loads.{load_of, row_holds};
 ghost use Rattle.stated_rows.specs.Following.{FollowsIn};
 
+use crate::facts::{Facts, facts_of, set_said};
 use crate::finding::rows_stated;
 use crate::groups::{Group, Planned, groups_of, packing_of};
 use form_build::Maker;
 use ground_form::{Con, Number};
 use packed_rows::{Row, pack_rows};
 use signed_clause::IntSet;
-use stated_facts::definition_indexes;
 use std::alloc::AllocError;
 
 // ---- rows that follow from others
@@ -101,14 +101,50 @@ fn is_sure(row: &Row) -> bool
     fit_into(row.loads.as_slice(), room)
 }
 
+/// Whether the item is said not to be in the bin.
+fn is_away(maker: &Maker, facts: &Facts, x: u32, bin: i64) -> bool
+    ensures { result ≡ true → (a : List ℤ) → AllHold maker.now a
+        → int_eq (value_of a x) bin ≡ false }
+{
+    match set_said(maker, facts, x) {
+        Some(set) => !set.contains(bin),
+        None => false,
+    }
+}
+
+/// Whether all that the row counts is said not to be in its bin, and its room isn't below 0.
+fn is_void(maker: &Maker, facts: &Facts, row: &Row) -> bool
+    ensures { result ≡ true → FollowsIn maker.now row.now }
+{
+    if row.room < 0 {
+        return false;
+    }
+    for load in row.loads.as_slice() {
+        if !is_away(maker, facts, load.0, row.bin) {
+            return false;
+        }
+    }
+    true
+}
+
+/// The row of a packing without room, where it comes from no other and all that it counts is said
+/// not to be in its bin.
+fn emptied(maker: &Maker, facts: &Facts, p: Planned) -> Planned {
+    let mut p = p;
+    if p.source.is_none() && is_void(maker, facts, &p.row) {
+        p.row.room = 0;
+    }
+    p
+}
+
 /// Whether the row of a packing follows: by the row that it comes from, or in any case.
-fn follows(maker: &Maker, rows: &[Row], p: &Planned) -> bool
+fn follows(maker: &Maker, facts: &Facts, rows: &[Row], p: &Planned) -> bool
     requires { All (FollowsIn maker.now) rows.now }
     ensures { result ≡ true → FollowsIn maker.now p.now.row }
 {
     match p.source {
         Some(r) => r < rows.len() && comes_from(&rows[r], &p.row),
-        None => is_sure(&p.row),
+        None => is_sure(&p.row) || is_void(maker, facts, &p.row),
     }
 }
 
@@ -117,6 +153,7 @@ fn follows(maker: &Maker, rows: &[Row], p: &Planned) -> bool
 /// The rows of a packing, where each follows.
 fn following(
     maker: &Maker,
+    facts: &Facts,
     rows: &[Row],
     list: Vec<Planned>,
 ) -> Result<Option<Vec<Row>>, AllocError>
@@ -125,7 +162,8 @@ fn following(
 {
     let mut out = Vec::new(maker.alloc());
     for p in list {
-        if !follows(maker, rows, &p) {
+        let p = emptied(maker, facts, p);
+        if !follows(maker, facts, rows, &p) {
             return Ok(None);
         }
         out.push(p.row)?;
@@ -167,7 +205,12 @@ fn stands(maker: &Maker, items: &[(u32, i64)]) -> bool {
 }
 
 /// States the packing that a group of rows is, where it is one.
-fn pack_group(maker: &mut Maker, rows: &[Row], group: &Group) -> Result<(), AllocError>
+fn pack_group(
+    maker: &mut Maker,
+    facts: &Facts,
+    rows: &[Row],
+    group: &Group,
+) -> Result<(), AllocError>
     requires { All (FollowsIn maker.old) rows.now }
     ensures { OnOk result (Defines maker.old maker.new) }
 {
@@ -177,7 +220,7 @@ fn pack_group(maker: &mut Maker, rows: &[Row], group: &Group) -> Result<(), Allo
     let Some(list) = packing_of(maker, rows, group)? else {
         return Ok(());
     };
-    let Some(found) = following(maker, rows, list)? else {
+    let Some(found) = following(maker, facts, rows, list)? else {
         return Ok(());
     };
     pack_rows(maker, found.as_slice())?;
@@ -185,12 +228,17 @@ fn pack_group(maker: &mut Maker, rows: &[Row], group: &Group) -> Result<(), Allo
 }
 
 /// States the packings that the groups are.
-fn pack_groups(maker: &mut Maker, rows: &[Row], groups: &[Group]) -> Result<(), AllocError>
+fn pack_groups(
+    maker: &mut Maker,
+    facts: &Facts,
+    rows: &[Row],
+    groups: &[Group],
+) -> Result<(), AllocError>
     requires { All (FollowsIn maker.old) rows.now }
     ensures { OnOk result (Defines maker.old maker.new) }
 {
     for group in groups {
-        pack_group(maker, rows, group)?;
+        pack_group(maker, facts, rows, group)?;
     }
     Ok(())
 }
@@ -199,9 +247,9 @@ fn pack_groups(maker: &mut Maker, rows: &[Row], groups: &[Group]) -> Result<(), 
 pub fn pack_stated(maker: &mut Maker) -> Result<(), AllocError>
     ensures { OnOk result (Defines maker.old maker.new) }
 {
-    let indexes = definition_indexes(maker)?;
-    let rows = rows_stated(maker, indexes.as_slice())?;
+    let facts = facts_of(maker)?;
+    let rows = rows_stated(maker, &facts)?;
     let groups = groups_of(maker.alloc(), rows.as_slice())?;
-    pack_groups(maker, rows.as_slice(), groups.as_slice())?;
+    pack_groups(maker, &facts, rows.as_slice(), groups.as_slice())?;
     Ok(())
 }

@@ -6,6 +6,7 @@ ghost use Rattle.form_build.specs.Worlds.{IsWorld, AllHold};
 ghost use Rattle.packed_rows.specs.Loads.{load_of, row_holds};
 ghost use Rattle.stated_rows.specs.Following.{FollowsIn, share_at, IsBelow};
 
+use crate::facts::Facts;
 use crate::shares::{Share, bin_asked, share_of};
 use form_build::Maker;
 use ground_form::{Con, Number};
@@ -22,10 +23,10 @@ struct Reading {
 }
 
 /// The bin of the first term that tells of one.
-fn bin_of(maker: &Maker, indexes: &[usize], terms: &[(i64, u32)]) -> Option<u64> {
+fn bin_of(maker: &Maker, facts: &Facts, terms: &[(i64, u32)]) -> Option<u64> {
     for t in terms {
         if t.0 > 0
-            && let Some(bin) = bin_asked(maker, indexes, t.1)
+            && let Some(bin) = bin_asked(maker, facts, t.1)
         {
             return Some(bin);
         }
@@ -99,7 +100,7 @@ fn with_share(r: Reading, s: Share) -> Result<Option<Reading>, AllocError>
 /// With one more term, where it can be read.
 fn with_term(
     maker: &Maker,
-    indexes: &[usize],
+    facts: &Facts,
     bin: u64,
     r: Reading,
     t: (i64, u32),
@@ -108,7 +109,7 @@ fn with_term(
         → IsBelow maker.now (pos bin) r.loads.items r.least.value terms
         → IsBelow maker.now (pos bin) next.loads.items next.least.value (terms ++ t ∷ []))) }
 {
-    let Some(s) = share_of(maker, indexes, bin, t) else {
+    let Some(s) = share_of(maker, facts, bin, t) else {
         return Ok(None);
     };
     let next = with_share(r, s)?;
@@ -118,7 +119,7 @@ fn with_term(
 /// What the terms add to the bin, where they can be read.
 fn read_terms(
     maker: &Maker,
-    indexes: &[usize],
+    facts: &Facts,
     bin: u64,
     terms: &[(i64, u32)],
 ) -> Result<Option<Reading>, AllocError>
@@ -130,7 +131,7 @@ fn read_terms(
         least: Number { value: 0 },
     };
     for t in terms {
-        match with_term(maker, indexes, bin, r, *t)? {
+        match with_term(maker, facts, bin, r, *t)? {
             Some(next) => r = next,
             None => return Ok(None),
         }
@@ -173,33 +174,33 @@ fn row_from(bin: u64, r: Reading, bound: Number) -> Option<Row>
 }
 
 /// The row that a bounded sum says of a bin, where it tells of one.
-fn row_of_sum(
+pub(crate) fn row_of_sum(
     maker: &Maker,
-    indexes: &[usize],
+    facts: &Facts,
     terms: &[(i64, u32)],
     bound: Number,
 ) -> Result<Option<Row>, AllocError>
     ensures { IfOk result (λ o. IfSome o (λ row. (a : List ℤ) → IsWorld maker.now a
         → AllHold maker.now a → sum_at terms.now a ≤ℤ bound.value → row_holds a row ≡ true)) }
 {
-    let Some(bin) = bin_of(maker, indexes, terms) else {
+    let Some(bin) = bin_of(maker, facts, terms) else {
         return Ok(None);
     };
-    match read_terms(maker, indexes, bin, terms)? {
+    match read_terms(maker, facts, bin, terms)? {
         Some(r) => Ok(row_from(bin, r, bound)),
         None => Ok(None),
     }
 }
 
 /// The row that a constraint says of a bin, where it is a bounded sum that tells of one.
-pub(crate) fn row_of(maker: &Maker, indexes: &[usize], con: &Con) -> Result<Option<Row>, AllocError>
+pub(crate) fn row_of(maker: &Maker, facts: &Facts, con: &Con) -> Result<Option<Row>, AllocError>
     ensures { IfOk result (λ o. IfSome o (λ row. Contains maker.now.cons con.now
         → FollowsIn maker.now row)) }
 {
     match con {
         Con::LinLe { terms, bound } => {
             let bound = Number { value: *bound };
-            let row = row_of_sum(maker, indexes, terms.items(), bound)?;
+            let row = row_of_sum(maker, facts, terms.items(), bound)?;
             Ok(row)
         }
         _ => Ok(None),

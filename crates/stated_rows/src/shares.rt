@@ -9,8 +9,9 @@ ghost use Rattle.ground_form.specs.Bounds.{low_of, high_of};
 ghost use Rattle.stated_rows.specs.declared.shares.Share.TheVariants.{Load, Least};
 ghost use Rattle.stated_rows.specs.Following.{IsShareOf};
 
+use crate::facts::{Facts, ends_in};
 use form_build::Maker;
-use ground_form::{Con, Number, ends_of};
+use ground_form::{Con, Number};
 use stated_facts::{definition, question};
 
 /// What a term adds to a bin at least.
@@ -20,18 +21,6 @@ pub enum Share {
     Load(u32, Number),
     /// So much in any case.
     Least(Number),
-}
-
-/// The ends of a variable's box.
-fn ends_in(maker: &Maker, x: u32) -> Option<(Number, Number)>
-    ensures low { IfSome result (λ e. e.0.value ≡ low_of (box_of maker.now.domains x)) }
-    ensures high { IfSome result (λ e. e.1.value ≡ high_of (box_of maker.now.domains x)) }
-    ensures exists { IfSome result (λ e. x < length maker.now.domains) }
-    ensures valid { IfSome result (λ e. All (λ d. IsValid d) maker.now.domains) }
-{
-    let set = maker.domains().get(x as usize)?;
-    let (low, high) = ends_of(set);
-    Some((Number { value: low }, Number { value: high }))
 }
 
 /// A term's factor times a number, where that fits.
@@ -52,21 +41,21 @@ fn smaller(m: Number, n: Number) -> Number
 }
 
 /// The least that a term is over the boxes.
-fn least_of(maker: &Maker, t: (i64, u32)) -> Option<Share>
+fn least_of(maker: &Maker, facts: &Facts, t: (i64, u32)) -> Option<Share>
     ensures { IfSome result (λ s. (bin : ℤ) → IsShareOf maker.now bin t s) }
 {
-    let (low, high) = ends_in(maker, t.1)?;
+    let (low, high) = ends_in(maker, facts, t.1)?;
     let by_low = times(t, low)?;
     let by_high = times(t, high)?;
     Some(Share::Least(smaller(by_low, by_high)))
 }
 
 /// The variable of which the flag tells whether it is in the bin.
-fn item_of(maker: &Maker, indexes: &[usize], bin: u64, flag: u32) -> Option<u32>
+fn item_of(maker: &Maker, facts: &Facts, bin: u64, flag: u32) -> Option<u32>
     ensures { IfSome result (λ x. Contains maker.now.cons
         (con.MemberDef flag x ((pos bin, pos bin) ∷ []))) }
 {
-    let (x, value) = question(maker, indexes, flag)?;
+    let (x, value) = question(maker, facts.definitions.as_slice(), flag)?;
     if value == bin { Some(x) } else { None }
 }
 
@@ -78,10 +67,10 @@ fn factor_of(t: (i64, u32)) -> Number
 }
 
 /// The load that a term is, where its variable is a flag that tells of the bin.
-fn flag_load(maker: &Maker, indexes: &[usize], bin: u64, t: (i64, u32)) -> Option<Share>
+fn flag_load(maker: &Maker, facts: &Facts, bin: u64, t: (i64, u32)) -> Option<Share>
     ensures { IfSome result (λ s. IsShareOf maker.now (pos bin) t s) }
 {
-    let x = item_of(maker, indexes, bin, t.1)?;
+    let x = item_of(maker, facts, bin, t.1)?;
     if t.0 > 0 {
         Some(Share::Load(x, factor_of(t)))
     } else {
@@ -106,14 +95,13 @@ fn chosen_by(c: &Con, x: u32) -> Option<(u32, u32)>
     }
 }
 
-/// A term's factor times an item's least value, where neither is below 0.
-fn least_size(maker: &Maker, t: (i64, u32), item: u32) -> Option<Number>
-    ensures exists { IfSome result (λ p. item < length maker.now.domains) }
-    ensures valid { IfSome result (λ p. All (λ d. IsValid d) maker.now.domains) }
+/// A term's factor times the least that an item is, where neither is below 0.
+fn least_size(maker: &Maker, facts: &Facts, t: (i64, u32), item: u32) -> Option<Number>
     ensures factor { IfSome result (λ p. pos 0 ≤ℤ t.0) }
-    ensures product { IfSome result (λ p. p.value ≡ t.0 *ℤ low_of (box_of maker.now.domains item)) }
+    ensures product { IfSome result (λ p. (a : List ℤ) → IsWorld maker.now a → AllHold maker.now a
+        → p.value ≤ℤ (t.0 *ℤ value_of a item)) }
 {
-    let (low, _) = ends_in(maker, item)?;
+    let (low, _) = ends_in(maker, facts, item)?;
     if t.0 > 0 && low.value >= 0 {
         times(t, low)
     } else {
@@ -123,34 +111,34 @@ fn least_size(maker: &Maker, t: (i64, u32), item: u32) -> Option<Number>
 
 /// The load that a term is at least, where its variable is an item's size if the item is in the
 /// bin, and else 0.
-fn chosen_load(maker: &Maker, indexes: &[usize], bin: u64, t: (i64, u32)) -> Option<Share>
+fn chosen_load(maker: &Maker, facts: &Facts, bin: u64, t: (i64, u32)) -> Option<Share>
     ensures { IfSome result (λ s. IsShareOf maker.now (pos bin) t s) }
 {
-    let (flag, item) = chosen_by(definition(maker, indexes, t.1)?, t.1)?;
-    let x = item_of(maker, indexes, bin, flag)?;
-    let size = least_size(maker, t, item)?;
+    let (flag, item) = chosen_by(definition(maker, facts.definitions.as_slice(), t.1)?, t.1)?;
+    let x = item_of(maker, facts, bin, flag)?;
+    let size = least_size(maker, facts, t, item)?;
     Some(Share::Load(x, size))
 }
 
 /// What a term adds to the bin at least.
-pub(crate) fn share_of(maker: &Maker, indexes: &[usize], bin: u64, t: (i64, u32)) -> Option<Share>
+pub(crate) fn share_of(maker: &Maker, facts: &Facts, bin: u64, t: (i64, u32)) -> Option<Share>
     ensures { IfSome result (λ s. IsShareOf maker.now (pos bin) t s) }
 {
-    if let Some(s) = flag_load(maker, indexes, bin, t) {
+    if let Some(s) = flag_load(maker, facts, bin, t) {
         return Some(s);
     }
-    if let Some(s) = chosen_load(maker, indexes, bin, t) {
+    if let Some(s) = chosen_load(maker, facts, bin, t) {
         return Some(s);
     }
-    least_of(maker, t)
+    least_of(maker, facts, t)
 }
 
 /// The bin of which a flag tells.
-pub(crate) fn bin_asked(maker: &Maker, indexes: &[usize], x: u32) -> Option<u64> {
-    if let Some((_, bin)) = question(maker, indexes, x) {
+pub(crate) fn bin_asked(maker: &Maker, facts: &Facts, x: u32) -> Option<u64> {
+    if let Some((_, bin)) = question(maker, facts.definitions.as_slice(), x) {
         return Some(bin);
     }
-    let (flag, _) = chosen_by(definition(maker, indexes, x)?, x)?;
-    let (_, bin) = question(maker, indexes, flag)?;
+    let (flag, _) = chosen_by(definition(maker, facts.definitions.as_slice(), x)?, x)?;
+    let (_, bin) = question(maker, facts.definitions.as_slice(), flag)?;
     Some(bin)
 }
