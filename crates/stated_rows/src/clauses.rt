@@ -1,13 +1,13 @@
 //! The rows that a clause says: those of one literal, where by each other literal nothing is in the
 //! row's bin. So it doesn't matter whether a row stands behind a guard that is known, or behind one
 //! that asks whether there is something in the bin.
-ghost use Rattle.std.specs.Prelude.{◌≡◌, ◌<◌, true, false, pos, neg_ℤ, ◌×◌, ℤ, List, length, Contains, IfOk, IfSome, OnOk, slice_index_or};
+ghost use Rattle.std.specs.Prelude.{◌≡◌, ◌<◌, true, false, pos, neg_ℤ, ◌+ℤ◌, ◌<ℤ◌, ℤ, List, length, Contains, IfOk, IfSome, OnOk, slice_index_or};
 ghost use Rattle.std.specs.List.{All};
 ghost use Rattle.std.specs.Ordering.{int_eq};
 ghost use Rattle.signed_clause.specs.Ranges.{has};
 ghost use Rattle.signed_clause.specs.Clauses.{clause_true};
 ghost use Rattle.ground_form.specs.declared.con.Con.TheVariants.{ClauseCon, AndDef};
-ghost use Rattle.ground_form.specs.Meaning.{value_of, sum_at};
+ghost use Rattle.ground_form.specs.Meaning.{value_of, sum_at, parts_true};
 ghost use Rattle.form_build.specs.Worlds.{IsInBoxes, IsWorld, AllHold};
 ghost use Rattle.packed_rows.specs.Loads.{row_holds};
 ghost use Rattle.stated_rows.specs.Following.{FollowsIn, SaysOf, ArentThere};
