@@ -18,6 +18,7 @@ use crate::used::add_used;
 use block_sums::settled_in_blocks;
 use form_build::{Linear, Maker, variable};
 use ground_form::Con;
+use stated_costs::with_steps;
 use stated_facts::{Nought, is_near, weighs_within, with_rows};
 use std::alloc::AllocError;
 
@@ -178,6 +179,7 @@ pub fn add_goal_sums(maker: &mut Maker, number: &Linear, goal: u32) -> Result<()
     }
     let zero = difference(maker, number, goal)?;
     let zero = with_rows(maker, zero, number)?;
+    let zero = with_steps(maker, zero)?;
     match goal_quotient(maker, &zero, goal)? {
         Some(q) => {
             add_divided(maker, &q, goal)?;

@@ -1,0 +1,136 @@
+//! Steps put in place of terms.
+ghost use Rattle.std.specs.Prelude.{◌≡◌, ◌≤◌, ◌^◌, ◌*ℤ◌, ℤ, List, true, pos, neg_ℤ, unsigned_abs, IfOk, IfSome, OnOk};
+ghost use Rattle.form_build.specs.Forms.{linear_at};
+ghost use Rattle.form_build.specs.Sums.{IsLinear};
+ghost use Rattle.form_build.specs.Worlds.{Defines};
+ghost use Rattle.stated_facts.specs.Rows.{Follows, IsAbove, IsNought};
+
+use crate::groups::{Group, groups_of, is_wanted};
+use crate::places::{Places, places_of};
+use crate::steps::{Steps, steps_of};
+use crate::sums::is_below;
+use form_build::{Linear, Maker};
+use stated_facts::{Nought, combined, is_small, light_sum};
+use std::alloc::AllocError;
+
+/// A sum of more terms isn't made longer.
+const MOST_TERMS: usize = 1 << 13;
+
+/// The sum of terms less their steps, where its numbers are small.
+fn sum_of(maker: &Maker, s: &Steps) -> Result<Option<Linear>, AllocError>
+    ensures { IfOk result (λ o. IfSome o (λ f. IsLinear (2 ^ 20) maker.now.domains f)) }
+{
+    if s.offset.unsigned_abs() > 1 << 19 {
+        return Ok(None);
+    }
+    let terms = Vec::from_slice(maker.alloc(), s.terms.as_slice())?;
+    let Some(own) = light_sum(maker, terms) else {
+        return Ok(None);
+    };
+    let number = Linear::number(maker.alloc(), s.offset);
+    let f = own.plus(maker.alloc(), &number)?;
+    Ok(Some(f))
+}
+
+/// Whether a sum is at least 0 wherever all constraints hold.
+fn is_above(maker: &Maker, places: &Places, s: &Steps, f: &Linear) -> Result<bool, AllocError>
+    requires { IsLinear (2 ^ 20) maker.now.domains f.now }
+    ensures { IfOk result (λ b. b ≡ true → IsAbove maker.now f.now) }
+{
+    let turned = f.times(maker.alloc(), -1)?;
+    let b = is_below(maker, places, s.index, s.parts.as_slice(), &turned)?;
+    Ok(b)
+}
+
+/// Terms less their steps, which are 0, or on one side of 0.
+fn nought_of(maker: &Maker, places: &Places, s: &Steps) -> Result<Option<Nought>, AllocError>
+    ensures { IfOk result (λ o. IfSome o (λ z. IsNought maker.now z)) }
+{
+    let Some(sum) = sum_of(maker, s)? else {
+        return Ok(None);
+    };
+    let adds = is_below(maker, places, s.index, s.parts.as_slice(), &sum)?;
+    let takes = is_above(maker, places, s, &sum)?;
+    Ok(Some(Nought { sum, adds, takes }))
+}
+
+/// What is 0 with the steps of terms in place of them, where these are known to be theirs.
+fn with_one(
+    maker: &Maker,
+    places: &Places,
+    zero: Nought,
+    s: &Steps,
+) -> Result<Nought, AllocError>
+    requires { IsNought maker.now zero }
+    ensures { IfOk result (λ z. IsNought maker.now z) }
+{
+    if zero.sum.terms.items().len() > MOST_TERMS {
+        return Ok(zero);
+    }
+    let Some(own) = nought_of(maker, places, s)? else {
+        return Ok(zero);
+    };
+    match combined(maker, &zero, &own, -1)? {
+        Some(z) => { if z.adds || z.takes { Ok(z) } else { Ok(zero) } }
+        None => Ok(zero),
+    }
+}
+
+/// The same of all steps.
+fn with_all(maker: &Maker, zero: Nought, all: &[Steps]) -> Result<Nought, AllocError>
+    requires { IsNought maker.now zero }
+    ensures { IfOk result (λ z. IsNought maker.now z) }
+{
+    let mut zero = zero;
+    let places = places_of(maker)?;
+    for s in all {
+        zero = with_one(maker, &places, zero, s)?;
+    }
+    Ok(zero)
+}
+
+/// Adds the steps of a group, where it has some.
+fn push_steps(
+    maker: &mut Maker,
+    places: &Places,
+    all: &mut Vec<Steps>,
+    g: &Group,
+) -> Result<(), AllocError>
+    ensures { OnOk result (Defines maker.old maker.new) }
+{
+    if let Some(s) = steps_of(maker, places, g)? {
+        all.push(s)?;
+    }
+    Ok(())
+}
+
+/// The steps of these groups, but of those that are flags already.
+fn all_steps(
+    maker: &mut Maker,
+    places: &Places,
+    groups: &[Group],
+) -> Result<Vec<Steps>, AllocError>
+    ensures { IfOk result (λ all. Defines maker.old maker.new) }
+{
+    let mut all = Vec::new(maker.alloc());
+    for g in groups {
+        if is_wanted(maker, places, g) {
+            push_steps(maker, places, &mut all, g)?;
+        }
+    }
+    Ok(all)
+}
+
+/// What is 0, with steps by flags of bins in place of the terms that follow from where an item is.
+/// Nothing new is said.
+pub fn with_steps(maker: &mut Maker, zero: Nought) -> Result<Nought, AllocError>
+    requires nought { IsNought maker.old zero }
+    ensures nought { IfOk result (λ z. IsNought maker.new z) }
+    ensures adds { IfOk result (λ z. Defines maker.old maker.new) }
+{
+    let places = places_of(maker)?;
+    let groups = groups_of(maker, &places, &zero.sum)?;
+    let all = all_steps(maker, &places, groups.as_slice())?;
+    let z = with_all(maker, zero, all.as_slice())?;
+    Ok(z)
+}
