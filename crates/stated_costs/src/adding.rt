@@ -55,12 +55,7 @@ fn nought_of(maker: &Maker, places: &Places, s: &Steps) -> Result<Option<Nought>
 }
 
 /// What is 0 with the steps of terms in place of them, where these are known to be theirs.
-fn with_one(
-    maker: &Maker,
-    places: &Places,
-    zero: Nought,
-    s: &Steps,
-) -> Result<Nought, AllocError>
+fn with_one(maker: &Maker, places: &Places, zero: Nought, s: &Steps) -> Result<Nought, AllocError>
     requires { IsNought maker.now zero }
     ensures { IfOk result (λ z. IsNought maker.now z) }
 {
@@ -105,11 +100,7 @@ fn push_steps(
 }
 
 /// The steps of these groups, but of those that are flags already.
-fn all_steps(
-    maker: &mut Maker,
-    places: &Places,
-    groups: &[Group],
-) -> Result<Vec<Steps>, AllocError>
+fn all_steps(maker: &mut Maker, places: &Places, groups: &[Group]) -> Result<Vec<Steps>, AllocError>
     ensures { IfOk result (λ all. Defines maker.old maker.new) }
 {
     let mut all = Vec::new(maker.alloc());

@@ -90,10 +90,7 @@ fn push_term(maker: &Maker, groups: &mut Vec<Group>, p: (u32, u32, i64)) -> Resu
     }
     let mut terms = Vec::new(maker.alloc());
     terms.push((p.2, p.1))?;
-    groups.push(Group {
-        index: p.0,
-        terms,
-    })?;
+    groups.push(Group { index: p.0, terms })?;
     Ok(())
 }
 

@@ -28,11 +28,7 @@ fn set_at<T: Copy + Drop>(list: &mut [T], x: u32, value: T) {
 }
 
 /// Notes the variables of a clause.
-fn note_clause(
-    out: &mut Places,
-    literals: &[(u32, IntSet)],
-    k: usize,
-) -> Result<(), AllocError> {
+fn note_clause(out: &mut Places, literals: &[(u32, IntSet)], k: usize) -> Result<(), AllocError> {
     match literals {
         [l] => set_at(&mut out.alone, l.0, k),
         [l, m] => {

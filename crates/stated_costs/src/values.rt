@@ -150,13 +150,7 @@ fn is_other_case(l: &(u32, IntSet), x: u32, at: &IntSet) -> bool
 }
 
 /// Those of the values that the constraint allows, if it is a clause of the index and the variable.
-fn allowed_where(
-    values: IntSet,
-    c: &Con,
-    x: u32,
-    at: &IntSet,
-    y: u32,
-) -> Result<IntSet, AllocError>
+fn allowed_where(values: IntSet, c: &Con, x: u32, at: &IntSet, y: u32) -> Result<IntSet, AllocError>
     ensures { IfOk result (λ s. (a : List ℤ) → con_true c.now a ≡ true
         → has at.now (value_of a x) ≡ true → has values (value_of a y) ≡ true
         → has s (value_of a y) ≡ true) }
