@@ -1,5 +1,6 @@
 //! How great a sum is at most where the index is in a set.
 ghost use Rattle.std.specs.Prelude.{◌≡◌, ◌≤ℤ◌, ◌*ℤ◌, ◌+ℤ◌, ℤ, List, pos, true, IfOk, IfSome};
+ghost use Rattle.std.specs.Int.{int_max};
 ghost use Rattle.signed_clause.specs.Ranges.{has};
 ghost use Rattle.ground_form.specs.Meaning.{value_of, sum_at};
 ghost use Rattle.form_build.specs.Forms.{linear_at};
@@ -14,14 +15,31 @@ use ground_form::Number;
 use signed_clause::IntSet;
 use std::alloc::AllocError;
 
+/// A product, where it fits.
+fn product(c: i64, v: i64) -> Option<Number>
+    ensures { IfSome result (λ n. n.value ≡ c *ℤ v) }
+{
+    Some(Number {
+        value: c.checked_mul(v)?,
+    })
+}
+
+/// The greater one of two numbers.
+fn greater(m: Number, n: Number) -> Number
+    ensures { result.value ≡ int_max m.value n.value }
+{
+    Number {
+        value: m.value.max(n.value),
+    }
+}
+
 /// The greatest product of a number and a value from the least to the greatest one, where it fits.
-pub(crate) fn most_product(c: i64, least: i64, greatest: i64) -> Option<Number>
+fn most_product(c: i64, least: i64, greatest: i64) -> Option<Number>
     ensures { IfSome result (λ n. (v : ℤ) → least ≤ℤ v → v ≤ℤ greatest → c *ℤ v ≤ℤ n.value) }
 {
-    let end = if c < 0 { least } else { greatest };
-    Some(Number {
-        value: c.checked_mul(end)?,
-    })
+    let low = product(c, least)?;
+    let high = product(c, greatest)?;
+    Some(greater(low, high))
 }
 
 /// The greatest product of a number and one of the values, where it fits.
@@ -30,7 +48,8 @@ fn most_of(c: i64, values: &IntSet) -> Option<Number>
 {
     let least = values.least()?;
     let greatest = values.greatest()?;
-    most_product(c, least, greatest)
+    let n = most_product(c, least, greatest)?;
+    Some(n)
 }
 
 /// How great a term is at most where the index is in the set.

@@ -1,5 +1,5 @@
 //! Which values a variable has where another one, the index, is in a set.
-ghost use Rattle.std.specs.Prelude.{◌≡◌, ◌∷◌, [], ℤ, List, true, Contains, IfOk, IfSome};
+ghost use Rattle.std.specs.Prelude.{◌≡◌, ◌∷◌, [], ℤ, List, true, false, Contains, IfOk, IfSome};
 ghost use Rattle.signed_clause.specs.Ranges.{has};
 ghost use Rattle.ground_form.specs.declared.con.Con.TheVariants as con;
 ghost use Rattle.ground_form.specs.Meaning.{value_of, bit, picks, con_true};
@@ -169,6 +169,14 @@ fn allowed_where(values: IntSet, c: &Con, x: u32, at: &IntSet, y: u32) -> Result
     Ok(values)
 }
 
+/// The constraint of this number.
+fn con_at(maker: &Maker, k: usize) -> Option<&Con>
+    ensures { IfSome result (λ c. Contains maker.now.cons c.now) }
+{
+    let cons = maker.cons();
+    if k < cons.len() { Some(&cons[k]) } else { None }
+}
+
 /// Those of the values that constraint k allows where the index is in the set.
 fn allowed_by(
     maker: &Maker,
@@ -182,12 +190,13 @@ fn allowed_by(
         → has at.now (value_of a x) ≡ true → has values (value_of a y) ≡ true
         → has s (value_of a y) ≡ true) }
 {
-    let cons = maker.cons();
-    if k >= cons.len() {
-        return Ok(values);
+    match con_at(maker, k) {
+        Some(c) => {
+            let left = allowed_where(values, c, x, at, y)?;
+            Ok(left)
+        }
+        None => Ok(values),
     }
-    let left = allowed_where(values, &cons[k], x, at, y)?;
-    Ok(left)
 }
 
 /// The values that a variable may have where the index is in the set, by what is stated of it case
