@@ -10,24 +10,35 @@ use crate::places::{Places, places_of};
 use crate::steps::{Steps, steps_of};
 use crate::sums::is_below;
 use form_build::{Linear, Maker};
-use stated_facts::{Nought, combined, is_small, light_sum};
+use ground_form::Number;
+use stated_facts::{Nought, combined, light_sum};
 use std::alloc::AllocError;
 
 /// A sum of more terms isn't made longer.
 const MOST_TERMS: usize = 1 << 13;
 
+/// A number as a sum, where it is small.
+fn small_number(maker: &Maker, v: Number) -> Option<Linear>
+    ensures { IfSome result (λ f. IsLinear (2 ^ 19) maker.now.domains f) }
+{
+    if v.value.unsigned_abs() > 1 << 19 {
+        None
+    } else {
+        Some(Linear::number(maker.alloc(), v.value))
+    }
+}
+
 /// The sum of terms less their steps, where its numbers are small.
 fn sum_of(maker: &Maker, s: &Steps) -> Result<Option<Linear>, AllocError>
     ensures { IfOk result (λ o. IfSome o (λ f. IsLinear (2 ^ 20) maker.now.domains f)) }
 {
-    if s.offset.unsigned_abs() > 1 << 19 {
-        return Ok(None);
-    }
     let terms = Vec::from_slice(maker.alloc(), s.terms.as_slice())?;
     let Some(own) = light_sum(maker, terms) else {
         return Ok(None);
     };
-    let number = Linear::number(maker.alloc(), s.offset);
+    let Some(number) = small_number(maker, s.offset) else {
+        return Ok(None);
+    };
     let f = own.plus(maker.alloc(), &number)?;
     Ok(Some(f))
 }

@@ -7,6 +7,7 @@ use crate::places::Places;
 use crate::sums::most_sum;
 use form_build::Maker;
 use form_truths::{flag_of, literal};
+use ground_form::Number;
 use signed_clause::IntSet;
 use std::alloc::{AllocError, Global};
 
@@ -26,7 +27,7 @@ pub(crate) struct Steps {
     /// The terms less the steps, each of which is a flag so many times.
     pub terms: Vec<(i64, u32)>,
     /// The least amount taken away.
-    pub offset: i64,
+    pub offset: Number,
 }
 
 /// Sets of values of an index, and what terms add there.
@@ -234,10 +235,13 @@ pub(crate) fn steps_of(
     let flags = flags_of(maker, g.index, l.parts.as_slice())?;
     let rises = rises_of(maker.alloc(), l.amounts.as_slice())?;
     let terms = less_steps(maker.alloc(), g, flags.as_slice(), rises.as_slice())?;
+    let least = l.amounts.first().copied().unwrap_or(0);
     Ok(Some(Steps {
         index: g.index,
-        offset: l.amounts.first().copied().unwrap_or(0).saturating_neg(),
         parts: l.parts,
         terms,
+        offset: Number {
+            value: least.saturating_neg(),
+        },
     }))
 }
