@@ -1,5 +1,5 @@
 -- Sums by the value of an index.
-use Rattle.std.proofs.Common.{◌≡◌, ℕ, Bool, true, false, not, ◌&&◌, List, [], ◌∷◌, ℤ, pos, ◌+ℤ◌, ◌*ℤ◌, ◌≤ℤ◌, refl, sym, ap, ◌∙◌, arith}
+use Rattle.std.proofs.Common.{◌≡◌, ℕ, Bool, true, false, not, ◌&&◌, List, [], ◌∷◌, ℤ, pos, ◌+ℤ◌, ◌*ℤ◌, ◌≤ℤ◌, refl, sym, ap, ◌∙◌, arith, true≢false}
 use Rattle.std.proofs.lemmas.Int.{ints}
 use Rattle.signed_clause.specs.Ranges.{Ranges, has, is_nil}
 use Rattle.ground_form.specs.declared.ground.Ground.{Ground}
@@ -35,17 +35,17 @@ IsBelowBut g x left f =
     (a : List ℤ) → IsWorld g a → AllHold g a → has left (value_of a x) ≡ false → linear_at f a ≤ℤ pos 0
 
 both_ways : (b : Bool) (P : Type 0) → b ≡ true → b ≡ false → P
-both_ways true P h ()
-both_ways false P () e
+both_ways true P h e = absurd (true≢false e)
+both_ways false P h e = absurd (true≢false (sym h))
 
 gone : (p q : Bool) (P : Type 0) → (p && not q) ≡ false → (p ≡ false → P) → (q ≡ true → P) → P
 gone true true P e f g = g refl
-gone true false P () f g
+gone true false P e f g = absurd (true≢false e)
 gone false q P e f g = f refl
 
 nil_has : (rs : Ranges) (v : ℤ) → is_nil rs ≡ true → has rs v ≡ false
 nil_has [] v h = refl
-nil_has (r ∷ rs) v ()
+nil_has (r ∷ rs) v h = absurd (true≢false (sym h))
 
 pub below_first : (g : Ground) (x : ℕ) (own : Ranges) (f : Linear) → AreValues g x own → IsBelowBut g x own f
 below_first g x own f values a w all e = both_ways (has own (value_of a x)) _ (values a w all) e

@@ -1,5 +1,5 @@
 -- Values of variables by what is stated of them.
-use Rattle.std.proofs.Common.{◌≡◌, ℕ, Bool, true, false, not, ◌&&◌, ◌||◌, List, [], ◌∷◌, ℤ, All, refl, sym, ap, ◌∙◌, subst, arith}
+use Rattle.std.proofs.Common.{◌≡◌, ℕ, Bool, true, false, not, ◌&&◌, ◌||◌, List, [], ◌∷◌, ℤ, All, refl, sym, ap, ◌∙◌, subst, arith, true≢false}
 use Rattle.std.specs.Prelude.{Contains}
 use Rattle.std.specs.Ordering.{int_eq}
 use Rattle.std.proofs.lemmas.Int.{ints}
@@ -10,9 +10,6 @@ use Rattle.ground_form.specs.declared.con.Con.TheVariants.{ClauseCon, ElementDef
 use Rattle.ground_form.specs.declared.ground.Ground.{Ground}
 use Rattle.ground_form.specs.Meaning.{value_of, bit, picks, con_true}
 use Rattle.form_build.specs.Worlds.{IsWorld, AllHold}
-
-true_false : true ≡ false → ⊥
-true_false ()
 
 pub both_true : (p q : Bool) → p ≡ true → q ≡ true → (p && q) ≡ true
 both_true p q e f = grind arith
@@ -28,12 +25,12 @@ alone true h = refl
 alone false h = h
 
 other_one : (p q : Bool) → (p || (q || false)) ≡ true → p ≡ false → q ≡ true
-other_one true q h ()
+other_one true q h e = absurd (true≢false e)
 other_one false q h e = alone q h
 
 first_one : (p q : Bool) → (p || (q || false)) ≡ true → q ≡ false → p ≡ true
 first_one true q h e = refl
-first_one false true h ()
+first_one false true h e = absurd (true≢false e)
 first_one false false h e = h
 
 -- what a clause of one literal leaves
@@ -69,7 +66,7 @@ or_right false s h = h
 pick_case : (p q r s m inside : Bool) → (p ≡ true → m ≡ true) → (inside ≡ false → q ≡ false) → (inside ≡ true → r ≡ true → m ≡ true) → (p || ((q && r) || s)) ≡ true → (m || s) ≡ true
 pick_case true q r s m i f g k h = ap (λ (b : Bool). b || s) (f refl)
 pick_case false true true s m true f g k h = ap (λ (b : Bool). b || s) (k refl refl)
-pick_case false true true s m false f g k h = absurd (true_false (g refl))
+pick_case false true true s m false f g k h = absurd (true≢false (g refl))
 pick_case false true false s m i f g k h = or_right m s h
 pick_case false false r s m i f g k h = or_right m s h
 
