@@ -52,6 +52,7 @@ fn note(out: &mut Places, con: &Con, k: usize) -> Result<(), AllocError> {
     match con {
         Con::ClauseCon { clause } => note_clause(out, clause.clause().literals(), k)?,
         Con::Pack { items } => note_bins(&mut out.bins, items.items()),
+        Con::ElementDef { out: own, .. } => set_at(&mut out.definitions, *own, k),
         _ => (),
     }
     Ok(())

@@ -15,7 +15,6 @@ fn variable_defined(con: &Con) -> Option<u32> {
         Con::ReifLe { flag, .. } => Some(*flag),
         Con::LinDef { out, .. } => Some(*out),
         Con::CondDef { out, .. } => Some(*out),
-        Con::ElementDef { out, .. } => Some(*out),
         _ => None,
     }
 }
