@@ -215,7 +215,7 @@ fn link_of(maker: &Maker, q: &Quotient, own: u32, goal: u32) -> Result<Option<No
 }
 
 /// States what is 0, of both sides.
-fn state_nought(maker: &mut Maker, link: &Nought) -> Result<(), AllocError>
+pub(crate) fn state_nought(maker: &mut Maker, link: &Nought) -> Result<(), AllocError>
     requires { IsNought maker.old link.now }
     ensures { OnOk result (Defines maker.old maker.new) }
 {
