@@ -11,7 +11,7 @@ ghost use Rattle.goal_rows.specs.Quotients.{IsGoalBy};
 ghost use Rattle.stated_facts.specs.Rows.{IsNought};
 
 use crate::choice::{Aim, aim_of, sets_asked};
-use crate::dividing::{Quotient, goal_quotient, state_link};
+use crate::dividing::{Quotient, goal_quotient, state_link, state_nought};
 use crate::levels::add_levels;
 use crate::packing::{Packing, packing_at};
 use crate::shares::add_for_set;
@@ -166,6 +166,21 @@ fn add_divided(maker: &mut Maker, q: &Quotient, goal: u32) -> Result<(), AllocEr
     Ok(())
 }
 
+/// What is 0, with steps in place of the terms that follow from where an item is, which is stated.
+fn with_costs(maker: &mut Maker, zero: Nought) -> Result<Nought, AllocError>
+    requires nought { IsNought maker.old zero }
+    ensures nought { IfOk result (λ z. IsNought maker.new z) }
+    ensures adds { IfOk result (λ z. Defines maker.old maker.new) }
+{
+    match with_steps(maker, &zero)? {
+        Some(z) => {
+            state_nought(maker, &z)?;
+            Ok(z)
+        }
+        None => Ok(zero),
+    }
+}
+
 /// Adds rows that follow from the packings of a problem and from what a goal is, so that bounds
 /// alone give what the linear relaxation gives. Nothing new is said.
 pub fn add_goal_sums(maker: &mut Maker, number: &Linear, goal: u32) -> Result<(), AllocError>
@@ -180,7 +195,7 @@ pub fn add_goal_sums(maker: &mut Maker, number: &Linear, goal: u32) -> Result<()
     }
     let zero = difference(maker, number, goal)?;
     let zero = with_rows(maker, zero, number)?;
-    let zero = with_steps(maker, zero)?;
+    let zero = with_costs(maker, zero)?;
     match goal_quotient(maker, &zero, goal)? {
         Some(q) => {
             add_divided(maker, &q, goal)?;

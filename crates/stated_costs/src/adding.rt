@@ -66,33 +66,47 @@ fn nought_of(maker: &Maker, places: &Places, s: &Steps) -> Result<Option<Nought>
 }
 
 /// What is 0 with the steps of terms in place of them, where these are known to be theirs.
-fn with_one(maker: &Maker, places: &Places, zero: Nought, s: &Steps) -> Result<Nought, AllocError>
-    requires { IsNought maker.now zero }
-    ensures { IfOk result (λ z. IsNought maker.now z) }
+fn with_one(
+    maker: &Maker,
+    places: &Places,
+    zero: &Nought,
+    s: &Steps,
+) -> Result<Option<Nought>, AllocError>
+    requires { IsNought maker.now zero.now }
+    ensures { IfOk result (λ o. IfSome o (λ z. IsNought maker.now z)) }
 {
     if zero.sum.terms.items().len() > MOST_TERMS {
-        return Ok(zero);
+        return Ok(None);
     }
     let Some(own) = nought_of(maker, places, s)? else {
-        return Ok(zero);
+        return Ok(None);
     };
-    match combined(maker, &zero, &own, -1)? {
-        Some(z) => { if z.adds || z.takes { Ok(z) } else { Ok(zero) } }
-        None => Ok(zero),
+    match combined(maker, zero, &own, -1)? {
+        Some(z) => {
+            if z.adds || z.takes {
+                Ok(Some(z))
+            } else {
+                Ok(None)
+            }
+        }
+        None => Ok(None),
     }
 }
 
-/// The same of all steps.
-fn with_all(maker: &Maker, zero: Nought, all: &[Steps]) -> Result<Nought, AllocError>
-    requires { IsNought maker.now zero }
-    ensures { IfOk result (λ z. IsNought maker.now z) }
+/// The same of all steps. None where nothing was replaced.
+fn with_all(maker: &Maker, zero: &Nought, all: &[Steps]) -> Result<Option<Nought>, AllocError>
+    requires { IsNought maker.now zero.now }
+    ensures { IfOk result (λ o. IfSome o (λ z. IsNought maker.now z)) }
 {
-    let mut zero = zero;
+    let mut last = None;
     let places = places_of(maker)?;
     for s in all {
-        zero = with_one(maker, &places, zero, s)?;
+        let so_far = last.as_ref().unwrap_or(zero);
+        if let Some(z) = with_one(maker, &places, so_far, s)? {
+            last = Some(z);
+        }
     }
-    Ok(zero)
+    Ok(last)
 }
 
 /// Adds the steps of a group, where it has some.
@@ -124,11 +138,11 @@ fn all_steps(maker: &mut Maker, places: &Places, groups: &[Group]) -> Result<Vec
 }
 
 /// What is 0, with steps by flags of bins in place of the terms that follow from where an item is.
-/// Nothing new is said.
-pub fn with_steps(maker: &mut Maker, zero: Nought) -> Result<Nought, AllocError>
-    requires nought { IsNought maker.old zero }
-    ensures nought { IfOk result (λ z. IsNought maker.new z) }
-    ensures adds { IfOk result (λ z. Defines maker.old maker.new) }
+/// None where there is no such term. Nothing new is said.
+pub fn with_steps(maker: &mut Maker, zero: &Nought) -> Result<Option<Nought>, AllocError>
+    requires nought { IsNought maker.old zero.now }
+    ensures nought { IfOk result (λ o. IfSome o (λ z. IsNought maker.new z)) }
+    ensures adds { IfOk result (λ o. Defines maker.old maker.new) }
 {
     let places = places_of(maker)?;
     let groups = groups_of(maker, &places, &zero.sum)?;

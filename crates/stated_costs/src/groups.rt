@@ -1,5 +1,6 @@
 //! The terms of a sum by their index. No promise rests on it.
 use crate::places::{Places, is_bin, pairs_at};
+use crate::values::equal_to;
 use form_build::{Linear, Maker};
 use ground_form::Con;
 use stated_facts::definition;
@@ -32,8 +33,10 @@ fn linked(places: &Places, y: u32) -> Option<u32> {
     None
 }
 
-/// The index of which a variable is an element, a flag of one, a flag, or a cell by cases.
+/// The index of which a variable is an element, a flag of one, a flag, a cell by cases, or equal to
+/// one of these.
 fn index_of(maker: &Maker, places: &Places, y: u32) -> Option<u32> {
+    let y = equal_to(maker, places, y).unwrap_or(y);
     let definitions = places.definitions.as_slice();
     if y < maker.search() {
         return linked(places, y);

@@ -15,6 +15,8 @@ pub(crate) struct Places {
     /// The clauses of two literals: a variable, the other one, and where the clause stands, in
     /// order.
     pub pairs: Vec<(u32, u32, usize)>,
+    /// For each variable where it may stand that it equals another one.
+    pub equals: Vec<usize>,
     /// For each variable whether it is the bin of an item.
     pub bins: Vec<bool>,
 }
@@ -52,6 +54,10 @@ fn note(out: &mut Places, con: &Con, k: usize) -> Result<(), AllocError> {
     match con {
         Con::ClauseCon { clause } => note_clause(out, clause.clause().literals(), k)?,
         Con::Pack { items } => note_bins(&mut out.bins, items.items()),
+        Con::EqDef { left, right, .. } => {
+            set_at(&mut out.equals, *left, k);
+            set_at(&mut out.equals, *right, k);
+        }
         Con::ElementDef { out: own, .. } => set_at(&mut out.definitions, *own, k),
         _ => (),
     }
@@ -63,12 +69,15 @@ pub(crate) fn places_of(maker: &Maker) -> Result<Places, AllocError> {
     let count = maker.domains().len();
     let mut alone = Vec::new(maker.alloc());
     alone.resize(count, usize::MAX)?;
+    let mut equals = Vec::new(maker.alloc());
+    equals.resize(count, usize::MAX)?;
     let mut bins = Vec::new(maker.alloc());
     bins.resize(count, false)?;
     let mut out = Places {
         definitions: definition_indexes(maker)?,
         alone,
         pairs: Vec::new(maker.alloc()),
+        equals,
         bins,
     };
     for (k, con) in maker.cons().iter().enumerate() {

@@ -1,5 +1,5 @@
 //! Which values a variable has where another one, the index, is in a set.
-ghost use Rattle.std.specs.Prelude.{◌≡◌, ◌∷◌, [], ℤ, List, true, false, Contains, IfOk, IfSome};
+ghost use Rattle.std.specs.Prelude.{◌≡◌, ◌∷◌, [], ℤ, List, true, false, pos, Contains, IfOk, IfSome};
 ghost use Rattle.signed_clause.specs.Ranges.{has};
 ghost use Rattle.ground_form.specs.declared.con.Con.TheVariants as con;
 ghost use Rattle.ground_form.specs.Meaning.{value_of, bit, picks, con_true};
@@ -10,7 +10,7 @@ use crate::places::{Places, pairs_at};
 use form_build::Maker;
 use ground_form::Con;
 use signed_clause::IntSet;
-use stated_facts::definition;
+use stated_facts::{definition, only_value};
 use std::alloc::{AllocError, Global};
 
 // ---- what is stated of a variable alone
@@ -279,8 +279,8 @@ fn flag_values(alloc: Global, values: &IntSet, set: &IntSet) -> IntSet
     }
 }
 
-/// The values that a variable may have where the index is in the set.
-pub(crate) fn values_where(
+/// The values that a variable may have where the index is in the set, of one that equals no other.
+fn told_values(
     maker: &Maker,
     places: &Places,
     x: u32,
@@ -305,4 +305,75 @@ pub(crate) fn values_where(
             Ok(values)
         }
     }
+}
+
+// ---- equal variables
+
+/// Whether the variable is 1 by a clause of it alone.
+fn is_one(maker: &Maker, places: &Places, x: u32) -> bool
+    ensures { result ≡ true → (a : List ℤ) → AllHold maker.now a → value_of a x ≡ pos 1 }
+{
+    match definition(maker, places.alone.as_slice(), x) {
+        Some(c) => says_one(c, x),
+        None => false,
+    }
+}
+
+/// Whether the constraint says that the variable is 1.
+fn says_one(c: &Con, x: u32) -> bool
+    ensures { result ≡ true → (a : List ℤ) → con_true c.now a ≡ true → value_of a x ≡ pos 1 }
+{
+    match literal_of(c) {
+        Some(l) => l.0 == x && only_value(&l.1) == Some(1),
+        None => false,
+    }
+}
+
+/// The other variable of an equality that holds, by its constraint.
+fn other_by(maker: &Maker, places: &Places, c: &Con, y: u32) -> Option<u32>
+    requires { Contains maker.now.cons c.now }
+    ensures { IfSome result (λ z. (a : List ℤ) → AllHold maker.now a
+        → value_of a y ≡ value_of a z) }
+{
+    match c {
+        Con::EqDef { flag, left, right } => {
+            if *left == y && is_one(maker, places, *flag) {
+                Some(*right)
+            } else if *right == y && is_one(maker, places, *flag) {
+                Some(*left)
+            } else {
+                None
+            }
+        }
+        _ => None,
+    }
+}
+
+/// A variable that equals this one wherever all constraints hold.
+pub(crate) fn equal_to(maker: &Maker, places: &Places, y: u32) -> Option<u32>
+    ensures { IfSome result (λ z. (a : List ℤ) → AllHold maker.now a
+        → value_of a y ≡ value_of a z) }
+{
+    match definition(maker, places.equals.as_slice(), y) {
+        Some(c) => other_by(maker, places, c, y),
+        None => None,
+    }
+}
+
+/// The values that a variable may have where the index is in the set.
+pub(crate) fn values_where(
+    maker: &Maker,
+    places: &Places,
+    x: u32,
+    at: &IntSet,
+    y: u32,
+) -> Result<Option<IntSet>, AllocError>
+    ensures { IfOk result (λ o. IfSome o (λ s. AreValuesWhere maker.now x at.now y s)) }
+{
+    if let Some(z) = equal_to(maker, places, y) {
+        let values = told_values(maker, places, x, at, z)?;
+        return Ok(values);
+    }
+    let values = told_values(maker, places, x, at, y)?;
+    Ok(values)
 }
