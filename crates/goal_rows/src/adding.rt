@@ -12,7 +12,6 @@ ghost use Rattle.stated_facts.specs.Rows.{IsNought};
 
 use crate::choice::{Aim, aim_of, sets_asked};
 use crate::dividing::{Quotient, goal_quotient, state_link, state_nought};
-use crate::levels::add_levels;
 use crate::packing::{Packing, packing_at};
 use crate::shares::add_for_set;
 use crate::used::add_used;
@@ -35,7 +34,7 @@ fn are_small(maker: &Maker, number: &Linear, goal: u32) -> bool
 }
 
 /// A goal's sum less the goal: wherever all constraints hold it is 0.
-pub(crate) fn difference(maker: &Maker, number: &Linear, goal: u32) -> Result<Nought, AllocError>
+fn difference(maker: &Maker, number: &Linear, goal: u32) -> Result<Nought, AllocError>
     requires goal { goal < length maker.now.domains }
     requires number { IsLinear (2 ^ 19) maker.now.domains number.now }
     requires near { reach_of (box_of maker.now.domains goal) ≤ 2 ^ 19 }
@@ -130,7 +129,7 @@ fn add_by(maker: &mut Maker, zero: &Nought) -> Result<(), AllocError>
 }
 
 /// Whether the values of a variable are small.
-pub(crate) fn has_small_values(maker: &Maker, x: u32) -> bool
+fn has_small_values(maker: &Maker, x: u32) -> bool
     requires { x < length maker.now.domains }
     ensures { result ≡ true → reach_of (box_of maker.now.domains x) ≤ 2 ^ 19 }
 {
@@ -138,7 +137,7 @@ pub(crate) fn has_small_values(maker: &Maker, x: u32) -> bool
 }
 
 /// Adds the rows of a sum whose variable this is.
-pub(crate) fn add_for_sum(maker: &mut Maker, sum: &Linear, own: u32) -> Result<(), AllocError>
+fn add_for_sum(maker: &mut Maker, sum: &Linear, own: u32) -> Result<(), AllocError>
     requires own { own < length maker.old.domains }
     requires sum { IsLinear (2 ^ 19) maker.old.domains sum.now }
     requires value { (a : List ℤ) → IsWorld maker.old a → AllHold maker.old a
@@ -203,7 +202,6 @@ pub fn add_goal_sums(maker: &mut Maker, number: &Linear, goal: u32) -> Result<()
         }
         None => {
             add_by(maker, &zero)?;
-            add_levels(maker, zero)?;
             Ok(())
         }
     }

@@ -16,7 +16,6 @@
 //! - `dividing`: a goal whose terms have a factor in common.
 //! - `hosts`: bins of which a flag tells whether some item is there that may be elsewhere.
 //! - `inside`: the sizes of the items in a set, as a sum.
-//! - `levels`: a goal that counts items in several sets of bins.
 //! - `packing`: packings whose sizes and rooms are constants, as lists of bins and sizes.
 //! - `rows`: rows that follow, with multiples of what is 0.
 //! - `shares`: what the items in a set, and those outside it, have room for.
@@ -30,7 +29,6 @@ mod choice;
 mod dividing;
 mod hosts;
 mod inside;
-mod levels;
 mod packing;
 mod rows;
 mod shares;

@@ -35,7 +35,7 @@ fn greater(m: Number, n: Number) -> Number
 
 /// The greatest product of a number and a value from the least to the greatest one, where it fits.
 fn most_product(c: i64, least: i64, greatest: i64) -> Option<Number>
-    ensures { IfSome result (λ n. (v : ℤ) → least ≤ℤ v → v ≤ℤ greatest → c *ℤ v ≤ℤ n.value) }
+    ensures { IfSome result (λ n. (v : ℤ) → least ≤ℤ v → v ≤ℤ greatest → (c *ℤ v) ≤ℤ n.value) }
 {
     let low = product(c, least)?;
     let high = product(c, greatest)?;
@@ -44,7 +44,7 @@ fn most_product(c: i64, least: i64, greatest: i64) -> Option<Number>
 
 /// The greatest product of a number and one of the values, where it fits.
 fn most_of(c: i64, values: &IntSet) -> Option<Number>
-    ensures { IfSome result (λ n. (v : ℤ) → has values.now v ≡ true → c *ℤ v ≤ℤ n.value) }
+    ensures { IfSome result (λ n. (v : ℤ) → has values.now v ≡ true → (c *ℤ v) ≤ℤ n.value) }
 {
     let least = values.least()?;
     let greatest = values.greatest()?;
@@ -62,7 +62,7 @@ fn most_term(
 ) -> Result<Option<Number>, AllocError>
     ensures { IfOk result (λ o. IfSome o (λ n. (a : List ℤ) → IsWorld maker.now a
         → AllHold maker.now a → has at.now (value_of a x) ≡ true
-        → t.0 *ℤ value_of a t.1 ≤ℤ n.value)) }
+        → (t.0 *ℤ value_of a t.1) ≤ℤ n.value)) }
 {
     match values_where(maker, places, x, at, t.1)? {
         Some(values) => Ok(most_of(t.0, &values)),
