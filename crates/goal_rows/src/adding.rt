@@ -11,14 +11,14 @@ ghost use Rattle.goal_rows.specs.Quotients.{IsGoalBy};
 ghost use Rattle.stated_facts.specs.Rows.{IsNought};
 
 use crate::choice::{Aim, aim_of, sets_asked};
-use crate::dividing::{Quotient, goal_quotient, state_link, state_nought};
+use crate::costs::with_costs;
+use crate::dividing::{Quotient, goal_quotient, state_link};
 use crate::packing::{Packing, packing_at};
 use crate::shares::add_for_set;
 use crate::used::add_used;
 use block_sums::settled_in_blocks;
 use form_build::{Linear, Maker, variable};
 use ground_form::Con;
-use stated_costs::with_steps;
 use stated_facts::{Nought, is_near, weighs_within, with_rows};
 use std::alloc::AllocError;
 
@@ -165,19 +165,35 @@ fn add_divided(maker: &mut Maker, q: &Quotient, goal: u32) -> Result<(), AllocEr
     Ok(())
 }
 
-/// What is 0, with steps in place of the terms that follow from where an item is, which is stated.
-fn with_costs(maker: &mut Maker, zero: Nought) -> Result<Nought, AllocError>
-    requires nought { IsNought maker.old zero }
-    ensures nought { IfOk result (λ z. IsNought maker.new z) }
-    ensures adds { IfOk result (λ z. Defines maker.old maker.new) }
+/// Adds the rows of a goal that is a sum, by what is 0, the sum less the goal.
+fn add_whole(maker: &mut Maker, zero: &Nought, goal: u32) -> Result<(), AllocError>
+    requires goal { goal < length maker.old.domains }
+    requires near { reach_of (box_of maker.old.domains goal) ≤ 2 ^ 19 }
+    requires nought { IsNought maker.old zero.now }
+    ensures { OnOk result (Defines maker.old maker.new) }
 {
-    match with_steps(maker, &zero)? {
-        Some(z) => {
-            state_nought(maker, &z)?;
-            Ok(z)
+    match goal_quotient(maker, zero, goal)? {
+        Some(q) => {
+            add_divided(maker, &q, goal)?;
+            Ok(())
         }
-        None => Ok(zero),
+        None => {
+            add_by(maker, zero)?;
+            Ok(())
+        }
     }
+}
+
+/// The same with flags of sets of bins in place of the terms that follow from where an item is.
+fn add_with_costs(maker: &mut Maker, zero: Nought, goal: u32) -> Result<(), AllocError>
+    requires goal { goal < length maker.old.domains }
+    requires near { reach_of (box_of maker.old.domains goal) ≤ 2 ^ 19 }
+    requires nought { IsNought maker.old zero }
+    ensures { OnOk result (Defines maker.old maker.new) }
+{
+    let zero = with_costs(maker, zero)?;
+    add_whole(maker, &zero, goal)?;
+    Ok(())
 }
 
 /// Adds rows that follow from the packings of a problem and from what a goal is, so that bounds
@@ -194,15 +210,6 @@ pub fn add_goal_sums(maker: &mut Maker, number: &Linear, goal: u32) -> Result<()
     }
     let zero = difference(maker, number, goal)?;
     let zero = with_rows(maker, zero, number)?;
-    let zero = with_costs(maker, zero)?;
-    match goal_quotient(maker, &zero, goal)? {
-        Some(q) => {
-            add_divided(maker, &q, goal)?;
-            Ok(())
-        }
-        None => {
-            add_by(maker, &zero)?;
-            Ok(())
-        }
-    }
+    add_with_costs(maker, zero, goal)?;
+    Ok(())
 }

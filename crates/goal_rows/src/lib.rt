@@ -13,6 +13,7 @@
 //! - `amounts`: sizes as numbers with a sign, and as sums.
 //! - `away`: variables that don't have a value where a flag is 1.
 //! - `choice`: the sets that a goal's flags ask about, and which multiples are added.
+//! - `costs`: a goal whose terms follow from where an item is.
 //! - `dividing`: a goal whose terms have a factor in common.
 //! - `hosts`: bins of which a flag tells whether some item is there that may be elsewhere.
 //! - `inside`: the sizes of the items in a set, as a sum.
@@ -26,6 +27,7 @@ mod adding;
 mod amounts;
 mod away;
 mod choice;
+mod costs;
 mod dividing;
 mod hosts;
 mod inside;
