@@ -1,8 +1,10 @@
 -- Sums by the value of an index.
-use Rattle.std.proofs.Common.{◌≡◌, ℕ, Bool, true, false, not, ◌&&◌, List, [], ◌∷◌, ℤ, pos, ◌+ℤ◌, ◌*ℤ◌, ◌≤ℤ◌, refl, sym, ap, ◌∙◌, arith, true≢false}
+use Rattle.std.proofs.Common.{◌≡◌, ℕ, Bool, true, false, not, ◌&&◌, List, [], ◌∷◌, ℤ, pos, ◌+ℤ◌, ◌*ℤ◌, ◌≤ℤ◌, refl, sym, ap, ◌∙◌, subst, arith, true≢false}
+use Rattle.std.specs.Int.{int_max}
 use Rattle.std.proofs.lemmas.Int.{ints}
 use Rattle.signed_clause.specs.Ranges.{Ranges, has, is_nil}
 use Rattle.ground_form.specs.declared.ground.Ground.{Ground}
+use Rattle.ground_form.proofs.Products.{mul_greatest}
 use Rattle.ground_form.specs.Meaning.{value_of, sum_at}
 use Rattle.form_build.specs.declared.form.Linear.{Linear}
 use Rattle.form_build.specs.Forms.{linear_at}
@@ -10,6 +12,10 @@ use Rattle.form_build.specs.Worlds.{IsWorld, AllHold}
 use Rattle.stated_facts.specs.Rows.{Follows}
 use Rattle.stated_costs.specs.Sums.{IsMostWhere, IsBelowWhere}
 use Rattle.stated_costs.specs.Values.{AreValues}
+
+pub most_by : (c least greatest v low high most : ℤ) → low ≡ (c *ℤ least) → high ≡ (c *ℤ greatest) → most ≡ int_max low high → least ≤ℤ v → v ≤ℤ greatest → (c *ℤ v) ≤ℤ most
+most_by c least greatest v low high most e f m h k =
+    subst (λ (z : ℤ). (c *ℤ v) ≤ℤ z) (sym (m ∙ ap (λ (z : ℤ). int_max z high) e ∙ ap (λ (z : ℤ). int_max (c *ℤ least) z) f)) (mul_greatest c least greatest v h k)
 
 -- the terms are at most the number and those that are left
 abbrev pub IsMostFrom : Ground → ℕ → Ranges → List (ℤ × ℕ) → List (ℤ × ℕ) → ℤ → Type 0

@@ -39,7 +39,8 @@ fn most_product(c: i64, least: i64, greatest: i64) -> Option<Number>
 {
     let low = product(c, least)?;
     let high = product(c, greatest)?;
-    Some(greater(low, high))
+    let most = greater(low, high);
+    Some(most)
 }
 
 /// The greatest product of a number and one of the values, where it fits.

@@ -28,16 +28,22 @@ fn literal_of(c: &Con) -> Option<&(u32, IntSet)>
     }
 }
 
+/// The literal of a clause of the variable alone.
+fn own_literal(c: &Con, y: u32) -> Option<&(u32, IntSet)>
+    ensures form { IfSome result (λ l. c.now ≡ con.ClauseCon (l.now ∷ [])) }
+    ensures own { IfSome result (λ l. l.now.0 ≡ y) }
+{
+    let l = literal_of(c)?;
+    if l.0 == y { Some(l) } else { None }
+}
+
 /// Those of the values that the constraint allows, if it is a clause of the variable alone.
 fn allowed(values: IntSet, c: &Con, y: u32) -> Result<IntSet, AllocError>
     ensures { IfOk result (λ s. (a : List ℤ) → con_true c.now a ≡ true
         → has values (value_of a y) ≡ true → has s (value_of a y) ≡ true) }
 {
-    match literal_of(c) {
+    match own_literal(c, y) {
         Some(l) => {
-            if l.0 != y {
-                return Ok(values);
-            }
             let left = values.meet(&l.1)?;
             Ok(left)
         }
@@ -323,8 +329,8 @@ fn is_one(maker: &Maker, places: &Places, x: u32) -> bool
 fn says_one(c: &Con, x: u32) -> bool
     ensures { result ≡ true → (a : List ℤ) → con_true c.now a ≡ true → value_of a x ≡ pos 1 }
 {
-    match literal_of(c) {
-        Some(l) => l.0 == x && only_value(&l.1) == Some(1),
+    match own_literal(c, x) {
+        Some(l) => only_value(&l.1) == Some(1),
         None => false,
     }
 }
