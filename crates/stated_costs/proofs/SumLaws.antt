@@ -22,12 +22,12 @@ abbrev pub IsMostFrom : Ground → ℕ → Ranges → List (ℤ × ℕ) → List
 IsMostFrom g x at ts left n =
     (a : List ℤ) → IsWorld g a → AllHold g a → has at (value_of a x) ≡ true → sum_at ts a ≤ℤ (n +ℤ sum_at left a)
 
-pub most_next : (g : Ground) (x : ℕ) (at : Ranges) (ts : List (ℤ × ℕ)) (t : ℤ × ℕ) (rest : List (ℤ × ℕ)) (n m r : ℤ) → IsMostFrom g x at ts (t ∷ rest) n →
-    ((a : List ℤ) → IsWorld g a → AllHold g a → has at (value_of a x) ≡ true → (t.0 *ℤ value_of a t.1) ≤ℤ m) → r ≡ (n +ℤ m) → IsMostFrom g x at ts rest r
-most_next g x at ts t rest n m r inv bound e a w all h =
+pub most_next : (g : Ground) (x : ℕ) (at : Ranges) (ts : List (ℤ × ℕ)) (t : ℤ × ℕ) (rest : List (ℤ × ℕ)) (n r : ℤ) → IsMostFrom g x at ts (t ∷ rest) n →
+    ((a : List ℤ) → IsWorld g a → AllHold g a → has at (value_of a x) ≡ true → (n +ℤ (t.0 *ℤ value_of a t.1)) ≤ℤ r) → IsMostFrom g x at ts rest r
+most_next g x at ts t rest n r inv bound a w all h =
     let so_far = inv a w all h in
     let one = bound a w all h in
-    omega (arith, ints, so_far, one, e)
+    omega (arith, ints, so_far, one)
 
 -- a sum by its terms
 pub below_by : (g : Ground) (x : ℕ) (at : Ranges) (f : Linear) (n sum : ℤ) → IsMostWhere g x at f.terms n → sum ≡ (n +ℤ f.offset) → sum ≤ℤ pos 0 → IsBelowWhere g x at f

@@ -1,5 +1,6 @@
 //! Steps put in place of terms.
 ghost use Rattle.std.specs.Prelude.{◌≡◌, ◌≤◌, ◌^◌, ◌*ℤ◌, ℤ, List, true, pos, neg_ℤ, unsigned_abs, IfOk, IfSome, OnOk};
+ghost use Rattle.ground_form.specs.declared.ground.Ground.{Ground};
 ghost use Rattle.form_build.specs.Forms.{linear_at};
 ghost use Rattle.form_build.specs.Sums.{IsLinear};
 ghost use Rattle.form_build.specs.Worlds.{Defines};
@@ -93,6 +94,17 @@ fn with_one(
     }
 }
 
+/// The last that was found, or, where none was, the first.
+fn current<'a>(last: &'a Option<Nought>, zero: &'a Nought) -> &'a Nought
+    ensures { (g : Ground) → IfSome last.now (λ z. IsNought g z) → IsNought g zero.now
+        → IsNought g result.now }
+{
+    match last {
+        Some(z) => z,
+        None => zero,
+    }
+}
+
 /// The same of all steps. None where nothing was replaced.
 fn with_all(maker: &Maker, zero: &Nought, all: &[Steps]) -> Result<Option<Nought>, AllocError>
     requires { IsNought maker.now zero.now }
@@ -101,7 +113,7 @@ fn with_all(maker: &Maker, zero: &Nought, all: &[Steps]) -> Result<Option<Nought
     let mut last = None;
     let places = places_of(maker)?;
     for s in all {
-        let so_far = last.as_ref().unwrap_or(zero);
+        let so_far = current(&last, zero);
         if let Some(z) = with_one(maker, &places, so_far, s)? {
             last = Some(z);
         }

@@ -80,6 +80,25 @@ fn added(m: Number, n: Number) -> Option<Number>
     })
 }
 
+/// How great a number and a term are together at most where the index is in the set.
+fn with_term(
+    maker: &Maker,
+    places: &Places,
+    x: u32,
+    at: &IntSet,
+    t: (i64, u32),
+    sum: Number,
+) -> Result<Option<Number>, AllocError>
+    ensures { IfOk result (λ o. IfSome o (λ n. (a : List ℤ) → IsWorld maker.now a
+        → AllHold maker.now a → has at.now (value_of a x) ≡ true
+        → (sum.value +ℤ (t.0 *ℤ value_of a t.1)) ≤ℤ n.value)) }
+{
+    match most_term(maker, places, x, at, t)? {
+        Some(n) => Ok(added(sum, n)),
+        None => Ok(None),
+    }
+}
+
 /// How great terms are together at most where the index is in the set.
 pub(crate) fn most_sum(
     maker: &Maker,
@@ -92,13 +111,11 @@ pub(crate) fn most_sum(
 {
     let mut sum = Number { value: 0 };
     for t in terms {
-        let Some(n) = most_term(maker, places, x, at, *t)? else {
+        let more = with_term(maker, places, x, at, *t, sum)?;
+        let Some(next) = more else {
             return Ok(None);
         };
-        match added(sum, n) {
-            Some(more) => sum = more,
-            None => return Ok(None),
-        }
+        sum = next;
     }
     Ok(Some(sum))
 }
