@@ -13,9 +13,11 @@ use Rattle.stated_facts.specs.Rows.{Follows}
 use Rattle.stated_costs.specs.Sums.{IsMostWhere, IsBelowWhere}
 use Rattle.stated_costs.specs.Values.{AreValues}
 
-pub most_by : (c least greatest v low high most : ℤ) → low ≡ (c *ℤ least) → high ≡ (c *ℤ greatest) → most ≡ int_max low high → least ≤ℤ v → v ≤ℤ greatest → (c *ℤ v) ≤ℤ most
-most_by c least greatest v low high most e f m h k =
-    subst (λ (z : ℤ). (c *ℤ v) ≤ℤ z) (sym (m ∙ ap (λ (z : ℤ). int_max z high) e ∙ ap (λ (z : ℤ). int_max (c *ℤ least) z) f)) (mul_greatest c least greatest v h k)
+pub most_by : (c least greatest v low high most c1 c2 l g : ℤ) → c1 ≡ c → c2 ≡ c → l ≡ least → g ≡ greatest → low ≡ (c1 *ℤ l) → high ≡ (c2 *ℤ g) → most ≡ int_max low high → least ≤ℤ v → v ≤ℤ greatest → (c *ℤ v) ≤ℤ most
+most_by c least greatest v low high most c1 c2 l g e1 e2 e3 e4 e f m h k =
+    let down : low ≡ (c *ℤ least) = e ∙ ap (λ (z : ℤ). z *ℤ l) e1 ∙ ap (λ (z : ℤ). c *ℤ z) e3 in
+    let up : high ≡ (c *ℤ greatest) = f ∙ ap (λ (z : ℤ). z *ℤ g) e2 ∙ ap (λ (z : ℤ). c *ℤ z) e4 in
+    subst (λ (z : ℤ). (c *ℤ v) ≤ℤ z) (sym (m ∙ ap (λ (z : ℤ). int_max z high) down ∙ ap (λ (z : ℤ). int_max (c *ℤ least) z) up)) (mul_greatest c least greatest v h k)
 
 -- the terms are at most the number and those that are left
 abbrev pub IsMostFrom : Ground → ℕ → Ranges → List (ℤ × ℕ) → List (ℤ × ℕ) → ℤ → Type 0

@@ -3,7 +3,7 @@ use Rattle.form_build.proofs.Growth.{adds_nothing, defines_more, no_less}
 use Rattle.stated_costs.proofs.steps.flags_of.Goals as goal
 
 pub loop-part-init : goal.loop-part-init
-loop-part-init c = record { exists = c.requires; adds = adds_nothing [] c.args.maker.now }
+loop-part-init c = record { exists = c.requires.exists; adds = adds_nothing [] c.args.maker.now }
 
 pub loop-part-preserved : goal.loop-part-preserved
 loop-part-preserved c =
