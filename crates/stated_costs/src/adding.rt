@@ -121,7 +121,7 @@ fn with_all(maker: &Maker, zero: &Nought, all: &[Steps]) -> Result<Option<Nought
     Ok(last)
 }
 
-/// Adds the steps of a group, where it has some.
+/// Adds the steps of a group, where it has some, and is more than a flag.
 fn push_steps(
     maker: &mut Maker,
     places: &Places,
@@ -130,21 +130,22 @@ fn push_steps(
 ) -> Result<(), AllocError>
     ensures { OnOk result (Defines maker.old maker.new) }
 {
+    if !is_wanted(maker, places, g) {
+        return Ok(());
+    }
     if let Some(s) = steps_of(maker, places, g)? {
         all.push(s)?;
     }
     Ok(())
 }
 
-/// The steps of these groups, but of those that are flags already.
+/// The steps of these groups.
 fn all_steps(maker: &mut Maker, places: &Places, groups: &[Group]) -> Result<Vec<Steps>, AllocError>
     ensures { IfOk result (λ all. Defines maker.old maker.new) }
 {
     let mut all = Vec::new(maker.alloc());
     for g in groups {
-        if is_wanted(maker, places, g) {
-            push_steps(maker, places, &mut all, g)?;
-        }
+        push_steps(maker, places, &mut all, g)?;
     }
     Ok(all)
 }

@@ -7,4 +7,4 @@ pub returns : goal.returns
 returns c v h k =
     most_by c.args.c c.args.least c.args.greatest v c.in_ok-low.low.value c.in_ok-high.high.value c.greater-most.result.value _ _ _ _
     (to_z-of_z w64 c.args.c (search rules)) (to_z-of_z w64 c.args.c (search rules)) (to_z-of_z w64 c.args.least (search rules)) (to_z-of_z w64 c.args.greatest (search rules))
-    (c.in_ok-low.ensures tt) (c.in_ok-high.ensures tt) c.greater-most.ensures h k
+    c.in_ok-low.ensures c.in_ok-high.ensures c.greater-most.ensures h k

@@ -9,4 +9,4 @@ loop-t-preserved c =
     let k = c.loop-t.t-index in
     most_next c.args.maker.now c.args.x c.args.at.now ts (get_or ts k (pos 0, 0)) (drop (k + 1) ts) c.loop-t.sum.value c.in-Some.next.value
     (subst (λ (z : List (ℤ × ℕ)). IsMostFrom c.args.maker.now c.args.x c.args.at.now ts z c.loop-t.sum.value) (drop_more ts k (pos 0, 0) c.loop-t-test.true) c.loop-t.invariant)
-    (rw c.in-Some.is at (c.in_ok-more.ensures tt))
+    (rw c.in-Some.is at c.in_ok-more.ensures)
