@@ -22,7 +22,7 @@ const MOST_LEVELS: usize = 8;
 pub(crate) struct Steps {
     /// The index.
     pub index: u32,
-    /// Sets of values of the index at which the terms add the same, the lesser amounts first.
+    /// The values of the index, each as a set.
     pub parts: Vec<IntSet>,
     /// The terms less the steps, each of which is a flag so many times.
     pub terms: Vec<(i64, u32)>,
@@ -217,6 +217,23 @@ fn less_steps(
     Ok(out)
 }
 
+/// Adds each value of a set, as a set of its own.
+fn push_values(alloc: Global, out: &mut Vec<IntSet>, set: &IntSet) -> Result<(), AllocError> {
+    for v in listed(alloc, set)?.as_slice() {
+        out.push(IntSet::range(alloc, *v, *v))?;
+    }
+    Ok(())
+}
+
+/// Each value of these sets, as a set of its own.
+fn values_of(alloc: Global, parts: &[IntSet]) -> Result<Vec<IntSet>, AllocError> {
+    let mut out = Vec::new(alloc);
+    for part in parts {
+        push_values(alloc, &mut out, part)?;
+    }
+    Ok(out)
+}
+
 /// The steps of a group, for which flags are made. None where there are too many.
 pub(crate) fn steps_of(
     maker: &mut Maker,
@@ -238,7 +255,7 @@ pub(crate) fn steps_of(
     let least = l.amounts.first().copied().unwrap_or(0);
     Ok(Some(Steps {
         index: g.index,
-        parts: l.parts,
+        parts: values_of(maker.alloc(), l.parts.as_slice())?,
         terms,
         offset: Number {
             value: least.saturating_neg(),

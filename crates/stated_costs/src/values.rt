@@ -355,11 +355,14 @@ fn other_by(maker: &Maker, places: &Places, c: &Con, y: u32) -> Option<u32>
     }
 }
 
-/// A variable that equals this one wherever all constraints hold.
+/// A variable that equals this one, a cell, wherever all constraints hold.
 pub(crate) fn equal_to(maker: &Maker, places: &Places, y: u32) -> Option<u32>
     ensures { IfSome result (λ z. (a : List ℤ) → AllHold maker.now a
         → value_of a y ≡ value_of a z) }
 {
+    if y >= maker.search() {
+        return None;
+    }
     match definition(maker, places.equals.as_slice(), y) {
         Some(c) => other_by(maker, places, c, y),
         None => None,
