@@ -10,6 +10,7 @@ use pack_prop::{BestRooms, find_excess, part_of};
 use rule_law::are_boxes_within;
 use signed_clause::IntSet;
 use std::alloc::{AllocError, Global};
+use test_well_made::is_constraint_well_made;
 
 /// The values 0 to 3 whose bits are set in the number.
 fn bits_of(alloc: Global, n: u32) -> Result<IntSet, AllocError> {
@@ -98,9 +99,15 @@ fn is_found_right(
 }
 
 /// In how many boxes within the domains something is found to take too much room, and does.
-fn count_found(alloc: Global, con: &Con, domains: &[IntSet], count: u32) -> Result<u32, AllocError>
-    requires well_made { IsWellMadeCon domains.now con.now }
-{
+fn count_found(
+    alloc: Global,
+    con: &Con,
+    domains: &[IntSet],
+    count: u32,
+) -> Result<u32, AllocError> {
+    if !is_constraint_well_made(con, domains, alloc)? {
+        return Ok(0);
+    }
     let Con::Pack { items } = con else {
         return Ok(0);
     };
