@@ -127,11 +127,7 @@ variable_ident v = v.name
 abbrev pub contained_name : Shape → Option Ident
 contained_name (shape.Named i) = Some i
 contained_name (shape.Many i n) = Some i
-contained_name (shape.Range low high) = None
-contained_name shape.Int = None
-contained_name shape.Bool = None
-contained_name (shape.Ref i) = None
-contained_name (shape.RefSet i n) = None
+contained_name other = None
 
 -- the attribute holds objects of class d, whose name stands at this place
 pub record Holds (items : List Item) (v : VarDecl) (d at : ℕ) : Type 0 where

@@ -41,24 +41,15 @@ means names w = lookup (same_name w) names
 
 abbrev pub item_class : Item → List ClassDecl
 item_class (item.Class d) = d ∷ []
-item_class (item.Enum d) = []
-item_class (item.Var d) = []
-item_class (item.Where w) = []
-item_class (item.Goal g) = []
+item_class other = []
 
 abbrev pub item_enumeration : Item → List EnumDecl
 item_enumeration (item.Enum d) = d ∷ []
-item_enumeration (item.Class d) = []
-item_enumeration (item.Var d) = []
-item_enumeration (item.Where w) = []
-item_enumeration (item.Goal g) = []
+item_enumeration other = []
 
 abbrev pub item_root : Item → List VarDecl
 item_root (item.Var d) = d ∷ []
-item_root (item.Enum d) = []
-item_root (item.Class d) = []
-item_root (item.Where w) = []
-item_root (item.Goal g) = []
+item_root other = []
 
 abbrev pub classes : List Item → List ClassDecl
 classes items = flat_map item_class items

@@ -52,9 +52,7 @@ named None = unresolved
 
 abbrev pub of_class : (ℕ → Resolved) → Option NameMeaning → Resolved
 of_class shape_of (Some (meaning.Class c)) = shape_of c
-of_class shape_of (Some (meaning.Enumeration e)) = unresolved
-of_class shape_of (Some (meaning.Variable v)) = unresolved
-of_class shape_of None = unresolved
+of_class shape_of other = unresolved
 
 abbrev pub resolved : Space → Shape → Resolved
 resolved names (shape.Range low high) = Span (bound_value low) (bound_value high)
@@ -69,9 +67,7 @@ resolved names (shape.RefSet i n) = of_class (λ c. RefSet c n) (means names i.n
 
 abbrev pub class_meant : Option NameMeaning → Option ℕ
 class_meant (Some (meaning.Class c)) = Some c
-class_meant (Some (meaning.Enumeration e)) = None
-class_meant (Some (meaning.Variable v)) = None
-class_meant None = None
+class_meant other = None
 
 abbrev pub parent_named : Space → Option Ident → Option ℕ
 parent_named names None = None

@@ -34,31 +34,19 @@ bind s x = record { outline = s.outline; values = s.values; this = s.this; vars 
 
 abbrev pub int_of : Value → ℤ
 int_of (Int v) = v
-int_of (Truth b) = pos 0
-int_of (Choice e k) = pos 0
-int_of (Object x) = pos 0
-int_of (Objects xs) = pos 0
+int_of other = pos 0
 
 abbrev pub truth_of : Value → Bool
 truth_of (Truth b) = b
-truth_of (Int v) = false
-truth_of (Choice e k) = false
-truth_of (Object x) = false
-truth_of (Objects xs) = false
+truth_of other = false
 
 abbrev pub object_of : Value → ℕ
 object_of (Object x) = x
-object_of (Int v) = 0
-object_of (Truth b) = 0
-object_of (Choice e k) = 0
-object_of (Objects xs) = 0
+object_of other = 0
 
 abbrev pub objects_of : Value → List ℕ
 objects_of (Objects xs) = xs
-objects_of (Int v) = []
-objects_of (Truth b) = []
-objects_of (Choice e k) = []
-objects_of (Object x) = []
+objects_of other = []
 
 abbrev pub int_same : ℤ → ℤ → Bool
 int_same v w = int_le v w && int_le w v

@@ -31,9 +31,7 @@ shape_reach o r (shape.One c) = r
 shape_reach o r (shape.Many c n) = r * n
 shape_reach o r (shape.Ref c) = extent_size o c
 shape_reach o r (shape.RefSet c n) = extent_size o c
-shape_reach o r (shape.Span low high) = 0
-shape_reach o r shape.Truth = 0
-shape_reach o r (shape.Choice e) = 0
+shape_reach o r other = 0
 
 abbrev pub reach : Outline → Tree → ℕ
 reach o (tree.This at) = 1
@@ -43,26 +41,16 @@ reach o (tree.Root at k s) = shape_reach o 1 s
 reach o (tree.Dot at e k s) = shape_reach o (reach o e) s
 reach o (tree.Class at c) = extent_size o c
 reach o (tree.Paren at e) = reach o e
-reach o (tree.Number at n) = 0
-reach o (tree.Truth at b) = 0
-reach o (tree.Minus at e) = 0
-reach o (tree.Not at e) = 0
-reach o (tree.Pair at op l r) = 0
-reach o (tree.Value at e k) = 0
-reach o (tree.Quant at q over f bs) = 0
-reach o (tree.Missing at) = 0
+reach o other = 0
 
 -- Weight
 
 -- an object or a list of objects: what has such a type has no other form
 abbrev pub shape_is_object : Resolved → Bool
-shape_is_object (shape.One c) = true
-shape_is_object (shape.Ref c) = true
-shape_is_object (shape.Many c n) = true
-shape_is_object (shape.RefSet c n) = true
 shape_is_object (shape.Span low high) = false
 shape_is_object shape.Truth = false
 shape_is_object (shape.Choice e) = false
+shape_is_object other = true
 
 abbrev pub is_object : Tree → Bool
 is_object (tree.This at) = true
@@ -72,23 +60,13 @@ is_object (tree.Root at k s) = shape_is_object s
 is_object (tree.Dot at e k s) = shape_is_object s
 is_object (tree.Class at c) = true
 is_object (tree.Paren at e) = is_object e
-is_object (tree.Number at n) = false
-is_object (tree.Truth at b) = false
-is_object (tree.Minus at e) = false
-is_object (tree.Not at e) = false
-is_object (tree.Pair at op l r) = false
-is_object (tree.Value at e k) = false
-is_object (tree.Quant at q over f bs) = false
-is_object (tree.Missing at) = false
+is_object other = false
 
 -- the classes that look at the lesser reach: equality on objects, and `in`
 abbrev pub looked_at_by : OpClass → Bool → Bool
-looked_at_by Logic objects = false
 looked_at_by Equality objects = objects
-looked_at_by Order objects = false
 looked_at_by Member objects = true
-looked_at_by Sum objects = false
-looked_at_by Product objects = false
+looked_at_by other objects = false
 
 abbrev pub looks_at_reach : Op → Bool → Bool
 looks_at_reach op objects = looked_at_by (class_of op) objects
@@ -96,24 +74,14 @@ looks_at_reach op objects = looked_at_by (class_of op) objects
 -- a quantifier over something of reach r, which weighs so much, with a filter and bodies that weigh
 -- so much
 abbrev pub quantifier_weight : QuantKind → ℕ → ℕ → ℕ → ℕ → ℕ
-quantifier_weight kind.Forall r over filter bodies = 1 + r * (1 + over + filter + bodies)
-quantifier_weight kind.Exists r over filter bodies = 1 + r * (1 + over + filter + bodies)
-quantifier_weight kind.Sum r over filter bodies = 1 + r * (1 + over + filter + bodies)
-quantifier_weight kind.Count r over filter bodies = 1 + r * (1 + over + filter + bodies)
 quantifier_weight kind.AllDifferent r over filter bodies =
     1 + r * (1 + over + filter + bodies) + r * r
 quantifier_weight kind.Pack r over filter bodies =
     1 + r * (1 + over + filter + bodies) + 3 * (r * r)
+quantifier_weight other r over filter bodies = 1 + r * (1 + over + filter + bodies)
 
 abbrev mutual
   pub weight : Outline → Tree → ℕ
-  weight o (tree.Number at n) = 1
-  weight o (tree.Truth at b) = 1
-  weight o (tree.This at) = 1
-  weight o (tree.Local at k) = 1
-  weight o (tree.Root at k s) = 1
-  weight o (tree.Value at e k) = 1
-  weight o (tree.Class at c) = 1
   weight o (tree.Own at k s) = 3
   weight o (tree.Dot at e k s) = weight o e + reach o e + 1
   weight o (tree.Paren at e) = weight o e + 1
@@ -124,6 +92,7 @@ abbrev mutual
   weight o (tree.Quant at q over f bs) = quantifier_weight q (reach o over) (weight o over)
       (filter_weight o f) (bodies_weight o bs)
   weight o (tree.Missing at) = 0
+  weight o other = 1
 
   pub filter_weight : Outline → Filter → ℕ
   filter_weight o NoFilter = 0
@@ -157,12 +126,7 @@ none = between (pos 0) (pos 0)
 
 abbrev pub shape_interval : Resolved → Interval
 shape_interval (shape.Span low high) = between low high
-shape_interval shape.Truth = none
-shape_interval (shape.Choice e) = none
-shape_interval (shape.One c) = none
-shape_interval (shape.Many c n) = none
-shape_interval (shape.Ref c) = none
-shape_interval (shape.RefSet c n) = none
+shape_interval other = none
 
 -- the products of the ends
 abbrev pub times : Interval → Interval → Interval
@@ -188,9 +152,7 @@ abbrev pub quantifier_interval : QuantKind → ℕ → Interval → Interval →
 quantifier_interval kind.Sum r first second = many r first
 quantifier_interval kind.Count r first second = between (pos 0) (pos r)
 quantifier_interval kind.Pack r first second = many r second
-quantifier_interval kind.Forall r first second = none
-quantifier_interval kind.Exists r first second = none
-quantifier_interval kind.AllDifferent r first second = none
+quantifier_interval other r first second = none
 
 -- the interval of an Int expression; what isn't Int has [0, 0], but for `pack` that of its sizes'
 -- sum
@@ -205,13 +167,7 @@ abbrev mutual
   interval o (tree.Pair at op l r) = operator_interval op (interval o l) (interval o r)
   interval o (tree.Quant at q over f bs) = quantifier_interval q (reach o over)
       (body_interval o bs 0) (body_interval o bs 1)
-  interval o (tree.Truth at b) = none
-  interval o (tree.This at) = none
-  interval o (tree.Not at e) = none
-  interval o (tree.Local at k) = none
-  interval o (tree.Value at e k) = none
-  interval o (tree.Class at c) = none
-  interval o (tree.Missing at) = none
+  interval o other = none
 
   -- that of body number k
   pub body_interval : Outline → Bodies → ℕ → Interval
@@ -242,12 +198,7 @@ abbrev mutual
   narrow o (tree.Quant at q over f bs) = (narrow o over
       && (filter_narrow o f && bodies_narrow o bs))
       && is_narrow (interval o (tree.Quant at q over f bs))
-  narrow o (tree.Truth at b) = true
-  narrow o (tree.This at) = true
-  narrow o (tree.Local at k) = true
-  narrow o (tree.Value at e k) = true
-  narrow o (tree.Class at c) = true
-  narrow o (tree.Missing at) = true
+  narrow o other = true
 
   pub filter_narrow : Outline → Filter → Bool
   filter_narrow o NoFilter = true

@@ -28,10 +28,6 @@ size e = length (tokens_of e)
 
 abbrev mutual
   pub Stands : List Placed → ℕ → node.Node → Type 0
-  Stands tokens at (node.Number n) = at ≡ first_at tokens
-  Stands tokens at (node.Truth b) = at ≡ first_at tokens
-  Stands tokens at node.This = at ≡ first_at tokens
-  Stands tokens at (node.Named w) = at ≡ first_at tokens
   Stands tokens at (node.Paren' p inner e) = (at ≡ first_at tokens) × Stands (drop 1 tokens) inner e
   Stands tokens at (node.Dot' p inner e i) = (at ≡ first_at tokens) × Stands tokens inner e
       × (i.at ≡ at_index (size e + 1) tokens)
@@ -40,6 +36,7 @@ abbrev mutual
   Stands tokens at (node.Pair' o p left l q right r) = (at ≡ at_index (size l) tokens)
       × Stands tokens left l × Stands (drop (size l + 1) tokens) right r
   Stands tokens at (node.Quant' p q) = (at ≡ first_at tokens) × QuantStands tokens q
+  Stands tokens at other = at ≡ first_at tokens
 
   -- the keyword, the variable, `in`, the path, the filter, a brace, the bodies
   pub QuantStands : List Placed → quant.Quant → Type 0

@@ -73,16 +73,11 @@ abbrev pub right_level : Op → ℕ
 right_level op.Implies = 1
 right_level op.Or = 3
 right_level op.And = 4
-right_level op.Eq = 6
-right_level op.Ne = 6
-right_level op.Lt = 6
-right_level op.Le = 6
-right_level op.Gt = 6
-right_level op.Ge = 6
 right_level op.In = 11
 right_level op.Add = 7
 right_level op.Sub = 7
 right_level op.Mul = 8
+right_level other = 6
 
 -- `this` and words begin paths
 abbrev pub leaf_level : Token → ℕ
@@ -96,30 +91,18 @@ dotted n = 9 + 2 * (n - 10)
 
 abbrev pub level : Tree → ℕ
 level (Leaf t) = leaf_level t
-level (Round e) = 10
 level (Dot e w) = dotted (level e)
 level (Under s e) = sign_level s
 level (Two o l r) = op_level o
-level (Many b) = 10
-level (Single h e) = 10
-level (Head k w v) = 10
-level (HeadIf h f) = 10
-level (First h e) = 10
-level (Then b e) = 10
+level other = 10
 
 -- 0 for an expression, 1 and 2 for a head, 3 for bodies
 abbrev pub part : Tree → ℕ
-part (Leaf t) = 0
-part (Round e) = 0
-part (Dot e w) = 0
-part (Under s e) = 0
-part (Two o l r) = 0
-part (Many b) = 0
-part (Single h e) = 0
 part (Head k w v) = 1
 part (HeadIf h f) = 2
 part (First h e) = 3
 part (Then b e) = 3
+part other = 0
 
 -- the kind of the quantifier of a part
 abbrev pub quant : Tree → QuantKind
@@ -127,54 +110,32 @@ quant (Head k w v) = k
 quant (HeadIf h f) = quant h
 quant (First h e) = quant h
 quant (Then b e) = quant b
-quant (Leaf t) = kind.Forall
-quant (Round e) = kind.Forall
-quant (Dot e w) = kind.Forall
-quant (Under s e) = kind.Forall
-quant (Two o l r) = kind.Forall
-quant (Many b) = kind.Forall
-quant (Single h e) = kind.Forall
+quant other = kind.Forall
 
 -- how many bodies there are
 abbrev pub bodies : Tree → ℕ
 bodies (Then b e) = 1 + bodies b
 bodies (First h e) = 1
-bodies (HeadIf h f) = 0
-bodies (Head k w v) = 0
-bodies (Leaf t) = 0
-bodies (Round e) = 0
-bodies (Dot e w) = 0
-bodies (Under s e) = 0
-bodies (Two o l r) = 0
-bodies (Many b) = 0
-bodies (Single h e) = 0
+bodies other = 0
 
 -- whether bodies end with semicolons
 abbrev pub semicolons : QuantKind → Bool
-semicolons kind.Forall = true
-semicolons kind.Exists = true
 semicolons kind.Sum = false
 semicolons kind.Count = false
 semicolons kind.AllDifferent = false
-semicolons kind.Pack = true
+semicolons other = true
 
 -- whether one more body may follow so many
 abbrev pub may_more : QuantKind → ℕ → Bool
 may_more kind.Pack n = nat_le n 2
 may_more kind.Forall n = true
 may_more kind.Exists n = true
-may_more kind.Sum n = false
-may_more kind.Count n = false
-may_more kind.AllDifferent n = false
+may_more other n = false
 
 -- whether so many bodies, at least one, are enough
 abbrev pub may_end : QuantKind → ℕ → Bool
 may_end kind.Pack n = n == 3
-may_end kind.Forall n = true
-may_end kind.Exists n = true
-may_end kind.Sum n = true
-may_end kind.Count n = true
-may_end kind.AllDifferent n = true
+may_end other n = true
 
 abbrev pub tokens_of : Tree → List Token
 tokens_of (Leaf t) = t ∷ []

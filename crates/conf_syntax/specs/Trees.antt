@@ -54,12 +54,10 @@ kind_token kind.Pack = Key key.Pack
 
 -- what stands behind each body: a semicolon, or nothing where there is one body alone
 abbrev pub body_end : QuantKind → List Token
-body_end kind.Forall = Mark mark.Semicolon ∷ []
-body_end kind.Exists = Mark mark.Semicolon ∷ []
 body_end kind.Sum = []
 body_end kind.Count = []
 body_end kind.AllDifferent = []
-body_end kind.Pack = Mark mark.Semicolon ∷ []
+body_end other = Mark mark.Semicolon ∷ []
 
 abbrev pub truth_token : Bool → Token
 truth_token true = Key key.True
@@ -182,91 +180,57 @@ abbrev pub op_level : Op → ℕ
 op_level op.Implies = 1
 op_level op.Or = 2
 op_level op.And = 3
-op_level op.Eq = 5
-op_level op.Ne = 5
-op_level op.Lt = 5
-op_level op.Le = 5
-op_level op.Gt = 5
-op_level op.Ge = 5
-op_level op.In = 5
 op_level op.Add = 6
 op_level op.Sub = 6
 op_level op.Mul = 7
+op_level other = 5
 
 -- the least level of the left operand
 abbrev pub left_level : Op → ℕ
 left_level op.Implies = 2
 left_level op.Or = 2
 left_level op.And = 3
-left_level op.Eq = 6
-left_level op.Ne = 6
-left_level op.Lt = 6
-left_level op.Le = 6
-left_level op.Gt = 6
-left_level op.Ge = 6
-left_level op.In = 6
-left_level op.Add = 6
-left_level op.Sub = 6
 left_level op.Mul = 7
+left_level other = 6
 
 abbrev pub level : node.Node → ℕ
-level (node.Number n) = 10
-level (node.Truth b) = 10
-level node.This = 10
-level (node.Named w) = 10
-level (node.Paren' p at e) = 10
 level (node.Dot' p at e i) = 9
 level (node.Minus' p at e) = 8
 level (node.Not' p at e) = 4
 level (node.Pair' o p at l q at' r) = op_level o
-level (node.Quant' p q) = 10
+level other = 10
 
 -- `this` or a word, and then names behind points
 abbrev pub is_path : node.Node → Bool
 is_path node.This = true
 is_path (node.Named w) = true
 is_path (node.Dot' p at e i) = is_path e
-is_path (node.Number n) = false
-is_path (node.Truth b) = false
-is_path (node.Paren' p at e) = false
-is_path (node.Minus' p at e) = false
-is_path (node.Not' p at e) = false
-is_path (node.Pair' o p at l q at' r) = false
-is_path (node.Quant' p q) = false
+is_path other = false
 
 -- whether a right operand binds tightly enough; behind `in` a path stands
 abbrev pub right_fits : Op → node.Node → Bool
 right_fits op.Implies r = nat_le 1 (level r)
 right_fits op.Or r = nat_le 3 (level r)
 right_fits op.And r = nat_le 4 (level r)
-right_fits op.Eq r = nat_le 6 (level r)
-right_fits op.Ne r = nat_le 6 (level r)
-right_fits op.Lt r = nat_le 6 (level r)
-right_fits op.Le r = nat_le 6 (level r)
-right_fits op.Gt r = nat_le 6 (level r)
-right_fits op.Ge r = nat_le 6 (level r)
 right_fits op.In r = is_path r
 right_fits op.Add r = nat_le 7 (level r)
 right_fits op.Sub r = nat_le 7 (level r)
 right_fits op.Mul r = nat_le 8 (level r)
+right_fits other r = nat_le 6 (level r)
 
 -- how many bodies a quantifier has
 abbrev pub body_count_fits : QuantKind → ℕ → Bool
 body_count_fits kind.Forall n = nat_le 1 n
 body_count_fits kind.Exists n = nat_le 1 n
-body_count_fits kind.Sum n = n == 1
-body_count_fits kind.Count n = n == 1
-body_count_fits kind.AllDifferent n = n == 1
 body_count_fits kind.Pack n = n == 3
+body_count_fits other n = n == 1
 
 -- which quantifiers may have a filter
 abbrev pub may_filter : QuantKind → Bool
-may_filter kind.Forall = true
-may_filter kind.Exists = true
-may_filter kind.Sum = true
 may_filter kind.Count = false
 may_filter kind.AllDifferent = false
 may_filter kind.Pack = false
+may_filter other = true
 
 abbrev pub row_length : {m : _} → quant.Row_of-Expr m → ℕ
 row_length quant.end_of-Expr = 0
@@ -274,10 +238,6 @@ row_length (quant.more_of-Expr at e rest) = 1 + row_length rest
 
 abbrev mutual
   pub well_formed : node.Node → Bool
-  well_formed (node.Number n) = true
-  well_formed (node.Truth b) = true
-  well_formed node.This = true
-  well_formed (node.Named w) = true
   well_formed (node.Paren' p at e) = well_formed e
   well_formed (node.Dot' p at e i) = well_formed e && nat_le 9 (level e)
   well_formed (node.Minus' p at e) = well_formed e && nat_le 8 (level e)
@@ -285,6 +245,7 @@ abbrev mutual
   well_formed (node.Pair' o p at l q at' r) = well_formed l
       && (well_formed r && (nat_le (left_level o) (level l) && right_fits o r))
   well_formed (node.Quant' p q) = quant_fits q
+  well_formed other = true
 
   pub quant_fits : quant.Quant → Bool
   quant_fits (quant.Quant' k var at over filter shape body) =
@@ -326,16 +287,13 @@ program_fits p = list_all item_fits p.items
 
 abbrev mutual
   pub depth : node.Node → ℕ
-  depth (node.Number n) = 1
-  depth (node.Truth b) = 1
-  depth node.This = 1
-  depth (node.Named w) = 1
   depth (node.Paren' p at e) = 1 + depth e
   depth (node.Dot' p at e i) = 1 + depth e
   depth (node.Minus' p at e) = 1 + depth e
   depth (node.Not' p at e) = 1 + depth e
   depth (node.Pair' o p at l q at' r) = 1 + max (depth l) (depth r)
   depth (node.Quant' p q) = 1 + quant_depth q
+  depth other = 1
 
   pub quant_depth : quant.Quant → ℕ
   quant_depth (quant.Quant' k var at over filter shape body) = max (depth over)

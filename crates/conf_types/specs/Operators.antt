@@ -17,23 +17,18 @@ class_of op.Or = Logic
 class_of op.And = Logic
 class_of op.Eq = Equality
 class_of op.Ne = Equality
-class_of op.Lt = Order
-class_of op.Le = Order
-class_of op.Gt = Order
-class_of op.Ge = Order
 class_of op.In = Member
 class_of op.Add = Sum
 class_of op.Sub = Sum
 class_of op.Mul = Product
+class_of other = Order
 
 -- what a class needs of the left side
 abbrev pub left_by : OpClass → Need
 left_by Logic = need.Truth
 left_by Equality = need.Any
-left_by Order = need.Int
 left_by Member = need.Object
-left_by Sum = need.Int
-left_by Product = need.Int
+left_by other = need.Int
 
 abbrev pub left_need : Op → Need
 left_need op = left_by (class_of op)
@@ -42,22 +37,17 @@ left_need op = left_by (class_of op)
 abbrev pub right_by : OpClass → Need
 right_by Logic = need.Truth
 right_by Equality = need.Any
-right_by Order = need.Int
 right_by Member = need.List
-right_by Sum = need.Int
-right_by Product = need.Int
+right_by other = need.Int
 
 abbrev pub right_need : Op → Need
 right_need op = right_by (class_of op)
 
 -- the pairs of types that a class takes
 abbrev pub taken_by : OpClass → ExprType → ExprType → Bool
-taken_by Logic a b = true
 taken_by Equality a b = is_comparable a b
 taken_by Order a b = is_int a && is_int b
-taken_by Member a b = true
-taken_by Sum a b = true
-taken_by Product a b = true
+taken_by other a b = true
 
 -- the pairs of types that a comparison takes; `in` and what compares nothing have their needs alone
 abbrev pub takes : Op → ExprType → ExprType → Bool
@@ -65,24 +55,18 @@ takes op a b = taken_by (class_of op) a b
 
 -- the type of what a class makes
 abbrev pub made_by : OpClass → ExprType
-made_by Logic = Truth
-made_by Equality = Truth
-made_by Order = Truth
-made_by Member = Truth
 made_by Sum = Int
 made_by Product = Int
+made_by other = Truth
 
 abbrev pub result_of : Op → ExprType
 result_of op = made_by (class_of op)
 
 -- the class makes numbers of numbers
 abbrev pub makes_numbers : OpClass → Bool
-makes_numbers Logic = false
-makes_numbers Equality = false
-makes_numbers Order = false
-makes_numbers Member = false
 makes_numbers Sum = true
 makes_numbers Product = true
+makes_numbers other = false
 
 -- what these make of sides that are built of literals is built of literals
 abbrev pub keeps_literal : Op → Bool

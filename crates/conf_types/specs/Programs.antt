@@ -33,17 +33,12 @@ member_exprs (member.Where w) = w.list
 abbrev pub item_constraints : Item → ℕ → List Stated
 item_constraints (item.Class d) c = map (stated (Some c)) (flat_map member_exprs d.members)
 item_constraints (item.Where w) c = map (stated None) w.list
-item_constraints (item.Enum d) c = []
-item_constraints (item.Var v) c = []
-item_constraints (item.Goal g) c = []
+item_constraints other c = []
 
 -- the number of the next class, behind an item
 abbrev pub next_class : Item → ℕ → ℕ
 next_class (item.Class d) c = c + 1
-next_class (item.Where w) c = c
-next_class (item.Enum d) c = c
-next_class (item.Var v) c = c
-next_class (item.Goal g) c = c
+next_class other c = c
 
 -- the constraints of the items; the next class has the number c
 abbrev pub constraints_from : List Item → ℕ → List Stated
@@ -56,10 +51,7 @@ constraints items = constraints_from items 0
 
 abbrev pub item_goal : Item → List GoalDecl
 item_goal (item.Goal g) = g ∷ []
-item_goal (item.Class d) = []
-item_goal (item.Where w) = []
-item_goal (item.Enum d) = []
-item_goal (item.Var v) = []
+item_goal other = []
 
 -- the objectives, in order of place
 abbrev pub goals : List Item → List GoalDecl

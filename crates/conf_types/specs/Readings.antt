@@ -118,9 +118,7 @@ word_reading at (ARoot k s) =
       literal
           = false;
     }
-word_reading at (AnEnumeration e) = unknown_reading at
-word_reading at (AClass c) = unknown_reading at
-word_reading at Nothing = unknown_reading at
+word_reading at other = unknown_reading at
 
 -- a class behind `in`, as the whole of what stands there; all else is read as elsewhere
 abbrev pub over_reading : ℕ → Sense → Reading → Reading
@@ -133,11 +131,7 @@ over_reading at (AClass c) r =
       literal
           = false;
     }
-over_reading at (ALocal k c) r = r
-over_reading at (AnOwn k s) r = r
-over_reading at (ARoot k s) r = r
-over_reading at (AnEnumeration e) r = r
-over_reading at Nothing r = r
+over_reading at other r = r
 
 -- Parentheses, `-` and `not`
 
@@ -232,11 +226,6 @@ wrong_reading at r i =
 
 abbrev pub attribute_reading : Outline → ℕ → Reading → Ident → Option ExprType → Reading
 attribute_reading o at r i (Some (Object c)) = found_reading at r i (attribute_named o c i.name)
-attribute_reading o at r i (Some Int) = wrong_reading at r i
-attribute_reading o at r i (Some Truth) = wrong_reading at r i
-attribute_reading o at r i (Some (Choice e)) = wrong_reading at r i
-attribute_reading o at r i (Some (Objects c)) = wrong_reading at r i
-attribute_reading o at r i (Some (Class c)) = wrong_reading at r i
 attribute_reading o at r i None =
     record {
       type = None;
@@ -246,16 +235,13 @@ attribute_reading o at r i None =
       literal
           = false;
     }
+attribute_reading o at r i other = wrong_reading at r i
 
 -- an enumeration stands before a dot as a word alone
 abbrev pub dot_reading : Outline → ℕ → Sense → Reading → Ident → Reading
 dot_reading o at (AnEnumeration e) r i =
     value_reading at e i (position (same_name i.name) (values_of o e))
-dot_reading o at (ALocal k c) r i = attribute_reading o at r i r.type
-dot_reading o at (AnOwn k s) r i = attribute_reading o at r i r.type
-dot_reading o at (ARoot k s) r i = attribute_reading o at r i r.type
-dot_reading o at (AClass c) r i = attribute_reading o at r i r.type
-dot_reading o at Nothing r i = attribute_reading o at r i r.type
+dot_reading o at other r i = attribute_reading o at r i r.type
 
 -- Operators
 
@@ -299,20 +285,12 @@ right_reading o at x r = cond (is_in o) (over_reading at x r) r
 abbrev pub list_class : Option ExprType → Option ℕ
 list_class (Some (Objects c)) = Some c
 list_class (Some (Class c)) = Some c
-list_class (Some Int) = None
-list_class (Some Truth) = None
-list_class (Some (Choice e)) = None
-list_class (Some (Object c)) = None
-list_class None = None
+list_class other = None
 
 -- a quantifier's variable must have a name that means nothing yet
 abbrev pub shadow : ℕ → Sense → List TypeFault
 shadow at Nothing = []
-shadow at (ALocal k c) = Shadow at ∷ []
-shadow at (AnOwn k s) = Shadow at ∷ []
-shadow at (ARoot k s) = Shadow at ∷ []
-shadow at (AnEnumeration e) = Shadow at ∷ []
-shadow at (AClass c) = Shadow at ∷ []
+shadow at other = Shadow at ∷ []
 
 abbrev pub filter_faults : Option Reading → List TypeFault
 filter_faults None = []
@@ -357,15 +335,7 @@ quantifier_reading at k name_at outside over filter bodies = record {
 -- what the whole expression means, where it is a word alone
 abbrev pub alone : Outline → node.Node → Scope → Sense
 alone o (node.Named w) s = sense o s w
-alone o (node.Number n) s = Nothing
-alone o (node.Truth b) s = Nothing
-alone o node.This s = Nothing
-alone o (node.Paren' p at e) s = Nothing
-alone o (node.Dot' p at e i) s = Nothing
-alone o (node.Minus' p at e) s = Nothing
-alone o (node.Not' p at e) s = Nothing
-alone o (node.Pair' op p at l q at' r) s = Nothing
-alone o (node.Quant' p q) s = Nothing
+alone o other s = Nothing
 
 abbrev mutual
   pub reading : Outline → node.Node → ℕ → Scope → Reading

@@ -23,45 +23,26 @@ shape_type (RefSet c n) = Objects c
 
 abbrev pub is_int : ExprType → Bool
 is_int Int = true
-is_int Truth = false
-is_int (Choice e) = false
-is_int (Object c) = false
-is_int (Objects c) = false
-is_int (Class c) = false
+is_int other = false
 
 abbrev pub is_truth : ExprType → Bool
 is_truth Truth = true
-is_truth Int = false
-is_truth (Choice e) = false
-is_truth (Object c) = false
-is_truth (Objects c) = false
-is_truth (Class c) = false
+is_truth other = false
 
 -- a value of enumeration e
 abbrev pub is_choice : ℕ → ExprType → Bool
 is_choice e (Choice f) = nat_eq e f
-is_choice e Int = false
-is_choice e Truth = false
-is_choice e (Object c) = false
-is_choice e (Objects c) = false
-is_choice e (Class c) = false
+is_choice e other = false
 
 abbrev pub is_object : ExprType → Bool
 is_object (Object c) = true
-is_object Int = false
-is_object Truth = false
-is_object (Choice e) = false
-is_object (Objects c) = false
-is_object (Class c) = false
+is_object other = false
 
 -- a list, or a class
 abbrev pub is_list : ExprType → Bool
 is_list (Objects c) = true
 is_list (Class c) = true
-is_list Int = false
-is_list Truth = false
-is_list (Choice e) = false
-is_list (Object c) = false
+is_list other = false
 
 abbrev pub meets : Need → ExprType → Bool
 meets need.Int t = is_int t
@@ -84,17 +65,12 @@ is_comparable (Class c) t = false
 
 -- what is needed of body number k: of `pack` the place, the size and the room
 abbrev pub body_need : QuantKind → ℕ → Need
-body_need kind.Forall k = need.Truth
-body_need kind.Exists k = need.Truth
 body_need kind.Sum k = need.Int
-body_need kind.Count k = need.Truth
 body_need kind.AllDifferent k = need.Value
 body_need kind.Pack k = cond (nat_eq k 0) need.Object need.Int
+body_need other k = need.Truth
 
 abbrev pub quant_result : QuantKind → ExprType
 quant_result kind.Sum = Int
 quant_result kind.Count = Int
-quant_result kind.Forall = Truth
-quant_result kind.Exists = Truth
-quant_result kind.AllDifferent = Truth
-quant_result kind.Pack = Truth
+quant_result other = Truth

@@ -25,12 +25,7 @@ use Rattle.config_json.specs.Keys.{text_of}
 -- the element of an array
 abbrev pub element_of : Resolved → ℕ → Data → Option Data
 element_of (Many c n) i d = at i d
-element_of (One c) i d = Some d
-element_of (Span low high) i d = Some d
-element_of Truth i d = Some d
-element_of (Choice e) i d = Some d
-element_of (Ref c) i d = Some d
-element_of (RefSet c n) i d = Some d
+element_of other i d = Some d
 
 -- what stands under the name of variable k of these
 abbrev pub under_name : List Variable → ℕ → Data → Option Data

@@ -75,14 +75,8 @@ abbrev pub IsBounded : Con → Boxes → Type 0
 IsBounded (LinLe terms bound) boxes = weight_of terms boxes ≤ most_sum
 IsBounded (LinDef out terms offset) boxes = weight_of terms boxes + unsigned_abs offset ≤ most_sum
 IsBounded (ReifLe flag terms bound) boxes = weight_of terms boxes ≤ most_sum
-IsBounded (AndDef flag parts) boxes = Unit {0}
-IsBounded (MemberDef flag var set) boxes = Unit {0}
-IsBounded (EqDef flag left right) boxes = Unit {0}
-IsBounded (ElementDef out index items) boxes = Unit {0}
-IsBounded (CondDef out flag item) boxes = Unit {0}
-IsBounded (ClauseCon clause) boxes = Unit {0}
-IsBounded (AllDiff vars) boxes = Unit {0}
 IsBounded (Pack items) boxes = IsPackBounded items boxes
+IsBounded other boxes = Unit {0}
 
 -- the boxes of single values
 abbrev pub singles : List ℤ → Boxes

@@ -14,7 +14,6 @@ use Rattle.ground_form.specs.Bounds.{LiesWithin, IsBounded}
 
 -- the variable that a constraint of a defining kind defines
 abbrev pub defined_by : Con → Option ℕ
-defined_by (LinLe terms bound) = None
 defined_by (LinDef out terms offset) = Some out
 defined_by (ReifLe flag terms bound) = Some flag
 defined_by (AndDef flag parts) = Some flag
@@ -22,13 +21,10 @@ defined_by (MemberDef flag var set) = Some flag
 defined_by (EqDef flag left right) = Some flag
 defined_by (ElementDef out index items) = Some out
 defined_by (CondDef out flag item) = Some out
-defined_by (ClauseCon clause) = None
-defined_by (AllDiff vars) = None
-defined_by (Pack items) = None
+defined_by other = None
 
 -- the variables in the other fields of such a constraint
 abbrev pub inputs_of : Con → List ℕ
-inputs_of (LinLe terms bound) = []
 inputs_of (LinDef out terms offset) = term_vars terms
 inputs_of (ReifLe flag terms bound) = term_vars terms
 inputs_of (AndDef flag parts) = part_vars parts
@@ -36,23 +32,16 @@ inputs_of (MemberDef flag var set) = var ∷ []
 inputs_of (EqDef flag left right) = left ∷ right ∷ []
 inputs_of (ElementDef out index items) = index ∷ term_vars items
 inputs_of (CondDef out flag item) = flag ∷ item ∷ []
-inputs_of (ClauseCon clause) = []
-inputs_of (AllDiff vars) = []
-inputs_of (Pack items) = []
+inputs_of other = []
 
 -- the variables that a constraint takes as flags, parts included
 abbrev pub flags_of : Con → List ℕ
-flags_of (LinLe terms bound) = []
-flags_of (LinDef out terms offset) = []
 flags_of (ReifLe flag terms bound) = flag ∷ []
 flags_of (AndDef flag parts) = flag ∷ part_vars parts
 flags_of (MemberDef flag var set) = flag ∷ []
 flags_of (EqDef flag left right) = flag ∷ []
-flags_of (ElementDef out index items) = []
 flags_of (CondDef out flag item) = flag ∷ []
-flags_of (ClauseCon clause) = []
-flags_of (AllDiff vars) = []
-flags_of (Pack items) = []
+flags_of other = []
 
 -- no item from here on has the value
 abbrev pub lacks_value : ℤ → List (ℤ × ℕ) → Bool
@@ -65,31 +54,14 @@ distinct_values [] = true
 distinct_values (t ∷ ts) = lacks_value t.0 ts && distinct_values ts
 
 abbrev pub HasDistinctItems : Con → Type 0
-HasDistinctItems (LinLe terms bound) = Unit {0}
-HasDistinctItems (LinDef out terms offset) = Unit {0}
-HasDistinctItems (ReifLe flag terms bound) = Unit {0}
-HasDistinctItems (AndDef flag parts) = Unit {0}
-HasDistinctItems (MemberDef flag var set) = Unit {0}
-HasDistinctItems (EqDef flag left right) = Unit {0}
 HasDistinctItems (ElementDef out index items) = distinct_values items ≡ true
-HasDistinctItems (CondDef out flag item) = Unit {0}
-HasDistinctItems (ClauseCon clause) = Unit {0}
-HasDistinctItems (AllDiff vars) = Unit {0}
-HasDistinctItems (Pack items) = Unit {0}
+HasDistinctItems other = Unit {0}
 
 -- the sets within a constraint are sets, which their types keep
 abbrev pub HasSets : Con → Type 0
-HasSets (LinLe terms bound) = Unit {0}
-HasSets (LinDef out terms offset) = Unit {0}
-HasSets (ReifLe flag terms bound) = Unit {0}
-HasSets (AndDef flag parts) = Unit {0}
 HasSets (MemberDef flag var set) = IsValid set
-HasSets (EqDef flag left right) = Unit {0}
-HasSets (ElementDef out index items) = Unit {0}
-HasSets (CondDef out flag item) = Unit {0}
 HasSets (ClauseCon clause) = IsClause clause
-HasSets (AllDiff vars) = Unit {0}
-HasSets (Pack items) = Unit {0}
+HasSets other = Unit {0}
 
 -- what one constraint has to meet over the domains
 pub record IsWellMadeCon (domains : Boxes) (con : Con) : Type 0 where

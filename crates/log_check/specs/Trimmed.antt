@@ -17,13 +17,11 @@ bounds_count (goal ∷ goals) = suc (length goals)
 
 -- how many clauses a line makes
 abbrev pub clauses_of : Ground → Line → ℕ
-clauses_of g (Axiom k c) = 1
-clauses_of g (Chain chain c) = 1
 clauses_of g (Bound values) = bounds_count g.goals
 clauses_of g (Use i) = 0
 clauses_of g (Found a) = 0
 clauses_of g (Decide x set) = 0
-clauses_of g (Empty x) = 1
+clauses_of g other = 1
 
 -- a step resolves with the clause of number j
 abbrev pub steps_name : List (ℕ × ℕ) → ℕ → Bool
@@ -32,13 +30,8 @@ steps_name (s ∷ ss) j = s.1 == j || steps_name ss j
 
 -- the line is a Chain that begins with the clause of number j or resolves with it
 abbrev pub names : Line → ℕ → Bool
-names (Axiom k c) j = false
 names (Chain chain c) j = chain.first == j || steps_name chain.steps j
-names (Bound values) j = false
-names (Use i) j = false
-names (Found a) j = false
-names (Decide x set) j = false
-names (Empty x) j = false
+names other j = false
 
 -- ---- which lines are needed
 
@@ -46,13 +39,11 @@ names (Empty x) j = false
 -- needed line names its clause; Use and Decide lines make none, so the last line of those that made
 -- the empty clause is needed
 abbrev pub is_needed : Line → Bool → Bool → Bool
-is_needed (Axiom k c) last is_named = last || is_named
-is_needed (Chain chain c) last is_named = last || is_named
 is_needed (Bound values) last is_named = true
 is_needed (Use i) last is_named = false
 is_needed (Found a) last is_named = true
 is_needed (Decide x set) last is_named = false
-is_needed (Empty x) last is_named = last || is_named
+is_needed other last is_named = last || is_named
 
 -- of lines before which n clauses were made, a needed one names the clause of number j
 abbrev pub named : Ground → ℕ → List Line → ℕ → Bool

@@ -24,12 +24,7 @@ is_inside o n whole = derives (owner_in (objects o)) (length (objects o)) n whol
 -- the number of an element of an array
 abbrev pub index_text : Resolved → ℕ → List ℕ
 index_text (Many c m) i = codes "[" ++ decimal i ++ codes "]"
-index_text (One c) i = []
-index_text (Span low high) i = []
-index_text Truth i = []
-index_text (Choice e) i = []
-index_text (Ref c) i = []
-index_text (RefSet c m) i = []
+index_text other i = []
 
 -- the last name of a path: a variable's name, and for an array the element's number
 abbrev pub step_text : Variable → ℕ → List ℕ

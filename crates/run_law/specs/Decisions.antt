@@ -10,13 +10,8 @@ use Rattle.run_law.specs.Replay.{is_run}
 -- how many Decide lines there are
 abbrev pub decisions : List Line → ℕ
 decisions [] = 0
-decisions (Axiom k c ∷ ls) = decisions ls
-decisions (Chain chain c ∷ ls) = decisions ls
-decisions (Bound values ∷ ls) = decisions ls
-decisions (Use i ∷ ls) = decisions ls
-decisions (Found a ∷ ls) = decisions ls
 decisions (Decide x half ∷ ls) = suc (decisions ls)
-decisions (Empty x ∷ ls) = decisions ls
+decisions (other ∷ ls) = decisions ls
 
 -- the lines are a run, and some Decide line, whose half is a set, may stand next
 pub record MayDecide (g : Ground) (ls : List Line) : Type 0 where

@@ -35,14 +35,9 @@ IsDecidedBy Own boxes hints search x half = Unit {0}
 
 -- the line, if it decides, does so by the order
 abbrev pub IsLineBy : Ground → Order → Hints → State → Line → Type 0
-IsLineBy g order hints s (Axiom k c) = Unit {0}
-IsLineBy g order hints s (Chain chain c) = Unit {0}
-IsLineBy g order hints s (Bound values) = Unit {0}
-IsLineBy g order hints s (Use i) = Unit {0}
-IsLineBy g order hints s (Found a) = Unit {0}
 IsLineBy g order hints s (Decide x half) =
     IsDecidedBy order (top_boxes s) hints g.search x half
-IsLineBy g order hints s (Empty x) = Unit {0}
+IsLineBy g order hints s other = Unit {0}
 
 -- each line is by the order when its turn comes
 abbrev pub AreBy : Ground → Order → Hints → Made → State → List Line → Type 0

@@ -47,15 +47,11 @@ top_boxes s = s.levels.top.now
 
 abbrev pub is_going : Mode → Bool
 is_going Going = true
-is_going (Conflict n) = false
-is_going AtFound = false
-is_going Closed = false
+is_going other = false
 
 abbrev pub is_found : Mode → Bool
-is_found Going = false
-is_found (Conflict n) = false
 is_found AtFound = true
-is_found Closed = false
+is_found other = false
 
 -- ---- what is asked of boxes
 
@@ -110,11 +106,9 @@ leads_back levels c = is_nil c || is_some (back_to c levels)
 
 -- the chain is the walk back from the clause that is false, and its clause leads back
 abbrev pub may_explain : Made → State → ℕ → List (ℕ × ℕ) → Literals → Mode → Bool
-may_explain m s first steps c Going = false
 may_explain m s first steps c (Conflict n) =
     (first == n) && (is_walk (walk_from s.levels m.clauses n) steps c && leads_back s.levels c)
-may_explain m s first steps c AtFound = false
-may_explain m s first steps c Closed = false
+may_explain m s first steps c other = false
 
 -- ---- what a clause does
 

@@ -22,17 +22,11 @@ abbrev pub stage_of : Status → Stage
 stage_of status.Done = Answered
 stage_of status.NoneExists = Answered
 stage_of (status.Undecided decisions) = Answered
-stage_of (status.Syntax place) = Refused
-stage_of (status.Meaning fault place) = Refused
-stage_of (status.Limit kind place) = Refused
 stage_of status.Usage = Unasked
 stage_of status.ReadFault = Unread
 stage_of status.WriteFault = Unwritten
-stage_of (status.Former kind) = Refused
-stage_of (status.Rejected line) = Refused
-stage_of (status.Broken place path) = Refused
 stage_of status.Memory = Lost
-stage_of (status.Events line) = Refused
+stage_of other = Refused
 
 -- there was no memory, or it is refused and P says why
 abbrev pub Denied : Status → Type 0 → Type 0
@@ -44,21 +38,16 @@ IsUnless wanted s = (s ≡ wanted) ⊎ ((s ≡ status.Memory) ⊎ (s ≡ status.
 
 -- nothing is printed or written
 abbrev pub is_silent : Stage → Bool
-is_silent Unasked = true
-is_silent Unread = true
-is_silent Refused = true
 is_silent Answered = false
 is_silent Unwritten = false
 is_silent Lost = false
+is_silent other = true
 
 -- an answer may have been written in part
 abbrev pub is_partial : Stage → Bool
-is_partial Unasked = false
-is_partial Unread = false
-is_partial Refused = false
-is_partial Answered = false
 is_partial Unwritten = true
 is_partial Lost = true
+is_partial other = false
 
 -- it was answered or refused, or there was no memory
 abbrev pub IsSettled : Stage → Type 0
