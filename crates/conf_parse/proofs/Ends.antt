@@ -1,5 +1,5 @@
 -- What reading means.
-use Rattle.std.proofs.Common.{◌≡◌, ◌≤◌, ◌-◌, ℕ, zero, suc, List, [], ◌∷◌, ◌++◌, refl, sym, ◌∙◌, ap, subst, arith, length, take, drop, length-append, length-drop, take-append-drop, ◌⊎◌, inl, inr, Result, Ok, Err, IfOk, MatchResult}
+use Rattle.std.proofs.Common.{◌≡◌, ◌≤◌, ◌<◌, ◌-◌, ◌*◌, ◌^◌, ℕ, zero, suc, List, [], ◌∷◌, ◌++◌, refl, sym, ◌∙◌, ap, subst, arith, length, take, drop, length-append, length-drop, take-append-drop, ◌⊎◌, inl, inr, Result, Ok, Err, IfOk, MatchResult}
 use Rattle.std.proofs.lemmas.List.{take_all}
 use Rattle.std.proofs.Math.Seq.{take-append_seam, drop-append_seam}
 use Rattle.model_limits.specs.Limits.{most_nesting}
@@ -7,7 +7,7 @@ use Rattle.conf_syntax.specs.declared.token.Placed.{Placed}
 use Rattle.conf_syntax.specs.declared.token.Token.{Token}
 use Rattle.conf_syntax.specs.declared.tree.Program as tree
 use Rattle.conf_syntax.specs.AllPlaces.{program_places}
-use Rattle.conf_syntax.specs.Begun.{IsProgramIn, IsBegunIn, IsRefused, IsTooDeep}
+use Rattle.conf_syntax.specs.Begun.{IsProgramIn}
 use Rattle.conf_syntax.specs.Models.{IsTreeOf, IsProgramOf, place_of}
 use Rattle.conf_syntax.specs.Places.{bare, first_at}
 use Rattle.conf_syntax.specs.Plain.{Program}
@@ -23,10 +23,12 @@ use Rattle.conf_grammar.proofs.Exact.{all_right, whole_read, one_program}
 use Rattle.conf_parse.specs.declared.parser.ParseError.{ParseError}
 use Rattle.conf_parse.specs.declared.parser.ParseError.TheVariants.{Memory}
 use Rattle.conf_parse.specs.declared.stop.Stop.TheVariants as stop
+use Rattle.conf_parse.specs.Begun.{IsBegunIn, IsRefused, IsTooDeep}
 use Rattle.conf_parse.specs.Cursor.{Splits}
 use Rattle.conf_parse.specs.Means.{IsSyntax, IsDeep}
 use Rattle.conf_parse.specs.Turnings.{IsFault}
 use Rattle.conf_parse.proofs.Parts.{bare_length}
+use Rattle.conf_parse.proofs.SameBegun.{begun_tree, refused_tree, deep_tree}
 
 pub plain_right : (tokens : List Token) (p : Program) → reading tokens most_nesting start ≡ Whole p → IsProgramIn most_nesting tokens p
 plain_right tokens p e = subst (λ (x : Outcome). IsReading most_nesting tokens x) e (all_right tokens most_nesting)
@@ -137,35 +139,42 @@ cut P tokens front rest k e i h =
     subst (λ (x : List Token). P x (bare (drop (length tokens - k) tokens))) (sym (bare_take (length tokens - k) tokens ∙ front_is (bare tokens) front rest (length tokens - k) e n))
     (subst (λ (x : List Token). P front x) (sym (bare_drop (length tokens - k) tokens ∙ rest_is (bare tokens) front rest (length tokens - k) e n)) h)
 
-syntax_by : (tokens : List Placed) (end at k : ℕ) (o : Outcome) → IsReading most_nesting (bare tokens) o → shown o ≡ WrongAt k → at ≡ place_of (drop (length tokens - k) tokens) end → IsSyntax tokens end at
-syntax_by tokens end at k (Whole p) r e i = absurd cc
-syntax_by tokens end at k (Deep rest) r e i = absurd cc
-syntax_by tokens end at k (Wrong rest) r e i = record {
+-- the front is no longer than the tokens
+front_few : (tokens : List Placed) (front rest : List Token) → bare tokens ≡ front ++ rest → length tokens * 16 < 2 ^ 63 → length front * 16 < 2 ^ 63
+front_few tokens front rest e few = omega (arith, ap length e, length-append front rest, bare_length tokens)
+
+whole_few : (tokens : List Placed) (front rest : List Token) → bare tokens ≡ front ++ rest → length tokens * 16 < 2 ^ 63 → length (front ++ rest) * 16 < 2 ^ 63
+whole_few tokens front rest e few = omega (arith, ap length e, bare_length tokens)
+
+syntax_by : (tokens : List Placed) (end at k : ℕ) (o : Outcome) → length tokens * 16 < 2 ^ 63 → IsReading most_nesting (bare tokens) o → shown o ≡ WrongAt k → at ≡ place_of (drop (length tokens - k) tokens) end → IsSyntax tokens end at
+syntax_by tokens end at k (Whole p) few r e i = absurd cc
+syntax_by tokens end at k (Deep rest) few r e i = absurd cc
+syntax_by tokens end at k (Wrong rest) few r e i = record {
   front = take (length tokens - k) tokens;
   rest = drop (length tokens - k) tokens;
   whole = sym (take-append-drop (length tokens - k) tokens);
   place = i;
-  begun = cut (λ a b. IsBegunIn most_nesting a) tokens r.0 rest k r.1 (wrong_is (length rest) k e) r.2;
-  refused = cut IsRefused tokens r.0 rest k r.1 (wrong_is (length rest) k e) r.3;
+  begun = cut (λ a b. IsBegunIn most_nesting a) tokens r.0 rest k r.1 (wrong_is (length rest) k e) (begun_tree most_nesting r.0 (front_few tokens r.0 rest r.1 few) r.2);
+  refused = cut IsRefused tokens r.0 rest k r.1 (wrong_is (length rest) k e) (refused_tree r.0 rest r.3);
 }
 
-deep_by : (tokens : List Placed) (end at k : ℕ) (o : Outcome) → IsReading most_nesting (bare tokens) o → shown o ≡ DeepAt k → at ≡ place_of (drop (length tokens - k) tokens) end → IsDeep tokens end at
-deep_by tokens end at k (Whole p) r e i = absurd cc
-deep_by tokens end at k (Wrong rest) r e i = absurd cc
-deep_by tokens end at k (Deep rest) r e i = record {
+deep_by : (tokens : List Placed) (end at k : ℕ) (o : Outcome) → length tokens * 16 < 2 ^ 63 → IsReading most_nesting (bare tokens) o → shown o ≡ DeepAt k → at ≡ place_of (drop (length tokens - k) tokens) end → IsDeep tokens end at
+deep_by tokens end at k (Whole p) few r e i = absurd cc
+deep_by tokens end at k (Wrong rest) few r e i = absurd cc
+deep_by tokens end at k (Deep rest) few r e i = record {
   front = take (length tokens - k) tokens;
   rest = drop (length tokens - k) tokens;
   whole = sym (take-append-drop (length tokens - k) tokens);
   place = i;
-  begun = cut (λ a b. IsBegunIn most_nesting a) tokens r.0 rest k r.1 (deep_is (length rest) k e) r.2;
-  deep = cut (λ a b. IsTooDeep most_nesting a b) tokens r.0 rest k r.1 (deep_is (length rest) k e) r.3;
+  begun = cut (λ a b. IsBegunIn most_nesting a) tokens r.0 rest k r.1 (deep_is (length rest) k e) (begun_tree most_nesting r.0 (front_few tokens r.0 rest r.1 few) r.2);
+  deep = cut (λ a b. IsTooDeep most_nesting a b) tokens r.0 rest k r.1 (deep_is (length rest) k e) (deep_tree most_nesting r.0 rest (whole_few tokens r.0 rest r.1 few) r.3);
 }
 
-pub syntax_means : (tokens : List Placed) (end at k : ℕ) → IsFault (bare tokens) (stop.Syntax k) → at ≡ place_of (drop (length tokens - k) tokens) end → IsSyntax tokens end at
-syntax_means tokens end at k f i = syntax_by tokens end at k (reading (bare tokens) most_nesting start) (all_right (bare tokens) most_nesting) f.is i
+pub syntax_means : (tokens : List Placed) (end at k : ℕ) → length tokens * 16 < 2 ^ 63 → IsFault (bare tokens) (stop.Syntax k) → at ≡ place_of (drop (length tokens - k) tokens) end → IsSyntax tokens end at
+syntax_means tokens end at k few f i = syntax_by tokens end at k (reading (bare tokens) most_nesting start) few (all_right (bare tokens) most_nesting) f.is i
 
-pub deep_means : (tokens : List Placed) (end at k : ℕ) → IsFault (bare tokens) (stop.TooDeep k) → at ≡ place_of (drop (length tokens - k) tokens) end → IsDeep tokens end at
-deep_means tokens end at k f i = deep_by tokens end at k (reading (bare tokens) most_nesting start) (all_right (bare tokens) most_nesting) f.is i
+pub deep_means : (tokens : List Placed) (end at k : ℕ) → length tokens * 16 < 2 ^ 63 → IsFault (bare tokens) (stop.TooDeep k) → at ≡ place_of (drop (length tokens - k) tokens) end → IsDeep tokens end at
+deep_means tokens end at k few f i = deep_by tokens end at k (reading (bare tokens) most_nesting start) few (all_right (bare tokens) most_nesting) f.is i
 
 within_by : (tokens : List Token) (k : ℕ) (o : Outcome) → IsReading most_nesting tokens o → (shown o ≡ WrongAt k) ⊎ (shown o ≡ DeepAt k) → k ≤ length tokens
 within_by tokens k (Whole p) r (inl e) = absurd cc

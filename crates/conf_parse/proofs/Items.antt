@@ -54,7 +54,7 @@ abbrev pub values_at : List ℕ → List Ident → Program → State
 values_at w [] p = At (HomeAt (Outside p))
 values_at w (x ∷ xs) p = At (Enums p w (values_from (OneValue x.name) xs))
 
-values_more : (vs : Values) (xs : List Ident) (x : Ident) → values_from vs (xs ++ (x ∷ [])) ≡ WithValue (values_from vs xs) x.name
+pub values_more : (vs : Values) (xs : List Ident) (x : Ident) → values_from vs (xs ++ (x ∷ [])) ≡ WithValue (values_from vs xs) x.name
 values_more vs [] x = refl
 values_more vs (y ∷ ys) x = values_more (WithValue vs y.name) ys x
 
@@ -158,7 +158,7 @@ orphan_none a w tokens m n = fails_here nesting (class_at a w) tokens (fails_end
 
 -- members
 
-members_more : (ms : Members) (xs : List members.Member) (x : members.Member) → members_from ms (xs ++ (x ∷ [])) ≡ WithMember (members_from ms xs) (member_of x)
+pub members_more : (ms : Members) (xs : List members.Member) (x : members.Member) → members_from ms (xs ++ (x ∷ [])) ≡ WithMember (members_from ms xs) (member_of x)
 members_more ms [] x = refl
 members_more ms (y ∷ ys) x = members_more (WithMember ms (member_of y)) ys x
 
@@ -236,7 +236,7 @@ item_none tokens h a b c d e f g = fails_here nesting program_at tokens (top_wro
 
 -- the items so far
 
-items_more : (p : Program) (xs : List items.Item) (x : items.Item) → program_from p (xs ++ (x ∷ [])) ≡ With (program_from p xs) (item_of x)
+pub items_more : (p : Program) (xs : List items.Item) (x : items.Item) → program_from p (xs ++ (x ∷ [])) ≡ With (program_from p xs) (item_of x)
 items_more p [] x = refl
 items_more p (y ∷ ys) x = items_more (With p (item_of y)) ys x
 

@@ -1,4 +1,6 @@
 pub mod Bools
+pub mod Brief
+pub mod Built
 pub mod Ends
 pub mod Exact
 pub mod Front
@@ -16,6 +18,7 @@ pub mod Reading
 pub mod Rowed
 pub mod Rows
 pub mod Same
+pub mod SameBegun
 pub mod Shapes
 pub mod Standing
 pub mod StandingItems

@@ -1,14 +1,13 @@
 -- Tokens are refused at one place at most, for one reason, and not where they are those of a model.
-use Rattle.std.proofs.Common.{◌≡◌, ℕ, Result, Ok, Err, IfOk, IfErr, MatchResult, List, [], ◌∷◌, ◌++◌, refl, sym, ◌∙◌, ap, subst, append_assoc, append-nil}
+use Rattle.std.proofs.Common.{◌≡◌, ◌≤◌, ℕ, true, Result, Ok, Err, IfOk, IfErr, MatchResult, List, [], ◌∷◌, ◌++◌, refl, sym, ◌∙◌, ap, subst, append_assoc, append-nil}
 use Rattle.model_limits.specs.Limits.{most_nesting}
 use Rattle.conf_syntax.specs.declared.token.Placed.{Placed}
 use Rattle.conf_syntax.specs.declared.token.Token.{Token}
-use Rattle.conf_syntax.specs.declared.tree.Program as tree
-use Rattle.conf_syntax.specs.Begun.{IsProgramIn, IsBegun, IsBegunIn, IsRefused, IsTooDeep}
-use Rattle.conf_syntax.specs.Models.{place_of}
+use Rattle.conf_syntax.specs.declared.tree.Program.{Program}
+use Rattle.conf_syntax.specs.Models.{IsTreeOf, IsProgramOf, place_of}
 use Rattle.conf_syntax.specs.Places.{bare}
-use Rattle.conf_syntax.specs.Plain.{Program}
-use Rattle.conf_syntax.specs.Views.{program_of}
+use Rattle.conf_syntax.specs.Trees.{program_tokens, program_fits, nesting}
+use Rattle.conf_parse.specs.Begun.{IsBegun, IsBegunIn, IsRefused, IsTooDeep}
 use Rattle.conf_parse.specs.Means.{IsSyntax, IsDeep, Means, IsSameOrMemory}
 use Rattle.conf_parse.specs.declared.parser.ParseError.{ParseError}
 use Rattle.conf_parse.specs.declared.parser.ParseError.TheVariants.{Syntax, TooDeep, Memory}
@@ -107,33 +106,37 @@ syntax_or_deep tokens end at other s t =
 
 -- the tokens of a model are not refused
 
-begun_at : (front : List Token) (token : Token) (rest all : List Token) (p : Program) → IsProgramIn most_nesting all p → all ≡ front ++ (token ∷ rest) → IsBegunIn most_nesting (front ++ (token ∷ []))
-begun_at front token rest all p h e = (p, rest, h.0, h.1, sym h.2 ∙ e ∙ sym (append_assoc front (token ∷ []) rest))
+begun_at : (front : List Token) (token : Token) (rest : List Token) (p : Program) → program_fits p ≡ true → nesting p ≤ most_nesting → program_tokens p ≡ front ++ (token ∷ rest) → IsBegunIn most_nesting (front ++ (token ∷ []))
+begun_at front token rest p fits nested e = (p, rest, fits, nested, e ∙ sym (append_assoc front (token ∷ []) rest))
 
-refused_no_model : (front rest all : List Token) (p : Program) → IsProgramIn most_nesting all p → all ≡ front ++ rest → IsRefused front rest → ⊥
-refused_no_model front [] all p h e refused = refused p h.0 (sym h.2 ∙ e ∙ append-nil front)
-refused_no_model front (token ∷ rest) all p h e refused = refused (begun_of (front ++ (token ∷ [])) most_nesting (begun_at front token rest all p h e))
+refused_no_model : (front rest : List Token) (p : Program) → program_fits p ≡ true → nesting p ≤ most_nesting → program_tokens p ≡ front ++ rest → IsRefused front rest → ⊥
+refused_no_model front [] p fits nested e refused = refused p fits (e ∙ append-nil front)
+refused_no_model front (token ∷ rest) p fits nested e refused = refused (begun_of (front ++ (token ∷ [])) most_nesting (begun_at front token rest p fits nested e))
 
-deep_no_model : (front rest all : List Token) (p : Program) → IsProgramIn most_nesting all p → all ≡ front ++ rest → IsTooDeep most_nesting front rest → ⊥
-deep_no_model front [] all p h e deep = deep
-deep_no_model front (token ∷ rest) all p h e deep = deep.1 (begun_at front token rest all p h e)
+deep_no_model : (front rest : List Token) (p : Program) → program_fits p ≡ true → nesting p ≤ most_nesting → program_tokens p ≡ front ++ rest → IsTooDeep most_nesting front rest → ⊥
+deep_no_model front [] p fits nested e deep = deep
+deep_no_model front (token ∷ rest) p fits nested e deep = deep.1 (begun_at front token rest p fits nested e)
 
-pub syntax_or_model : (tokens : List Placed) (end at : ℕ) (p : Program) → IsProgramIn most_nesting (bare tokens) p → IsSyntax tokens end at → ⊥
-syntax_or_model tokens end at p h s = refused_no_model (bare s.front) (bare s.rest) (bare tokens) p h (ap bare s.whole ∙ bare_append s.front s.rest) s.refused
+-- the tokens of the tree are the front's and the others
+cut_tokens : (tokens front rest : List Placed) (p : Program) → IsTreeOf tokens p → tokens ≡ front ++ rest → program_tokens p ≡ bare front ++ bare rest
+cut_tokens tokens front rest p h e = sym h.tokens_are ∙ ap bare e ∙ bare_append front rest
 
-pub deep_or_model : (tokens : List Placed) (end at : ℕ) (p : Program) → IsProgramIn most_nesting (bare tokens) p → IsDeep tokens end at → ⊥
-deep_or_model tokens end at p h s = deep_no_model (bare s.front) (bare s.rest) (bare tokens) p h (ap bare s.whole ∙ bare_append s.front s.rest) s.deep
+pub syntax_or_model : (tokens : List Placed) (end at : ℕ) (p : Program) → IsTreeOf tokens p → IsSyntax tokens end at → ⊥
+syntax_or_model tokens end at p h s = refused_no_model (bare s.front) (bare s.rest) p h.fits h.nested (cut_tokens tokens s.front s.rest p h s.whole) s.refused
+
+pub deep_or_model : (tokens : List Placed) (end at : ℕ) (p : Program) → IsTreeOf tokens p → IsDeep tokens end at → ⊥
+deep_or_model tokens end at p h s = deep_no_model (bare s.front) (bare s.rest) p h.fits h.nested (cut_tokens tokens s.front s.rest p h s.whole) s.deep
 
 -- what is answered, by what the answers mean
 module _ (tokens : List Placed) (end : ℕ) where
-  pub syntax_exact : (r : Result tree.Program ParseError) → IfOk r (λ p. IsProgramIn most_nesting (bare tokens) (program_of p.items)) → IfErr r (λ e. Means tokens end e) → (at : ℕ) → IsSyntax tokens end at → MatchResult r (λ p. ⊥) (IsSameOrMemory (Syntax at))
-  syntax_exact (Ok p) model means at s = syntax_or_model tokens end at (program_of p.items) model s
+  pub syntax_exact : (r : Result Program ParseError) → IfOk r (IsProgramOf tokens) → IfErr r (λ e. Means tokens end e) → (at : ℕ) → IsSyntax tokens end at → MatchResult r (λ p. ⊥) (IsSameOrMemory (Syntax at))
+  syntax_exact (Ok p) model means at s = syntax_or_model tokens end at p model.tree s
   syntax_exact (Err (Syntax other)) model means at s = ap (λ (k : ℕ). Syntax k) (one_syntax tokens end other at means s)
   syntax_exact (Err (TooDeep other)) model means at s = absurd (syntax_or_deep tokens end at other s means)
   syntax_exact (Err Memory) model means at s = tt
 
-  pub deep_exact : (r : Result tree.Program ParseError) → IfOk r (λ p. IsProgramIn most_nesting (bare tokens) (program_of p.items)) → IfErr r (λ e. Means tokens end e) → (at : ℕ) → IsDeep tokens end at → MatchResult r (λ p. ⊥) (IsSameOrMemory (TooDeep at))
-  deep_exact (Ok p) model means at s = deep_or_model tokens end at (program_of p.items) model s
+  pub deep_exact : (r : Result Program ParseError) → IfOk r (IsProgramOf tokens) → IfErr r (λ e. Means tokens end e) → (at : ℕ) → IsDeep tokens end at → MatchResult r (λ p. ⊥) (IsSameOrMemory (TooDeep at))
+  deep_exact (Ok p) model means at s = deep_or_model tokens end at p model.tree s
   deep_exact (Err (Syntax other)) model means at s = absurd (syntax_or_deep tokens end other at means s)
   deep_exact (Err (TooDeep other)) model means at s = ap (λ (k : ℕ). TooDeep k) (one_deep tokens end other at means s)
   deep_exact (Err Memory) model means at s = tt

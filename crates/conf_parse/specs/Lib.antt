@@ -1,3 +1,4 @@
+pub mod Begun
 pub mod Cursor
 pub mod Marks
 pub mod Means

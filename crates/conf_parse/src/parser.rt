@@ -1,7 +1,7 @@
 //! From tokens to the tree of a model.
 //!
 //! `parse` answers the one model that has these tokens, or the first place that no model has there.
-ghost use Rattle.std.specs.Prelude.{◌≡◌, ◌-◌, ◌≤◌, ℕ, length, drop, IfOk, IfErr, MatchResult};
+ghost use Rattle.std.specs.Prelude.{◌≡◌, ◌-◌, ◌*◌, ◌^◌, ◌<◌, ◌≤◌, ℕ, length, drop, IfOk, IfErr, MatchResult};
 ghost use Rattle.model_limits.specs.Limits.{most_nesting};
 ghost use Rattle.conf_syntax.specs.AllPlaces.{program_places};
 ghost use Rattle.conf_syntax.specs.Begun.{IsProgramIn};
@@ -43,7 +43,9 @@ fn behind(tokens: &[Placed], count: usize) -> &[Placed]
 #[tactic(auto, using(crate::proofs::Ends::place_end, crate::proofs::Ends::place_token))]
 fn place(tokens: &[Placed], end: u32, left: usize) -> u32
     requires { left ≤ length tokens.now }
-    ensures { result ≡ place_of (drop (length tokens.now - left) tokens.now) end }
+    ensures value { result ≡ place_of (drop (length tokens.now - left) tokens.now) end }
+    // a slice has fewer tokens than memory has bytes
+    ensures few { length tokens.now * 16 < 2 ^ 63 }
 {
     match split(behind(tokens, tokens.len() - left)) {
         Some((token, _)) => token.at,
@@ -55,8 +57,6 @@ fn place(tokens: &[Placed], end: u32, left: usize) -> u32
 #[tactic(auto, using(crate::proofs::Ends::program_right, crate::proofs::Ends::program_only, crate::proofs::Ends::syntax_means, crate::proofs::Ends::deep_means, crate::proofs::Ends::syntax_never, crate::proofs::Ends::deep_never, crate::proofs::Ends::program_again, crate::proofs::Ends::syntax_again, crate::proofs::Ends::deep_again))]
 fn read(alloc: Global, tokens: &[Placed], end: u32) -> Result<Program, ParseError>
     ensures ok { IfOk result (λ p. IsProgramOf tokens.now p) }
-    ensures plain { IfOk result (λ p. IsProgramIn most_nesting (bare tokens.now)
-        (program_of p.items)) }
     ensures refusal { IfErr result (λ e. Means tokens.now end e) }
     ensures only { (p : plain.Program) → IsProgramIn most_nesting (bare tokens.now) p
         → MatchResult result (λ q. program_of q.items ≡ p) (λ e. e ≡ ParseError.Memory) }

@@ -6,7 +6,7 @@ use Rattle.class_table.proofs.WordOutline.{outline_worded}
 use Rattle.class_table.proofs.BareFaults.{one_outline, one_faults}
 use Rattle.conf_limits.specs.Measures.{model_weight, model_narrow}
 use Rattle.conf_parse.specs.Means.{IsSyntax, IsDeep}
-use Rattle.conf_parse.proofs.Ends.{one_model, plain_of}
+use Rattle.conf_parse.proofs.Ends.{one_model}
 use Rattle.conf_parse.proofs.OnePlace.{syntax_or_model, deep_or_model}
 use Rattle.conf_parse.proofs.OneReading.{read_one_way}
 use Rattle.conf_syntax.specs.declared.token.Placed.{Placed}
@@ -14,7 +14,6 @@ use Rattle.conf_syntax.specs.declared.tree.Program.{Program}
 use Rattle.conf_syntax.specs.Models.{IsProgramOf}
 use Rattle.conf_syntax.specs.OneModel.{AreOneModel}
 use Rattle.conf_syntax.specs.Spelling.{Spells, IsStuckAtByte, IsStuckAtNumber, Reading, Whole, BadByteAt, TooLargeAt}
-use Rattle.conf_syntax.specs.Views.{program_of}
 use Rattle.conf_syntax.specs.Words.{AreWords}
 use Rattle.conf_syntax.proofs.SpelledWords.{spelled_words}
 use Rattle.conf_types.specs.declared.fault.TypeFault.{TypeFault}
@@ -59,12 +58,12 @@ no_number text p at h stuck = let e : Whole h.0 ≡ TooLargeAt at = read_one_way
 pub no_syntax : (text : List ℕ) (p : Program) (at : ℕ) → IsModelOf text p → IsSyntaxAt text at → ⊥
 no_syntax text p at h (inl stuck) = no_byte text p at h stuck
 no_syntax text p at h (inr refused) =
-    syntax_or_model h.0 (length text) at (program_of p.items) (plain_of h.0 p h.2.tree)
+    syntax_or_model h.0 (length text) at p h.2.tree
     (subst (λ (tokens : List Placed). IsSyntax tokens (length text) at) (tokens_one text refused.0 h.0 refused.1 h.1) refused.2)
 
 pub no_nesting : (text : List ℕ) (p : Program) (at : ℕ) → IsModelOf text p → IsNestingAt text at → ⊥
 no_nesting text p at h deep =
-    deep_or_model h.0 (length text) at (program_of p.items) (plain_of h.0 p h.2.tree)
+    deep_or_model h.0 (length text) at p h.2.tree
     (subst (λ (tokens : List Placed). IsDeep tokens (length text) at) (tokens_one text deep.0 h.0 deep.1 h.1) deep.2)
 
 -- What the model says

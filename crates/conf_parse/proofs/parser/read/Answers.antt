@@ -3,7 +3,7 @@ use Rattle.conf_syntax.specs.Standing.{InRow, ItemStands, item_size}
 use Rattle.conf_syntax.specs.Views.{program_of}
 use Rattle.conf_syntax.specs.Places.{bare}
 use Rattle.conf_grammar.specs.Machine.{Whole}
-use Rattle.conf_parse.proofs.Ends.{program_right, plain_right, syntax_within, deep_within}
+use Rattle.conf_parse.proofs.Ends.{program_right, syntax_within, deep_within}
 use Rattle.conf_parse.proofs.parser.read.Goals as goal
 
 pub place-requires : goal.place-requires
@@ -14,7 +14,3 @@ place-requires-in-Err-TooDeep c = deep_within c.args.tokens.now c.in-Err-TooDeep
 
 pub returns-in-Ok-clause-ok : goal.returns-in-Ok-clause-ok
 returns-in-Ok-clause-ok c = program_right c.args.tokens.now (record { items = c.of.result }) (c.in-Ok.ensures.read ∙ ap (λ x. Whole (program_of x)) (sym c.of.ensures.items)) (subst (InRow ItemStands item_size c.args.tokens.now) (sym c.of.ensures.items) c.in-Ok.ensures.places)
-
-pub returns-in-Ok-clause-plain : goal.returns-in-Ok-clause-plain
-returns-in-Ok-clause-plain c =
-    plain_right (bare c.args.tokens.now) (program_of c.of.result) (c.in-Ok.ensures.read ∙ ap (λ x. Whole (program_of x)) (sym c.of.ensures.items))
