@@ -22,6 +22,10 @@ class Placement:
         """In ConfSolve, as `docs/FAST.md` teaches; as somebody writes it where that is the same."""
         return self.conf()
 
+    def repaired(self):
+        """In ConfSolve, where it is to be repaired: without counts, each of which is a value."""
+        return self.fast()
+
 
 def drawn_counts(rng, total, shares):
     """How many there are of each kind: one at least, and the others drawn by the shares."""
@@ -103,6 +107,41 @@ def small_first(kind):
 
 def large_first(kind):
     return [-size for size in kind[1:3]]
+
+
+def by_kinds(kinds, counts, resources, here):
+    """In a host of ConfSolve: how many of each kind are elsewhere, and what the others load.
+
+    A resource is the name of a room and the place of its size in a kind; with `here` a machine is
+    on the host.
+    """
+    named = [(kind, f"{kind[0].lower()}_away", n) for kind, n in zip(kinds, counts)]
+    lines = [
+        f"  var {away} as 0..{n}; "
+        f"where {away} = {n} - (count x in {kind[0]} {{ {here} }});\n"
+        for kind, away, n in named
+    ]
+    for room, at in resources:
+        load = " + ".join(f"{kind[at]} * ({n} - {away})" for kind, away, n in named)
+        lines.append(
+            f"  var {room}_load as 0..1000; where {room}_load = {load};\n"
+            f"  where {room}_load <= {room}; where free -> {room}_load = 0;\n"
+        )
+    return "".join(lines)
+
+
+def totals_by_kinds(kinds, counts, elsewhere, totals):
+    """Below it: from how many hosts each kind is away, all loads, and the rooms in use."""
+    lines = [
+        f"where sum h in Host {{ h.{kind[0].lower()}_away }} = {elsewhere * n};\n"
+        for kind, n in zip(kinds, counts)
+    ]
+    for room, total in totals:
+        lines.append(
+            f"where sum h in Host {{ h.{room}_load }} = {total};\n"
+            f"where sum h in Host where not h.free {{ h.{room} }} >= {total};\n"
+        )
+    return "".join(lines)
 
 
 def machine_lists(counts):

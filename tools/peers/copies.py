@@ -3,9 +3,9 @@ import itertools
 from dataclasses import dataclass
 
 from .common import (
-    KINDS, MACHINES, Placement, arrays, drawn_counts, drawn_until, facts, first_fit, goal_lines,
-    hosts_first, includes, large_first, listed, machine_arrays, machine_classes, machine_facts,
-    machine_lists, machine_sizes, room, small_first, spread,
+    KINDS, MACHINES, Placement, arrays, by_kinds, drawn_counts, drawn_until, facts, first_fit,
+    goal_lines, hosts_first, includes, large_first, listed, machine_arrays, machine_classes,
+    machine_facts, machine_lists, machine_sizes, room, small_first, spread, totals_by_kinds,
 )
 
 APPS = (("Shop", 2), ("Search", 4), ("Queue", 3))
@@ -43,12 +43,12 @@ class Zones(Placement):
 
     def conf(self):
         return self.told(
-            arrays(APPS, self.counts), "", "",
+            f"{self.named_zones()}\n{arrays(APPS, self.counts)}", "", "",
             "minimize count h in Host { exists r in Replica { r.host = h; } };",
         )
 
     def fast(self):
-        """Large applications first, and how many copies stand outside of one zone, or of two."""
+        """Large applications first, then zones; how many copies are outside of one, or of two."""
         rows, total = [], sum(self.sizes())
         for away in (1, 2):
             for zones in itertools.combinations(range(self.zones), away):
@@ -57,17 +57,20 @@ class Zones(Placement):
                 rows.append(f"where {room} >= {(3 - away) * total};")
         rows.append("minimize count h in Host { h.used };")
         return self.told(
-            arrays(APPS, self.counts, large_first), "  var used as bool;\n",
-            " where host.used;", "\n".join(rows),
+            f"{arrays(APPS, self.counts, large_first)}\n{self.named_zones()}",
+            "  var used as bool;\n", " where host.used;", "\n".join(rows),
         )
 
-    def told(self, apps, used, where, last):
-        """In ConfSolve, with the applications in this order, and what tells which host is used."""
+    def named_zones(self):
+        """The zones, in ConfSolve."""
+        return "\n".join(f"var zone{z} as Zone;" for z in range(self.zones))
+
+    def told(self, variables, used, where, last):
+        """In ConfSolve, with these variables, and what tells which host is used."""
         classes = "\n".join(
             f"class {name} extends App {{ where forall r in replicas {{ r.mem = {size}; }}; }}"
             for name, size in APPS
         )
-        zones = "\n".join(f"var zone{z} as Zone;" for z in range(self.zones))
         return f"""\
 // Each application has three replicas, in different zones. As few hosts in use as can be.
 class Zone {{
@@ -86,8 +89,7 @@ abstract class App {{
   where alldifferent r in replicas {{ r.host.zone }};
 }}
 {classes}
-{zones}
-{apps}
+{variables}
 {last}
 """
 
@@ -142,20 +144,29 @@ class Sets(Placement):
     counts: list
 
     def conf(self):
-        return self.told(arrays(SET_APPS, self.counts))
+        last = "minimize count h in Host { exists a in App { h in a.hosts; } };"
+        return self.told(arrays(SET_APPS, self.counts), "", last)
 
     def fast(self):
-        """Large applications first."""
-        return self.told(arrays(SET_APPS, self.counts, large_first))
+        """Applications are counted by kinds, the large ones first; and what all of them load."""
+        kinds, counts = zip(*sorted(zip(SET_APPS, self.counts), key=lambda it: -it[0][1]))
+        of_host = by_kinds(kinds, counts, (("room", 1),), "this in x.hosts")
+        totals = (("room", 3 * sum(self.sizes())),)
+        last = totals_by_kinds(kinds, counts, self.hosts - 3, totals)
+        return self.told(
+            arrays(kinds, counts), f"  var free as bool;\n{of_host}",
+            f"{last}minimize count h in Host {{ not h.free }};",
+        )
 
-    def told(self, apps):
-        """In ConfSolve, with the applications in this order."""
+    def told(self, apps, of_host, last):
+        """In ConfSolve, with the applications in this order, more of each host, and the goal."""
         classes = "\n".join(
             f"class {name} extends App {{ where size = {size}; }}" for name, size in SET_APPS
         )
         return f"""\
 // Each application stands on three hosts. As few hosts in use as can be.
 class Host {{
+{of_host}\
   var room as {self.room}..{self.room};
   where sum a in App where this in a.hosts {{ a.size }} <= room;
 }}
@@ -163,7 +174,7 @@ abstract class App {{ var size as 1..5; var hosts as ref Host[3]; }}
 {classes}
 var rack as Host[{self.hosts}];
 {apps}
-minimize count h in Host {{ exists a in App {{ h in a.hosts; }} }};
+{last}
 """
 
     def sizes(self):

@@ -2,9 +2,10 @@
 from dataclasses import dataclass
 
 from .common import (
-    HOSTS, KINDS, MACHINES, Placement, drawn_counts, drawn_until, first_fit, goal_lines,
-    hosts_first, includes, large_first, listed, machine_arrays, machine_classes, machine_facts,
-    machine_lists, machine_paths, machine_sizes, paths, room, small_first,
+    HOSTS, KINDS, MACHINES, Placement, arrays, by_kinds, drawn_counts, drawn_until, first_fit,
+    goal_lines, hosts_first, includes, large_first, listed, machine_arrays, machine_classes,
+    machine_facts, machine_lists, machine_paths, machine_sizes, paths, room, small_first,
+    totals_by_kinds,
 )
 
 SHARES = [kind[3] for kind in KINDS]
@@ -125,16 +126,15 @@ class PricedHosts(Placement):
         named = zip(self.host_counts, self.rooms, costs)
         return [(*rooms, cost) for n, rooms, cost in named for _ in range(n)]
 
+    def hosts(self):
+        """The kinds of hosts, each with how many there are."""
+        return list(zip(HOST_KINDS, self.host_counts))
+
     def conf(self):
-        return self.told(zip(HOST_KINDS, self.host_counts), machine_arrays(self.counts))
+        return self.told(self.hosts(), machine_arrays(self.counts))
 
-    def fast(self):
-        """Cheap hosts first, and the machines by their sizes."""
-        hosts = sorted(zip(HOST_KINDS, self.host_counts), key=lambda it: self.price(*it[0]))
-        return self.told(hosts, machine_arrays(self.counts, self.ORDER))
-
-    def told(self, hosts, machines):
-        """In ConfSolve, with hosts and machines in this order."""
+    def told(self, hosts, machines, of_host="", last=""):
+        """In ConfSolve, with hosts and machines in this order, more of each host, and more."""
         classes = "\n".join(
             f"class {name} extends Host {{ "
             f"where {{ cpu = {cpu}; mem = {mem}; cost = {cost}; }} }}"
@@ -147,6 +147,7 @@ abstract class Host {{
   var cpu as 1..400;
   var mem as 1..800;
   var cost as 1..20;
+{of_host}\
   where sum v in Vm where v.host = this {{ v.cpu }} <= cpu;
   where sum v in Vm where v.host = this {{ v.mem }} <= mem;
 }}
@@ -156,7 +157,7 @@ abstract class Host {{
 {variables}
 {machines}
 
-minimize {self.CONF_GOAL};
+{last or f"minimize {self.CONF_GOAL};"}
 """
 
     def mzn_body(self):
@@ -193,31 +194,48 @@ host(1..{len(each)}).
 class HostCost(PricedHosts):
     """Each machine pays the price of its host, so many small ones are to be on cheap hosts."""
 
-    GOAL, ORDER = "obj", staticmethod(small_first)
+    GOAL = "obj"
     TITLE = "Each machine pays the price of the host on which it stands."
     CONF_GOAL = "sum v in Vm { v.host.cost }"
     MZN_GOAL = "sum(v in 1..V)(cost[host[v]])"
     LP_GOAL = "#minimize { P,V : at(V,H), cost(H,P) }."
 
-    @staticmethod
-    def price(_, _room, cost):
-        """By this the hosts are declared."""
-        return cost
+    def fast(self):
+        """Cheap hosts first, and small machines."""
+        hosts = sorted(self.hosts(), key=lambda it: it[0][2])
+        return self.told(hosts, machine_arrays(self.counts, small_first))
 
 
 class UseCost(PricedHosts):
     """A host in use is paid once."""
 
-    GOAL, ORDER = "obj", staticmethod(large_first)
+    GOAL = "obj"
     TITLE = "A host in use is paid once, and hosts have different prices."
     CONF_GOAL = "sum h in Host where exists v in Vm { v.host = h; } { h.cost }"
     MZN_GOAL = "sum(h in 1..H)(cost[h] * bool2int(exists(v in 1..V)(host[v] = h)))"
     LP_GOAL = "used(H) :- at(_,H).\n#minimize { P,H : used(H), cost(H,P) }."
 
-    @staticmethod
-    def price(_, room, cost):
-        """By this the hosts are declared."""
-        return cost / room
+    def repaired(self):
+        """Cheap hosts first, by their rooms, and large machines."""
+        hosts = sorted(self.hosts(), key=lambda it: it[0][2] / it[0][1])
+        return self.told(hosts, machine_arrays(self.counts, large_first))
+
+    def fast(self):
+        """Machines alike are counted by kinds, on dear hosts first; and what all of them load."""
+        hosts = sorted(self.hosts(), key=lambda it: -it[0][2])
+        totals = [sum(machine_sizes(self.counts, at)) for at in (1, 2)]
+
+        def share(kind):
+            return -sum(kind[at] / total for at, total in zip((1, 2), totals))
+
+        kinds, counts = zip(*sorted(zip(KINDS, self.counts), key=lambda it: share(it[0])))
+        of_host = by_kinds(kinds, counts, (("cpu", 1), ("mem", 2)), "x.host = this")
+        elsewhere = sum(self.host_counts) - 1
+        last = totals_by_kinds(kinds, counts, elsewhere, zip(("cpu", "mem"), totals))
+        return self.told(
+            hosts, arrays(kinds, counts), f"  var free as bool;\n{of_host}",
+            f"{last}minimize sum h in Host where not h.free {{ h.cost }};",
+        )
 
 
 def draw_priced(rng, size, priced, percent, spare):
