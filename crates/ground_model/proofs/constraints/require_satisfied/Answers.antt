@@ -9,8 +9,10 @@ use Rattle.ground_model.proofs.Steps.{requires_more}
 use Rattle.ground_model.proofs.KnownCells.{known_still, values_low, values_known, values_fixed, fixing_satisfied, requires_by_values}
 use Rattle.ground_model.proofs.constraints.require_satisfied.Goals as goal
 
-pub require_full_sets-requires-clause-cells : goal.require_full_sets-requires-clause-cells
-require_full_sets-requires-clause-cells c = cells_still c.args.objects.now c.args.maker.now c.require_values.new.maker c.in_ok-require_values.ensures.says.grows c.requires.cells
+pub require_full_sets-requires : goal.require_full_sets-requires
+require_full_sets-requires c = record {
+  cells = cells_still c.args.objects.now c.args.maker.now c.require_values.new.maker c.in_ok-require_values.ensures.says.grows c.requires.cells;
+}
 
 pub require_both_passes-requires-clause-known : goal.require_both_passes-requires-clause-known
 require_both_passes-requires-clause-known c =
