@@ -11,6 +11,7 @@
 //! The cost is that of a look at the items of each element for each value of its index.
 //!
 //! - `adding`: steps put in place of terms.
+//! - `apart`: variables that differ, by flags that ask about their indexes.
 //! - `groups`: the terms of a sum by their index.
 //! - `places`: where it is stated what a variable is.
 //! - `steps`: which steps are tried, and their flags.
@@ -19,6 +20,7 @@
 #![tactic(auto)]
 
 mod adding;
+mod apart;
 mod groups;
 mod places;
 mod steps;
@@ -26,3 +28,7 @@ mod sums;
 mod values;
 
 pub use adding::with_steps;
+pub use apart::{apart_row, differing_at};
+pub use places::{Places, places_of};
+pub use steps::flag_in;
+pub use values::values_where;

@@ -7,7 +7,7 @@ use std::alloc::AllocError;
 
 /// Where it is stated what variables are.
 #[derive(Drop)]
-pub(crate) struct Places {
+pub struct Places {
     /// For each variable where its definition may stand.
     pub definitions: Vec<usize>,
     /// For each variable where a clause of it alone may stand.
@@ -65,7 +65,7 @@ fn note(out: &mut Places, con: &Con, k: usize) -> Result<(), AllocError> {
 }
 
 /// Where it is stated what variables are.
-pub(crate) fn places_of(maker: &Maker) -> Result<Places, AllocError> {
+pub fn places_of(maker: &Maker) -> Result<Places, AllocError> {
     let count = maker.domains().len();
     let mut alone = Vec::new(maker.alloc());
     alone.resize(count, usize::MAX)?;

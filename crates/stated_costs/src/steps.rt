@@ -145,7 +145,7 @@ fn levels_of(maker: &Maker, places: &Places, g: &Group) -> Result<Levels, AllocE
 // ---- flags
 
 /// The flag that asks whether the index is in the set.
-fn flag_in(maker: &mut Maker, x: u32, set: &IntSet) -> Result<u32, AllocError>
+pub fn flag_in(maker: &mut Maker, x: u32, set: &IntSet) -> Result<u32, AllocError>
     requires exists { x < length maker.old.domains }
     ensures { IfOk result (λ f. Defines maker.old maker.new) }
 {

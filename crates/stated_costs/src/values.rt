@@ -176,7 +176,7 @@ fn allowed_where(values: IntSet, c: &Con, x: u32, at: &IntSet, y: u32) -> Result
 }
 
 /// The constraint of this number.
-fn con_at(maker: &Maker, k: usize) -> Option<&Con>
+pub(crate) fn con_at(maker: &Maker, k: usize) -> Option<&Con>
     ensures { IfSome result (λ c. Contains maker.now.cons c.now) }
 {
     let cons = maker.cons();
@@ -315,22 +315,22 @@ fn told_values(
 
 // ---- equal variables
 
-/// Whether the variable is 1 by a clause of it alone.
-fn is_one(maker: &Maker, places: &Places, x: u32) -> bool
-    ensures { result ≡ true → (a : List ℤ) → AllHold maker.now a → value_of a x ≡ pos 1 }
+/// Whether the variable has this value by a clause of it alone.
+pub(crate) fn is_told(maker: &Maker, places: &Places, x: u32, v: u64) -> bool
+    ensures { result ≡ true → (a : List ℤ) → AllHold maker.now a → value_of a x ≡ pos v }
 {
     match definition(maker, places.alone.as_slice(), x) {
-        Some(c) => says_one(c, x),
+        Some(c) => says(c, x, v),
         None => false,
     }
 }
 
-/// Whether the constraint says that the variable is 1.
-fn says_one(c: &Con, x: u32) -> bool
-    ensures { result ≡ true → (a : List ℤ) → con_true c.now a ≡ true → value_of a x ≡ pos 1 }
+/// Whether the constraint says that the variable has this value.
+fn says(c: &Con, x: u32, v: u64) -> bool
+    ensures { result ≡ true → (a : List ℤ) → con_true c.now a ≡ true → value_of a x ≡ pos v }
 {
     match own_literal(c, x) {
-        Some(l) => only_value(&l.1) == Some(1),
+        Some(l) => only_value(&l.1) == Some(v),
         None => false,
     }
 }
@@ -343,9 +343,9 @@ fn other_by(maker: &Maker, places: &Places, c: &Con, y: u32) -> Option<u32>
 {
     match c {
         Con::EqDef { flag, left, right } => {
-            if *left == y && is_one(maker, places, *flag) {
+            if *left == y && is_told(maker, places, *flag, 1) {
                 Some(*right)
-            } else if *right == y && is_one(maker, places, *flag) {
+            } else if *right == y && is_told(maker, places, *flag, 1) {
                 Some(*left)
             } else {
                 None
@@ -370,7 +370,7 @@ pub(crate) fn equal_to(maker: &Maker, places: &Places, y: u32) -> Option<u32>
 }
 
 /// The values that a variable may have where the index is in the set.
-pub(crate) fn values_where(
+pub fn values_where(
     maker: &Maker,
     places: &Places,
     x: u32,
