@@ -122,6 +122,14 @@ none_taken_bound g p sum rest h none same a w all =
     let nil = none a in
     omega (arith, ints, whole, there, nil)
 
+pub outside_bound : (g : Ground) (p : Packing) (f sum : Linear) (set rest : Ranges) → IsPacking g p → ((a : List ℤ) → IsWorld g a → linear_at f a ≡ pos (sizes_where (has set) p.items.items a)) → ((a : List ℤ) → linear_at sum a ≡ (pos p.whole -ℤ linear_at f a)) → rest ≡ set → (a : List ℤ) → IsWorld g a → AllHold g a → pos (size_of p.items.items) ≤ℤ (linear_at sum a +ℤ pos (sizes_where (has rest) p.items.items a))
+outside_bound g p f sum set rest h value less same a w all =
+    let whole = h.whole in
+    let inside = value a w in
+    let out = less a in
+    let there = ap (λ (s : Ranges). sizes_where (has s) p.items.items a) same in
+    omega (arith, ints, whole, inside, out, there)
+
 pub used_follows : (g : Ground) (p : Packing) (t : Taken) (outside row : Linear) (most : ℕ) → IsPacking g p → IsTaken g p t → most ≡ p.room * count_of t.rest → ((a : List ℤ) → linear_at outside a ≡ (pos p.whole -ℤ linear_at t.sum a)) → ((a : List ℤ) → linear_at row a ≡ (linear_at outside a -ℤ pos most)) → Follows g row
 used_follows g p t outside row most h taken room turned less a w all =
     let at = bins_used g p.used p.items.items a h.exist h.used w in

@@ -28,7 +28,7 @@ fn lack(alloc: Global, size: u64) -> Linear
 }
 
 /// A sum, less a number.
-pub fn less_amount(maker: &Maker, f: &Linear, n: u64) -> Result<Linear, AllocError>
+pub(crate) fn less_amount(maker: &Maker, f: &Linear, n: u64) -> Result<Linear, AllocError>
     requires linear { IsLinear (2 ^ 41) maker.now.domains f.now }
     requires small { n ≤ 2 ^ 38 }
     ensures value { IfOk result (λ r. (a : List ℤ) → linear_at r a ≡ linear_at f.now a -ℤ pos n) }
@@ -41,7 +41,7 @@ pub fn less_amount(maker: &Maker, f: &Linear, n: u64) -> Result<Linear, AllocErr
 }
 
 /// A number, less a sum.
-pub fn amount_less(maker: &Maker, n: u64, f: &Linear) -> Result<Linear, AllocError>
+pub(crate) fn amount_less(maker: &Maker, n: u64, f: &Linear) -> Result<Linear, AllocError>
     requires linear { IsLinear (2 ^ 41) maker.now.domains f.now }
     requires small { n ≤ 2 ^ 38 }
     ensures value { IfOk result (λ r. (a : List ℤ) → linear_at r a ≡ pos n -ℤ linear_at f.now a) }

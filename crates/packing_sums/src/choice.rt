@@ -137,7 +137,7 @@ fn open_sizes(maker: &Maker, p: &Packing, set: &IntSet) -> Result<Vec<u64>, Allo
 
 /// The distinct ones among these multiples, of which those that are the same stand together, but
 /// for those that are too many.
-pub fn distinct(alloc: Global, all: &[Multiple]) -> Result<Vec<Multiple>, AllocError> {
+pub(crate) fn distinct(alloc: Global, all: &[Multiple]) -> Result<Vec<Multiple>, AllocError> {
     let mut out = Vec::new(alloc);
     let mut last = Multiple { row: 0, zero: 0 };
     for m in all {
@@ -151,7 +151,11 @@ pub fn distinct(alloc: Global, all: &[Multiple]) -> Result<Vec<Multiple>, AllocE
 
 /// The multiples that are added for a set: by the distinct sizes of the items of which it is open
 /// whether they are in it.
-pub fn multiples(maker: &Maker, p: &Packing, asked: &Asked) -> Result<Vec<Multiple>, AllocError> {
+pub(crate) fn multiples(
+    maker: &Maker,
+    p: &Packing,
+    asked: &Asked,
+) -> Result<Vec<Multiple>, AllocError> {
     let sizes = open_sizes(maker, p, &asked.set)?;
     let mut all = Vec::new(maker.alloc());
     for zero in sizes.as_slice() {

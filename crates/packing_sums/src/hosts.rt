@@ -151,7 +151,7 @@ fn host_by(
 }
 
 /// The bin of a packing of which the flag tells whether some item is there.
-pub fn host_of(
+pub(crate) fn host_of(
     maker: &Maker,
     indexes: &[usize],
     p: &Packing,

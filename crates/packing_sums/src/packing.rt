@@ -14,7 +14,7 @@ use stated_facts::constant;
 use std::alloc::{AllocError, Global};
 
 /// The greatest sum of sizes that is looked at.
-pub const HEAVIEST: u64 = 1 << 38;
+pub(crate) const HEAVIEST: u64 = 1 << 38;
 
 /// A packing whose bins all have one room.
 #[derive(Drop)]

@@ -20,7 +20,7 @@ use std::alloc::AllocError;
 
 /// How much the bins in a set have room for. None where all items fit there, so that nothing
 /// follows, or where that is too much.
-pub fn room_in(p: &Packing, set: &IntSet) -> Option<u64>
+pub(crate) fn room_in(p: &Packing, set: &IntSet) -> Option<u64>
     ensures room { IfSome result (λ n. n ≡ p.now.room * count_of set.now) }
     ensures small { IfSome result (λ n. n ≤ 2 ^ 38) }
 {

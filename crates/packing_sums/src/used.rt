@@ -9,6 +9,7 @@ ghost use Rattle.form_build.specs.Forms.{linear_at};
 ghost use Rattle.form_build.specs.Worlds.{IsWorld, Defines};
 ghost use Rattle.form_build.specs.Sums.{IsLinear};
 ghost use Rattle.packing_sums.specs.Hosts.{use_of, IsHost, IsTaken};
+ghost use Rattle.packing_sums.specs.Loads.{sizes_where};
 ghost use Rattle.packing_sums.specs.Packings.{IsPacking};
 ghost use Rattle.stated_facts.specs.Rows.{Follows, IsNought};
 
@@ -66,7 +67,7 @@ fn share_of(maker: &Maker, h: &Host) -> Result<Linear, AllocError>
 }
 
 /// The bins without one.
-pub fn without(maker: &Maker, rest: &IntSet, bin: u64) -> Result<IntSet, AllocError>
+fn without(maker: &Maker, rest: &IntSet, bin: u64) -> Result<IntSet, AllocError>
     requires { bin ≤ 2 ^ 38 }
     ensures { IfOk result (λ s. (v : ℤ) → has s v
         ≡ (has rest.now v && not (in_range (pos bin, pos bin) v))) }
@@ -104,20 +105,72 @@ fn none_taken(maker: &Maker, p: &Packing) -> Result<Taken, AllocError>
     Ok(Taken { sum, rest })
 }
 
+/// All bins but those of a set are taken: what the items come to outside it.
+fn taken_outside(
+    maker: &Maker,
+    p: &Packing,
+    set: &IntSet,
+    f: &Linear,
+) -> Result<Option<Taken>, AllocError>
+    requires packing { IsPacking maker.now p.now }
+    requires inside { IsLinear (2 ^ 39) maker.now.domains f.now }
+    requires value { (a : List ℤ) → IsWorld maker.now a
+        → linear_at f.now a ≡ pos (sizes_where (has set.now) p.now.items.items a) }
+    ensures { IfOk result (λ o. IfSome o (λ t. IsTaken maker.now p.now t)) }
+{
+    let sum = amount_less(maker, p.whole, f)?;
+    if !is_light(maker, &sum) {
+        return Ok(None);
+    }
+    let rest = set.copy()?;
+    Ok(Some(Taken { sum, rest }))
+}
+
+/// One bin more is taken, if it is left.
+fn take_left(maker: &Maker, p: &Packing, t: Taken, h: &Host) -> Result<Option<Taken>, AllocError>
+    requires packing { IsPacking maker.now p.now }
+    requires taken { IsTaken maker.now p.now t }
+    requires host { IsHost maker.now p.now h.now }
+    ensures { IfOk result (λ o. IfSome o (λ r. IsTaken maker.now p.now r)) }
+{
+    if !t.rest.contains(signed(h.bin)) {
+        return Ok(Some(t));
+    }
+    let more = take_host(maker, p, t, h)?;
+    Ok(more)
+}
+
+/// Those of the bins that are left are taken, where the numbers stay small.
+fn take_more(
+    maker: &Maker,
+    p: &Packing,
+    t: Taken,
+    hosts: &[Host],
+) -> Result<Option<Taken>, AllocError>
+    requires packing { IsPacking maker.now p.now }
+    requires taken { IsTaken maker.now p.now t }
+    requires hosts { All (IsHost maker.now p.now) hosts.now }
+    ensures { IfOk result (λ o. IfSome o (λ r. IsTaken maker.now p.now r)) }
+{
+    let mut t = t;
+    for h in hosts {
+        match take_left(maker, p, t, h)? {
+            Some(more) => t = more,
+            None => return Ok(None),
+        }
+    }
+    Ok(Some(t))
+}
+
 /// All of these bins are taken, where the numbers stay small.
 pub fn take_all(maker: &Maker, p: &Packing, hosts: &[Host]) -> Result<Option<Taken>, AllocError>
     requires packing { IsPacking maker.now p.now }
     requires hosts { All (IsHost maker.now p.now) hosts.now }
     ensures { IfOk result (λ o. IfSome o (λ t. IsTaken maker.now p.now t)) }
 {
-    let mut t = none_taken(maker, p)?;
-    for h in hosts {
-        match take_host(maker, p, t, h)? {
-            Some(more) => t = more,
-            None => return Ok(None),
-        }
-    }
-    Ok(Some(t))
+    let t = none_taken(maker, p)?;
+    let all = take_more(maker, p, t, hosts)?;
+    Ok(all)
 }
 
 /// The bins of which flags tell that are terms of the sum, where use of a bin raises it, or where
@@ -188,6 +241,32 @@ pub fn row_of_used(maker: &Maker, p: &Packing, t: &Taken) -> Result<Option<Linea
     let outside = amount_less(maker, p.whole, &t.sum)?;
     let row = less_amount(maker, &outside, most)?;
     Ok(Some(row))
+}
+
+/// That what the items in a set come to fits into its bins, as a row. None where nothing follows.
+pub fn row_inside(
+    maker: &Maker,
+    p: &Packing,
+    set: &IntSet,
+    f: &Linear,
+    hosts: &[Host],
+) -> Result<Option<Linear>, AllocError>
+    requires packing { IsPacking maker.now p.now }
+    requires inside { IsLinear (2 ^ 39) maker.now.domains f.now }
+    requires value { (a : List ℤ) → IsWorld maker.now a
+        → linear_at f.now a ≡ pos (sizes_where (has set.now) p.now.items.items a) }
+    requires hosts { All (IsHost maker.now p.now) hosts.now }
+    ensures linear { IfOk result (λ o. IfSome o (λ r. IsLinear (2 ^ 40) maker.now.domains r)) }
+    ensures follows { IfOk result (λ o. IfSome o (λ r. Follows maker.now r)) }
+{
+    let Some(none) = taken_outside(maker, p, set, f)? else {
+        return Ok(None);
+    };
+    let Some(t) = take_more(maker, p, none, hosts)? else {
+        return Ok(None);
+    };
+    let row = row_of_used(maker, p, &t)?;
+    Ok(row)
 }
 
 /// States that all items fit into the bins, with multiples of what is 0.
