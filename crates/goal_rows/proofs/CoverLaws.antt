@@ -4,7 +4,7 @@ use Rattle.std.specs.Ordering.{int_eq}
 use Rattle.std.proofs.lemmas.Int.{ints}
 use Rattle.std.proofs.lemmas.Bool.Decides.{Decides-int_eq}
 use Rattle.std.proofs.lemmas.List.Elements.{All-contains}
-use Rattle.signed_clause.specs.Ranges.{Ranges, has, in_range, is_nil}
+use Rattle.signed_clause.specs.Ranges.{Ranges, has, is_nil}
 use Rattle.signed_clause.specs.Clauses.{box_of}
 use Rattle.ground_form.specs.declared.con.Con.{Con}
 use Rattle.ground_form.specs.declared.con.Con.TheVariants.{MemberDef}
@@ -27,17 +27,11 @@ none_asked_bound g x sum rest lt one same a w all =
     let is = one a in
     omega (arith, ints, full, is)
 
-one_value : (b v : ℤ) → has ((b, b) ∷ []) v ≡ int_eq v b
-one_value b v = grind (arith, ints)
-
-same_value : (b v : ℤ) → in_range (b, b) v ≡ int_eq v b
-same_value b v = grind (arith, ints)
-
--- the flag is 1 where the variable has the value, and else 0
-flag_value : (g : Ground) (x n f : ℕ) (a : List ℤ) → Contains g.cons (MemberDef f x ((pos n, pos n) ∷ [])) → AllHold g a → value_of a f ≡ bit (int_eq (value_of a x) (pos n))
-flag_value g x n f a has_it all =
-    let e = All-contains (λ (c : Con). con_true c a ≡ true) g.cons (MemberDef f x ((pos n, pos n) ∷ [])) all has_it in
-    (Decides-int_eq (value_of a f) (bit (has ((pos n, pos n) ∷ []) (value_of a x)))).0 e ∙ ap bit (one_value (pos n) (value_of a x))
+-- the flag is 1 where the variable's value is in the set, and else 0
+flag_value : (g : Ground) (x f : ℕ) (set : Ranges) (a : List ℤ) → Contains g.cons (MemberDef f x set) → AllHold g a → value_of a f ≡ bit (has set (value_of a x))
+flag_value g x f set a has_it all =
+    let e = All-contains (λ (c : Con). con_true c a ≡ true) g.cons (MemberDef f x set) all has_it in
+    (Decides-int_eq (value_of a f) (bit (has set (value_of a x)))).0 e
 
 cover_cases : (rest here left : Bool) (s f r : ℤ) → f ≡ bit here → s ≤ℤ bit rest → r ≡ (s -ℤ f) → left ≡ (rest && not here) → r ≤ℤ bit left
 cover_cases true true true s f r is le less e = omega (arith, ints, is, le, less)
@@ -49,13 +43,12 @@ cover_cases false true false s f r is le less e = omega (arith, ints, is, le, le
 cover_cases false false true s f r is le less e = omega (arith, ints, is, le, less)
 cover_cases false false false s f r is le less e = omega (arith, ints, is, le, less)
 
-pub cover_more : (g : Ground) (x n f : ℕ) (cover : Cover) (own sum : Linear) (left : Ranges) → f < length g.domains → Contains g.cons (MemberDef f x ((pos n, pos n) ∷ [])) → IsCover g x cover → ((a : List ℤ) → IsInBoxes g.domains a → linear_at own a ≡ value_of a f) → ((a : List ℤ) → linear_at sum a ≡ (linear_at cover.sum a -ℤ linear_at own a)) → ((v : ℤ) → has left v ≡ (has cover.rest v && not (in_range (pos n, pos n) v))) →
+pub cover_more : (g : Ground) (x f : ℕ) (set : Ranges) (cover : Cover) (own sum : Linear) (left : Ranges) → f < length g.domains → Contains g.cons (MemberDef f x set) → IsCover g x cover → ((a : List ℤ) → IsInBoxes g.domains a → linear_at own a ≡ value_of a f) → ((a : List ℤ) → linear_at sum a ≡ (linear_at cover.sum a -ℤ linear_at own a)) → ((v : ℤ) → has left v ≡ (has cover.rest v && not (has set v))) →
     (a : List ℤ) → IsWorld g a → AllHold g a → linear_at sum a ≤ℤ bit (has left (value_of a x))
-cover_more g x n f cover own sum left lt has_it h is less rest a w all =
+cover_more g x f set cover own sum left lt has_it h is less rest a w all =
     let v = value_of a x in
-    let flag : linear_at own a ≡ bit (int_eq v (pos n)) = is a w.within ∙ flag_value g x n f a has_it all in
-    let gone : has left v ≡ (has cover.rest v && not (int_eq v (pos n))) = rest v ∙ ap (λ (b : Bool). has cover.rest v && not b) (same_value (pos n) v) in
-    cover_cases (has cover.rest v) (int_eq v (pos n)) (has left v) (linear_at cover.sum a) (linear_at own a) (linear_at sum a) flag (h.bound a w all) (less a) gone
+    let flag : linear_at own a ≡ bit (has set v) = is a w.within ∙ flag_value g x f set a has_it all in
+    cover_cases (has cover.rest v) (has set v) (has left v) (linear_at cover.sum a) (linear_at own a) (linear_at sum a) flag (h.bound a w all) (less a) (rest v)
 
 none_left : (rest : Ranges) (v : ℤ) → is_nil rest ≡ true → bit (has rest v) ≡ pos 0
 none_left [] v e = refl

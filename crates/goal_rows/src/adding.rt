@@ -13,6 +13,7 @@ ghost use Rattle.stated_facts.specs.Rows.{IsNought};
 use crate::costs::with_costs;
 use crate::dividing::{Quotient, goal_quotient, state_link};
 use crate::parts::add_parts;
+use crate::zones::add_zones;
 use block_sums::settled_in_blocks;
 use form_build::{Linear, Maker, variable};
 use ground_form::Con;
@@ -80,7 +81,7 @@ fn add_for_packing(
     Ok(())
 }
 
-/// Adds the rows that follow from a packing, and from parts of it.
+/// Adds the rows that follow from a packing, from parts of it, and of zones.
 fn add_with_parts(
     maker: &mut Maker,
     zero: &Nought,
@@ -93,6 +94,7 @@ fn add_with_parts(
 {
     add_for_packing(maker, zero, p, aim)?;
     add_parts(maker, zero, p, aim)?;
+    add_zones(maker, zero, p, aim)?;
     Ok(())
 }
 

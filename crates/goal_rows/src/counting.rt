@@ -147,16 +147,16 @@ pub(crate) fn groups_of(
     Ok(groups)
 }
 
-/// The flags that ask where the item of this number is, each with its bin.
+/// The flags that ask where the item of this number is.
 pub(crate) fn flags_of(
     maker: &Maker,
     group: &[Counting],
     i: usize,
-) -> Result<Vec<(u32, u64)>, AllocError> {
+) -> Result<Vec<u32>, AllocError> {
     let mut flags = Vec::new(maker.alloc());
     for c in group {
         if i < c.items.len() {
-            flags.push((c.items[i].flag, c.bin))?;
+            flags.push(c.items[i].flag)?;
         }
     }
     Ok(flags)

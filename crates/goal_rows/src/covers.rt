@@ -1,5 +1,5 @@
-//! That a variable has one of its values, as a row over the flags that ask about them.
-ghost use Rattle.std.specs.Prelude.{◌≡◌, ◌<◌, ◌≤◌, ◌^◌, ◌∷◌, [], true, pos, length, Contains, IfOk, IfSome};
+//! That a variable has one of its values, as a row over flags that ask for sets of them.
+ghost use Rattle.std.specs.Prelude.{◌≡◌, ◌<◌, ◌≤◌, true, length, Contains, IfOk, IfSome};
 ghost use Rattle.signed_clause.specs.Clauses.{box_of};
 ghost use Rattle.ground_form.specs.declared.con.Con.TheVariants as con;
 ghost use Rattle.ground_form.specs.Bounds.{reach_of};
@@ -8,12 +8,13 @@ ghost use Rattle.stated_facts.specs.Rows.{IsNought};
 
 use crate::dividing::less;
 use form_build::{Linear, Maker, variable};
-use packing_sums::{HEAVIEST, amount, without};
+use ground_form::Con;
+use packing_sums::amount;
 use signed_clause::IntSet;
-use stated_facts::{Nought, is_near, is_small, question};
+use stated_facts::{Nought, definition, is_near, is_small};
 use std::alloc::AllocError;
 
-/// One less some flags that ask whether a variable has a value, and the values that are left.
+/// One less some flags that ask whether a variable is in a set, and the values that are left.
 #[derive(Drop)]
 pub(crate) struct Cover {
     /// One less the flags.
@@ -42,15 +43,23 @@ fn none_asked(maker: &Maker, x: u32) -> Result<Cover, AllocError>
     Ok(Cover { sum, rest })
 }
 
-/// Whether the flag tells whether the variable has this value.
-fn asks(maker: &Maker, indexes: &[usize], flag: u32, x: u32, value: u64) -> bool
-    ensures asks { result ≡ true → Contains maker.now.cons
-        (con.MemberDef flag x ((pos value, pos value) ∷ [])) }
-    ensures small { result ≡ true → value ≤ 2 ^ 38 }
+/// The set of which the flag tells whether it has the variable's value.
+fn set_asked<'a>(maker: &'a Maker, indexes: &[usize], flag: u32, x: u32) -> Option<&'a IntSet>
+    ensures { IfSome result (λ s. Contains maker.now.cons (con.MemberDef flag x s.now)) }
 {
-    match question(maker, indexes, flag) {
-        Some(q) => q.0 == x && q.1 == value && value <= HEAVIEST,
-        None => false,
+    match definition(maker, indexes, flag)? {
+        Con::MemberDef {
+            flag: own,
+            var,
+            set,
+        } => {
+            if *own == flag && *var == x {
+                Some(set)
+            } else {
+                None
+            }
+        }
+        _ => None,
     }
 }
 
@@ -70,14 +79,13 @@ fn with_flag(
     x: u32,
     cover: &Cover,
     flag: u32,
-    value: u64,
 ) -> Result<Option<Cover>, AllocError>
     requires { IsCover maker.now x cover.now }
     ensures { IfOk result (λ o. IfSome o (λ n. IsCover maker.now x n)) }
 {
-    if !asks(maker, indexes, flag, x, value) {
+    let Some(set) = set_asked(maker, indexes, flag, x) else {
         return Ok(None);
-    }
+    };
     if !is_flag(maker, flag) {
         return Ok(None);
     }
@@ -86,7 +94,7 @@ fn with_flag(
     if !is_small(maker, &sum) {
         return Ok(None);
     }
-    let rest = without(maker, &cover.rest, value)?;
+    let rest = cover.rest.less(set)?;
     Ok(Some(Cover { sum, rest }))
 }
 
@@ -95,14 +103,14 @@ fn cover_by(
     maker: &Maker,
     indexes: &[usize],
     x: u32,
-    flags: &[(u32, u64)],
+    flags: &[u32],
 ) -> Result<Option<Cover>, AllocError>
     requires { x < length maker.now.domains }
     ensures { IfOk result (λ o. IfSome o (λ c. IsCover maker.now x c)) }
 {
     let mut cover = none_asked(maker, x)?;
     for f in flags {
-        match with_flag(maker, indexes, x, &cover, f.0, f.1)? {
+        match with_flag(maker, indexes, x, &cover, *f)? {
             Some(more) => cover = more,
             None => return Ok(None),
         }
@@ -115,7 +123,7 @@ pub(crate) fn cover_of(
     maker: &Maker,
     indexes: &[usize],
     x: u32,
-    flags: &[(u32, u64)],
+    flags: &[u32],
 ) -> Result<Option<Nought>, AllocError>
     ensures { IfOk result (λ o. IfSome o (λ z. IsNought maker.now z)) }
 {

@@ -10,6 +10,8 @@
 //! Surrogate constraints (Glover, 1968); that good multiples are dual values is linear programming.
 //!
 //! - `adding`: what is added for a goal.
+//! - `areas`: flags that ask whether copies are in some zones.
+//! - `copies`: items that stand apart, and the zones in which they do.
 //! - `costs`: a goal whose terms follow from where an item is.
 //! - `counting`: rows that count the same items, each in a bin of its own.
 //! - `covers`: that a variable has one of its values, as a row over flags.
@@ -17,9 +19,12 @@
 //! - `parts`: items of which some of a goal's flags ask, as packings of their own.
 //! - `rounding`: rows without a factor that their terms have in common, rounded up.
 //! - `totals`: totals of rows that count the same items.
+//! - `zones`: rows of hosts in use for each zone, where copies stand in different ones.
 #![tactic(auto)]
 
 mod adding;
+mod areas;
+mod copies;
 mod costs;
 mod counting;
 mod covers;
@@ -27,6 +32,7 @@ mod dividing;
 mod parts;
 mod rounding;
 mod totals;
+mod zones;
 
 pub use adding::{add_goal_sums, has_packing};
 pub use totals::add_totals;

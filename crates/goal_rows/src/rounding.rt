@@ -91,6 +91,19 @@ fn plain_row(maker: &Maker, f: Linear) -> Nought
     }
 }
 
+/// A row as it is, where its numbers are small.
+pub(crate) fn small_row(maker: &Maker, f: Linear) -> Option<Nought>
+    requires linear { IsLinear (2 ^ 40) maker.now.domains f }
+    requires follows { Follows maker.now f }
+    ensures { IfSome result (λ z. IsNought maker.now z) }
+{
+    if is_small(maker, &f) {
+        Some(plain_row(maker, f))
+    } else {
+        None
+    }
+}
+
 /// The row without the factor that its terms have in common, where its numbers are small.
 pub(crate) fn rounded(maker: &Maker, f: Linear) -> Result<Option<Nought>, AllocError>
     requires linear { IsLinear (2 ^ 40) maker.now.domains f }

@@ -21,6 +21,6 @@ pub returns : goal.returns
 returns c = record {
   linear = c.if-not-is_small.ensures refl;
   bound =
-      cover_more c.args.maker.now c.args.x c.args.value c.args.flag c.args.cover.now c.in_ok-own.own c.in_ok-sum.sum c.in_ok-rest.rest
-      (c.if-not-is_flag.ensures.exists refl) (c.if-not-asks.ensures.asks refl) c.requires c.in_ok-own.ensures.value c.in_ok-sum.ensures.value c.in_ok-rest.ensures;
+      cover_more c.args.maker.now c.args.x c.args.flag c.in-Some.set.now c.args.cover.now c.in_ok-own.own c.in_ok-sum.sum c.in_ok-rest.rest
+      (c.if-not-is_flag.ensures.exists refl) c.in-Some.ensures c.requires c.in_ok-own.ensures.value c.in_ok-sum.ensures.value c.in_ok-rest.ensures.values;
 }
