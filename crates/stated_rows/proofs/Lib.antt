@@ -1,3 +1,4 @@
+pub mod GuardLaws
 pub mod FactLaws
 pub mod ShareLaws
 pub mod LoadLaws

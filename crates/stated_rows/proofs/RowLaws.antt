@@ -1,9 +1,11 @@
 -- A packing of rows that follow says nothing new.
-use Rattle.std.proofs.Common.{Option, Some, IfSome, subst, ◌≡◌, ℕ, Bool, true, false, not, ◌||◌, ◌&&◌, List, [], ◌∷◌, ℤ, pos, ◌≤ℤ◌, All, refl, ap, ◌∙◌, arith}
+use Rattle.std.proofs.Common.{Option, Some, IfSome, subst, ◌≡◌, ℕ, Bool, true, false, not, ◌||◌, ◌&&◌, List, [], ◌∷◌, ◌++◌, ℤ, pos, ◌≤ℤ◌, All, refl, ap, ◌∙◌, arith}
 use Rattle.std.specs.Prelude.{Contains, int_le}
 use Rattle.std.specs.Ordering.{int_eq}
 use Rattle.std.proofs.lemmas.Int.{ints}
-use Rattle.std.proofs.lemmas.List.Elements.{All-head, All-tail, All-weaker, All-contains}
+use Rattle.std.proofs.lemmas.List.Elements.{All-head, All-tail, All-cons, All-append, All-weaker, All-contains}
+use Rattle.signed_clause.specs.Ranges.{Ranges, has}
+use Rattle.signed_clause.specs.Clauses.{Literals, clause_true}
 use Rattle.ground_form.specs.declared.con.Con.{Con}
 use Rattle.ground_form.specs.declared.con.Con.TheVariants.{ReifLe}
 use Rattle.ground_form.specs.Meaning.{value_of, bit, sum_at, con_true}
@@ -12,7 +14,7 @@ use Rattle.form_build.specs.Worlds.{IsWorld, AllHold, Grows, Adds, Defines}
 use Rattle.form_build.proofs.Growth.{world_before, all_before}
 use Rattle.packed_rows.specs.declared.row.Row.{Row}
 use Rattle.packed_rows.specs.Loads.{row_holds, rows_hold}
-use Rattle.stated_rows.specs.Following.{FollowsIn}
+use Rattle.stated_rows.specs.Following.{FollowsIn, FollowsIf, SaysClause}
 
 all_hold : (g : Ground) (rows : List Row) (a : List ℤ) → All (FollowsIn g) rows → IsWorld g a → AllHold g a → rows_hold rows a ≡ true
 all_hold g [] a f w all = refl
@@ -36,6 +38,25 @@ follow_still old new rows g f = All-weaker (FollowsIn old) (FollowsIn new) (λ r
 
 pub of_some : {X : Type 0} (o : Option X) (x : X) (P : X → Type 0) → o ≡ Some x → IfSome o P → P x
 of_some o x P e h = subst (λ (z : Option _). IfSome z P) e h
+
+-- ---- rows behind guards
+
+-- what follows by the one or the other
+by_either : (p q r : Bool) → (p ≡ true → r ≡ true) → (q ≡ true → r ≡ true) → (p || q) ≡ true → r ≡ true
+by_either true q r one other e = one refl
+by_either false q r one other e = other e
+
+-- what follows by each literal of a clause follows by the clause
+all_follow : (g : Ground) (ls : Literals) (row : Row) (a : List ℤ) → IsWorld g a → AllHold g a → All (λ l. FollowsIf g l.0 l.1 row) ls → clause_true ls a ≡ true → row_holds a row ≡ true
+all_follow g [] row a w all f e = absurd e
+all_follow g (l ∷ ls) row a w all f e =
+    by_either (has l.1 (value_of a l.0)) (clause_true ls a) (row_holds a row) (All-head (λ (m : ℕ × Ranges). FollowsIf g m.0 m.1 row) l ls f a w all) (all_follow g ls row a w all (All-tail (λ (m : ℕ × Ranges). FollowsIf g m.0 m.1 row) l ls f)) e
+
+-- the row of a literal, where by each other one it follows as well
+pub row_of_clause : (g : Ground) (front rest : Literals) (l : ℕ × Ranges) (row : Row) → SaysClause g (front ++ l ∷ rest) → FollowsIf g l.0 l.1 row → All (λ m. FollowsIf g m.0 m.1 row) front → All (λ m. FollowsIf g m.0 m.1 row) rest → FollowsIn g row
+row_of_clause g front rest l row says own before behind a w all =
+    let each = All-append (λ (m : ℕ × Ranges). FollowsIf g m.0 m.1 row) front (l ∷ rest) before (All-cons (λ (m : ℕ × Ranges). FollowsIf g m.0 m.1 row) l rest own behind) in
+    all_follow g (front ++ l ∷ rest) row a w all each (says a all)
 
 -- ---- rows behind flags
 

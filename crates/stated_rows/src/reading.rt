@@ -7,7 +7,6 @@ ghost use Rattle.packed_rows.specs.Loads.{load_of, row_holds};
 ghost use Rattle.stated_rows.specs.Following.{FollowsIn, share_at, IsBelow};
 
 use crate::facts::{Facts, is_other};
-use crate::guards::row_of_clause;
 use crate::shares::{Share, bin_asked, share_of};
 use form_build::Maker;
 use ground_form::{Con, Number};
@@ -194,7 +193,7 @@ pub(crate) fn row_of_sum(
 }
 
 /// The row that a constraint says of a bin, where it is a bounded sum that tells of one, or a flag
-/// that is said to be 1 tells that a sum is bounded, or a clause that has a row behind a guard.
+/// that is said to be 1 tells that a sum is bounded.
 pub(crate) fn row_of(maker: &Maker, facts: &Facts, con: &Con) -> Result<Option<Row>, AllocError>
     ensures { IfOk result (λ o. IfSome o (λ row. Contains maker.now.cons con.now
         → FollowsIn maker.now row)) }
@@ -211,10 +210,6 @@ pub(crate) fn row_of(maker: &Maker, facts: &Facts, con: &Con) -> Result<Option<R
             }
             let bound = Number { value: *bound };
             let row = row_of_sum(maker, facts, terms.items(), bound)?;
-            Ok(row)
-        }
-        Con::ClauseCon { clause } => {
-            let row = row_of_clause(maker, facts, clause.clause().literals())?;
             Ok(row)
         }
         _ => Ok(None),
