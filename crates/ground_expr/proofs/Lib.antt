@@ -9,6 +9,7 @@ pub mod Operands
 pub mod PartSteps
 pub mod MemberLaws
 pub mod KnownLaws
+pub mod MemberTruths
 pub mod Pushing
 pub mod Stating
 pub mod Wholes

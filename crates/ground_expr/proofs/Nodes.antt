@@ -119,7 +119,7 @@ pub own_quantified : (q : QuantKind) (f : Filter) (bs : Bodies) (s : Setting) (x
 own_quantified q f bs s xs = own_is q f bs s xs ∙ quantified_over (λ x. keeps (own_filter q f) (bind s x)) (λ x. values_of bs (bind s x)) q xs (no_filter q f s)
 
 -- a form of an object is one
-object_is : (o : Outline) (boxes : Boxes) (c : ℕ) (f : Form) → IsFormOf o boxes (type.Object c) f → f ≡ form.Object (class_part f) (choice_part f)
+pub object_is : (o : Outline) (boxes : Boxes) (c : ℕ) (f : Form) → IsFormOf o boxes (type.Object c) f → f ≡ form.Object (class_part f) (choice_part f)
 object_is o boxes c (form.Object d x) h = refl
 object_is o boxes c (form.Number f) h = absurd h
 object_is o boxes c (form.Truth t) h = absurd h

@@ -19,11 +19,13 @@ ghost use Rattle.expr_forms.specs.FormValues.{members_at};
 ghost use Rattle.expr_forms.specs.Standing.{IsStanding, HasCells, bare_setting, world_setting};
 ghost use Rattle.expr_forms.specs.declared.form.Member.{Member as AMember};
 ghost use Rattle.ground_expr.specs.Made.{IsMade};
+ghost use Rattle.ground_expr.specs.Membership.{IsMemberAt};
 ghost use Rattle.ground_expr.specs.Insides.{IsOver, IsInside};
 ghost use Rattle.ground_expr.specs.Bodies.{own_filter, AreBodies, ArePartsOf, AreMembersOf, IsPartOf, IsKept, given};
 ghost use Rattle.quantifier_forms.specs.PartValues.{kept_values};
 
 use crate::known::attribute_at;
+use crate::membership::{asked_for, member_in, member_of};
 use crate::names::{
     choice_of, class_objects, class_of, listing_of, local_object, number_sum, object_form,
     set_last, with_room,
@@ -109,7 +111,7 @@ fn not_at(maker: &mut Maker, scene: &Scene<'_, '_>, inner: &RExpr) -> Result<For
 
 /// An operator between two expressions.
 #[cycle(forms)]
-fn pair_at(
+pub(crate) fn pair_at(
     maker: &mut Maker,
     scene: &Scene<'_, '_>,
     op: Op,
@@ -124,9 +126,83 @@ fn pair_at(
         (tree.Pair 0 op (tree_of left.now) (tree_of right.now)) scene.now.this scene.now.vars.now f) }
 {
     let l = form_at(maker, scene, left)?;
+    if let Some(object) = asked_for(op, &l) {
+        let t = member_at(maker, scene, object, right)?;
+        return Ok(Form::Truth(t));
+    }
     let r = form_at(maker, scene, right)?;
     let f = operated(maker, op, l, r)?;
     Ok(f)
+}
+
+/// Whether the object is a member of the list that an expression is.
+#[cycle(forms)]
+fn member_at(
+    maker: &mut Maker,
+    scene: &Scene<'_, '_>,
+    object: u32,
+    e: &RExpr,
+) -> Result<Truth, AllocError>
+    requires standing { IsStanding scene.now.objects.now
+        (tree_of e.now)
+        scene.now.this scene.now.vars.now }
+    requires cells { HasCells scene.now.objects.now maker.old }
+    ensures member { IfOk result (IsMemberAt scene.now.objects.now maker.new scene.now.known.now
+        (tree_of e.now) scene.now.this scene.now.vars.now object) }
+    ensures adds { IfOk result (λ t. Defines maker.old maker.new) }
+{
+    let _count = scene.objects.count();
+    match &e.node {
+        RNode::Paren(inner) => member_at(maker, scene, object, inner),
+        RNode::Own(k, shape) => {
+            let t = member_of(maker, scene, scene.this, *k, *shape, object)?;
+            Ok(t)
+        }
+        RNode::Root(k, shape) => {
+            let t = member_of(maker, scene, None, *k, *shape, object)?;
+            Ok(t)
+        }
+        RNode::Dot(inner, k, shape) => {
+            let t = member_behind(maker, scene, object, inner, *k, *shape)?;
+            Ok(t)
+        }
+        _ => {
+            let f = form_at(maker, scene, e)?;
+            let t = member_in(maker, f, object)?;
+            Ok(t)
+        }
+    }
+}
+
+/// Whether the object is a member of the list that an attribute of what stands before the dot is.
+#[cycle(forms)]
+fn member_behind(
+    maker: &mut Maker,
+    scene: &Scene<'_, '_>,
+    object: u32,
+    inner: &RExpr,
+    k: u32,
+    shape: Resolved,
+) -> Result<Truth, AllocError>
+    requires standing { IsStanding scene.now.objects.now
+        (tree.Dot 0 (tree_of inner.now) k shape)
+        scene.now.this scene.now.vars.now }
+    requires cells { HasCells scene.now.objects.now maker.old }
+    ensures member { IfOk result (IsMemberAt scene.now.objects.now maker.new scene.now.known.now
+        (tree.Dot 0 (tree_of inner.now) k shape) scene.now.this scene.now.vars.now object) }
+    ensures adds { IfOk result (λ t. Defines maker.old maker.new) }
+{
+    let _count = scene.objects.count();
+    let f = form_at(maker, scene, inner)?;
+    let class = class_of(&f);
+    let choice = choice_of(f);
+    if let Choice::Fixed(n) = &choice {
+        let t = member_of(maker, scene, Some(*n), k, shape, object)?;
+        return Ok(t);
+    }
+    let r = dot_form(maker, scene.objects, class, &choice, k, shape)?;
+    let t = member_in(maker, r, object)?;
+    Ok(t)
 }
 
 /// An attribute of what stands before the dot.

@@ -5,6 +5,7 @@
 ghost use Rattle.std.specs.Prelude.{◌≡◌, ◌++◌, ◌∷◌, not, ◌&&◌, [], true, false, ℤ, List, length, IfOk, OnOk};
 ghost use Rattle.std.specs.List.{All, list_all};
 ghost use Rattle.conf_types.specs.TreeOf.{tree_of, trees_of, optional_tree, quant_tree};
+ghost use Rattle.conf_syntax.specs.declared.tree.Op.TheVariants as ops;
 ghost use Rattle.conf_types.specs.Trees as tree;
 ghost use Rattle.conf_types.specs.declared.tree.RQuant as quants;
 ghost use Rattle.conf_eval.specs.Evaluating.{AllEvaluable};
@@ -21,7 +22,7 @@ ghost use Rattle.ground_expr.specs.Insides.{IsInside};
 ghost use Rattle.ground_expr.specs.Stated.{Says, PushesSome, asks_each, body_wanted, member_wanted};
 
 use crate::comparisons::{compares_numbers, state_comparison};
-use crate::forms::{form_at, list_at};
+use crate::forms::{form_at, list_at, pair_at};
 use crate::names::{set_last, with_room};
 use crate::operators::operated;
 use crate::pushes::{as_wanted, push_at};
@@ -60,6 +61,27 @@ fn require_form(
         maker.old maker.new (tree_of e.now) scene.now.this scene.now.vars.now want) }
 {
     let f = form_at(maker, scene, e)?;
+    state_form(maker, f, want)?;
+    Ok(())
+}
+
+/// States that an object is a member of a list, or that it isn't.
+fn require_membership(
+    maker: &mut Maker,
+    scene: &Scene<'_, '_>,
+    left: &RExpr,
+    right: &RExpr,
+    want: bool,
+) -> Result<(), AllocError>
+    requires standing { IsStanding scene.now.objects.now
+        (tree.Pair 0 ops.In (tree_of left.now) (tree_of right.now))
+        scene.now.this scene.now.vars.now }
+    requires cells { HasCells scene.now.objects.now maker.old }
+    ensures says { OnOk result (Says scene.now.objects.now scene.now.known.now
+        maker.old maker.new (tree.Pair 0 ops.In (tree_of left.now) (tree_of right.now))
+        scene.now.this scene.now.vars.now want) }
+{
+    let f = pair_at(maker, scene, Op::In, left, right)?;
     state_form(maker, f, want)?;
     Ok(())
 }
@@ -110,6 +132,9 @@ fn require_pair(
         maker.old maker.new (tree.Pair 0 op (tree_of left.now) (tree_of right.now))
         scene.now.this scene.now.vars.now want) }
 {
+    if let Op::In = op {
+        return require_membership(maker, scene, left, right, want);
+    }
     let Some((p, q)) = either_side(op, want) else {
         return require_operator(maker, scene, op, left, right, want);
     };

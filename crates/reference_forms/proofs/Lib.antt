@@ -10,3 +10,4 @@ pub mod CellLaws
 pub mod BoxFacts
 pub mod MemberLists
 pub mod Shapes
+pub mod OneMember

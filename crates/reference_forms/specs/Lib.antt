@@ -3,3 +3,4 @@ pub mod Dots
 pub mod Lists
 pub mod Picks
 pub mod Attributes
+pub mod Members

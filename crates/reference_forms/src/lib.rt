@@ -20,3 +20,4 @@ mod variables;
 pub use attributes::attribute_form;
 pub use candidates::candidates_of;
 pub use dots::dot_form;
+pub use sets::member_truth;

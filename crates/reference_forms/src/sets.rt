@@ -1,18 +1,21 @@
-//! The cells of a reference set as members.
-ghost use Rattle.std.specs.Prelude.{◌≡◌, ◌++◌, ◌<◌, ℤ, List, [], length, filter_map, map, take, IfOk, OnOk};
+//! The cells of a reference set as members, and the cell of one of them, looked up.
+ghost use Rattle.std.specs.Prelude.{◌≡◌, ◌++◌, ◌<◌, true, Some, ℤ, List, [], length, filter_map, map, take, IfOk, IfSome, OnOk};
 ghost use Rattle.std.specs.List.{All, cons_option};
 ghost use Rattle.object_alloc.specs.Cells.{cells};
 ghost use Rattle.form_build.specs.Forms.{HasVariable};
 ghost use Rattle.form_build.specs.Worlds.{IsWorld};
+ghost use Rattle.conf_eval.specs.Fitting.{HasShape};
 ghost use Rattle.conf_eval.specs.Meaning.{chosen};
 ghost use Rattle.expr_forms.specs.declared.form.Member.{Member as AMember};
 ghost use Rattle.expr_forms.specs.FormValues.{members_at};
 ghost use Rattle.expr_forms.specs.Standing.{HasCells};
 ghost use Rattle.reference_forms.specs.Attributes.{element_at};
+ghost use Rattle.reference_forms.specs.Members.{IsCellAmong, IsMemberTruth};
 
 use crate::variables::variable_truth;
+use class_table::Resolved;
 use expr_forms::Member;
-use form_build::Maker;
+use form_build::{Maker, Truth};
 use object_alloc::Objects;
 use std::alloc::AllocError;
 
@@ -70,4 +73,64 @@ pub(crate) fn set_members(
         push_member(maker, objects, &mut members, *cell)?;
     }
     Ok(members)
+}
+
+/// Whether the cell is that of an object before this one.
+fn is_before(objects: &Objects<'_>, cell: u32, object: u32) -> bool {
+    match element_of(objects, cell) {
+        Some(n) => n < object,
+        None => false,
+    }
+}
+
+/// Whether the cell is that of this object.
+fn is_cell_of(objects: &Objects<'_>, cell: u32, object: u32) -> bool
+    ensures { result ≡ true → element_at (cells objects.now) cell ≡ Some object }
+{
+    match element_of(objects, cell) {
+        Some(n) => n == object,
+        None => false,
+    }
+}
+
+/// The object's cell among those of a set, whose objects ascend.
+fn cell_among(objects: &Objects<'_>, owned: &[u32], object: u32) -> Option<u32>
+    ensures { IfSome result (IsCellAmong (cells objects.now) owned.now object) }
+{
+    let place = owned.partition_point(|cell| is_before(objects, *cell, object));
+    let cell = *owned.get(place)?;
+    if is_cell_of(objects, cell, object) {
+        Some(cell)
+    } else {
+        None
+    }
+}
+
+/// Whether an object is a member of the reference set that attribute `k` of the owner is, by its
+/// one cell. None where it has none there.
+pub fn member_truth(
+    maker: &Maker,
+    objects: &Objects<'_>,
+    owner: Option<u32>,
+    k: u32,
+    shape: Resolved,
+    object: u32,
+) -> Option<Truth>
+    requires shape { HasShape objects.now owner k shape }
+    requires cells { HasCells objects.now maker.now }
+    ensures member { IfSome result (IsMemberTruth objects.now maker.now owner k shape object) }
+{
+    let _count = objects.count();
+    match shape {
+        Resolved::RefSet(_, _) => {
+            let cell = cell_among(objects, objects.own_cells(owner, k), object)?;
+            Some(variable_truth(maker, cell))
+        }
+        Resolved::Span(_, _)
+        | Resolved::Truth
+        | Resolved::Choice(_)
+        | Resolved::Ref(_)
+        | Resolved::One(_)
+        | Resolved::Many(_, _) => None,
+    }
 }

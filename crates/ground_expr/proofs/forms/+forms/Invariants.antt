@@ -30,6 +30,12 @@ decreases-dot_at l = 16 * height (tree_of l.inner.now) + 4
 abbrev pub decreases-pair_at : goal.decreases-pair_at
 decreases-pair_at l = 16 * max (height (tree_of l.left.now)) (height (tree_of l.right.now)) + 4
 
+abbrev pub decreases-member_at : goal.decreases-member_at
+decreases-member_at l = 16 * height (tree_of l.e.now) + 2
+
+abbrev pub decreases-member_behind : goal.decreases-member_behind
+decreases-member_behind l = 16 * height (tree_of l.inner.now) + 4
+
 abbrev pub decreases-quant_at : goal.decreases-quant_at
 decreases-quant_at l = 16 * height (quant_tree l.quant.now 0) - 1
 
