@@ -1,11 +1,9 @@
-use Rattle.std.proofs.Common.{◌≡◌, ◌+◌, ◌≤◌, ◌^◌, List, ℤ, ℕ, to_z, of_z, w64, ap, sym, subst, arith}
-use Rattle.std.specs.Prelude.{unsigned_abs, ◌<◌, length}
-use Rattle.std.specs.List.{All}
+use Rattle.std.proofs.Common.{◌≡◌, ◌+◌, ◌≤◌, ◌^◌, List, ℤ, ℕ, to_z, of_z, w64, ap, arith}
+use Rattle.std.specs.Prelude.{unsigned_abs}
 use Rattle.std.proofs.lemmas.Int.{ints}
 use Rattle.std.proofs.lemmas.Grind.{common_steps}
 use Rattle.ground_form.specs.Meaning.{sum_at}
 use Rattle.ground_form.specs.Bounds.{weight_of}
-use Rattle.form_build.specs.Sums.{IsLinear}
 use Rattle.form_build.proofs.Linears.{linear_more}
 use Rattle.form_build.proofs.MergedSums.{same_there}
 use Rattle.block_sums.proofs.sum.shortened.Goals as goal

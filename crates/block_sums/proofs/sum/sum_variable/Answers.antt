@@ -1,10 +1,7 @@
-use Rattle.std.proofs.Common.{rules, ◌≡◌, ◌+◌, ◌*◌, ◌<◌, ◌≤◌, List, ℤ, ℕ, length, w64, refl, ap, ◌∙◌, subst, arith}
+use Rattle.std.proofs.Common.{rules, List, ℤ, ℕ, w64, ap, arith}
 use Rattle.std.proofs.lemmas.Int.{ints, to_z-of_z}
 use Rattle.ground_form.specs.Meaning.{sum_at}
-use Rattle.ground_form.specs.Bounds.{weight_of}
 use Rattle.form_build.proofs.Growth.{defines_more, world_before}
-use Rattle.block_sums.specs.Blocks.{AreBlocks}
-use Rattle.block_sums.proofs.BlockSteps.{blocks_again, fewer}
 use Rattle.block_sums.proofs.sum.sum_variable.Goals as goal
 
 pub returns-clause-value : goal.returns-clause-value
