@@ -3,16 +3,16 @@
 //! An end of a term is explained by all other terms of its row, so a search that sets n cells one
 //! by one may keep n * n / 2 literals. Rows of flags and products stay whole, since packings and
 //! goals are read off them.
-ghost use Rattle.std.specs.Prelude.{◌≡◌, ℤ, List, [], length, IfOk, OnOk, IfSome};
+ghost use Rattle.std.specs.Prelude.{◌≡◌, ℤ, List, [], length, IfOk, OnOk, IfSome, IfNone};
 ghost use Rattle.ground_form.specs.Bounds.{most_sum};
 ghost use Rattle.form_build.specs.Forms.{linear_at};
 ghost use Rattle.form_build.specs.Sums.{IsLinear};
 ghost use Rattle.form_build.specs.Worlds.{IsWorld, Adds, Defines};
 ghost use Rattle.form_truths.specs.Tests.{test_at, IsTest};
 
-use crate::tests::{Test, state};
 use block_sums::shortened;
 use form_build::{Linear, Maker};
+use form_truths::{Test, state};
 use ground_form::ends_of;
 use signed_clause::IntSet;
 use std::alloc::AllocError;
@@ -60,6 +60,7 @@ fn short_test(m: &mut Maker, test: &Test) -> Result<Option<Test>, AllocError>
     ensures value { IfOk result (λ o. IfSome o (λ t. (a : List ℤ) → IsWorld m.new a
         → test_at t a ≡ test_at test.now a)) }
     ensures adds { IfOk result (λ o. Defines m.old m.new) }
+    ensures none { IfOk result (λ o. IfNone o (m.new ≡ m.old)) }
 {
     match test {
         Test::AtMost(f) => {
@@ -81,7 +82,7 @@ fn short_test(m: &mut Maker, test: &Test) -> Result<Option<Test>, AllocError>
 }
 
 /// States the test, of a long sum of cells by blocks of them.
-pub fn state_in_blocks(m: &mut Maker, test: &Test) -> Result<(), AllocError>
+pub(crate) fn state_in_blocks(m: &mut Maker, test: &Test) -> Result<(), AllocError>
     requires test { IsTest m.old.domains test.now }
     ensures says { OnOk result (Adds [] m.old m.new (λ a. test_at test.now a)) }
 {
