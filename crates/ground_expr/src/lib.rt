@@ -15,6 +15,8 @@
 //! - `constraints`: what is required of a whole constraint.
 //! - `forms`: the form of an expression; the recursion is on the resolved tree.
 //! - `known`: attributes of an owner that is known, where values of cells are known.
+//! - `known_members`: the members of a list, where values of cells are known.
+//! - `long_sums`: comparisons of long sums of cells, stated of sums of blocks.
 //! - `names`: what names stand for.
 //! - `operators`: operators over forms of any kind.
 //! - `pushes`: expressions that are pushed into a disjunction.
@@ -27,6 +29,8 @@ mod comparisons;
 mod constraints;
 mod forms;
 mod known;
+mod known_members;
+mod long_sums;
 mod names;
 mod operators;
 mod pushes;
