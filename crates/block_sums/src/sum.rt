@@ -58,9 +58,8 @@ pub fn sum_variable(b: &mut Maker, terms: &[(i64, u32)], offset: i64) -> Result<
     Ok(x)
 }
 
-/// The same sum with one term: a variable that is what its terms add up to. So what bounds a sum
-/// bounds each other one of the same terms.
-pub fn with_one_term(b: &mut Maker, f: &Linear) -> Result<Linear, AllocError>
+/// The same sum with one term: a variable that is what its terms add up to.
+fn of_variable(b: &mut Maker, f: &Linear) -> Result<Linear, AllocError>
     requires linear { IsLinear most_sum b.old.domains f.now }
     ensures value { IfOk result (λ r. (a : List ℤ)
         → IsWorld b.new a → linear_at r a ≡ linear_at f.now a) }
@@ -71,6 +70,34 @@ pub fn with_one_term(b: &mut Maker, f: &Linear) -> Result<Linear, AllocError>
     let only = [(1, x)];
     let r = ordered_sum(b, &only, f.offset)?;
     Ok(r)
+}
+
+/// Whether the first of the terms is taken away.
+fn is_turned(terms: &[(i64, u32)]) -> bool {
+    match terms.first() {
+        Some(t) => t.0 < 0,
+        None => false,
+    }
+}
+
+/// The same sum with one term: a variable that is what its terms add up to, or what they do with
+/// their signs turned, so that the first is added. So what bounds a sum from above or from below
+/// bounds each other one of the same terms.
+pub fn with_one_term(b: &mut Maker, f: &Linear) -> Result<Linear, AllocError>
+    requires linear { IsLinear most_sum b.old.domains f.now }
+    ensures value { IfOk result (λ r. (a : List ℤ)
+        → IsWorld b.new a → linear_at r a ≡ linear_at f.now a) }
+    ensures linear { IfOk result (λ r. IsLinear most_sum b.new.domains r) }
+    ensures adds { IfOk result (λ r. Defines b.old b.new) }
+{
+    if !is_turned(f.terms.items()) {
+        let r = of_variable(b, f)?;
+        return Ok(r);
+    }
+    let turned = f.times(b.alloc(), -1)?;
+    let g = of_variable(b, &turned)?;
+    let back = g.times(b.alloc(), -1)?;
+    Ok(back)
 }
 
 /// A variable that is the sum: its own, where it is one, or a new one.

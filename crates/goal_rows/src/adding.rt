@@ -124,9 +124,19 @@ fn add_for_all(maker: &mut Maker, zero: &Nought, aim: &Aim) -> Result<(), AllocE
 }
 
 /// Whether some constraint is a packing.
-pub fn has_packing(maker: &Maker) -> bool {
+fn has_packing(maker: &Maker) -> bool {
     for con in maker.cons() {
         if let Con::Pack { .. } = con {
+            return true;
+        }
+    }
+    false
+}
+
+/// Whether some constraint is a row or a packing, from which rows over a goal may follow.
+pub fn has_rows(maker: &Maker) -> bool {
+    for con in maker.cons() {
+        if let Con::Pack { .. } | Con::LinLe { .. } = con {
             return true;
         }
     }

@@ -30,5 +30,5 @@ mod parts;
 mod rounding;
 mod totals;
 
-pub use adding::{add_goal_sums, has_packing};
+pub use adding::{add_goal_sums, has_rows};
 pub use totals::add_totals;

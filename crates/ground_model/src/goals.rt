@@ -16,7 +16,7 @@ use block_sums::settled_in_blocks;
 use conf_types::Goal;
 use expr_forms::number_of;
 use form_build::Maker;
-use goal_rows::{add_goal_sums, has_packing};
+use goal_rows::{add_goal_sums, has_rows};
 use ground_form::{Goals, GroundGoal};
 use object_alloc::Objects;
 use std::alloc::{AllocError, Global};
@@ -63,7 +63,8 @@ fn add_rows(
     Ok(())
 }
 
-/// A variable that is an objective, with what follows of it from the packings that stand.
+/// A variable that is an objective, with what follows of it from the rows and packings that
+/// stand.
 fn goal_variable(
     maker: &mut Maker,
     objects: &Objects<'_>,
@@ -79,7 +80,7 @@ fn goal_variable(
     ensures adds { IfOk result (λ x. Defines maker.old maker.new) }
 {
     let x = objective_variable(maker, objects, goal)?;
-    if has_packing(maker) {
+    if has_rows(maker) {
         add_rows(maker, objects, known, goal, x)?;
     }
     Ok(x)
