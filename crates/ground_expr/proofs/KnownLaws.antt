@@ -1,5 +1,5 @@
 -- Forms of attributes where values of cells are known.
-use Rattle.std.proofs.Common.{Bool, ◌≡◌, ℕ, ◌<◌, ◌≤◌, ◌^◌, List, ℤ, pos, ◌≤ℤ◌, Option, length, max, sym, ap, ◌∙◌, subst, arith}
+use Rattle.std.proofs.Common.{Bool, true, ◌≡◌, ℕ, ◌<◌, ◌≤◌, ◌^◌, List, ℤ, pos, ◌≤ℤ◌, Option, length, max, sym, ap, ◌∙◌, subst, arith}
 use Rattle.std.specs.Prelude.{Contains, unsigned_abs, nat_abs}
 use Rattle.std.proofs.lemmas.Int.{ints}
 use Rattle.class_table.specs.declared.table.Resolved.{Resolved}
@@ -27,6 +27,7 @@ use Rattle.expr_forms.specs.declared.form.Form.TheVariants as form
 use Rattle.expr_forms.specs.declared.form.Listing.{Listing}
 use Rattle.expr_forms.specs.FormBounds.{IsChoiceOf, IsFrom, IsFormOf, candidate_count}
 use Rattle.expr_forms.specs.FormValues.{choice_at}
+use Rattle.expr_forms.specs.FixedForms.{is_part, is_fixed_choice, is_fixed_form}
 use Rattle.reference_forms.specs.Attributes.{IsAttributeForm}
 use Rattle.ground_expr.specs.Known.{IsHeld, IsKnownValue, IsKnownChoice, IsKnownListing, IsKnownForm}
 use Rattle.ground_expr.proofs.MemberLaws.{list_typed}
@@ -97,6 +98,11 @@ module _ (boxes : Boxes) (known : List (ℕ × ℤ)) where
   known_from o e (choice.Fixed n) d is h = subst (IsFrom o boxes e) (sym is) h
   known_from o e (choice.Mapped x m) d is h = subst (IsFrom o boxes e) (sym is) h
 
+  known_fixed : (c d : AChoice) → IsKnownChoice boxes known c d → is_fixed_choice c ≡ true → is_fixed_choice d ≡ true
+  known_fixed (choice.Cell x) d is h = cc
+  known_fixed (choice.Fixed n) d is h = ap is_fixed_choice is
+  known_fixed (choice.Mapped x m) d is h = cc
+
   some_there : (xs : List ℕ) (n : ℕ) → Contains xs n → 1 ≤ length xs
   some_there xs n h = omega (arith, h.1)
 
@@ -108,44 +114,48 @@ module _ (boxes : Boxes) (known : List (ℕ × ℤ)) where
   known_count o e (choice.Mapped x m) d is h = let same = ap (candidate_count o e) is in omega (arith, same)
 
 module _ (o : Outline) (g : Ground) (known : List (ℕ × ℤ)) (owner : Option ℕ) (k : ℕ) (s : Resolved) where
-  pub list_known : (l r : Listing) → IsKnownListing known l r → IsAttributeForm o g owner k s (form.List l) → IsKnownForm o g known owner k s (form.List r)
-  list_known l r is h = record {
+  pub list_known : (l r : Listing) → IsKnownListing known l r → IsAttributeForm o g owner k s (form.List l) → (is_part s ≡ true → is_fixed_form (form.List l) ≡ true) → IsKnownForm o g known owner k s (form.List r)
+  list_known l r is h p = record {
     stands = λ a w kn. h.stands a w ∙ ap (λ (xs : List ℕ). Objects xs) (sym (is.value a kn));
     number = h.number;
     truth = h.truth;
     typed = list_typed o g.domains (shape_type s) l r (λ c. is.listed o g.domains c) h.typed;
     reached = λ x le. let few = is.few in let all = h.reached x le in omega (arith, few, all);
+    fixed = λ q. is.fixed (p q);
   }
 
-  pub number_known : (f r : Linear) → ((a : List ℤ) → AreKnown known a → linear_at r a ≡ linear_at f a) → ((low high : ℤ) → IsSum g.domains low high f → IsSum g.domains low high r) → IsAttributeForm o g owner k s (form.Number f) → IsKnownForm o g known owner k s (form.Number r)
-  number_known f r value sum h = record {
+  pub number_known : (f r : Linear) → ((a : List ℤ) → AreKnown known a → linear_at r a ≡ linear_at f a) → ((low high : ℤ) → IsSum g.domains low high f → IsSum g.domains low high r) → IsAttributeForm o g owner k s (form.Number f) → (is_part s ≡ true → is_fixed_form (form.Number f) ≡ true) → IsKnownForm o g known owner k s (form.Number r)
+  number_known f r value sum h p = record {
     stands = λ a w kn. h.stands a w ∙ ap (λ (v : ℤ). Int v) (sym (value a kn));
     number = sum _ _ h.number;
     truth = h.truth;
     typed = number_typed o g.domains (shape_type s) f r h.typed;
     reached = h.reached;
+    fixed = p;
   }
 
-  pub truth_known : (t u : ATruth) → ((a : List ℤ) → AreKnown known a → truth_at u a ≡ truth_at t a) → ((n : ℕ) → HasVariable n t → HasVariable n u) → IsAttributeForm o g owner k s (form.Truth t) → IsKnownForm o g known owner k s (form.Truth u)
-  truth_known t u value variable h = record {
+  pub truth_known : (t u : ATruth) → ((a : List ℤ) → AreKnown known a → truth_at u a ≡ truth_at t a) → ((n : ℕ) → HasVariable n t → HasVariable n u) → IsAttributeForm o g owner k s (form.Truth t) → (is_part s ≡ true → is_fixed_form (form.Truth t) ≡ true) → IsKnownForm o g known owner k s (form.Truth u)
+  truth_known t u value variable h p = record {
     stands = λ a w kn. h.stands a w ∙ ap (λ (b : Bool). Truth b) (sym (value a kn));
     number = h.number;
     truth = variable _ h.truth;
     typed = truth_typed o g.domains (shape_type s) t u h.typed;
     reached = h.reached;
+    fixed = p;
   }
 
-  pub choice_known : (e : ℕ) (c d : AChoice) → IsKnownChoice g.domains known c d → IsAttributeForm o g owner k s (form.Choice e c) → IsKnownForm o g known owner k s (form.Choice e d)
-  choice_known e c d is h = record {
+  pub choice_known : (e : ℕ) (c d : AChoice) → IsKnownChoice g.domains known c d → IsAttributeForm o g owner k s (form.Choice e c) → (is_part s ≡ true → is_fixed_form (form.Choice e c) ≡ true) → IsKnownForm o g known owner k s (form.Choice e d)
+  choice_known e c d is h p = record {
     stands = λ a w kn. h.stands a w ∙ ap (λ (n : ℕ). Choice e n) (sym (known_at g.domains known c d is a kn));
     number = h.number;
     truth = h.truth;
     typed = choice_typed o g.domains (shape_type s) e c d (λ P m. known_choice g.domains known P c d is m) h.typed;
     reached = h.reached;
+    fixed = p;
   }
 
-  pub object_known : (e : ℕ) (c d : AChoice) → IsKnownChoice g.domains known c d → IsAttributeForm o g owner k s (form.Object e c) → IsKnownForm o g known owner k s (form.Object e d)
-  object_known e c d is h =
+  pub object_known : (e : ℕ) (c d : AChoice) → IsKnownChoice g.domains known c d → IsAttributeForm o g owner k s (form.Object e c) → (is_part s ≡ true → is_fixed_form (form.Object e c) ≡ true) → IsKnownForm o g known owner k s (form.Object e d)
+  object_known e c d is h p =
       let typed = object_typed o g.domains (shape_type s) e c d (λ P m. known_choice g.domains known P c d is m) (known_from g.domains known o e c d is) h.typed in
       record {
         stands = λ a w kn. h.stands a w ∙ ap (λ (n : ℕ). Object n) (sym (known_at g.domains known c d is a kn));
@@ -153,6 +163,7 @@ module _ (o : Outline) (g : Ground) (known : List (ℕ × ℤ)) (owner : Option 
         truth = h.truth;
         typed = typed.typed;
         reached = λ r le. let few = known_count g.domains known o e c d is typed.from in let all = h.reached r le in omega (arith, few, all);
+        fixed = λ q. known_fixed g.domains known c d is (p q);
       }
 
 -- ---- a cell that is known

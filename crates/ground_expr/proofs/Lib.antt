@@ -12,3 +12,4 @@ pub mod KnownLaws
 pub mod Pushing
 pub mod Stating
 pub mod Wholes
+pub mod StandingWhole

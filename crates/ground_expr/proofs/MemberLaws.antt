@@ -1,5 +1,5 @@
 -- Members of lists where values of cells are known.
-use Rattle.std.proofs.Common.{Vec, Global, ◌≡◌, ℕ, ◌+◌, ◌<◌, ◌≤◌, Bool, true, false, cond, List, [], ◌∷◌, ◌++◌, ℤ, length, map, drop, get_or, refl, sym, ap, ◌∙◌, subst, append_assoc, arith}
+use Rattle.std.proofs.Common.{Vec, Global, ◌≡◌, ℕ, ◌+◌, ◌<◌, Bool, true, false, cond, List, [], ◌∷◌, ◌++◌, ℤ, length, map, drop, get_or, refl, sym, ap, ◌∙◌, subst, append_assoc, arith}
 use Rattle.std.specs.Prelude.{Contains}
 use Rattle.std.specs.List.{All}
 use Rattle.std.proofs.lemmas.List.{length-map}
@@ -12,7 +12,6 @@ use Rattle.ground_form.specs.Meaning.{value_of}
 use Rattle.form_build.specs.declared.form.Truth.{Truth}
 use Rattle.form_build.specs.declared.form.Truth.TheVariants as truth
 use Rattle.form_build.specs.Forms.{truth_at, HasVariable}
-use Rattle.form_build.specs.Worlds.{AreKnown}
 use Rattle.conf_types.specs.declared.types.ExprType.{ExprType}
 use Rattle.conf_types.specs.declared.types.ExprType.TheVariants as type
 use Rattle.expr_forms.specs.declared.form.Form.TheVariants as form
@@ -80,11 +79,12 @@ fixed_objects ms xs tested copied one two are sure =
       value = λ a kn. e ∙ sure_objects ms.items a all;
       listed = λ o boxes c h. subst (All (Contains (extent o c))) (sym e) (those_of o boxes c ms.items h);
       few = (let count = ap length e in let same = length-map ms.items (λ (m : Member). m.object) in omega (arith, count, same));
+      fixed = λ h. refl;
     }
 
 -- a list that stays
 pub listing_same : (known : List (ℕ × ℤ)) (l r : Listing) → l ≡ r → IsKnownListing known l r
-listing_same known l r e = subst (IsKnownListing known l) e (record { value = λ a kn. refl; listed = λ o boxes c h. h; few = omega arith })
+listing_same known l r e = subst (IsKnownListing known l) e (record { value = λ a kn. refl; listed = λ o boxes c h. h; few = omega arith; fixed = λ h. h })
 
 -- what is left of members
 pub listing_left : (known : List (ℕ × ℤ)) (l : Listing) (before kept : Vec Member Global) (walked : List Member) (r : Listing) → l ≡ listing.Some before → walked ≡ before.items → AreKnownMembers known walked kept.items → IsKnownListing [] (listing.Some kept) r → IsKnownListing known l r
@@ -94,6 +94,7 @@ listing_left known l before kept walked r is e first second =
       value = λ a kn. second.value a (All-nil (λ (k : ℕ × ℤ). value_of a k.0 ≡ k.1)) ∙ members.value a kn;
       listed = λ o boxes c h. second.listed o boxes c (members.each o boxes c h);
       few = (let one = members.few in let two = second.few in omega (arith, one, two));
+      fixed = second.fixed;
     })
 
 pub ruleset listing_laws = (fixed_objects, listing_same, listing_left)

@@ -3,10 +3,10 @@ use Rattle.std.proofs.Common.{◌≡◌, ℕ, ◌+◌, ◌<◌, ◌≤◌, Bool,
 use Rattle.std.specs.Prelude.{filter, Contains}
 use Rattle.std.specs.List.{All}
 use Rattle.std.proofs.lemmas.List.{drop_all, drop_more, take_all}
-use Rattle.std.proofs.lemmas.List.Elements.{All-nil, All-cons, All-append, All-weaker}
+use Rattle.std.proofs.lemmas.List.Elements.{All-nil, All-cons, All-append, All-push, All-weaker}
 use Rattle.class_table.specs.Outline.{Outline}
 use Rattle.conf_types.specs.declared.tree.RExpr.{RExpr}
-use Rattle.conf_types.specs.Trees.{Tree, Filter, Bodies, NoBody}
+use Rattle.conf_types.specs.Trees.{Tree, Filter, NoFilter, Where, Bodies, NoBody}
 use Rattle.conf_types.specs.TreeOf.{tree_of, trees_of, optional_tree}
 use Rattle.conf_eval.specs.declared.value.Value.{Value}
 use Rattle.conf_types.specs.Typing.{Place, inside}
@@ -17,6 +17,7 @@ use Rattle.conf_eval.specs.Meaning as meaning
 use Rattle.object_alloc.specs.Cells.{extent}
 use Rattle.ground_form.specs.declared.ground.Ground.{Ground}
 use Rattle.form_build.specs.declared.form.Truth.{Truth}
+use Rattle.form_build.specs.declared.form.Truth.TheVariants as truth
 use Rattle.form_build.specs.Forms.{truth_at, HasVariable}
 use Rattle.form_build.specs.Worlds.{IsWorld, AreKnown, Grows, Defines}
 use Rattle.form_build.proofs.Growth.{world_before}
@@ -28,6 +29,7 @@ use Rattle.expr_forms.specs.Standing.{bare_setting, world_setting}
 use Rattle.expr_forms.proofs.Growing.{ground_still}
 use Rattle.quantifier_forms.specs.declared.part.Part.{Part}
 use Rattle.quantifier_forms.specs.PartValues.{kept_values}
+use Rattle.pairwise_forms.specs.Wholes.{AreKept}
 use Rattle.ground_expr.specs.Bodies.{AreBodies, IsPartOf, AreMembersOf, ArePartsOf, IsKept, given}
 use Rattle.ground_expr.specs.Insides.{IsOver, IsInside}
 use Rattle.ground_expr.proofs.PartLaws.{kept_push, given_next, bodies_value, bodies_within, parts_kept}
@@ -59,6 +61,7 @@ module _ (o : Outline) (known : List (ℕ × ℤ)) (this : Option ℕ) (vars : L
   kept_none g is t f e same h = record {
     variable = subst (HasVariable (length g.domains)) (sym same) h;
     value = λ a w kn. ap (λ (x : Truth). truth_at x a) same ∙ sure (truth_at is a) _ (ap (λ (x : Option RExpr). keeps (optional_tree x) (world_setting o g a this vars)) e);
+    same = λ n. same;
   }
     where
       sure : (b d : Bool) → d ≡ true → b ≡ (b && d)
@@ -71,7 +74,11 @@ module _ (o : Outline) (known : List (ℕ × ℤ)) (this : Option ℕ) (vars : L
         value a w
         ∙ ap (λ (b : Bool). truth_at is a && b) (ap (λ (x : Truth). truth_at x a) same ∙ sym (truth_stands o new known this vars (tree_of e) form a (ground_still o mid new known (tree_of e) this vars form grows h) w kn))
         ∙ ap (λ (x : Option RExpr). truth_at is a && keeps (optional_tree x) (world_setting o new a this vars)) (sym at);
+    same = λ n. absurd (no_filter (tree_of e) (sym n ∙ ap optional_tree at));
   }
+    where
+      no_filter : (x : Tree) → NoFilter ≡ Where x → ⊥
+      no_filter x h = cc
 
   -- ---- one part more
 
@@ -101,6 +108,10 @@ module _ (o : Outline) (known : List (ℕ × ℤ)) (this : Option ℕ) (vars : L
       subst (All (IsPartOf o new.domains p this bs)) (sym e)
       (All-append (IsPartOf o new.domains p this bs) ps (q ∷ []) (parts_kept o mid new two.grows p this bs ps (parts_kept o old mid one.grows p this bs ps h))
       (All-cons (IsPartOf o new.domains p this bs) q [] (record { kept = kept; bodies = bodies_within o this vars new known p bs q.bodies.items fits are }) (All-nil (IsPartOf o new.domains p this bs))))
+
+  -- without a filter it is kept in any case, where it is a member in any case
+  pub pushed_kept : (g : Ground) (is : Truth) (f : Filter) (ps qs : List Part) (q : Part) → qs ≡ ps ++ q ∷ [] → IsKept o g known is f this vars q.kept → f ≡ NoFilter → is ≡ truth.Fixed true → AreKept ps → AreKept qs
+  pushed_kept g is f ps qs q e k none sure h = subst AreKept (sym e) (All-push (λ (p : Part). p.kept ≡ truth.Fixed true) ps q h (k.same none ∙ sure))
 
   -- ---- member by member
 
@@ -136,8 +147,8 @@ module _ (o : Outline) (known : List (ℕ × ℤ)) (this : Option ℕ) (vars : L
 
   pub over_parts : (mid new : Ground) (over : Tree) (f : Filter) (bs : Bodies) (ms : List Member) (ps : List Part) → AreMembersOf o mid known over this vars ms → Defines mid new →
       ((a : List ℤ) → IsWorld new a → AreKnown known a → kept_values ps a ≡ given (λ x. keeps f (world_setting o new a this (vars ++ x ∷ []))) (λ x. values_of bs (world_setting o new a this (vars ++ x ∷ []))) ms a) →
-      ((p : Place) → All (λ (m : Member). Fits o [] p (bare_setting o this (vars ++ m.object ∷ []))) ms → All (IsPartOf o new.domains p this bs) ps) → length ps ≤ length ms → ArePartsOf o new known over f bs this vars ps
-  over_parts mid new over f bs ms ps are adds value each few = record {
+      ((p : Place) → All (λ (m : Member). Fits o [] p (bare_setting o this (vars ++ m.object ∷ []))) ms → All (IsPartOf o new.domains p this bs) ps) → length ps ≤ length ms → (f ≡ NoFilter → All (λ (m : Member). m.is ≡ truth.Fixed true) ms → AreKept ps) → ArePartsOf o new known over f bs this vars ps
+  over_parts mid new over f bs ms ps are adds value each few kept = record {
     value = λ a w kn.
         value a w kn
         ∙ ap (λ (xs : List ℕ). map (λ x. values_of bs (world_setting o new a this (vars ++ x ∷ []))) (filter (λ x. keeps f (world_setting o new a this (vars ++ x ∷ []))) xs))
@@ -146,6 +157,7 @@ module _ (o : Outline) (known : List (ℕ × ℤ)) (this : Option ℕ) (vars : L
         each (inside p c)
         (All-weaker (λ (m : Member). Contains (extent o c) m.object) (λ (m : Member). Fits o [] (inside p c) (bare_setting o this (vars ++ m.object ∷ []))) (λ m h. inner_fits o [] p (bare_setting o this vars) c m.object fits h) ms (are.objects p c fits is));
     few = let most = are.few in omega (arith, few, most);
+    kept = λ none p. kept none (are.sure p);
   }
 
   pub members_inside : (g : Ground) (over : Tree) (f : Filter) (bs : Bodies) (ms : List Member) → IsOver o over f bs this vars → AreMembersOf o g known over this vars ms → All (λ (m : Member). IsInside o f bs this (vars ++ m.object ∷ [])) ms

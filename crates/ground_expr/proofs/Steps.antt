@@ -1,5 +1,5 @@
 -- From the forms of parts to the form of a node, with what was made on the way.
-use Rattle.std.proofs.Common.{◌≡◌, ℕ, ◌^◌, true, not, ◌&&◌, ◌≤◌, List, [], ◌∷◌, ℤ, pos, neg_ℤ, ◌-ℤ◌, ◌≤ℤ◌, Option, None, Some, int_le, length, map, take, refl, sym, ap, ◌∙◌, subst, arith}
+use Rattle.std.proofs.Common.{◌≡◌, ℕ, ◌^◌, Bool, true, false, not, ◌&&◌, ◌≤◌, List, [], ◌∷◌, ℤ, pos, neg_ℤ, ◌-ℤ◌, ◌≤ℤ◌, Option, None, Some, int_le, length, map, take, refl, sym, ap, ◌∙◌, subst, arith}
 use Rattle.std.specs.Prelude.{unwrap_or, Contains}
 use Rattle.std.specs.List.{All}
 use Rattle.std.proofs.lemmas.List.{length-map}
@@ -31,11 +31,13 @@ use Rattle.signed_clause.specs.Clauses.{Boxes}
 use Rattle.ground_form.specs.declared.ground.Ground.{Ground}
 use Rattle.form_build.specs.declared.form.Linear.{Linear}
 use Rattle.form_build.specs.declared.form.Truth.{Truth as ATruth}
+use Rattle.form_build.specs.declared.form.Truth.TheVariants as truth
 use Rattle.form_build.specs.Forms.{linear_at, truth_at, HasVariable}
 use Rattle.form_build.specs.Sums.{least_linear, greatest_linear, LiesFrom, IsSum}
 use Rattle.form_build.specs.Worlds.{IsWorld, IsInBoxes, Defines}
 use Rattle.form_build.proofs.Growth.{adds_nothing, defines_more, world_before}
 use Rattle.form_build.proofs.Linears.{sum_wider}
+use Rattle.expr_forms.specs.declared.form.Choice.{Choice}
 use Rattle.expr_forms.specs.declared.form.Choice.TheVariants as choice
 use Rattle.expr_forms.specs.declared.form.Form.{Form}
 use Rattle.expr_forms.specs.declared.form.Form.TheVariants as form
@@ -44,6 +46,7 @@ use Rattle.expr_forms.specs.declared.form.Member.{Member}
 use Rattle.expr_forms.specs.FormBounds.{IsListing, IsFormOf, target_count, IsGroundForm}
 use Rattle.expr_forms.specs.FormValues.{form_value, listing_at, members_at, number_part, truth_part}
 use Rattle.expr_forms.specs.Standing.{IsStanding}
+use Rattle.expr_forms.specs.FixedForms.{is_part, is_fixed_choice, is_fixed_list, is_fixed_form}
 use Rattle.expr_forms.proofs.Growing.{ground_still}
 use Rattle.expr_forms.proofs.Inside.{in_left, in_right}
 use Rattle.reference_forms.specs.Dots.{IsDotForm}
@@ -57,6 +60,7 @@ use Rattle.operator_forms.specs.Operating.{IsSide, AreOperands, IsOperated}
 use Rattle.quantifier_forms.specs.Quantified.{AreParts, IsQuantified, compares_members}
 use Rattle.ground_expr.specs.Usable.{IsUsable}
 use Rattle.ground_expr.specs.Made.{IsMade}
+use Rattle.ground_expr.specs.Fixed.{is_fixed_path}
 use Rattle.ground_expr.proofs.Nodes.{paren_is, not_is, minus_is, pair_is, chosen_dot_is, fixed_dot_is, quant_form_is}
 use Rattle.identity_forms.proofs.ListingLaws.{listing_objects, slots_counted}
 use Rattle.ground_expr.proofs.NameForms.{no_this}
@@ -119,15 +123,33 @@ slots_count o (form.Truth t) = omega arith
 slots_count o (form.Choice e c) = omega arith
 slots_count o (form.Object d c) = omega arith
 
+-- ---- what is fixed
+
+never_fixed : (b : Bool) → false ≡ true → b ≡ true
+never_fixed b e = cc
+
+-- a form that is fixed is one object, whatever it is taken for
+chosen_fixed : (f : Form) → is_fixed_form f ≡ true → is_fixed_choice (choice_part f) ≡ true
+chosen_fixed (form.Object d c) h = h
+chosen_fixed (form.Number f) h = refl
+chosen_fixed (form.Truth t) h = refl
+chosen_fixed (form.Choice e c) h = refl
+chosen_fixed (form.List l) h = refl
+
+pub not_fixed : (c : Choice) → ((n : ℕ) → c ≡ choice.Fixed n → ⊥) → is_fixed_choice c ≡ false
+not_fixed (choice.Fixed n) h = absurd (h n refl)
+not_fixed (choice.Cell x) h = refl
+not_fixed (choice.Mapped x m) h = refl
+
 module _ (o : Outline) (known : List (ℕ × ℤ)) (this : Option ℕ) (vars : List ℕ) where
-  pub made_leaf : (g : Ground) (t : Tree) (f : Form) → IsGroundForm o g known t this vars f → IsMade o known g g t this vars f
-  made_leaf g t f h = record { form = h; adds = adds_nothing [] g }
+  pub made_leaf : (g : Ground) (t : Tree) (f : Form) → IsGroundForm o g known t this vars f → (is_fixed_path t ≡ true → is_fixed_form f ≡ true) → IsMade o known g g t this vars f
+  made_leaf g t f h p = record { form = h; adds = adds_nothing [] g; fixed = p }
 
   pub made_paren : (old new : Ground) (i : ℕ) (e : Tree) (f : Form) → IsMade o known old new e this vars f → IsMade o known old new (tree.Paren i e) this vars f
-  made_paren old new i e f h = record { form = paren_is o new known this vars i e f h.form; adds = h.adds }
+  made_paren old new i e f h = record { form = paren_is o new known this vars i e f h.form; adds = h.adds; fixed = h.fixed }
 
   pub made_not : (old new : Ground) (i : ℕ) (e : Tree) (f : Form) (u : ATruth) → IsMade o known old new e this vars f → HasVariable (length new.domains) u → ((a : List ℤ) → IsInBoxes new.domains a → truth_at u a ≡ not (truth_at (truth_part f) a)) → IsMade o known old new (tree.Not i e) this vars (form.Truth u)
-  made_not old new i e f u h variable value = record { form = not_is o new known this vars i e f u h.form variable value; adds = h.adds }
+  made_not old new i e f u h variable value = record { form = not_is o new known this vars i e f u h.form variable value; adds = h.adds; fixed = λ p. p }
 
   pub made_minus : (old mid new : Ground) (i : ℕ) (e : Tree) (f : Form) (z m r : Linear) → m ≡ number_part f → IsMade o known old mid e this vars f → ((a : List ℤ) → linear_at z a ≡ pos 0) → LiesFrom (pos 0) (pos 0) mid.domains z →
       ((a : List ℤ) → IsWorld new a → linear_at r a ≡ linear_at z a -ℤ linear_at m a) →
@@ -141,6 +163,7 @@ module _ (o : Outline) (known : List (ℕ × ℤ)) (this : Option ℕ) (vars : L
         form = minus_is o new known this vars i e f r (ground_still o mid new known e this vars f adds.grows h.form) (sum_wider new.domains _ _ _ _ r low high sum)
             (λ a w. let v = value a w in let n = none a in let k = ap (λ (y : Linear). linear_at y a) em in omega (arith, ints, v, n, k));
         adds = defines_more old mid new h.adds adds;
+        fixed = λ p. p;
       }
 
   pub made_at : (old new : Ground) (t x : Tree) (f : Form) → t ≡ x → IsMade o known old new x this vars f → IsMade o known old new t this vars f
@@ -160,6 +183,7 @@ module _ (o : Outline) (known : List (ℕ × ℤ)) (this : Option ℕ) (vars : L
           form = record { number = m.form.form.number; truth = m.form.form.truth; typed = m.form.form.typed; reached = m.form.form.reached };
         };
         adds = m.adds;
+        fixed = m.fixed;
       }
 
   pub stand_at : (t x : Tree) → t ≡ x → IsStanding o t this vars → IsStanding o x this vars
@@ -197,13 +221,15 @@ module _ (o : Outline) (known : List (ℕ × ℤ)) (this : Option ℕ) (vars : L
       form = pair_is o new known this vars i q l r f h m (ground_still o two new known l this vars f adds.grows left_two) (ground_still o two new known r this vars h adds.grows right.form)
           (is o (interval o l) (interval o r) left_side right_side);
       adds = defines_more old two new (defines_more old one two left.adds right.adds) adds;
+      fixed = never_fixed (is_fixed_form m);
     }
 
   -- an attribute of a chosen object
-  pub made_dot : (old mid new : Ground) (i k : ℕ) (e : Tree) (s : Resolved) (f r : Form) → IsStanding o (tree.Dot i e k s) this vars → IsMade o known old mid e this vars f → Defines mid new → IsDotForm o new (class_part f) (choice_part f) k s r → IsMade o known old new (tree.Dot i e k s) this vars r
-  made_dot old mid new i k e s f r st inner adds h = record {
+  pub made_dot : (old mid new : Ground) (i k : ℕ) (e : Tree) (s : Resolved) (f r : Form) → IsStanding o (tree.Dot i e k s) this vars → IsMade o known old mid e this vars f → Defines mid new → IsDotForm o new (class_part f) (choice_part f) k s r → is_fixed_choice (choice_part f) ≡ false → IsMade o known old new (tree.Dot i e k s) this vars r
+  made_dot old mid new i k e s f r st inner adds h open_choice = record {
     form = chosen_dot_is o new known this vars i k e s f r st (ground_still o mid new known e this vars f adds.grows inner.form) h;
     adds = defines_more old mid new inner.adds adds;
+    fixed = λ p. never_fixed (is_fixed_form r) (sym open_choice ∙ chosen_fixed f (inner.fixed (and_parts (is_part s) (is_fixed_path e) p).1));
   }
 
   -- an attribute of an object that is known
@@ -211,14 +237,16 @@ module _ (o : Outline) (known : List (ℕ × ℤ)) (this : Option ℕ) (vars : L
   made_fixed_dot old mid i k e s f r n st inner fixed h = record {
     form = fixed_dot_is o mid known this vars i k e s f r n st inner.form fixed h;
     adds = inner.adds;
+    fixed = λ p. h.fixed (and_parts (is_part s) (is_fixed_path e) p).0;
   }
 
   -- the list of a quantifier, member by member
   pub members_made : (mid new : Ground) (e : Tree) (f : Form) (l : Listing) (ms : List Member) → IsGroundForm o mid known e this vars f → Defines mid new →
       ((a : List ℤ) → listing_at l a ≡ objects_of (form_value f a)) → slot_objects l ≡ slots_part f →
       ((a : List ℤ) → IsWorld new a → members_at ms a ≡ listing_at l a) → map (λ (m : Member). m.object) ms ≡ slot_objects l → All (λ (m : Member). HasVariable (length new.domains) m.is) ms →
+      (is_fixed_path e ≡ true → is_fixed_form f ≡ true) → (is_fixed_form f ≡ true → is_fixed_list l ≡ true) → (is_fixed_list l ≡ true → All (λ (m : Member). m.is ≡ truth.Fixed true) ms) →
       AreMembersOf o new known e this vars ms
-  members_made mid new e f l ms h adds list slots value objects variables =
+  members_made mid new e f l ms h adds list slots value objects variables path listed sure =
       let still = ground_still o mid new known e this vars f adds.grows h in
       let all = objects ∙ slots in
       record {
@@ -226,6 +254,7 @@ module _ (o : Outline) (known : List (ℕ × ℤ)) (this : Option ℕ) (vars : L
         variables = variables;
         objects = λ p c fits is. objects_in o new.domains (tree_type o e p) c f is (λ ty t. still.form.typed p ty fits t) ms all;
         few = let size = ap length all in let count = slots_count o f in omega (arith, size, count, still.form.reached, length-map ms (λ (m : Member). m.object));
+        sure = λ p. sure (listed (path p));
       }
 
   -- a quantifier
@@ -257,6 +286,7 @@ module _ (o : Outline) (known : List (ℕ × ℤ)) (this : Option ℕ) (vars : L
           (λ a w kn. are.value a (world_before mid new a adds.grows w) kn ∙ ap (λ (n : ℕ). values_over over (own_filter q f) bs (record { outline = o; values = take n a; this = this; vars = vars })) (sym adds.grows.search))
           (first_parts o mid.domains (inside st.place class_of.class) this bs parts each) are.few is;
       adds = defines_more old mid new before adds;
+      fixed = never_fixed (is_fixed_form m);
     }
 
 -- the ends of `- ..`

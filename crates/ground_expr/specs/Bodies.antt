@@ -1,7 +1,7 @@
 -- What making the parts of a quantifier comes to. What a reader believes after this file: in every
 -- world the parts that are kept give the values of the bodies at the members that the filter keeps,
--- in order.
-use Rattle.std.specs.Prelude.{◌≡◌, Bool, ℕ, ◌≤◌, ◌&&◌, Some, Contains, List, [], ◌∷◌, map, filter, ℤ, Option, length}
+-- in order; and without a filter all parts of a path of parts are kept in any case.
+use Rattle.std.specs.Prelude.{◌≡◌, Bool, true, ℕ, ◌≤◌, ◌&&◌, Some, Contains, List, [], ◌∷◌, map, filter, ℤ, Option, length}
 use Rattle.std.specs.List.{All}
 use Rattle.class_table.specs.Outline.{Outline}
 use Rattle.conf_types.specs.Readings.{list_class}
@@ -15,6 +15,7 @@ use Rattle.signed_clause.specs.Clauses.{Boxes}
 use Rattle.ground_form.specs.declared.ground.Ground.{Ground}
 use Rattle.form_build.specs.Forms.{truth_at, HasVariable}
 use Rattle.form_build.specs.declared.form.Truth.{Truth}
+use Rattle.form_build.specs.declared.form.Truth.TheVariants as truth
 use Rattle.form_build.specs.Worlds.{IsWorld, AreKnown}
 use Rattle.conf_eval.specs.declared.value.Value.{Value}
 use Rattle.conf_eval.specs.Meaning.{Setting, bind, value, keeps, values_of, objects_of}
@@ -26,6 +27,8 @@ use Rattle.expr_forms.specs.FormValues.{members_at}
 use Rattle.expr_forms.specs.Standing.{bare_setting, world_setting}
 use Rattle.quantifier_forms.specs.declared.part.Part.{Part}
 use Rattle.quantifier_forms.specs.PartValues.{kept_values}
+use Rattle.pairwise_forms.specs.Wholes.{AreKept}
+use Rattle.ground_expr.specs.Fixed.{is_fixed_path}
 
 -- the filter of a quantifier of this kind; the last two kinds have none
 abbrev pub own_filter : QuantKind → Filter → Filter
@@ -75,9 +78,10 @@ pub record ArePartsOf (o : Outline) (g : Ground) (known : List (ℕ × ℤ)) (ov
       → list_class (tree_type o over p) ≡ Some c → All (IsPartOf o g.domains (inside p c) this bs)
       parts
   pub few : length parts ≤ reach o over
+  pub kept : f ≡ NoFilter → is_fixed_path over ≡ true → AreKept parts
 
 -- the objects that may be members, each with its truth: in every world those whose truth holds are
--- the list
+-- the list; of a path of parts all hold in any case
 pub record AreMembersOf (o : Outline) (g : Ground) (known : List (ℕ × ℤ)) (e : Tree) (this : Option ℕ) (vars : List ℕ) (ms : List Member) : Type 0 where
   pub value : (a : List ℤ) → IsWorld g a → AreKnown known a
       → objects_of (value e (world_setting o g a this vars)) ≡ members_at ms a
@@ -86,12 +90,15 @@ pub record AreMembersOf (o : Outline) (g : Ground) (known : List (ℕ × ℤ)) (
       → list_class (tree_type o e p) ≡ Some c → All (λ (m : Member). Contains (extent o c) m.object)
       ms
   pub few : length ms ≤ reach o e
+  pub sure : is_fixed_path e ≡ true → All (λ (m : Member). m.is ≡ truth.Fixed true) ms
 
--- the truth that an object is a member which the filter keeps
+-- the truth that an object is a member which the filter keeps; without one it is that it is a
+-- member
 pub record IsKept (o : Outline) (g : Ground) (known : List (ℕ × ℤ)) (is : Truth) (f : Filter) (this : Option ℕ) (vars : List ℕ) (t : Truth) : Type 0 where
   pub variable : HasVariable (length g.domains) t
   pub value : (a : List ℤ) → IsWorld g a → AreKnown known a → truth_at t a
       ≡ (truth_at is a && keeps f (world_setting o g a this vars))
+  pub same : f ≡ NoFilter → t ≡ is
 
 -- what these possible members give: the values at those that are members and are kept
 abbrev pub given : (ℕ → Bool) → (ℕ → List Value) → List Member → List ℤ → List (List Value)

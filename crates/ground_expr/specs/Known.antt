@@ -1,6 +1,6 @@
 -- Cells whose values are known. What a reader believes after this file: wherever the known cells
 -- have their values a form has the value of the attribute, and it lies within what the attribute's
--- shape allows.
+-- shape allows; and what is the same in every world is still so.
 use Rattle.std.specs.Prelude.{◌≡◌, ℕ, ◌≤◌, true, List, ℤ, pos, ◌≤ℤ◌, Option, length, take}
 use Rattle.std.specs.List.{All}
 use Rattle.class_table.specs.declared.table.Resolved.{Resolved}
@@ -23,6 +23,7 @@ use Rattle.expr_forms.specs.declared.form.Listing.{Listing}
 use Rattle.expr_forms.specs.declared.form.Member.{Member}
 use Rattle.expr_forms.specs.FormBounds.{IsMember, IsListing, IsFormOf, slot_count, target_count}
 use Rattle.expr_forms.specs.FormValues.{members_at, listing_at, form_value, number_part, truth_part}
+use Rattle.expr_forms.specs.FixedForms.{is_part, is_fixed_list, is_fixed_form}
 
 -- the set has the value, which lies between its ends
 pub record IsHeld (s : Ranges) (v : ℤ) : Type 0 where
@@ -57,6 +58,7 @@ pub record IsKnownListing (known : List (ℕ × ℤ)) (before after : Listing) :
   pub listed : (o : Outline) (boxes : Boxes) (c : ℕ) → IsListing o boxes c before
       → IsListing o boxes c after
   pub few : slot_count after ≤ slot_count before
+  pub fixed : is_fixed_list before ≡ true → is_fixed_list after ≡ true
 
 -- the form of attribute k of the owner, which has this shape, where the known cells have their
 -- values
@@ -67,3 +69,4 @@ pub record IsKnownForm (o : Outline) (g : Ground) (known : List (ℕ × ℤ)) (o
   pub truth : HasVariable (length g.domains) (truth_part f)
   pub typed : IsFormOf o g.domains (shape_type s) f
   pub reached : (r : ℕ) → 1 ≤ r → target_count o f ≤ shape_reach o r s
+  pub fixed : is_part s ≡ true → is_fixed_form f ≡ true

@@ -8,3 +8,4 @@ pub mod Objectives
 pub mod Known
 pub mod Stated
 pub mod Fixed
+pub mod StandsWhole

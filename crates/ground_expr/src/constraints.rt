@@ -1,18 +1,20 @@
 //! Whole constraints. `alldifferent` and `pack` over members that are the same in every
 //! configuration become constraints of a kind that was made for them.
-ghost use Rattle.std.specs.Prelude.{◌≡◌, true, [], OnOk};
+ghost use Rattle.std.specs.Prelude.{◌≡◌, ◌&&◌, true, [], length, OnOk};
 ghost use Rattle.conf_syntax.specs.declared.tree.QuantKind.TheVariants as kinds;
 ghost use Rattle.conf_types.specs.TreeOf.{tree_of, quant_tree};
 ghost use Rattle.conf_types.specs.declared.tree.RQuant as quants;
 ghost use Rattle.conf_eval.specs.Meaning.{truth_of as truth_in};
-ghost use Rattle.form_build.specs.Worlds.{Adds};
+ghost use Rattle.form_build.specs.Worlds.{AreKnown, Adds};
 ghost use Rattle.expr_forms.specs.FixedForms.{is_part};
 ghost use Rattle.expr_forms.specs.Standing.{IsStanding, HasCells};
 ghost use Rattle.quantifier_forms.specs.PartValues.{kept_values, over_values};
 ghost use Rattle.quantifier_forms.specs.Quantified.{AreParts, compares_members};
 ghost use Rattle.pairwise_forms.specs.AlikeParts.{AreAlike, AreSizes};
+ghost use Rattle.pairwise_forms.specs.Wholes.{AreKept};
 ghost use Rattle.ground_expr.specs.Fixed.{is_fixed_path, IsFixed};
 ghost use Rattle.ground_expr.specs.Stated.{Says};
+ghost use Rattle.ground_expr.specs.StandsWhole.{HasWhole, StandsWhole};
 
 use crate::forms::own_parts_at;
 use crate::quantifiers::quantified;
@@ -62,7 +64,9 @@ fn is_fixed_path(e: &RExpr) -> bool
 
 /// Whether the quantifier compares members that are the same in every configuration.
 fn is_whole(quant: &RQuant) -> bool
-    ensures { result ≡ true → IsFixed (tree_of (quants.out-RQuant quant.now).over) }
+    ensures fixed { result ≡ true → IsFixed (tree_of (quants.out-RQuant quant.now).over) }
+    ensures whole { result ≡ (compares_members (quants.out-RQuant quant.now).kind
+        && is_fixed_path (tree_of (quants.out-RQuant quant.now).over)) }
 {
     match quant.kind {
         QuantKind::AllDifferent | QuantKind::Pack => is_fixed_path(&quant.over),
@@ -91,6 +95,8 @@ fn state_members(maker: &mut Maker, kind: QuantKind, parts: &[Part]) -> Result<(
     requires sizes { kind ≡ kinds.Pack → AreSizes maker.old.domains parts.now }
     ensures says { OnOk result (Adds [] maker.old maker.new
         (λ a. truth_in (over_values kind (kept_values parts.now a)))) }
+    ensures whole { OnOk result (AreKept parts.now → HasWhole kind maker.new (length parts.now)
+        (λ a. Unit {0}) (λ a. kept_values parts.now a)) }
 {
     if parts.len() < 2 {
         return state_quantifier(maker, kind, parts);
@@ -116,6 +122,8 @@ fn require_whole(maker: &mut Maker, scene: &Scene<'_, '_>, quant: &RQuant) -> Re
     requires cells { HasCells scene.now.objects.now maker.old }
     ensures says { OnOk result (Says scene.now.objects.now scene.now.known.now
         maker.old maker.new (quant_tree quant.now 0) scene.now.this scene.now.vars.now true) }
+    ensures whole { OnOk result (StandsWhole scene.now.objects.now maker.new
+        (AreKnown scene.now.known.now) (quant_tree quant.now 0) scene.now.this scene.now.vars.now) }
 {
     let parts = own_parts_at(maker, scene, quant)?;
     state_members(maker, quant.kind, parts.as_slice())?;
@@ -133,6 +141,8 @@ pub fn require_constraint(
     requires cells { HasCells scene.now.objects.now maker.old }
     ensures says { OnOk result (Says scene.now.objects.now scene.now.known.now
         maker.old maker.new (tree_of e.now) scene.now.this scene.now.vars.now true) }
+    ensures whole { OnOk result (StandsWhole scene.now.objects.now maker.new
+        (AreKnown scene.now.known.now) (tree_of e.now) scene.now.this scene.now.vars.now) }
 {
     match &e.node {
         RNode::Paren(inner) => require_constraint(maker, scene, inner),

@@ -5,6 +5,7 @@
 ghost use Rattle.std.specs.Prelude.{◌≡◌, ◌*◌, ◌+◌, ◌++◌, ◌≤◌, ◌∷◌, [], ℕ, ℤ, List, map, filter, cond, ◌&&◌, true, length, IfOk, OnOk};
 ghost use Rattle.std.specs.List.{All};
 ghost use Rattle.conf_types.specs.TreeOf.{tree_of, quant_tree, optional_tree, trees_of};
+ghost use Rattle.conf_types.specs.Trees.{NoFilter};
 ghost use Rattle.conf_types.specs.Trees as tree;
 ghost use Rattle.conf_types.specs.declared.tree.RQuant as quants;
 ghost use Rattle.conf_eval.specs.Evaluating.{AllEvaluable, IsRoom};
@@ -15,6 +16,7 @@ ghost use Rattle.conf_limits.specs.Measures.{reach};
 ghost use Rattle.object_alloc.specs.Cells.{extent};
 ghost use Rattle.form_build.specs.Forms.{truth_at, HasVariable};
 ghost use Rattle.form_build.specs.Worlds.{IsWorld, AreKnown, Defines};
+ghost use Rattle.form_build.specs.declared.form.Truth.TheVariants as truth;
 ghost use Rattle.expr_forms.specs.FormValues.{members_at};
 ghost use Rattle.expr_forms.specs.Standing.{IsStanding, HasCells, bare_setting, world_setting};
 ghost use Rattle.expr_forms.specs.declared.form.Member.{Member as AMember};
@@ -22,6 +24,7 @@ ghost use Rattle.ground_expr.specs.Made.{IsMade};
 ghost use Rattle.ground_expr.specs.Insides.{IsOver, IsInside};
 ghost use Rattle.ground_expr.specs.Bodies.{own_filter, AreBodies, ArePartsOf, AreMembersOf, IsPartOf, IsKept, given};
 ghost use Rattle.quantifier_forms.specs.PartValues.{kept_values};
+ghost use Rattle.pairwise_forms.specs.Wholes.{AreKept};
 
 use crate::known::attribute_at;
 use crate::names::{
@@ -254,6 +257,8 @@ fn parts_over(
         → All (IsPartOf scene.now.objects.now maker.new.domains p scene.now.this
         (trees_of body.now)) parts.items) }
     ensures few { IfOk result (λ parts. length parts.items ≤ length members.now) }
+    ensures kept { IfOk result (λ parts. optional_tree filter.now ≡ NoFilter
+        → All (λ (m : AMember). m.is ≡ truth.Fixed true) members.now → AreKept parts.items) }
     ensures adds { IfOk result (λ parts. Defines maker.old maker.new) }
 {
     let mut parts = Vec::new(maker.alloc());
@@ -316,6 +321,8 @@ fn push_part(
         → All (IsPartOf scene.now.objects.now maker.new.domains p scene.now.this
         (trees_of body.now)) parts.new.items) }
     ensures few { OnOk result (length parts.new.items ≤ length parts.old.items + 1) }
+    ensures kept { OnOk result (optional_tree filter.now ≡ NoFilter → is.now ≡ truth.Fixed true
+        → AreKept parts.old.items → AreKept parts.new.items) }
     ensures adds { OnOk result (Defines maker.old maker.new) }
 {
     let kept = kept_at(maker, scene, is, filter)?;

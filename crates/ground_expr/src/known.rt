@@ -12,6 +12,7 @@ ghost use Rattle.form_build.specs.Forms.{linear_at, truth_at, HasVariable};
 ghost use Rattle.form_build.specs.Sums.{IsSum, IsVariable};
 ghost use Rattle.form_build.specs.Worlds.{AreKnown};
 ghost use Rattle.expr_forms.specs.declared.form.Choice.TheVariants as choice;
+ghost use Rattle.expr_forms.specs.FixedForms.{is_part, is_fixed_form};
 ghost use Rattle.expr_forms.specs.Standing.{HasCells};
 ghost use Rattle.reference_forms.specs.Attributes.{IsAttributeForm};
 ghost use Rattle.ground_expr.specs.Known.{IsHeld, IsKnownValue, IsKnownChoice, IsKnownForm};
@@ -140,6 +141,7 @@ fn known_choice(maker: &Maker, known: &[(u32, i64)], c: Choice) -> Choice
 fn known_form(maker: &Maker, known: &[(u32, i64)], f: Form) -> Result<Form, AllocError>
     ensures { IfOk result (λ r. (o : Outline) (owner : Option ℕ) (k : ℕ) (s : AShape)
         → IsAttributeForm o maker.now owner k s f
+        → (is_part s ≡ true → is_fixed_form f ≡ true)
         → IsKnownForm o maker.now known.now owner k s r) }
 {
     match f {

@@ -1,5 +1,5 @@
 //! What names stand for: an object that is known, a quantifier's variable, a class.
-ghost use Rattle.std.specs.Prelude.{◌≡◌, ◌++◌, ◌∷◌, [], ◌<◌, ◌^◌, ℕ, ℤ, pos, List, unsigned_abs, length, IfOk};
+ghost use Rattle.std.specs.Prelude.{◌≡◌, ◌++◌, ◌∷◌, [], ◌<◌, ◌^◌, true, ℕ, ℤ, pos, List, unsigned_abs, length, IfOk};
 ghost use Rattle.signed_clause.specs.Clauses.{Boxes};
 ghost use Rattle.form_build.specs.Forms.{linear_at};
 ghost use Rattle.form_build.specs.Sums.{IsLinear, LiesFrom};
@@ -8,6 +8,7 @@ ghost use Rattle.object_alloc.specs.Walk.{objects as all_objects};
 ghost use Rattle.conf_eval.specs.Evaluating.{IsRoom};
 ghost use Rattle.conf_eval.specs.Meaning.{local_object, objects_of};
 ghost use Rattle.expr_forms.specs.FormValues.{form_value, listing_at};
+ghost use Rattle.expr_forms.specs.FixedForms.{is_fixed_form, is_fixed_list};
 ghost use Rattle.ground_expr.specs.Chosen.{class_part, choice_part, slots_part};
 ghost use Rattle.identity_forms.specs.Lists.{HasMembers, slot_objects};
 ghost use Rattle.ground_expr.specs.Usable.{IsUsable};
@@ -88,6 +89,7 @@ pub(crate) fn listing_of(alloc: Global, f: Form) -> Listing
     ensures value { (a : List ℤ) → listing_at result a ≡ objects_of (form_value f a) }
     ensures slots { slot_objects result ≡ slots_part f }
     ensures usable { (boxes : Boxes) → IsUsable boxes f → HasMembers boxes result }
+    ensures fixed { is_fixed_form f ≡ true → is_fixed_list result ≡ true }
 {
     match f {
         Form::List(list) => list,

@@ -13,7 +13,7 @@ use Rattle.ground_form.specs.Meaning.{value_of}
 use Rattle.ground_form.specs.StandsFor.{AreGoalValues, StandsFor}
 use Rattle.ground_form.specs.WellMade.{IsWellMade}
 use Rattle.ground_build.specs.Growing.{over_cells, with_goals}
-use Rattle.form_build.specs.Worlds.{IsWorld, AreSome, Adds, Defines}
+use Rattle.form_build.specs.Worlds.{IsWorld, IsInBoxes, AreSome, Adds, Defines}
 use Rattle.form_build.proofs.Growth.{adds_more}
 use Rattle.form_build.proofs.Final.{stands_from}
 use Rattle.ground_cells.specs.CellBoxes.{cell_boxes}
@@ -22,6 +22,8 @@ use Rattle.ground_expr.specs.Asked.{satisfied_by}
 use Rattle.ground_expr.specs.Objectives.{functions}
 use Rattle.ground_model.specs.Aims.{idle_goal}
 use Rattle.ground_model.specs.Requiring.{Requires}
+use Rattle.ground_model.specs.WholesStand.{WholesStand}
+use Rattle.ground_model.proofs.WholeSteps.{never_wholes}
 
 -- a problem of the cells alone has the cells
 pub cells_first : (o : Outline) (g : Ground) → g ≡ over_cells (cell_boxes o) → HasCells o g
@@ -106,3 +108,9 @@ idle_stands boxes b g goals gs test asked e cells is aims made count =
   where
     whole_front : (n : ℕ) (xs : Boxes) → n ≡ length xs → take n xs ≡ xs
     whole_front n xs h = take_all n xs (omega (arith, h))
+
+-- and no world, so whatever stands where one is
+pub idle_wholes : (o : Outline) (boxes : Boxes) (b g : Ground) (goals : List GroundGoal) (ks : List ResolvedConstraint) → list_any is_nil boxes ≡ true → b ≡ over_cells boxes → g ≡ with_goals b goals → WholesStand o g ks
+idle_wholes o boxes b g goals ks e cells is =
+    let same : g.domains ≡ boxes = ap (λ (z : Ground). z.domains) (is ∙ ap (λ (z : Ground). with_goals z goals) cells) in
+    never_wholes o g ks (λ a w. no_point boxes (value_of a) e (subst (λ (z : Boxes). IsInBoxes z a) same w.within))

@@ -10,3 +10,4 @@ pub mod Fixings
 pub mod RowSteps
 pub mod RowLaws
 pub mod SumRows
+pub mod WholeSteps

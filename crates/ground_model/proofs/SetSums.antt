@@ -147,3 +147,14 @@ module _ (o : Outline) (sound : IsSound o) (l : Leaf) (c n : ℕ) (has_leaf : Co
       let sum = ap (λ (ts : List (ℤ × ℕ)). sum_at ts a) e ∙ sum_is (cells o) values a l.owner l.attribute xs (extent o c) (leaf_cells_are o sound l c n has_leaf is) (bits_at g a xs w (own_members g there)) in
       compared (length (filter_map (chosen (cells o) values) xs)) n (sum_at f.terms a) f.offset sum h
       ∙ ap (λ (s : Resolved). has_count s (length (objects_of (attribute_value o values l.owner l.attribute s)))) (sym is)
+
+-- ---- a set that is to have members has cells
+
+pub never_full : (o : Outline) (values : List ℤ) (l : Leaf) (c n : ℕ) → l.shape ≡ RefSet c n → own_cells o l.owner l.attribute ≡ [] → 0 < n → is_full o values l ≡ false
+never_full o values l c n is none some =
+    ap (λ (s : Resolved). has_count s (length (objects_of (attribute_value o values l.owner l.attribute s)))) is
+    ∙ ap (λ (xs : List ℕ). nat_eq (length (filter_map (chosen (cells o) values) xs)) n) none
+    ∙ other n some
+  where
+    other : (n : ℕ) → 0 < n → nat_eq 0 n ≡ false
+    other n h = grind (arith, nat_tests)

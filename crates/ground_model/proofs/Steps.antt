@@ -1,5 +1,5 @@
 -- Requirements one after the other, and one for each item of a list.
-use Rattle.std.proofs.Common.{◌≡◌, ℕ, ◌+◌, ◌<◌, ◌≤◌, Bool, true, false, true≢false, cond, ◌&&◌, List, [], ◌∷◌, ℤ, Option, None, Some, get_or, length, take, refl, sym, ap, ◌∙◌}
+use Rattle.std.proofs.Common.{◌≡◌, ℕ, zero, suc, ◌+◌, ◌<◌, ◌≤◌, Bool, true, false, true≢false, cond, ◌&&◌, List, [], ◌∷◌, ℤ, Option, None, Some, get_or, length, take, refl, sym, ap, ◌∙◌, arith}
 use Rattle.std.specs.List.{list_all}
 use Rattle.std.proofs.lemmas.List.{take_all}
 use Rattle.std.proofs.lemmas.List.Folds.{list_all_more, list_all-map}
@@ -20,6 +20,16 @@ use Rattle.ground_model.specs.Requiring.{Requires}
 and_true : (b : Bool) → (b && true) ≡ b
 and_true true = refl
 and_true false = refl
+
+and_false : (b : Bool) → (b && false) ≡ false
+and_false true = refl
+and_false false = refl
+
+all_false : {X : Type 0} (test : X → Bool) (xs : List X) (k : ℕ) (x : X) → k < length xs → x ≡ get_or xs k x → test x ≡ false → list_all test xs ≡ false
+all_false test [] k x lt is never = absurd (omega (arith, lt))
+all_false test (y ∷ ys) zero x lt is never = ap (λ b. b && list_all test ys) (ap test (sym is) ∙ never)
+all_false test (y ∷ ys) (suc k) x lt is never =
+    ap (λ b. test y && b) (all_false test ys k x (omega (arith, lt)) is never) ∙ and_false (test y)
 
 module _ (known : List (ℕ × ℤ)) where
   -- what was added says this where worlds have what they begin with
@@ -53,6 +63,15 @@ module _ (known : List (ℕ × ℤ)) where
   requires_next f g h p xs k x lt is one two =
       requires_same f h (λ values. list_all (p values) (take k xs) && p values x) (λ values. list_all (p values) (take (k + 1) xs))
       (λ values. ap (λ y. list_all (p values) (take k xs) && p values y) is ∙ sym (list_all_more (p values) xs k x lt))
+      (requires_more f g h (λ values. list_all (p values) (take k xs)) (λ values. p values x) one two)
+
+  -- an item that never passes: none needs to be looked at behind it
+  pub requires_never : {X : Type 0} (f g h : Ground) (p : List ℤ → X → Bool) (xs : List X) (k : ℕ) (x : X) → k < length xs → x ≡ get_or xs k x → ((values : List ℤ) → p values x ≡ false) →
+      Requires known f g (λ values. list_all (p values) (take k xs)) → Requires known g h (λ values. p values x) → Requires known f h (λ values. list_all (p values) xs)
+  requires_never f g h p xs k x lt is never one two =
+      requires_same f h (λ values. list_all (p values) (take k xs) && p values x) (λ values. list_all (p values) xs)
+      (λ values. ap (λ b. list_all (p values) (take k xs) && b) (never values) ∙ and_false (list_all (p values) (take k xs))
+      ∙ sym (all_false (p values) xs k x lt is (never values)))
       (requires_more f g h (λ values. list_all (p values) (take k xs)) (λ values. p values x) one two)
 
   -- all items

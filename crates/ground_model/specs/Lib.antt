@@ -9,3 +9,4 @@ pub mod RowsAsked
 pub use Rattle.ground_expr.specs.Asked
 pub use Rattle.ground_expr.specs.Objectives
 pub mod Adding
+pub mod WholesStand

@@ -2,13 +2,17 @@
 ghost use Rattle.std.specs.Prelude.{◌≡◌, ◌<◌, ℕ, [], true, false, Some, length, slice_index_or, IfOk, OnOk};
 ghost use Rattle.std.specs.List.{All, list_all};
 ghost use Rattle.object_alloc.specs.Cells.{extent};
+ghost use Rattle.form_build.specs.Worlds.{AreKnown};
 ghost use Rattle.expr_forms.specs.Standing.{HasCells};
 ghost use Rattle.ground_expr.specs.Asked.{holds_for, holds_of, satisfied_by};
+ghost use Rattle.ground_expr.specs.StandsWhole.{StandsWhole};
 ghost use Rattle.ground_model.specs.Fixing.{holds_in};
 ghost use Rattle.ground_model.specs.Known.{HasKnown, AreFixed};
 ghost use Rattle.ground_model.specs.Requiring.{Requires};
 ghost use Rattle.ground_model.specs.Stated.{IsReady, IsReadyConstraint};
+ghost use Rattle.ground_model.specs.WholesStand.{HasWholes, HasWholesIn, WholesStand};
 
+use crate::comparing::is_told;
 use crate::fixing::is_of_pass;
 use crate::known::{known_cells, require_values};
 use crate::origins::Origins;
@@ -32,6 +36,8 @@ fn require_for(
     requires known { HasKnown objects.now known.now maker.old }
     ensures says { OnOk result (Requires known.now maker.old maker.new
         (λ values. holds_for objects.now values constraint.now this)) }
+    ensures whole { OnOk result (StandsWhole objects.now maker.new (AreKnown known.now)
+        constraint.now.tree this []) }
 {
     require_tree(maker, objects, known, this, &constraint.expr)?;
     Ok(())
@@ -57,6 +63,8 @@ fn require_each(
     requires known { HasKnown objects.now known.now maker.old }
     ensures says { OnOk result (Requires known.now maker.old maker.new (λ values.
         list_all (λ n. holds_for objects.now values constraint.now (Some n)) members.now)) }
+    ensures whole { OnOk result (All (λ n. StandsWhole objects.now maker.new (AreKnown known.now)
+        constraint.now.tree (Some n) []) members.now) }
 {
     for i in 0..members.len() {
         let this = Some(number_at(members, i));
@@ -64,10 +72,6 @@ fn require_each(
     }
     Ok(())
 }
-
-/// Of a packing with at most so many bins the sums are stated as well. They tell the same of each
-/// bin by fewer machines, and with few bins their flags are few.
-const FEW_BINS: usize = 16;
 
 /// States that a constraint holds for these objects: as one packing where it says that they are
 /// one, and for each of them where it doesn't, or where they are few.
@@ -82,9 +86,11 @@ fn require_members(
     requires known { HasKnown objects.now known.now maker.old }
     ensures says { OnOk result (Requires known.now maker.old maker.new (λ values.
         list_all (λ n. holds_for objects.now values constraint.now (Some n)) members.now)) }
+    ensures whole { OnOk result (All (λ n. StandsWhole objects.now maker.new (AreKnown known.now)
+        constraint.now.tree (Some n) []) members.now) }
 {
     let packs = require_packed(maker, objects, known, constraint, members)?;
-    if packs && members.len() > FEW_BINS {
+    if is_told(packs, &constraint.expr, members.len()) {
         return Ok(());
     }
     require_each(maker, objects, known, constraint, members)?;
@@ -106,6 +112,8 @@ fn require_in(
     ensures says { OnOk result (Requires known.now maker.old maker.new (λ values.
         list_all (λ n. holds_for objects.now values constraint.now (Some n))
         (extent objects.now class))) }
+    ensures whole { OnOk result (All (λ n. StandsWhole objects.now maker.new (AreKnown known.now)
+        constraint.now.tree (Some n) []) (extent objects.now class)) }
 {
     let members = objects.extent(maker.alloc(), class)?;
     require_members(maker, objects, known, constraint, members.items())?;
@@ -123,6 +131,8 @@ fn require_constraint(
     requires known { HasKnown objects.now known.now maker.old }
     ensures says { OnOk result (Requires known.now maker.old maker.new
         (λ values. holds_of objects.now values constraint.now)) }
+    ensures whole { OnOk result (HasWholes objects.now maker.new (AreKnown known.now)
+        constraint.now) }
 {
     match constraint.class {
         Some(class) => {
@@ -148,6 +158,8 @@ fn require_in_pass(
     requires known { HasKnown objects.now known.now maker.old }
     ensures says { OnOk result (Requires known.now maker.old maker.new
         (λ values. holds_in fixing objects.now values constraint.now)) }
+    ensures whole { OnOk result (HasWholesIn fixing objects.now maker.new (AreKnown known.now)
+        constraint.now) }
 {
     if !is_of_pass(&constraint.expr, fixing) {
         return Ok(());
@@ -169,6 +181,8 @@ fn require_pass(
     requires known { HasKnown objects.now known.now maker.old }
     ensures says { OnOk result (Requires known.now maker.old maker.new
         (λ values. list_all (holds_in fixing objects.now values) list.now)) }
+    ensures whole { OnOk result (All (HasWholesIn fixing objects.now maker.new
+        (AreKnown known.now)) list.now) }
 {
     origins.begin();
     for constraint in list {
@@ -207,6 +221,8 @@ fn require_both_passes(
     requires known { HasKnown objects.now known.now maker.old }
     ensures says { OnOk result (Requires known.now maker.old maker.new
         (λ values. list_all (holds_of objects.now values) list.now)) }
+    ensures whole { OnOk result (All (HasWholes objects.now maker.new (AreKnown known.now))
+        list.now) }
 {
     require_pass(maker, objects, known, list, true, origins)?;
     require_pass(maker, objects, known, list, false, origins)?;
@@ -228,6 +244,7 @@ pub(crate) fn require_satisfied(
         (satisfied_by objects.now list.now)) }
     ensures known { IfOk result (λ known. HasKnown objects.now known.items maker.new) }
     ensures fixed { IfOk result (λ known. AreFixed known.items maker.new) }
+    ensures whole { IfOk result (λ known. WholesStand objects.now maker.new list.now) }
 {
     let _some = maker.domains();
     let known = known_cells(maker.alloc(), objects, list, origins)?;

@@ -13,6 +13,7 @@
 //! ConfSolve was ground to MiniZinc by Hewson, Anderson and Gordon (2012).
 //!
 //! - `allowance`: how many variables and constraints a model may have.
+//! - `comparing`: which constraints compare the members of a list.
 //! - `constraints`: a constraint, for each object of its class.
 //! - `fixing`: which constraints may give cells their values.
 //! - `goals`: the objectives as variables.
@@ -27,6 +28,7 @@
 #![tactic(auto)]
 
 mod allowance;
+mod comparing;
 mod constraints;
 mod fixing;
 mod goals;

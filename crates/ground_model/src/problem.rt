@@ -5,6 +5,7 @@
 ghost use Rattle.std.specs.Prelude.{◌≡◌, ◌^◌, ◌↔◌, ℤ, Bool, List, [], true, length, IfOk, OnOk};
 ghost use Rattle.std.specs.List.{list_any};
 ghost use Rattle.signed_clause.specs.Ranges.{is_nil};
+ghost use Rattle.class_table.specs.Outline.{Outline};
 ghost use Rattle.conf_types.specs.Typing.{IsTypedModel};
 ghost use Rattle.conf_limits.specs.Measures.{model_narrow};
 ghost use Rattle.conf_eval.specs.Satisfying.{Satisfies};
@@ -19,6 +20,7 @@ ghost use Rattle.ground_model.specs.Known.{HasKnown, AreFixed};
 ghost use Rattle.ground_model.specs.Requiring.{Requires};
 ghost use Rattle.ground_model.specs.Allowance.{HasAtMost, allowance};
 ghost use Rattle.ground_model.specs.Stated.{IsReadyModel};
+ghost use Rattle.ground_model.specs.WholesStand.{WholesStand};
 
 use crate::allowance::{allowance, has_at_most};
 use crate::constraints::require_satisfied;
@@ -60,6 +62,7 @@ fn idle_problem(alloc: Global, builder: Builder, model: &TypedModel) -> Result<G
     requires empty { list_any is_nil builder.domains ≡ true }
     ensures stands { IfOk result (λ g. (test : List ℤ → Bool) (asked : List (Bool × (List ℤ → ℤ)))
         → length asked ≡ length model.now.goals → StandsFor g builder.domains test asked) }
+    ensures whole { IfOk result (λ g. (o : Outline) → WholesStand o g model.now.constraints) }
 {
     let goals = idle_goals(alloc, model.goals())?;
     let g = builder.finish(goals);
@@ -80,6 +83,8 @@ fn require_model(
         (satisfied_by objects.now model.now.constraints)) }
     ensures known { IfOk result (λ known. HasKnown objects.now known.items maker.new) }
     ensures fixed { IfOk result (λ known. AreFixed known.items maker.new) }
+    ensures whole { IfOk result (λ known. WholesStand objects.now maker.new
+        model.now.constraints) }
 {
     let known = require_satisfied(maker, objects, model.constraints(), origins)?;
     Ok(known)
@@ -114,6 +119,7 @@ fn whole_problem(
         (cell_boxes objects.now)
         (satisfied_by objects.now model.now.constraints)
         (functions objects.now model.now.goals)) }
+    ensures whole { IfOk result (λ g. WholesStand objects.now g model.now.constraints) }
 {
     let mut maker = maker;
     let known = require_model(&mut maker, model, objects, origins)?;
@@ -136,6 +142,7 @@ fn problem(
         (cell_boxes objects.now)
         (satisfied_by objects.now model.now.constraints)
         (functions objects.now model.now.goals)) }
+    ensures whole { IfOk result (λ g. WholesStand objects.now g model.now.constraints) }
 {
     let _count = objects.count();
     let cells = cell_boxes(alloc, objects)?;
@@ -173,6 +180,7 @@ fn allowed_problem(
     ensures few { IfOk result (λ g. HasAtMost (2 ^ 31) g) }
     ensures allowance { IfOk result (λ g. HasAtMost
         (allowance objects.now model.now.constraints model.now.goals) g) }
+    ensures whole { IfOk result (λ g. WholesStand objects.now g model.now.constraints) }
 {
     let g = problem(alloc, model, objects, origins, packings)?;
     if !has_at_most(&g, allowance(model, objects).min(MOST)) {
@@ -206,6 +214,7 @@ pub fn ground_with_origins(
     ensures few { IfOk result (λ g. HasAtMost (2 ^ 31) g) }
     ensures allowance { IfOk result (λ g. HasAtMost
         (allowance objects.now model.now.constraints model.now.goals) g) }
+    ensures whole { IfOk result (λ g. WholesStand objects.now g model.now.constraints) }
 {
     let g = allowed_problem(alloc, model, objects, origins, false)?;
     Ok(g)
@@ -233,6 +242,7 @@ pub fn ground(
     ensures few { IfOk result (λ g. HasAtMost (2 ^ 31) g) }
     ensures allowance { IfOk result (λ g. HasAtMost
         (allowance objects.now model.now.constraints model.now.goals) g) }
+    ensures whole { IfOk result (λ g. WholesStand objects.now g model.now.constraints) }
 {
     let mut origins = Origins::new(alloc);
     let g = allowed_problem(alloc, model, objects, &mut origins, true)?;

@@ -3,10 +3,11 @@
 //! These two calls are all that this crate asks of `ground_expr`.
 ghost use Rattle.std.specs.Prelude.{[], IfOk, OnOk};
 ghost use Rattle.conf_types.specs.TreeOf.{tree_of};
-ghost use Rattle.form_build.specs.Worlds.{Defines};
+ghost use Rattle.form_build.specs.Worlds.{AreKnown, Defines};
 ghost use Rattle.conf_eval.specs.Meaning.{value, truth_of};
 ghost use Rattle.conf_eval.specs.Satisfying.{setting};
 ghost use Rattle.expr_forms.specs.FormBounds.{IsGroundForm};
+ghost use Rattle.ground_expr.specs.StandsWhole.{StandsWhole};
 ghost use Rattle.ground_model.specs.Known.{HasKnown};
 ghost use Rattle.ground_model.specs.Requiring.{Requires};
 ghost use Rattle.ground_model.specs.Stated.{IsReady};
@@ -56,6 +57,8 @@ pub(crate) fn require_tree(
     requires known { HasKnown objects.now known.now maker.old }
     ensures says { OnOk result (Requires known.now maker.old maker.new
         (λ values. truth_of (value (tree_of e.now) (setting objects.now values this)))) }
+    ensures whole { OnOk result (StandsWhole objects.now maker.new (AreKnown known.now)
+        (tree_of e.now) this []) }
 {
     let scene = Scene {
         objects,

@@ -1,7 +1,8 @@
 //! The sizes of reference sets: each set has as many members as its shape says.
-ghost use Rattle.std.specs.Prelude.{◌≡◌, ◌<◌, ◌^◌, ℕ, [], true, pos, neg_ℤ, length, slice_index_or, Contains, IfNone, IfOk, IfSome, OnOk};
+ghost use Rattle.std.specs.Prelude.{◌≡◌, ◌<◌, ◌^◌, ℕ, ℤ, List, [], true, false, pos, neg_ℤ, length, slice_index_or, Contains, IfNone, IfOk, IfSome, OnOk};
 ghost use Rattle.class_table.specs.declared.table.Resolved.TheVariants.{RefSet};
 ghost use Rattle.object_alloc.specs.declared.object.Leaf.{Leaf as ALeaf};
+ghost use Rattle.object_alloc.specs.Groups.{own_cells};
 ghost use Rattle.object_alloc.specs.Walk.{walk, leaves_in};
 ghost use Rattle.expr_forms.specs.Standing.{HasCells};
 ghost use Rattle.ground_expr.specs.Asked.{has_count, is_full, are_full};
@@ -70,7 +71,26 @@ fn require_full(maker: &mut Maker, objects: &Objects<'_>, leaf: Leaf) -> Result<
     Ok(())
 }
 
-/// States that each reference set of a model has as many members as its shape says.
+/// Whether a leaf has no cells.
+#[tactic(auto, using(std::proofs::lemmas::List::nil_from_length))]
+fn has_no_cells(objects: &Objects<'_>, leaf: Leaf) -> bool
+    ensures { result ≡ true → own_cells objects.now leaf.owner leaf.attribute ≡ [] }
+{
+    objects.own_cells(leaf.owner, leaf.attribute).is_empty()
+}
+
+/// Whether a leaf is a reference set that is to have members, and has no cells.
+fn is_impossible(objects: &Objects<'_>, leaf: Leaf) -> bool
+    ensures { result ≡ true → (values : List ℤ) → is_full objects.now values leaf ≡ false }
+{
+    match set_size(leaf.shape) {
+        Some(size) => size > 0 && has_no_cells(objects, leaf),
+        None => false,
+    }
+}
+
+/// States that each reference set of a model has as many members as its shape says. The first that
+/// cannot have them says all.
 pub(crate) fn require_full_sets(maker: &mut Maker, objects: &Objects<'_>) -> Result<(), AllocError>
     requires cells { HasCells objects.now maker.old }
     ensures says { OnOk result (Requires [] maker.old maker.new
@@ -78,7 +98,11 @@ pub(crate) fn require_full_sets(maker: &mut Maker, objects: &Objects<'_>) -> Res
 {
     let leaves = objects.leaves();
     for i in 0..leaves.len() {
-        require_full(maker, objects, leaf_at(leaves, i))?;
+        let leaf = leaf_at(leaves, i);
+        require_full(maker, objects, leaf)?;
+        if is_impossible(objects, leaf) {
+            return Ok(());
+        }
     }
     Ok(())
 }

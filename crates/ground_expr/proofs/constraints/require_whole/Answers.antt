@@ -1,18 +1,21 @@
-use Rattle.std.proofs.Common.{List, [], true, sym, subst}
+use Rattle.std.proofs.Common.{List, [], true, length, sym, subst}
 use Rattle.conf_types.specs.declared.tree.RQuant as quant
 use Rattle.conf_types.specs.Trees.{Tree}
 use Rattle.conf_types.specs.TreeOf.{tree_of, optional_tree, trees_of}
 use Rattle.conf_eval.specs.Meaning.{truth_of}
 use Rattle.conf_eval.proofs.EvalLaws.{quant_is}
-use Rattle.form_build.specs.Worlds.{Adds}
+use Rattle.form_build.specs.Worlds.{AreKnown, Adds}
 use Rattle.expr_forms.specs.Standing.{IsStanding}
 use Rattle.quantifier_forms.specs.declared.part.Part.{Part}
 use Rattle.quantifier_forms.specs.PartValues.{kept_values, over_values}
 use Rattle.quantifier_forms.specs.Quantified.{AreParts}
 use Rattle.pairwise_forms.specs.AlikeParts.{AreAlike, AreSizes}
+use Rattle.pairwise_forms.specs.Wholes.{AreKept}
 use Rattle.ground_expr.specs.Stated.{Says}
+use Rattle.ground_expr.specs.StandsWhole.{HasWhole, StandsWhole}
 use Rattle.ground_expr.proofs.Steps.{quant_parts, quant_alike, quant_sized}
 use Rattle.ground_expr.proofs.Wholes.{says_parts}
+use Rattle.ground_expr.proofs.StandingWhole.{stands_parts}
 use Rattle.ground_expr.proofs.constraints.require_whole.Goals as goal
 
 pub state_members-requires-clause-parts : goal.state_members-requires-clause-parts
@@ -49,4 +52,7 @@ returns c =
     record {
       says = subst (λ (z : Tree). Says scene.objects.now scene.known.now c.args.maker.now new z scene.this scene.vars.now true) (sym (quant_is c.args.quant.now 0))
           (says_parts scene.objects.now scene.known.now scene.this scene.vars.now c.args.maker.now mid new 0 q.kind (tree_of q.over) (optional_tree q.filter) (trees_of q.body.items) c.in_ok-parts.parts.items c.in_ok-parts.ensures.parts c.in_ok-parts.ensures.adds says);
+      whole = subst (λ (z : Tree). StandsWhole scene.objects.now new (AreKnown scene.known.now) z scene.this scene.vars.now) (sym (quant_is c.args.quant.now 0))
+          (stands_parts scene.objects.now scene.known.now scene.this scene.vars.now mid new 0 q.kind (tree_of q.over) (optional_tree q.filter) (trees_of q.body.items) c.in_ok-parts.parts.items c.in_ok-parts.ensures.parts says.grows
+          (subst (λ (ps : List Part). AreKept ps → HasWhole q.kind new (length ps) (λ a. Unit {0}) (λ a. kept_values ps a)) c.as_slice.ensures.value c.in_ok-state_members.ensures.whole));
     }

@@ -1,4 +1,4 @@
-use Rattle.std.proofs.Common.{◌≡◌, ◌∙◌, ◌<◌, ◌≤◌, ◌+◌, ◌++◌, ◌&&◌, not, cond, ℕ, ℤ, List, ap, sym, subst, arith, length, take, [], ◌∷◌, Some}
+use Rattle.std.proofs.Common.{◌≡◌, true, refl, ◌∙◌, ◌<◌, ◌≤◌, ◌+◌, ◌++◌, ◌&&◌, not, cond, ℕ, ℤ, List, ap, sym, subst, arith, length, take, [], ◌∷◌, Some}
 use Rattle.std.specs.List.{All}
 use Rattle.std.proofs.lemmas.List.Elements.{All-nil}
 use Rattle.std.proofs.lemmas.Result.{IfOk-weaker}
@@ -17,6 +17,7 @@ use Rattle.conf_eval.proofs.LawsNarrow.{narrow_interval}
 use Rattle.conf_eval.proofs.EvalLaws.{quant_is, quant_moved, quant_height, nth_evaluable, nth_low}
 use Rattle.signed_clause.specs.Clauses.{Boxes}
 use Rattle.form_build.specs.declared.form.Truth.{Truth as ATruth}
+use Rattle.form_build.specs.declared.form.Truth.TheVariants as truth
 use Rattle.form_build.specs.Forms.{truth_at, HasVariable}
 use Rattle.form_build.specs.Worlds.{IsWorld, IsInBoxes, AreKnown}
 use Rattle.form_build.proofs.Growth.{adds_nothing, defines_more}
@@ -34,6 +35,7 @@ use Rattle.reference_forms.specs.Candidates.{HaveShape}
 use Rattle.reference_forms.specs.Dots.{IsDotForm}
 use Rattle.quantifier_forms.specs.declared.part.Part.{Part}
 use Rattle.quantifier_forms.specs.PartValues.{kept_values}
+use Rattle.pairwise_forms.specs.Wholes.{AreKept}
 use Rattle.quantifier_forms.specs.Quantified.{AreParts, IsQuantified}
 use Rattle.ground_expr.specs.Bodies.{AreBodies, IsPartOf, given}
 use Rattle.ground_expr.specs.Chosen.{class_part, choice_part}
@@ -43,8 +45,8 @@ use Rattle.ground_expr.proofs.InsideQuantifiers.{over_stands, without_filter}
 use Rattle.ground_expr.proofs.NameForms.{this_low, local_there, this_is, local_is, value_is, class_is, own_is, root_is}
 use Rattle.ground_expr.proofs.Nodes.{number_is, truth_is, chosen_shapes, fixed_shape}
 use Rattle.ground_expr.proofs.PartLaws.{form_usable, bodies_still, bodies_push, parts_kept}
-use Rattle.ground_expr.proofs.PartSteps.{at_scene, item_at, none_kept, no_bodies, all_bodies, kept_none, kept_some, not_pushed, pushed, pushed_each, part_next, part_end, over_parts, members_inside}
-use Rattle.ground_expr.proofs.Steps.{made_leaf, made_at, made_moved, stand_at, made_not, made_minus, made_dot, made_fixed_dot, quant_parts, quant_alike, quant_sized, made_quant, members_made, operands, left_usable, right_usable, made_pair, minus_low, minus_high, this_there}
+use Rattle.ground_expr.proofs.PartSteps.{at_scene, item_at, none_kept, no_bodies, all_bodies, kept_none, kept_some, not_pushed, pushed, pushed_each, pushed_kept, part_next, part_end, over_parts, members_inside}
+use Rattle.ground_expr.proofs.Steps.{made_leaf, made_at, made_moved, stand_at, made_not, made_minus, not_fixed, made_dot, made_fixed_dot, quant_parts, quant_alike, quant_sized, made_quant, members_made, operands, left_usable, right_usable, made_pair, minus_low, minus_high, this_there}
 use Rattle.ground_expr.proofs.forms.+forms.Goals as goal
 
 pub form_at-object_form-requires : goal.form_at-object_form-requires
@@ -74,7 +76,7 @@ form_at-returns-in-Number t c =
     let known = c.args.scene.now.known.now in
     record {
       made = made_at o known this vars g g (tree_of c.args.e.now) (tree.Number c.args.e.now.at c.in-Number.n) _ (ap (λ n. node_tree n c.args.e.now.at) c.in-Number.is)
-          (made_leaf o known this vars g (tree.Number c.args.e.now.at c.in-Number.n) _ (number_is o g known this vars c.args.e.now.at c.in-Number.n c.number_sum.result c.number_sum.ensures.small c.number_sum.ensures.value c.number_sum.ensures.linear c.number_sum.ensures.lies));
+          (made_leaf o known this vars g (tree.Number c.args.e.now.at c.in-Number.n) _ (number_is o g known this vars c.args.e.now.at c.in-Number.n c.number_sum.result c.number_sum.ensures.small c.number_sum.ensures.value c.number_sum.ensures.linear c.number_sum.ensures.lies) (λ p. p));
     }
 
 pub form_at-returns-in-Truth : goal.form_at-returns-in-Truth
@@ -86,7 +88,7 @@ form_at-returns-in-Truth t c =
     let known = c.args.scene.now.known.now in
     record {
       made = made_at o known this vars g g (tree_of c.args.e.now) (tree.Truth c.args.e.now.at c.in-Truth.truth) _ (ap (λ n. node_tree n c.args.e.now.at) c.in-Truth.is)
-          (made_leaf o known this vars g (tree.Truth c.args.e.now.at c.in-Truth.truth) _ (truth_is o g known this vars c.args.e.now.at c.in-Truth.truth));
+          (made_leaf o known this vars g (tree.Truth c.args.e.now.at c.in-Truth.truth) _ (truth_is o g known this vars c.args.e.now.at c.in-Truth.truth) (λ p. p));
     }
 
 pub form_at-returns-in-This : goal.form_at-returns-in-This
@@ -102,7 +104,7 @@ form_at-returns-in-This t c =
     record {
       made = subst (λ (f : Form). IsMade o known g g (tree_of c.args.e.now) this vars f) (sym c.object_form.ensures.1)
           (made_at o known this vars g g (tree_of c.args.e.now) (tree.This c.args.e.now.at) _ is
-          (made_leaf o known this vars g (tree.This c.args.e.now.at) _ (this_is o g known this vars c.args.e.now.at c.object_form.ensures.0 c.unwrap_or.result there)));
+          (made_leaf o known this vars g (tree.This c.args.e.now.at) _ (this_is o g known this vars c.args.e.now.at c.object_form.ensures.0 c.unwrap_or.result there) (λ p. refl)));
     }
 
 pub form_at-returns-in-Local : goal.form_at-returns-in-Local
@@ -117,7 +119,7 @@ form_at-returns-in-Local t c =
     record {
       made = subst (λ (f : Form). IsMade o known g g (tree_of c.args.e.now) this vars f) (sym same)
           (made_at o known this vars g g (tree_of c.args.e.now) (tree.Local c.args.e.now.at c.in-Local.k) _ (ap (λ n. node_tree n c.args.e.now.at) c.in-Local.is)
-          (made_leaf o known this vars g (tree.Local c.args.e.now.at c.in-Local.k) _ (local_is o g known this vars c.args.e.now.at d c.in-Local.k)));
+          (made_leaf o known this vars g (tree.Local c.args.e.now.at c.in-Local.k) _ (local_is o g known this vars c.args.e.now.at d c.in-Local.k) (λ p. refl)));
     }
 
 pub form_at-returns-in-Value : goal.form_at-returns-in-Value
@@ -129,7 +131,7 @@ form_at-returns-in-Value t c =
     let known = c.args.scene.now.known.now in
     record {
       made = made_at o known this vars g g (tree_of c.args.e.now) (tree.Value c.args.e.now.at c.in-Value.enumeration c.in-Value.k) _ (ap (λ n. node_tree n c.args.e.now.at) c.in-Value.is)
-          (made_leaf o known this vars g (tree.Value c.args.e.now.at c.in-Value.enumeration c.in-Value.k) _ (value_is o g known this vars c.args.e.now.at c.in-Value.enumeration c.in-Value.k));
+          (made_leaf o known this vars g (tree.Value c.args.e.now.at c.in-Value.enumeration c.in-Value.k) _ (value_is o g known this vars c.args.e.now.at c.in-Value.enumeration c.in-Value.k) (λ p. p));
     }
 
 pub form_at-returns-in_ok-all-in-Class : goal.form_at-returns-in_ok-all-in-Class
@@ -141,7 +143,7 @@ form_at-returns-in_ok-all-in-Class t c =
     let known = c.args.scene.now.known.now in
     record {
       made = made_at o known this vars g g (tree_of c.args.e.now) (tree.Class c.args.e.now.at c.in-Class.class) _ (ap (λ n. node_tree n c.args.e.now.at) c.in-Class.is)
-          (made_leaf o known this vars g (tree.Class c.args.e.now.at c.in-Class.class) _ (class_is o g known this vars c.args.e.now.at c.in-Class.class c.in_ok-all-in-Class.all c.in_ok-all-in-Class.ensures));
+          (made_leaf o known this vars g (tree.Class c.args.e.now.at c.in-Class.class) _ (class_is o g known this vars c.args.e.now.at c.in-Class.class c.in_ok-all-in-Class.all c.in_ok-all-in-Class.ensures) (λ p. refl));
     }
 
 pub form_at-returns-in-Own : goal.form_at-returns-in-Own
@@ -153,7 +155,7 @@ form_at-returns-in-Own t c =
     let known = c.args.scene.now.known.now in
     record {
       made = IfOk-weaker c.attribute_at.result _ _ (λ f h. made_at o known this vars g g (tree_of c.args.e.now) (tree.Own c.args.e.now.at c.in-Own.k c.in-Own.shape) f (ap (λ n. node_tree n c.args.e.now.at) c.in-Own.is)
-          (made_leaf o known this vars g (tree.Own c.args.e.now.at c.in-Own.k c.in-Own.shape) f (own_is o g known this vars c.args.e.now.at c.in-Own.k c.in-Own.shape f h))) c.attribute_at.ensures.form;
+          (made_leaf o known this vars g (tree.Own c.args.e.now.at c.in-Own.k c.in-Own.shape) f (own_is o g known this vars c.args.e.now.at c.in-Own.k c.in-Own.shape f h) h.fixed)) c.attribute_at.ensures.form;
     }
 
 pub form_at-returns-in-Root : goal.form_at-returns-in-Root
@@ -165,7 +167,7 @@ form_at-returns-in-Root t c =
     let known = c.args.scene.now.known.now in
     record {
       made = IfOk-weaker c.attribute_at-in-Root.result _ _ (λ f h. made_at o known this vars g g (tree_of c.args.e.now) (tree.Root c.args.e.now.at c.in-Root.k c.in-Root.shape) f (ap (λ n. node_tree n c.args.e.now.at) c.in-Root.is)
-          (made_leaf o known this vars g (tree.Root c.args.e.now.at c.in-Root.k c.in-Root.shape) f (root_is o g known this vars c.args.e.now.at c.in-Root.k c.in-Root.shape f h))) c.attribute_at-in-Root.ensures.form;
+          (made_leaf o known this vars g (tree.Root c.args.e.now.at c.in-Root.k c.in-Root.shape) f (root_is o g known this vars c.args.e.now.at c.in-Root.k c.in-Root.shape f h) h.fixed)) c.attribute_at-in-Root.ensures.form;
     }
 
 pub minus_at-minus-requires-clause-low : goal.minus_at-minus-requires-clause-low
@@ -301,7 +303,7 @@ dot_at-returns t c =
     let new = c.dot_form.new.maker in
     let f = c.in_ok-f.f in
     let dot = subst (λ (n : ℕ). IsDotForm o new n (choice_part f) c.args.k c.args.shape c.in_ok-r-2.r) c.class_of-class.ensures (subst (λ (z : Choice). IsDotForm o new c.class_of-class.result z c.args.k c.args.shape c.in_ok-r-2.r) c.choice_of-choice.ensures c.in_ok-r-2.ensures.dot) in
-    record { made = made_dot o known this vars c.args.maker.now c.form_at.new.maker new 0 c.args.k (tree_of c.args.inner.now) c.args.shape f c.in_ok-r-2.r c.requires.standing c.in_ok-f.ensures.made c.in_ok-r-2.ensures.adds dot }
+    record { made = made_dot o known this vars c.args.maker.now c.form_at.new.maker new 0 c.args.k (tree_of c.args.inner.now) c.args.shape f c.in_ok-r-2.r c.requires.standing c.in_ok-f.ensures.made c.in_ok-r-2.ensures.adds dot (not_fixed (choice_part f) (λ n e. c.in_default.not-Fixed n (c.choice_of-choice.ensures ∙ e))) }
 
 pub form_at-quant_at-requires : goal.form_at-quant_at-requires
 form_at-quant_at-requires t c =
@@ -416,6 +418,7 @@ parts_at-returns-clause-parts t c =
     (subst (λ (xs : List Member). (a : List ℤ) → IsWorld new a → AreKnown known a → kept_values ps a ≡ given (λ x. keeps f (world_setting o new a this (vars ++ x ∷ []))) (λ x. values_of bs (world_setting o new a this (vars ++ x ∷ []))) xs a) same more.value)
     (subst (λ (xs : List Member). (p : Place) → All (λ (m : Member). Fits o [] p (bare_setting o this (vars ++ m.object ∷ []))) xs → All (IsPartOf o new.domains p this bs) ps) same more.each)
     (subst (λ (xs : List Member). length ps ≤ length xs) same more.few)
+    (subst (λ (xs : List Member). f ≡ NoFilter → All (λ (m : Member). m.is ≡ truth.Fixed true) xs → AreKept ps) same more.kept)
 
 pub parts_at-returns-clause-adds : goal.parts_at-returns-clause-adds
 parts_at-returns-clause-adds t c =
@@ -435,6 +438,7 @@ parts_over-loop-m-init t c =
       value = λ a w kn. none_kept c.new-parts.result.items _ a c.new-parts.ensures.items;
       each = λ p fits. subst (All (IsPartOf o c.args.maker.now.domains p this bs)) (sym c.new-parts.ensures.items) (All-nil (IsPartOf o c.args.maker.now.domains p this bs));
       few = let none = ap length c.new-parts.ensures.items in omega (arith, none);
+      kept = λ none sure. subst AreKept (sym c.new-parts.ensures.items) (All-nil (λ (p : Part). p.kept ≡ truth.Fixed true));
       adds = adds_nothing [] c.args.maker.now;
     }
 
@@ -492,6 +496,7 @@ parts_over-loop-m-preserved t c =
           (more.each p (at_scene (λ x y z. Fits x [] p (bare_setting x y z)) o now.objects.now this now.this (vars ++ m.object ∷ []) now.vars.now there.objects there.this at here)
           (at_scene (λ x y z. All (IsPartOf x old.domains p y bs) ps) o now.objects.now this now.this (vars ++ m.object ∷ []) now.vars.now there.objects there.this at (c.loop-m.invariant.each p fits)));
       few = let one = more.few in let before = c.loop-m.invariant.few in omega (arith, one, before);
+      kept = λ none sure. more.kept none (item_at (λ (x : Member). x.is ≡ truth.Fixed true) c.args.members.now c.loop-m.m-index m c.loop-m-test.true c.m-item.is sure) (c.loop-m.invariant.kept none sure);
       adds = defines_more c.args.maker.now old new c.loop-m.invariant.adds more.adds;
     }
 
@@ -518,7 +523,7 @@ list_at-returns-clause-members t c =
     let vars = c.args.scene.now.vars.now in
     let known = c.args.scene.now.known.now in
     let more = c.in_ok-ms.ensures in
-    members_made o known this vars c.form_at.new.maker c.members_of.new.maker (tree_of c.args.e.now) c.in_ok-f.f c.listing_of.result c.in_ok-ms.ms.items c.in_ok-f.ensures.made.form more.adds c.listing_of.ensures.value c.listing_of.ensures.slots more.members more.objects more.variables
+    members_made o known this vars c.form_at.new.maker c.members_of.new.maker (tree_of c.args.e.now) c.in_ok-f.f c.listing_of.result c.in_ok-ms.ms.items c.in_ok-f.ensures.made.form more.adds c.listing_of.ensures.value c.listing_of.ensures.slots more.members more.objects more.variables c.in_ok-f.ensures.made.fixed c.listing_of.ensures.fixed more.fixed
 
 pub list_at-returns-clause-adds : goal.list_at-returns-clause-adds
 list_at-returns-clause-adds t c =
@@ -590,6 +595,10 @@ push_part-returns-clause-each t c =
     pushed_each o known this vars c.args.maker.now c.kept_at.new.maker c.bodies_at.new.maker (trees_of c.args.body.now) c.args.parts.now.items c.push.new.self.items (record { kept = c.in_ok-kept.kept; bodies = c.in_ok-bodies.bodies }) c.in_ok-push.ensures.items c.in_ok-kept.ensures.adds c.in_ok-bodies.ensures.adds
     (variable_kept c.kept_at.new.maker.domains c.bodies_at.new.maker.domains (boxes_kept c.kept_at.new.maker c.bodies_at.new.maker c.in_ok-bodies.ensures.adds.grows) c.in_ok-kept.kept c.in_ok-kept.ensures.kept.variable)
     c.in_ok-bodies.ensures.forms
+
+pub push_part-returns-clause-kept : goal.push_part-returns-clause-kept
+push_part-returns-clause-kept t c none sure h =
+    pushed_kept c.args.scene.now.objects.now c.args.scene.now.known.now c.args.scene.now.this c.args.scene.now.vars.now c.kept_at.new.maker c.args.is.now (optional_tree c.args.filter.now) c.args.parts.now.items c.push.new.self.items (record { kept = c.in_ok-kept.kept; bodies = c.in_ok-bodies.bodies }) c.in_ok-push.ensures.items c.in_ok-kept.ensures.kept none sure h
 
 pub push_part-returns-clause-adds : goal.push_part-returns-clause-adds
 push_part-returns-clause-adds t c =

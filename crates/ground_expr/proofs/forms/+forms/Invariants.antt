@@ -1,15 +1,18 @@
-use Rattle.std.proofs.Common.{◌≡◌, ◌≤◌, ◌+◌, ◌-◌, ◌*◌, ◌++◌, ◌∷◌, [], ℕ, ℤ, List, max, drop, take, length}
+use Rattle.std.proofs.Common.{◌≡◌, true, ◌≤◌, ◌+◌, ◌-◌, ◌*◌, ◌++◌, ◌∷◌, [], ℕ, ℤ, List, max, drop, take, length}
 use Rattle.std.specs.List.{All}
 use Rattle.conf_types.specs.TreeOf.{tree_of, quant_tree, optional_tree, trees_of}
 use Rattle.conf_types.specs.Typing.{Place}
+use Rattle.conf_types.specs.Trees.{NoFilter}
 use Rattle.conf_eval.specs.Fitting.{Fits}
 use Rattle.conf_eval.specs.Evaluating.{IsRoom, height, filter_height, bodies_height}
 use Rattle.conf_eval.specs.Meaning.{keeps, values_of}
 use Rattle.form_build.specs.Worlds.{IsWorld, AreKnown, Defines}
+use Rattle.form_build.specs.declared.form.Truth.TheVariants as truth
 use Rattle.expr_forms.specs.Standing.{bare_setting, world_setting}
 use Rattle.expr_forms.specs.declared.form.Member.{Member}
 use Rattle.ground_expr.specs.Bodies.{AreBodies, IsPartOf, given}
 use Rattle.quantifier_forms.specs.PartValues.{kept_values}
+use Rattle.pairwise_forms.specs.Wholes.{AreKept}
 use Rattle.ground_expr.proofs.forms.+forms.Given as goal
 
 abbrev pub decreases-form_at : goal.decreases-form_at
@@ -72,5 +75,6 @@ invariant-parts_over-loop-m l =
           kept_values l.parts.items a ++ given keep values (drop l.m-index l.members) a ≡ given keep values l.members a;
       each : (p : Place) → All (λ (m : Member). Fits o [] p (bare_setting o l.scene.this (l.scene.vars.now ++ m.object ∷ []))) l.members → All (IsPartOf o l.maker.domains p l.scene.this bs) l.parts.items;
       few : length l.parts.items ≤ l.m-index;
+      kept : f ≡ NoFilter → All (λ (m : Member). m.is ≡ truth.Fixed true) l.members → AreKept l.parts.items;
       adds : Defines l.fn.maker l.maker;
     }

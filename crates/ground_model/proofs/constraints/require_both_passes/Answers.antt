@@ -4,6 +4,7 @@ use Rattle.ground_expr.specs.Asked.{holds_of}
 use Rattle.ground_model.specs.Fixing.{holds_in}
 use Rattle.ground_model.proofs.KnownCells.{known_still}
 use Rattle.ground_model.proofs.Steps.{requires_more, requires_same, both_passes}
+use Rattle.ground_model.proofs.WholeSteps.{passes_stand}
 use Rattle.ground_model.proofs.constraints.require_both_passes.Goals as goal
 
 pub require_pass-requires-2-clause-known : goal.require_pass-requires-2-clause-known
@@ -17,4 +18,5 @@ returns c =
     record {
       says = requires_same known c.args.maker.now c.require_pass-2.new.maker (λ values. list_all (holds_in true o values) ks && list_all (holds_in false o values) ks) (λ values. list_all (holds_of o values) ks) (λ values. both_passes o values ks)
           (requires_more known c.args.maker.now c.require_pass.new.maker c.require_pass-2.new.maker (λ values. list_all (holds_in true o values) ks) (λ values. list_all (holds_in false o values) ks) c.in_ok-require_pass.ensures.says c.in_ok-require_pass-2.ensures.says);
+      whole = passes_stand o known c.require_pass.new.maker c.require_pass-2.new.maker ks c.in_ok-require_pass-2.ensures.says.grows c.in_ok-require_pass.ensures.whole c.in_ok-require_pass-2.ensures.whole;
     }

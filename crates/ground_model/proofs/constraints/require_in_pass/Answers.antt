@@ -1,4 +1,4 @@
-use Rattle.std.proofs.Common.{ap, ◌∙◌}
+use Rattle.std.proofs.Common.{true≢false, ap, sym, ◌∙◌}
 use Rattle.conf_types.specs.Resolved.{ResolvedConstraint}
 use Rattle.form_truths.specs.Tests.{wanted}
 use Rattle.ground_expr.specs.Asked.{holds_of}
@@ -12,6 +12,7 @@ returns-then-not-is_of_pass c =
     record {
       says = requires_nothing c.args.known.now c.args.maker.now (λ values. holds_in c.args.fixing c.args.objects.now values c.args.constraint.now)
           (λ values. passed_over c.args.objects.now values c.args.constraint.now c.args.fixing c.is_of_pass.result e c.if-not-is_of_pass.true);
+      whole = λ w. absurd (true≢false (sym w ∙ sym e ∙ c.if-not-is_of_pass.true));
     }
 
 pub returns : goal.returns
@@ -20,4 +21,5 @@ returns c =
     record {
       says = requires_same c.args.known.now c.args.maker.now c.require_constraint.new.maker (λ values. holds_of c.args.objects.now values c.args.constraint.now) (λ values. holds_in c.args.fixing c.args.objects.now values c.args.constraint.now)
           (λ values. of_pass c.args.objects.now values c.args.constraint.now c.args.fixing c.is_of_pass.result e c.if-not-is_of_pass.false) c.in_ok-require_constraint.ensures.says;
+      whole = λ w. c.in_ok-require_constraint.ensures.whole;
     }

@@ -1,11 +1,14 @@
-use Rattle.std.proofs.Common.{true, ◌&&◌, ℕ, ℤ, List, [], take, sym, subst}
-use Rattle.std.specs.List.{list_all}
+use Rattle.std.proofs.Common.{ℕ, ℤ, List, [], take, sym, subst}
+use Rattle.std.specs.List.{All, list_all}
+use Rattle.form_build.specs.Worlds.{AreKnown}
 use Rattle.form_build.proofs.Growth.{adds_fewer}
 use Rattle.expr_forms.proofs.Configured.{cells_still}
 use Rattle.ground_expr.specs.Asked.{are_full, holds_of, satisfied_by}
 use Rattle.ground_model.specs.Known.{HasKnown, have_values}
 use Rattle.ground_model.specs.Requiring.{Requires}
+use Rattle.ground_model.specs.WholesStand.{HasWholes}
 use Rattle.ground_model.proofs.Steps.{requires_more}
+use Rattle.ground_model.proofs.WholeSteps.{fixed_stand}
 use Rattle.ground_model.proofs.KnownCells.{known_still, values_low, values_known, values_fixed, fixing_satisfied, requires_by_values}
 use Rattle.ground_model.proofs.constraints.require_satisfied.Goals as goal
 
@@ -37,9 +40,11 @@ returns c =
     requires_more known fixed full end (are_full o) (λ values. list_all (holds_of o values) ks)
     (adds_fewer known fixed full (λ a. are_full o (take fixed.search a)) c.in_ok-require_full_sets.ensures.says)
     (subst (λ (z : List (ℕ × ℤ)). Requires z full end (λ values. list_all (holds_of o values) ks)) c.as_slice-2.ensures.value c.in_ok-require_both_passes.ensures.says) in
+    let are_fixed = values_fixed known start fixed end low values rest.grows in
     record {
       says = requires_by_values o known start fixed end (satisfied_by o ks) c.requires.cells low
           (λ t p passes. c.in_ok-known.ensures.follow t p (fixing_satisfied o t ks passes)) values rest;
       known = known_still o known fixed end rest.grows (values_known o start fixed known c.requires.cells c.in_ok-require_values.ensures.says.grows c.in_ok-known.ensures.cells);
-      fixed = values_fixed known start fixed end low values rest.grows;
+      fixed = are_fixed;
+      whole = fixed_stand o known end ks are_fixed (subst (λ (z : List (ℕ × ℤ)). All (HasWholes o end (AreKnown z)) ks) c.as_slice-2.ensures.value c.in_ok-require_both_passes.ensures.whole);
     }

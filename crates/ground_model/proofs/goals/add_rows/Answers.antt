@@ -1,4 +1,4 @@
-use Rattle.std.proofs.Common.{◌^◌, None, ◌∙◌, sym, ap, take, arith}
+use Rattle.std.proofs.Common.{None, ◌∙◌, sym, ap, take, arith}
 use Rattle.conf_types.specs.Resolved.{ResolvedGoal}
 use Rattle.conf_types.specs.TreeOf.{tree_of}
 use Rattle.conf_eval.specs.Satisfying.{objective}

@@ -1,4 +1,4 @@
-use Rattle.std.proofs.Common.{◌^◌, [], None, ◌∙◌, ap, take, arith}
+use Rattle.std.proofs.Common.{[], None, ◌∙◌, ap, take}
 use Rattle.std.proofs.lemmas.List.Elements.{All-nil}
 use Rattle.conf_types.specs.Resolved.{ResolvedGoal}
 use Rattle.conf_types.specs.TreeOf.{tree_of}

@@ -2,7 +2,6 @@ use Rattle.std.proofs.Common.{true, ◌≡◌, [], ◌∙◌, ap}
 use Rattle.std.specs.List.{list_all}
 use Rattle.ground_form.specs.declared.ground.Ground.{Ground}
 use Rattle.ground_build.specs.Growing.{over_cells, with_goals}
-use Rattle.expr_forms.proofs.Configured.{cells_still}
 use Rattle.ground_expr.specs.Asked.{are_full}
 use Rattle.ground_model.specs.Fixing.{holds_in, satisfied_by_fixing}
 use Rattle.ground_model.proofs.Endings.{part_stands}

@@ -1,4 +1,4 @@
-use Rattle.std.proofs.Common.{true, [], All, ◌∙◌, sym, subst}
+use Rattle.std.proofs.Common.{[], All, subst}
 use Rattle.signed_clause.specs.Clauses.{Boxes}
 use Rattle.ground_cells.specs.CellBoxes.{cell_boxes}
 use Rattle.ground_model.specs.Fixing.{satisfied_by_fixing}

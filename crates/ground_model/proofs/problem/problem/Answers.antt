@@ -15,4 +15,5 @@ returns-then-has_empty c =
     record {
       stands = subst (λ (z : Boxes). StandsFor c.in_ok-g.g z (satisfied_by o c.args.model.now.constraints) (functions o gs)) boxes
           (c.in_ok-g.ensures.stands (satisfied_by o c.args.model.now.constraints) (functions o gs) (function_count o gs));
+      whole = c.in_ok-g.ensures.whole o;
     }

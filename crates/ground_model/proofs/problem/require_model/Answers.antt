@@ -3,6 +3,7 @@ use Rattle.conf_types.specs.Programs.{ResolvedConstraint}
 use Rattle.ground_expr.specs.Asked.{satisfied_by}
 use Rattle.ground_model.specs.Requiring.{Requires}
 use Rattle.ground_model.specs.Stated.{IsReadyConstraint}
+use Rattle.ground_model.specs.WholesStand.{WholesStand}
 use Rattle.ground_model.proofs.problem.require_model.Goals as goal
 
 pub require_satisfied-requires-clause-ready : goal.require_satisfied-requires-clause-ready
@@ -11,3 +12,6 @@ require_satisfied-requires-clause-ready c = subst (λ (z : List ResolvedConstrai
 pub returns-clause-says : goal.returns-clause-says
 returns-clause-says c =
     subst (λ (z : List ResolvedConstraint). Requires [] c.args.maker.now c.require_satisfied.new.maker (satisfied_by c.args.objects.now z)) c.constraints.ensures.constraints c.in_ok-known.ensures.says
+
+pub returns-clause-whole : goal.returns-clause-whole
+returns-clause-whole c = subst (λ (z : List ResolvedConstraint). WholesStand c.args.objects.now c.require_satisfied.new.maker z) c.constraints.ensures.constraints c.in_ok-known.ensures.whole

@@ -6,13 +6,14 @@ use Rattle.ground_form.specs.StandsFor.{AreGoalValues, StandsFor}
 use Rattle.ground_form.specs.WellMade.{IsWellMade}
 use Rattle.ground_build.specs.Growing.{with_goals}
 use Rattle.ground_cells.specs.CellBoxes.{cell_boxes}
-use Rattle.form_build.proofs.Growth.{defines_more}
+use Rattle.form_build.proofs.Growth.{grows_more, defines_more}
 use Rattle.ground_expr.specs.Asked.{satisfied_by}
 use Rattle.ground_expr.specs.Objectives.{functions}
 use Rattle.ground_model.specs.Known.{HasKnown, AreFixed}
 use Rattle.ground_model.specs.Stated.{IsReadyGoal}
 use Rattle.ground_model.proofs.KnownCells.{known_still, fixed_still}
 use Rattle.ground_model.proofs.Endings.{cells_first, whole_stands}
+use Rattle.ground_model.proofs.WholeSteps.{solutions_still, wholes_aimed}
 use Rattle.ground_model.proofs.problem.whole_problem.Goals as goal
 
 pub require_model-requires-clause-cells : goal.require_model-requires-clause-cells
@@ -45,4 +46,5 @@ returns c =
     record {
       stands = subst (λ (z : Ground). StandsFor z (cell_boxes o) (satisfied_by o c.args.model.now.constraints) (functions o gs)) (sym same)
           (whole_stands o c.args.model.now.constraints gs c.args.maker c.require_model.new.maker g goals c.requires.cells c.in_ok-known.ensures.says (defines_more c.require_model.new.maker c.add_packings.new.maker g c.in_ok-add_packings.ensures c.in_ok-goals.ensures.adds) made count values);
+      whole = wholes_aimed o g c.finish-g.result goals c.args.model.now.constraints same (solutions_still o c.require_model.new.maker g c.args.model.now.constraints (grows_more c.require_model.new.maker c.add_packings.new.maker g c.in_ok-add_packings.ensures.grows c.in_ok-goals.ensures.adds.grows) c.in_ok-known.ensures.whole);
     }
