@@ -64,6 +64,13 @@ def distances(n):
             f"var m as M[{n}];")
 
 
+def conjunction(n):
+    """A conjunction of n parts, five for each object, that has to hold."""
+    parts = numbered(5, lambda k: f"i.x + {k} <= i.y;")
+    return (f"class C {{ var x as 0..9; var y as 0..9; }} var c as C[{n // 5}]; var q as bool;"
+            f"where q; where q -> forall i in C {{ {parts} }};")
+
+
 def rooms(n):
     """A hundred machines, each on a host with room for it."""
     return (f"class H {{ var room as 0..9; }} var h as H[{n}];"
@@ -144,6 +151,7 @@ TEXTS = [
     Grown("the least sum of 0..9", 10_000, cells("0..9", lambda n: f"minimize {TOTAL};")),
     Grown("a sum of a given value", 4_000, cells("0..9", lambda n: f"where {TOTAL} = {4 * n};")),
     Grown("a sum of a least value", 4_000, cells("0..9", lambda n: f"where {TOTAL} >= {4 * n};")),
+    Grown("a conjunction of n parts", 45_000, conjunction),
     Grown("goals of one number", 1,
           lambda n: "var a as int; maximize a; maximize a; minimize a + a;"),
     Grown("`x != 2k`", 8_000, lambda n: f"var x as 0..{4 * n};"

@@ -3,11 +3,12 @@
 //! A maker is seen as the ground problem that it has come to. That problem is well made, and no
 //! box in it is empty. After want of memory nothing is said of what was added, and the maker is to
 //! be dropped.
-ghost use Rattle.std.specs.Prelude.{◌≡◌, ◌<◌, ◌≤◌, ◌+◌, ◌-◌, ◌^◌, [], true, int_le, length, IfOk, OnOk};
+ghost use Rattle.std.specs.Prelude.{◌≡◌, ◌<◌, ◌≤◌, ◌+◌, ◌-◌, ◌^◌, [], true, int_le, length, Contains, IfOk, OnOk};
 ghost use Rattle.std.specs.List.{All};
 ghost use Rattle.std.specs.Ordering.{int_eq};
 ghost use Rattle.signed_clause.specs.Ranges.{has};
 ghost use Rattle.signed_clause.specs.Clauses.{clause_true};
+ghost use Rattle.ground_form.specs.declared.con.Con.TheVariants.{AllDiff, Pack};
 ghost use Rattle.ground_form.specs.Meaning.{value_of, sum_at, parts_true, all_differ, rooms_hold};
 ghost use Rattle.ground_form.specs.Bounds.{weight_of, IsPackBounded, most_sum};
 ghost use Rattle.ground_form.specs.WellMade.{distinct_values, IsWellMade};
@@ -275,6 +276,7 @@ impl Maker {
         requires room { length self.old.cons < 2 ^ 32 - 1 }
         requires variables { All (λ x. x < length self.old.domains) vars.now }
         ensures says { OnOk result (Adds [] self.old self.new (λ a. all_differ vars.now a)) }
+        ensures stands { OnOk result (Contains self.new.cons (AllDiff vars.now)) }
         ensures few { OnOk result (IsFew 1 self.old self.new) }
     {
         stated::require_different(&mut self.builder, vars)?;
@@ -289,6 +291,7 @@ impl Maker {
         requires bounded { IsPackBounded items.now self.old.domains }
         ensures says { OnOk result (Adds [] self.old self.new
             (λ a. rooms_hold items.now items.now a)) }
+        ensures stands { OnOk result (Contains self.new.cons (Pack items.now)) }
         ensures few { OnOk result (IsFew 1 self.old self.new) }
     {
         stated::require_pack(&mut self.builder, items)?;

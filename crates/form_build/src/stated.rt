@@ -1,7 +1,8 @@
 //! What is stated of every world, and no more.
-ghost use Rattle.std.specs.Prelude.{◌<◌, ◌≤◌, ◌-◌, ◌^◌, [], int_le, length, OnOk};
+ghost use Rattle.std.specs.Prelude.{◌<◌, ◌≤◌, ◌-◌, ◌^◌, [], int_le, length, Contains, OnOk};
 ghost use Rattle.std.specs.List.{All};
 ghost use Rattle.signed_clause.specs.Clauses.{clause_true};
+ghost use Rattle.ground_form.specs.declared.con.Con.TheVariants.{AllDiff, Pack};
 ghost use Rattle.ground_form.specs.Meaning.{sum_at, all_differ, rooms_hold};
 ghost use Rattle.ground_form.specs.Bounds.{weight_of, IsPackBounded, most_sum};
 ghost use Rattle.ground_build.specs.Growing.{AreItemVariables};
@@ -45,6 +46,7 @@ pub(crate) fn require_different(b: &mut Builder, vars: &[u32]) -> Result<(), All
     requires room { length b.old.cons < 2 ^ 32 - 1 }
     requires variables { All (λ x. x < length b.old.domains) vars.now }
     ensures says { OnOk result (Adds [] b.old b.new (λ a. all_differ vars.now a)) }
+    ensures stands { OnOk result (Contains b.new.cons (AllDiff vars.now)) }
     ensures few { OnOk result (IsFew 1 b.old b.new) }
     ensures some { AreSome b.old.domains → AreSome b.new.domains }
 {
@@ -59,6 +61,7 @@ pub(crate) fn require_pack(b: &mut Builder, items: &[(u32, u32, u32)]) -> Result
     requires variables { All (λ i. AreItemVariables b.old i) items.now }
     requires bounded { IsPackBounded items.now b.old.domains }
     ensures says { OnOk result (Adds [] b.old b.new (λ a. rooms_hold items.now items.now a)) }
+    ensures stands { OnOk result (Contains b.new.cons (Pack items.now)) }
     ensures few { OnOk result (IsFew 1 b.old b.new) }
     ensures some { AreSome b.old.domains → AreSome b.new.domains }
 {

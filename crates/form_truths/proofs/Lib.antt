@@ -4,6 +4,7 @@ pub mod Roots
 pub mod Zeros
 pub mod Singles
 pub mod PartLaws
+pub mod BlockSteps
 pub mod Stating
 pub mod CountedSums
 pub mod NumberTerms

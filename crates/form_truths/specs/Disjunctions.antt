@@ -20,3 +20,7 @@ disjunction_at d a = d.0 || clause_true d.1 a
 -- the literals' variables are among the first n
 abbrev pub IsWithin : ℕ → Literals → Type 0
 IsWithin n ls = All (λ l. l.0 < n) ls
+
+-- how many literals a block of a long disjunction has
+abbrev pub block : ℕ
+block = 32

@@ -119,7 +119,7 @@ pub fn truth_of(m: &mut Maker, d: &Disjunction) -> Result<Truth, AllocError>
 }
 
 /// Whether some literal holds, as a truth.
-fn some_literal(m: &mut Maker, literals: &[(u32, IntSet)]) -> Result<Truth, AllocError>
+pub(crate) fn some_literal(m: &mut Maker, literals: &[(u32, IntSet)]) -> Result<Truth, AllocError>
     requires room { HasRoomFor (length literals.now + 1) m.old }
     requires exist { IsWithin (length m.old.domains) literals.now }
     ensures variable { IfOk result (λ t. HasVariable (length m.new.domains) t) }

@@ -1,6 +1,7 @@
 //! Truths over a problem in the making: comparisons, disjunctions, clauses, flags. A comparison of
 //! sums becomes a set of one variable.
 //!
+//! - `blocks`: long disjunctions as disjunctions of blocks.
 //! - `compare`: sums compared with 0, as truths.
 //! - `disjunction`: disjunctions in the making, and clauses.
 //! - `flags`: truths as flags, and disjunctions and conjunctions of truths.
@@ -9,6 +10,7 @@
 //! - `tests`: comparisons before they are stated, pushed into a disjunction, or made a truth.
 #![tactic(auto)]
 
+mod blocks;
 mod compare;
 mod disjunction;
 mod flags;
@@ -16,6 +18,7 @@ mod lines;
 mod products;
 mod tests;
 
+pub use blocks::truth_in_blocks;
 pub use compare::{is_below, is_nought, is_one, is_zero, literal};
 pub use disjunction::Disjunction;
 pub use flags::{require, truth_of};

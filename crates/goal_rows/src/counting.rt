@@ -27,6 +27,28 @@ pub(crate) struct Counting {
     pub bin: u64,
     /// The items, by ascending variables.
     pub items: Vec<Counted>,
+    /// Whether it says how much is there at least, and not at most.
+    pub is_least: bool,
+    /// Whether it has other terms too.
+    pub is_open: bool,
+}
+
+/// The rows that count items in bins.
+#[derive(Drop)]
+pub(crate) struct Sides {
+    /// Those that say how much is there at most.
+    pub most: Vec<Counting>,
+    /// Those that say how much is there at least, by what they count.
+    pub least: Vec<Counting>,
+}
+
+/// How much an item with this factor counts, on one side or the other.
+fn size_of(factor: i64, is_least: bool) -> i64 {
+    if is_least {
+        factor.saturating_neg()
+    } else {
+        factor
+    }
 }
 
 /// Adds an item where the term's flag tells of one in the row's bin, which is that of the first.
@@ -39,45 +61,55 @@ fn push_counted(
     let Some((var, bin)) = question(maker, indexes, t.1) else {
         return Ok(());
     };
+    let size = size_of(t.0, c.is_least);
     if c.items.is_empty() {
         c.bin = bin;
     }
-    if c.bin == bin && t.0 > 0 {
+    if c.bin == bin && size > 0 {
         c.items.push(Counted {
             var,
-            size: t.0,
+            size,
             flag: t.1,
         })?;
     }
     Ok(())
 }
 
-/// What the terms of a row count.
+/// What the terms of a row count, on one side.
 fn counting_of(
     maker: &Maker,
     indexes: &[usize],
     terms: &[(i64, u32)],
     row: usize,
+    is_least: bool,
 ) -> Result<Counting, AllocError> {
     let mut c = Counting {
         row,
         bin: 0,
         items: Vec::new(maker.alloc()),
+        is_least,
+        is_open: false,
     };
     for t in terms {
         push_counted(maker, indexes, &mut c, *t)?;
     }
     c.items.sort_unstable_by_key(|i| i.var);
+    c.is_open = c.items.len() < terms.len();
     Ok(c)
 }
 
-/// The row that constraint k is, where it counts items in a bin and has other terms too.
-fn counting_at(maker: &Maker, indexes: &[usize], k: usize) -> Result<Option<Counting>, AllocError> {
+/// The row that constraint k is, where it counts items in a bin on this side.
+fn counting_at(
+    maker: &Maker,
+    indexes: &[usize],
+    k: usize,
+    is_least: bool,
+) -> Result<Option<Counting>, AllocError> {
     let Some(Con::LinLe { terms, .. }) = maker.cons().get(k) else {
         return Ok(None);
     };
-    let c = counting_of(maker, indexes, terms.items(), k)?;
-    if c.items.len() < 2 || c.items.len() == terms.items().len() {
+    let c = counting_of(maker, indexes, terms.items(), k, is_least)?;
+    if c.items.len() < 2 {
         return Ok(None);
     }
     Ok(Some(c))
@@ -133,18 +165,57 @@ fn place(maker: &Maker, groups: &mut Vec<Vec<Counting>>, c: Counting) -> Result<
     Ok(())
 }
 
-/// The rows that count the same items, each in a bin of its own, in groups.
+/// The rows that count the same items, each in a bin of its own, in groups; of those alone that
+/// have other terms too.
 pub(crate) fn groups_of(
     maker: &Maker,
-    indexes: &[usize],
+    rows: Vec<Counting>,
 ) -> Result<Vec<Vec<Counting>>, AllocError> {
     let mut groups = Vec::new(maker.alloc());
-    for k in 0..maker.cons().len() {
-        if let Some(c) = counting_at(maker, indexes, k)? {
+    for c in rows {
+        if c.is_open {
             place(maker, &mut groups, c)?;
         }
     }
     Ok(groups)
+}
+
+// ---- both sides
+
+/// What rows that count the same have in common: the bin, the first item, and how many there are.
+fn key_of(c: &Counting) -> (u64, u32, usize) {
+    match c.items.first() {
+        Some(i) => (c.bin, i.var, c.items.len()),
+        None => (c.bin, 0, 0),
+    }
+}
+
+/// The rows that count items in bins, on both sides.
+pub(crate) fn sides_of(maker: &Maker, indexes: &[usize]) -> Result<Sides, AllocError> {
+    let mut most = Vec::new(maker.alloc());
+    let mut least = Vec::new(maker.alloc());
+    for k in 0..maker.cons().len() {
+        if let Some(c) = counting_at(maker, indexes, k, false)? {
+            most.push(c)?;
+        }
+        if let Some(c) = counting_at(maker, indexes, k, true)? {
+            least.push(c)?;
+        }
+    }
+    least.sort_unstable_by_key(|c| key_of(c));
+    Ok(Sides { most, least })
+}
+
+/// A row that says how much is there at least of what the row counts, by its constraint.
+pub(crate) fn least_of(least: &[Counting], c: &Counting) -> Option<usize> {
+    let key = key_of(c);
+    let first = least.partition_point(|o| key_of(o) < key);
+    for k in first..least.len().min(first.saturating_add(MOST_GROUPS)) {
+        if key_of(&least[k]) == key && count_same(&least[k], c) {
+            return Some(least[k].row);
+        }
+    }
+    None
 }
 
 /// The flags that ask where the item of this number is, each with its bin.

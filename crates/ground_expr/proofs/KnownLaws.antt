@@ -15,7 +15,7 @@ use Rattle.form_build.proofs.Singles.{one_least, one_greatest}
 use Rattle.conf_types.specs.declared.types.ExprType.{ExprType}
 use Rattle.conf_types.specs.declared.types.ExprType.TheVariants as type
 use Rattle.conf_types.specs.Types.{shape_type}
-use Rattle.conf_eval.specs.declared.value.Value.TheVariants.{Int, Truth, Choice, Object}
+use Rattle.conf_eval.specs.declared.value.Value.TheVariants.{Int, Truth, Choice, Object, Objects}
 use Rattle.form_build.specs.declared.form.Linear.{Linear}
 use Rattle.form_build.specs.declared.form.Truth.{Truth as ATruth}
 use Rattle.form_build.specs.Forms.{linear_at, truth_at, HasVariable}
@@ -28,7 +28,8 @@ use Rattle.expr_forms.specs.declared.form.Listing.{Listing}
 use Rattle.expr_forms.specs.FormBounds.{IsChoiceOf, IsFrom, IsFormOf, candidate_count}
 use Rattle.expr_forms.specs.FormValues.{choice_at}
 use Rattle.reference_forms.specs.Attributes.{IsAttributeForm}
-use Rattle.ground_expr.specs.Known.{IsHeld, IsKnownValue, IsKnownChoice, IsKnownForm}
+use Rattle.ground_expr.specs.Known.{IsHeld, IsKnownValue, IsKnownChoice, IsKnownListing, IsKnownForm}
+use Rattle.ground_expr.proofs.MemberLaws.{list_typed}
 
 number_typed : (o : Outline) (boxes : Boxes) (ty : ExprType) (f r : Linear) → IsFormOf o boxes ty (form.Number f) → IsFormOf o boxes ty (form.Number r)
 number_typed o boxes type.Int f r h = tt
@@ -107,8 +108,14 @@ module _ (boxes : Boxes) (known : List (ℕ × ℤ)) where
   known_count o e (choice.Mapped x m) d is h = let same = ap (candidate_count o e) is in omega (arith, same)
 
 module _ (o : Outline) (g : Ground) (known : List (ℕ × ℤ)) (owner : Option ℕ) (k : ℕ) (s : Resolved) where
-  pub list_known : (l : Listing) → IsAttributeForm o g owner k s (form.List l) → IsKnownForm o g known owner k s (form.List l)
-  list_known l h = record { stands = λ a w kn. h.stands a w; number = h.number; truth = h.truth; typed = h.typed; reached = h.reached }
+  pub list_known : (l r : Listing) → IsKnownListing known l r → IsAttributeForm o g owner k s (form.List l) → IsKnownForm o g known owner k s (form.List r)
+  list_known l r is h = record {
+    stands = λ a w kn. h.stands a w ∙ ap (λ (xs : List ℕ). Objects xs) (sym (is.value a kn));
+    number = h.number;
+    truth = h.truth;
+    typed = list_typed o g.domains (shape_type s) l r (λ c. is.listed o g.domains c) h.typed;
+    reached = λ x le. let few = is.few in let all = h.reached x le in omega (arith, few, all);
+  }
 
   pub number_known : (f r : Linear) → ((a : List ℤ) → AreKnown known a → linear_at r a ≡ linear_at f a) → ((low high : ℤ) → IsSum g.domains low high f → IsSum g.domains low high r) → IsAttributeForm o g owner k s (form.Number f) → IsKnownForm o g known owner k s (form.Number r)
   number_known f r value sum h = record {

@@ -7,6 +7,7 @@ pub mod AskedLaws
 pub mod InsideQuantifiers
 pub mod Operands
 pub mod PartSteps
+pub mod MemberLaws
 pub mod KnownLaws
 pub mod Pushing
 pub mod Stating

@@ -2,6 +2,7 @@
 -- have their values a form has the value of the attribute, and it lies within what the attribute's
 -- shape allows.
 use Rattle.std.specs.Prelude.{◌≡◌, ℕ, ◌≤◌, true, List, ℤ, pos, ◌≤ℤ◌, Option, length, take}
+use Rattle.std.specs.List.{All}
 use Rattle.class_table.specs.declared.table.Resolved.{Resolved}
 use Rattle.class_table.specs.Outline.{Outline}
 use Rattle.conf_types.specs.Types.{shape_type}
@@ -18,8 +19,10 @@ use Rattle.form_build.specs.Worlds.{IsWorld, AreKnown}
 use Rattle.expr_forms.specs.declared.form.Choice.{Choice}
 use Rattle.expr_forms.specs.declared.form.Choice.TheVariants as choice
 use Rattle.expr_forms.specs.declared.form.Form.{Form}
-use Rattle.expr_forms.specs.FormBounds.{IsFormOf, target_count}
-use Rattle.expr_forms.specs.FormValues.{form_value, number_part, truth_part}
+use Rattle.expr_forms.specs.declared.form.Listing.{Listing}
+use Rattle.expr_forms.specs.declared.form.Member.{Member}
+use Rattle.expr_forms.specs.FormBounds.{IsMember, IsListing, IsFormOf, slot_count, target_count}
+use Rattle.expr_forms.specs.FormValues.{members_at, listing_at, form_value, number_part, truth_part}
 
 -- the set has the value, which lies between its ends
 pub record IsHeld (s : Ranges) (v : ℤ) : Type 0 where
@@ -39,6 +42,21 @@ IsKnownChoice boxes known (choice.Cell x) (choice.Cell y) = y ≡ x
 IsKnownChoice boxes known (choice.Cell x) (choice.Mapped y map) = ⊥
 IsKnownChoice boxes known (choice.Fixed n) d = d ≡ choice.Fixed n
 IsKnownChoice boxes known (choice.Mapped x map) d = d ≡ choice.Mapped x map
+
+-- what is left of these members where the known cells have their values: the same objects are
+-- members, and no others may be
+pub record AreKnownMembers (known : List (ℕ × ℤ)) (before after : List Member) : Type 0 where
+  pub value : (a : List ℤ) → AreKnown known a → members_at after a ≡ members_at before a
+  pub each : (o : Outline) (boxes : Boxes) (c : ℕ) → All (IsMember o boxes c) before
+      → All (IsMember o boxes c) after
+  pub few : length after ≤ length before
+
+-- the same of a list
+pub record IsKnownListing (known : List (ℕ × ℤ)) (before after : Listing) : Type 0 where
+  pub value : (a : List ℤ) → AreKnown known a → listing_at after a ≡ listing_at before a
+  pub listed : (o : Outline) (boxes : Boxes) (c : ℕ) → IsListing o boxes c before
+      → IsListing o boxes c after
+  pub few : slot_count after ≤ slot_count before
 
 -- the form of attribute k of the owner, which has this shape, where the known cells have their
 -- values

@@ -16,6 +16,7 @@ ghost use Rattle.expr_forms.specs.Standing.{HasCells};
 ghost use Rattle.reference_forms.specs.Attributes.{IsAttributeForm};
 ghost use Rattle.ground_expr.specs.Known.{IsHeld, IsKnownValue, IsKnownChoice, IsKnownForm};
 
+use crate::known_members::known_listing;
 use crate::scene::Scene;
 use class_table::Resolved;
 use expr_forms::{Choice, Form};
@@ -87,7 +88,7 @@ fn known_number(maker: &Maker, known: &[(u32, i64)], f: Linear) -> Linear
 }
 
 /// A truth, or what it is known to be.
-fn known_truth(maker: &Maker, known: &[(u32, i64)], t: Truth) -> Truth
+pub(crate) fn known_truth(maker: &Maker, known: &[(u32, i64)], t: Truth) -> Truth
     ensures value { (a : List ℤ) → AreKnown known.now a → truth_at result a ≡ truth_at t a }
     ensures variable { (n : ℕ) → HasVariable n t → HasVariable n result }
 {
@@ -136,17 +137,20 @@ fn known_choice(maker: &Maker, known: &[(u32, i64)], c: Choice) -> Choice
 
 /// The form of an attribute, or what it is known to be.
 #[tactic(auto, using(crate::proofs::KnownLaws::known_laws))]
-fn known_form(maker: &Maker, known: &[(u32, i64)], f: Form) -> Form
-    ensures { (o : Outline) (owner : Option ℕ) (k : ℕ) (s : AShape)
+fn known_form(maker: &Maker, known: &[(u32, i64)], f: Form) -> Result<Form, AllocError>
+    ensures { IfOk result (λ r. (o : Outline) (owner : Option ℕ) (k : ℕ) (s : AShape)
         → IsAttributeForm o maker.now owner k s f
-        → IsKnownForm o maker.now known.now owner k s result }
+        → IsKnownForm o maker.now known.now owner k s r) }
 {
     match f {
-        Form::Number(n) => Form::Number(known_number(maker, known, n)),
-        Form::Truth(t) => Form::Truth(known_truth(maker, known, t)),
-        Form::Choice(e, c) => Form::Choice(e, known_choice(maker, known, c)),
-        Form::Object(class, c) => Form::Object(class, known_choice(maker, known, c)),
-        Form::List(list) => Form::List(list),
+        Form::Number(n) => Ok(Form::Number(known_number(maker, known, n))),
+        Form::Truth(t) => Ok(Form::Truth(known_truth(maker, known, t))),
+        Form::Choice(e, c) => Ok(Form::Choice(e, known_choice(maker, known, c))),
+        Form::Object(class, c) => Ok(Form::Object(class, known_choice(maker, known, c))),
+        Form::List(list) => {
+            let left = known_listing(maker, known, list)?;
+            Ok(Form::List(left))
+        }
     }
 }
 
@@ -166,5 +170,6 @@ pub(crate) fn attribute_at(
         scene.now.known.now owner k shape f) }
 {
     let f = attribute_form(maker, scene.objects, owner, k, shape)?;
-    Ok(known_form(maker, scene.known, f))
+    let r = known_form(maker, scene.known, f)?;
+    Ok(r)
 }

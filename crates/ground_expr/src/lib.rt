@@ -15,6 +15,7 @@
 //! - `constraints`: what is required of a whole constraint.
 //! - `forms`: the form of an expression; the recursion is on the resolved tree.
 //! - `known`: attributes of an owner that is known, where values of cells are known.
+//! - `known_members`: the members of a list, where values of cells are known.
 //! - `names`: what names stand for.
 //! - `operators`: operators over forms of any kind.
 //! - `pushes`: expressions that are pushed into a disjunction.
@@ -27,6 +28,7 @@ mod comparisons;
 mod constraints;
 mod forms;
 mod known;
+mod known_members;
 mod names;
 mod operators;
 mod pushes;

@@ -25,8 +25,8 @@ use Rattle.std.proofs.lemmas.List.{get_or_append_left, get_or_default}
 use Rattle.conf_types.specs.Programs.{ResolvedConstraint}
 use Rattle.form_build.specs.declared.form.Truth.{Truth}
 use Rattle.form_build.specs.Forms.{truth_at}
-use Rattle.ground_expr.specs.Asked.{holds_of}
-use Rattle.ground_model.specs.Fixing.{holds_in}
+use Rattle.ground_expr.specs.Asked.{are_full, holds_of, satisfied_by}
+use Rattle.ground_model.specs.Fixing.{holds_in, satisfied_by_fixing}
 use Rattle.form_build.specs.Worlds.{AllHold, AreKnown, AreSome, Grows, IsWorld, IsInBoxes, Adds}
 use Rattle.form_build.proofs.Growth.{box_kept, world_before, all_before, adds_known}
 use Rattle.expr_forms.specs.Standing.{HasCells}
@@ -182,8 +182,14 @@ pub values_next : (f g h : Ground) (known : List (ℕ × ℤ)) (i : ℕ) (d : �
 values_next f g h known i d lt before next = requires_next [] f g h (λ values k. int_eq (value_of values k.0) k.1) known i (get_or known i d) lt (get_or_default known i d (get_or known i d) lt) before next
 
 -- what is asked of all constraints is asked of those that may fix something
-pub fixing_hold : (o : Outline) (values : List ℤ) (ks : List ResolvedConstraint) → list_all (holds_of o values) ks ≡ true → list_all (holds_in true o values) ks ≡ true
+fixing_hold : (o : Outline) (values : List ℤ) (ks : List ResolvedConstraint) → list_all (holds_of o values) ks ≡ true → list_all (holds_in true o values) ks ≡ true
 fixing_hold o values ks h = (and_parts (list_all (holds_in true o values) ks) (list_all (holds_in false o values) ks) (both_passes o values ks ∙ h)).0
+
+-- what is asked of a model is asked in the problem that fixes values
+pub fixing_satisfied : (o : Outline) (values : List ℤ) (ks : List ResolvedConstraint) → satisfied_by o ks values ≡ true → satisfied_by_fixing o ks values ≡ true
+fixing_satisfied o values ks h =
+    let parts = and_parts (are_full o values) (list_all (holds_of o values) ks) h in
+    ap (λ (b : Bool). b && list_all (holds_in true o values) ks) parts.0 ∙ fixing_hold o values ks parts.1
 
 -- cells are searched variables
 pub values_low : (o : Outline) (g : Ground) (known : List (ℕ × ℤ)) → HasCells o g → All (IsValueOfCell o) known → All (λ k. k.0 < g.search) known

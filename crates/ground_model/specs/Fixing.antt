@@ -1,6 +1,7 @@
 -- Constraints that may give cells their values. What a reader believes after this file: which they
 -- are. No promise rests on this choice.
 use Rattle.std.specs.Prelude.{Bool, true, false, ◌&&◌, cond, List, ℤ}
+use Rattle.std.specs.List.{list_all}
 use Rattle.class_table.specs.Outline.{Outline}
 use Rattle.conf_syntax.specs.declared.tree.QuantKind.{QuantKind}
 use Rattle.conf_syntax.specs.declared.tree.QuantKind.TheVariants as kind
@@ -8,7 +9,7 @@ use Rattle.conf_types.specs.Programs.{ResolvedConstraint}
 use Rattle.conf_types.specs.Trees.{Tree, Filter, Bodies}
 use Rattle.conf_types.specs.Trees as tree
 use Rattle.form_truths.specs.Tests.{wanted}
-use Rattle.ground_expr.specs.Asked.{holds_of}
+use Rattle.ground_expr.specs.Asked.{are_full, holds_of}
 
 -- it says that something holds of all, or of some
 abbrev pub joins_truths : QuantKind → Bool
@@ -49,3 +50,7 @@ fixes t = true
 -- others
 abbrev pub holds_in : Bool → Outline → List ℤ → ResolvedConstraint → Bool
 holds_in fixing o values k = cond (wanted fixing (fixes k.tree)) (holds_of o values k) true
+
+-- the sets are full, and the constraints of that pass hold
+abbrev pub satisfied_by_fixing : Outline → List ResolvedConstraint → List ℤ → Bool
+satisfied_by_fixing o ks values = are_full o values && list_all (holds_in true o values) ks

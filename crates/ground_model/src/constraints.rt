@@ -3,7 +3,7 @@ ghost use Rattle.std.specs.Prelude.{◌≡◌, ◌<◌, ℕ, [], true, false, So
 ghost use Rattle.std.specs.List.{All, list_all};
 ghost use Rattle.object_alloc.specs.Cells.{extent};
 ghost use Rattle.expr_forms.specs.Standing.{HasCells};
-ghost use Rattle.ground_expr.specs.Asked.{holds_for, holds_of};
+ghost use Rattle.ground_expr.specs.Asked.{holds_for, holds_of, satisfied_by};
 ghost use Rattle.ground_model.specs.Fixing.{holds_in};
 ghost use Rattle.ground_model.specs.Known.{HasKnown, AreFixed};
 ghost use Rattle.ground_model.specs.Requiring.{Requires};
@@ -14,6 +14,7 @@ use crate::known::{known_cells, require_values};
 use crate::origins::Origins;
 use crate::required::require_tree;
 use crate::rows::require_packed;
+use crate::sets::require_full_sets;
 use conf_types::Constraint;
 use form_build::Maker;
 use object_alloc::Objects;
@@ -212,9 +213,10 @@ fn require_both_passes(
     Ok(())
 }
 
-/// States that all of these constraints hold. Cells whose values follow from those that may give
-/// cells their values are taken as known, and answered.
-pub(crate) fn require_constraints(
+/// States that sets are full and that all of these constraints hold. Cells whose values follow from
+/// the sizes of sets and from the constraints that may give cells their values are taken as known,
+/// and answered.
+pub(crate) fn require_satisfied(
     maker: &mut Maker,
     objects: &Objects<'_>,
     list: &[Constraint],
@@ -223,13 +225,14 @@ pub(crate) fn require_constraints(
     requires ready { All (IsReadyConstraint objects.now) list.now }
     requires cells { HasCells objects.now maker.old }
     ensures says { IfOk result (λ known. Requires [] maker.old maker.new
-        (λ values. list_all (holds_of objects.now values) list.now)) }
+        (satisfied_by objects.now list.now)) }
     ensures known { IfOk result (λ known. HasKnown objects.now known.items maker.new) }
     ensures fixed { IfOk result (λ known. AreFixed known.items maker.new) }
 {
     let _some = maker.domains();
     let known = known_cells(maker.alloc(), objects, list, origins)?;
     require_values(maker, known.as_slice())?;
+    require_full_sets(maker, objects)?;
     require_both_passes(maker, objects, known.as_slice(), list, origins)?;
     Ok(known)
 }

@@ -1,10 +1,11 @@
-//! Cells whose values follow from the constraints that need no sum, count or packing.
+//! Cells whose values follow from the constraints that need no sum, count or packing, and from the
+//! sizes of sets.
 //!
-//! These constraints are stated in a problem of their own, whose root boxes tell which cells have
-//! one value left. In the model's problem the values are stated first, and everything else may name
+//! These are stated in a problem of their own, whose root boxes tell which cells have one value
+//! left. In the model's problem the values are stated first, and everything else may name
 //! them.
 ghost use Rattle.std.specs.Prelude.{◌≤◌, ◌≡◌, ◌<◌, ◌∷◌, ℕ, ℤ, List, [], true, false, length, IfOk, IfSome, OnOk};
-ghost use Rattle.std.specs.List.{All, list_all};
+ghost use Rattle.std.specs.List.{All};
 ghost use Rattle.std.specs.Ordering.{int_eq};
 ghost use Rattle.signed_clause.specs.Ranges.{has, in_range};
 ghost use Rattle.signed_clause.specs.Clauses.{box_of};
@@ -13,13 +14,14 @@ ghost use Rattle.ground_form.specs.Solutions.{IsPoint};
 ghost use Rattle.ground_form.specs.StandsFor.{StandsFor};
 ghost use Rattle.ground_cells.specs.CellBoxes.{cell_boxes};
 ghost use Rattle.form_build.specs.Worlds.{AreSome, AreKnown};
-ghost use Rattle.ground_model.specs.Fixing.{holds_in};
+ghost use Rattle.ground_model.specs.Fixing.{satisfied_by_fixing};
 ghost use Rattle.ground_model.specs.Known.{IsSingle, IsValueOfCell, have_values};
 ghost use Rattle.ground_model.specs.Requiring.{Requires};
 ghost use Rattle.ground_model.specs.Stated.{IsReadyConstraint};
 
 use crate::constraints::require_fixing;
 use crate::origins::Origins;
+use crate::sets::require_full_sets;
 use conf_types::Constraint;
 use form_build::Maker;
 use form_truths::{Test, literal, state};
@@ -31,7 +33,8 @@ use root_boxes::{Root, root_of};
 use signed_clause::IntSet;
 use std::alloc::{AllocError, Global};
 
-/// The problem of a model's cells and of those constraints that may give some their values.
+/// The problem of a model's cells, of the sizes of its sets, and of those constraints that may give
+/// some cells their values.
 fn fixing_problem(
     alloc: Global,
     objects: &Objects<'_>,
@@ -42,11 +45,12 @@ fn fixing_problem(
     requires some { AreSome (cell_boxes objects.now) }
     ensures some { IfOk result (λ g. AreSome g.domains) }
     ensures stands { IfOk result (λ g. StandsFor g (cell_boxes objects.now)
-        (λ values. list_all (holds_in true objects.now values) list.now) []) }
+        (satisfied_by_fixing objects.now list.now) []) }
 {
     let _count = objects.count();
     let cells = cell_boxes(alloc, objects)?;
     let mut maker = Maker::over(alloc, Builder::new(alloc, &cells)?);
+    require_full_sets(&mut maker, objects)?;
     require_fixing(&mut maker, objects, list, origins)?;
     let _some = maker.domains();
     Ok(maker.into_builder().finish(Goals::of(Vec::new(alloc))))
@@ -86,8 +90,8 @@ fn singles(alloc: Global, boxes: &[IntSet], search: u32) -> Result<Vec<(u32, i64
     Ok(found)
 }
 
-/// The cells whose values follow from the constraints that may fix some, with these values. The
-/// origins are told which constraints these rest on.
+/// The cells whose values follow from the sizes of sets and the constraints that may fix some, with
+/// these values. The origins are told which constraints these rest on.
 pub(crate) fn known_cells(
     alloc: Global,
     objects: &Objects<'_>,
@@ -98,7 +102,7 @@ pub(crate) fn known_cells(
     requires some { AreSome (cell_boxes objects.now) }
     ensures cells { IfOk result (λ ks. All (IsValueOfCell objects.now) ks.items) }
     ensures follow { IfOk result (λ ks. (t : List ℤ) → IsPoint (cell_boxes objects.now) t
-        → list_all (holds_in true objects.now t) list.now ≡ true → AreKnown ks.items t) }
+        → satisfied_by_fixing objects.now list.now t ≡ true → AreKnown ks.items t) }
 {
     let mut stated = Origins::new(alloc);
     let g = fixing_problem(alloc, objects, list, &mut stated)?;

@@ -21,10 +21,9 @@ ghost use Rattle.ground_model.specs.Allowance.{HasAtMost, allowance};
 ghost use Rattle.ground_model.specs.Stated.{IsReadyModel};
 
 use crate::allowance::{allowance, has_at_most};
-use crate::constraints::require_constraints;
+use crate::constraints::require_satisfied;
 use crate::goals::{goals_of, idle_goals};
 use crate::origins::Origins;
-use crate::sets::require_full_sets;
 use conf_types::TypedModel;
 use form_build::Maker;
 use goal_rows::add_totals;
@@ -82,8 +81,7 @@ fn require_model(
     ensures known { IfOk result (λ known. HasKnown objects.now known.items maker.new) }
     ensures fixed { IfOk result (λ known. AreFixed known.items maker.new) }
 {
-    require_full_sets(maker, objects)?;
-    let known = require_constraints(maker, objects, model.constraints(), origins)?;
+    let known = require_satisfied(maker, objects, model.constraints(), origins)?;
     Ok(known)
 }
 

@@ -13,12 +13,12 @@ ghost use Rattle.identity_forms.specs.Lists.{HasMembers, IsOwnedSlot};
 
 use crate::groups::groups_of;
 use crate::literals::{is_in, is_object};
-use crate::pairs::{is_never, push_both, some_truth};
+use crate::pairs::{is_never, push_both};
 use crate::sets::object_set;
 use crate::slots::slot_truth;
 use expr_forms::{Choice, Listing, Member, Slot};
 use form_build::{Maker, Truth};
-use form_truths::Disjunction;
+use form_truths::{Disjunction, truth_in_blocks};
 use std::alloc::AllocError;
 
 /// Whether this object is among them.
@@ -64,7 +64,7 @@ fn is_one_of_members(maker: &mut Maker, c: &Choice, members: &[Member]) -> Resul
         let same = is_object(maker, c, &groups, m.object)?;
         push_both(maker, &mut some, &same, &m.is)?;
     }
-    let t = some_truth(maker, &some)?;
+    let t = truth_in_blocks(maker, &some)?;
     Ok(t)
 }
 
@@ -119,7 +119,7 @@ fn is_one_of_slots(
         let same = is_object(maker, c, &groups, slot.object)?;
         push_slot(maker, &mut some, &same, x, pairs, slot)?;
     }
-    let t = some_truth(maker, &some)?;
+    let t = truth_in_blocks(maker, &some)?;
     Ok(t)
 }
 

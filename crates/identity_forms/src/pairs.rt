@@ -1,13 +1,13 @@
 //! Two truths as one, and disjunctions of such pairs.
 //!
 //! Where one of the two is fixed, or both ask for the same variable, nothing new is made.
-ghost use Rattle.std.specs.Prelude.{◌≡◌, ◌+◌, ◌&&◌, ◌||◌, ℤ, List, true, false, not, length, IfOk, OnOk};
+ghost use Rattle.std.specs.Prelude.{◌≡◌, ◌&&◌, ◌||◌, ℤ, List, true, false, not, length, IfOk, OnOk};
 ghost use Rattle.form_build.specs.Forms.{truth_at, HasVariable};
-ghost use Rattle.form_build.specs.Worlds.{IsInBoxes, IsWorld, Defines, HasRoomFor};
+ghost use Rattle.form_build.specs.Worlds.{IsInBoxes, IsWorld, Defines};
 ghost use Rattle.form_truths.specs.Disjunctions.{disjunction_at, IsWithin};
 
 use form_build::{Maker, Truth, turned};
-use form_truths::{Disjunction, flag_of, is_one, truth_of};
+use form_truths::{Disjunction, flag_of, is_one, truth_in_blocks};
 use std::alloc::AllocError;
 
 /// Whether it is fixed that the truth doesn't hold.
@@ -18,31 +18,6 @@ pub fn is_never(t: &Truth) -> bool
         Truth::Fixed(b) => !*b,
         Truth::In(_, _) => false,
     }
-}
-
-/// Asks for what the disjunction may make as a truth.
-fn ask_for(maker: &Maker, some: &Disjunction) -> Result<(), AllocError>
-    ensures { OnOk result (HasRoomFor (length some.now.1 + 1) maker.now) }
-{
-    let count = some.literals().len();
-    if count >= u32::MAX as usize {
-        return Err(AllocError);
-    }
-    maker.ask(count as u32 + 1)?;
-    Ok(())
-}
-
-/// The disjunction as a truth.
-pub(crate) fn some_truth(maker: &mut Maker, some: &Disjunction) -> Result<Truth, AllocError>
-    requires exist { IsWithin (length maker.old.domains) some.now.1 }
-    ensures variable { IfOk result (λ t. HasVariable (length maker.new.domains) t) }
-    ensures value { IfOk result (λ t. (a : List ℤ) → IsWorld maker.new a
-        → truth_at t a ≡ disjunction_at some.now a) }
-    ensures adds { IfOk result (λ t. Defines maker.old maker.new) }
-{
-    ask_for(maker, some)?;
-    let t = truth_of(maker, some)?;
-    Ok(t)
 }
 
 /// The disjunction of what holds where the two don't.
@@ -72,7 +47,7 @@ fn by_literal(maker: &mut Maker, s: &Truth, t: &Truth) -> Result<Truth, AllocErr
     ensures adds { IfOk result (λ u. Defines maker.old maker.new) }
 {
     let not_both = neither(maker, s, t)?;
-    let failing = some_truth(maker, &not_both)?;
+    let failing = truth_in_blocks(maker, &not_both)?;
     let u = turned(maker.alloc(), maker.domains(), &failing)?;
     Ok(u)
 }

@@ -12,10 +12,10 @@ ghost use Rattle.identity_forms.specs.Choices.{IsChoice, IsCell, is_mapped, AreG
 
 use crate::groups::{Groups, groups_of, objects_of};
 use crate::literals::{is_number, is_object};
-use crate::pairs::{push_both, some_truth};
+use crate::pairs::push_both;
 use expr_forms::Choice;
 use form_build::{Maker, Truth};
-use form_truths::{Disjunction, same_truth};
+use form_truths::{Disjunction, same_truth, truth_in_blocks};
 use signed_clause::IntSet;
 use std::alloc::AllocError;
 
@@ -74,7 +74,7 @@ fn same_among(
         let right = is_object(maker, d, d_groups, *n)?;
         push_both(maker, &mut some, &left, &right)?;
     }
-    let t = some_truth(maker, &some)?;
+    let t = truth_in_blocks(maker, &some)?;
     Ok(t)
 }
 

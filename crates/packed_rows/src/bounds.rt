@@ -1,6 +1,7 @@
 //! Whether the numbers of items to be packed are bounded.
-ghost use Rattle.std.specs.Prelude.{◌≡◌, ◌<◌, true, length, IfSome};
+ghost use Rattle.std.specs.Prelude.{◌≡◌, ◌<◌, ℕ, true, length, IfNone, IfSome};
 ghost use Rattle.std.specs.List.{All};
+ghost use Rattle.signed_clause.specs.Ranges.{IsValid};
 ghost use Rattle.signed_clause.specs.Clauses.{box_of};
 ghost use Rattle.ground_form.specs.Bounds.{low_of, high_of, IsPackBounded};
 ghost use Rattle.packed_rows.specs.SmallRows.{IsSmallRow};
@@ -21,7 +22,9 @@ fn ends_at(boxes: &[IntSet], x: u32) -> (i64, i64)
 fn left_without(boxes: &[IntSet], row: (u32, u32, u32), left: u64) -> Option<u64>
     requires place { row.0 < length boxes.now }
     requires size { row.1 < length boxes.now }
-    ensures { IfSome result (λ rest. IsSmallRow boxes.now row left rest) }
+    ensures some { IfSome result (λ rest. IsSmallRow boxes.now row left rest) }
+    ensures none { IfNone result (All (λ d. IsValid d) boxes.now → (rest : ℕ)
+        → IsSmallRow boxes.now row left rest → ⊥) }
 {
     let place = ends_at(boxes, row.0);
     let size = ends_at(boxes, row.1);
@@ -36,7 +39,9 @@ fn left_without(boxes: &[IntSet], row: (u32, u32, u32), left: u64) -> Option<u64
 pub fn are_bounded(boxes: &[IntSet], rows: &[(u32, u32, u32)]) -> bool
     requires exist { All (λ i. (i.0 < length boxes.now) × (i.1 < length boxes.now)
         × (i.2 < length boxes.now)) rows.now }
-    ensures { result ≡ true → IsPackBounded rows.now boxes.now }
+    ensures bounded { result ≡ true → IsPackBounded rows.now boxes.now }
+    ensures all { All (λ d. IsValid d) boxes.now → IsPackBounded rows.now boxes.now
+        → result ≡ true }
 {
     let mut left = MOST_SUM as u64;
     for row in rows {

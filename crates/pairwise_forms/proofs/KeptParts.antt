@@ -4,6 +4,7 @@ use Rattle.std.specs.List.{All}
 use Rattle.std.proofs.lemmas.List.{take_all, take_more, map-append}
 use Rattle.std.proofs.lemmas.List.Elements.{All-push, All-weaker, All-head, All-take, All-drop}
 use Rattle.ground_form.specs.declared.ground.Ground.{Ground}
+use Rattle.form_build.specs.declared.form.Truth.{Truth}
 use Rattle.form_build.specs.Worlds.{Grows}
 use Rattle.form_build.proofs.Growth.{world_before, no_less}
 use Rattle.form_build.proofs.Keeping.{linear_kept}
@@ -35,7 +36,7 @@ key_parts_kept old new ps g h = All-weaker (HasKeyPart old.domains) (HasKeyPart 
 -- ---- members by their values
 
 pub no_members : (g : Ground) → AreKeyed g [] []
-no_members g = record { exist = λ k d lt. absurd (omega (arith, lt)); seen = λ a w. refl }
+no_members g = record { exist = λ k d lt. absurd (omega (arith, lt)); kept = refl; seen = λ a w. refl }
 
 pub member_kept : (old new : Ground) (e : Keyed) → Grows old new → IsKeyed (length old.domains) e → IsKeyed (length new.domains) e
 member_kept old new e g h = let less = no_less old new g in record { kept = variable_kept old new g e.kept h.kept; exists = omega (arith, h.exists, less) }
@@ -58,6 +59,13 @@ members_more old new ps k p es more e g lt is made one h =
       exist =
           subst (All (IsKeyed (length new.domains))) (sym made)
           (All-push (IsKeyed (length new.domains)) es e (members_kept old new es g h.exist) (All-head (IsKeyed (length new.domains)) e [] one.exist));
+      kept =
+          ap (map (λ (f : Keyed). f.kept)) made
+          ∙ map-append (λ (f : Keyed). f.kept) es (e ∷ [])
+          ∙ ap (λ (ts : List Truth). ts ++ e.kept ∷ []) h.kept
+          ∙ ap (λ (ts : List Truth). map (λ (q : Part). q.kept) (take k ps) ++ ts) one.kept
+          ∙ sym (map-append (λ (q : Part). q.kept) (take k ps) (p ∷ []))
+          ∙ ap (map (λ (q : Part). q.kept)) (sym next);
       seen = λ a w.
           ap (map (λ (f : Keyed). kept_key f a)) made
           ∙ map-append (λ (f : Keyed). kept_key f a) es (e ∷ [])

@@ -10,3 +10,4 @@ pub mod WholeLaws
 pub mod QuantifiedTruths
 pub mod BlockLaws
 pub mod CountLaws
+pub mod HasWholes

@@ -98,7 +98,7 @@ seen_same k l p q s t r u e f g h =
     ∙ ap (λ (z : ℤ). seen_as l q t z) h
 
 pub no_items : (g : Ground) → AreItems g [] []
-no_items g = record { exist = λ k d lt. absurd (omega (arith, lt)); sizes = refl; seen = λ a w. refl }
+no_items g = record { exist = λ k d lt. absurd (omega (arith, lt)); kept = refl; sizes = refl; seen = λ a w. refl }
 
 packed_kept : (old new : Ground) (e : Packed) → Grows old new → IsPacked old.domains e → IsPacked new.domains e
 packed_kept old new e g h =
@@ -123,6 +123,13 @@ items_more old new ps k p es more e g lt is made one h =
       exist =
           subst (All (IsPacked new.domains)) (sym made)
           (All-push (IsPacked new.domains) es e (items_kept old new es g h.exist) (All-head (IsPacked new.domains) e [] one.exist));
+      kept =
+          ap (map (λ (f : Packed). f.kept)) made
+          ∙ map-append (λ (f : Packed). f.kept) es (e ∷ [])
+          ∙ ap (λ (ts : List Truth). ts ++ e.kept ∷ []) h.kept
+          ∙ ap (λ (ts : List Truth). map (λ (q : Part). q.kept) (take k ps) ++ ts) one.kept
+          ∙ sym (map-append (λ (q : Part). q.kept) (take k ps) (p ∷ []))
+          ∙ ap (map (λ (q : Part). q.kept)) (sym next);
       sizes =
           ap (map (λ (f : Packed). f.size)) made
           ∙ map-append (λ (f : Packed). f.size) es (e ∷ [])
@@ -152,6 +159,7 @@ item_is old new p e g h same is size room =
         size = subst (IsLinear (2 ^ 58) new.domains) (sym size) there.size;
         room = subst (IsLinear (2 ^ 58) new.domains) (sym room) there.room;
       });
+      kept = ap (λ (t : Truth). t ∷ []) same;
       sizes = ap (λ (f : Linear). f ∷ []) size;
       seen = λ a w.
           ap (λ (s : Seen). s ∷ [])
@@ -168,7 +176,7 @@ item_is old new p e g h same is size room =
 size_lies : (boxes : Boxes) (low high : ℤ) (fs gs : List Linear) → fs ≡ gs → All (IsSum boxes low high) gs → All (IsSum boxes low high) fs
 size_lies boxes low high fs gs e h = subst (All (IsSum boxes low high)) (sym e) h
 
-mapped_back : {X Y : Type 0} (P : Y → Type 0) (f : X → Y) (xs : List X) → All P (map f xs) → All (λ x. P (f x)) xs
+pub mapped_back : {X Y : Type 0} (P : Y → Type 0) (f : X → Y) (xs : List X) → All P (map f xs) → All (λ x. P (f x)) xs
 mapped_back P f [] h k d lt = absurd (omega (arith, lt))
 mapped_back P f (x ∷ xs) h zero d lt = h 0 (f d) (omega arith)
 mapped_back P f (x ∷ xs) h (suc k) d lt = mapped_back P f xs (λ j e l. h (suc j) e (omega (arith, l))) k d (omega (arith, lt))

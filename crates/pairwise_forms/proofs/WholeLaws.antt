@@ -1,5 +1,5 @@
 -- Members that are all kept: their clashes and loads by their variables alone.
-use Rattle.std.proofs.Common.{◌≡◌, ℕ, ◌+◌, ◌<◌, Bool, true, false, not, ◌&&◌, ◌||◌, cond, List, [], ◌∷◌, ◌++◌, take, get_or, map, ℤ, pos, ◌+ℤ◌, int_le, length, refl, sym, ap, ◌∙◌, subst, arith}
+use Rattle.std.proofs.Common.{◌≡◌, ℕ, ◌+◌, ◌<◌, Bool, true, false, not, ◌&&◌, ◌||◌, cond, List, [], ◌∷◌, ◌++◌, take, get_or, map, ℤ, pos, ◌+ℤ◌, int_le, length, length-append, refl, sym, ap, ◌∙◌, subst, arith}
 use Rattle.std.specs.List.{All, list_any}
 use Rattle.std.specs.Ordering.{int_eq}
 use Rattle.std.proofs.lemmas.Int.{ints}
@@ -123,9 +123,9 @@ fitting_says g es rows a h w all =
 -- ---- rows, one after the other
 
 pub no_rows : (g : Ground) → AreRows g [] []
-no_rows g = record { exist = λ k d lt. absurd (omega (arith, lt)); seen = λ a w. refl }
+no_rows g = record { exist = λ k d lt. absurd (omega (arith, lt)); count = refl; seen = λ a w. refl }
 
-rows_there : (old new : Ground) (rows : List (ℕ × ℕ × ℕ)) → Grows old new → All (AreItemVariables old) rows → All (AreItemVariables new) rows
+pub rows_there : (old new : Ground) (rows : List (ℕ × ℕ × ℕ)) → Grows old new → All (AreItemVariables old) rows → All (AreItemVariables new) rows
 rows_there old new rows g h =
     All-weaker (AreItemVariables old) (AreItemVariables new)
     (λ r t. let less = no_less old new g in (omega (arith, less, t.0), omega (arith, less, t.1), omega (arith, less, t.2))) rows h
@@ -137,6 +137,12 @@ rows_more old new es k e rows more r g lt is made one h =
       exist =
           subst (All (AreItemVariables new)) (sym made)
           (All-push (AreItemVariables new) rows r (rows_there old new rows g h.exist) (All-head (AreItemVariables new) r [] one.exist));
+      count =
+          let rows_now = ap length made in
+          let one_row = length-append rows (r ∷ []) in
+          let items_now = ap length next in
+          let one_item = length-append (take k es) (e ∷ []) in
+          omega (arith, rows_now, one_row, items_now, one_item, h.count);
       seen = λ a w.
           ap (map (λ (q : ℕ × ℕ × ℕ). row_values q a)) made
           ∙ map-append (λ (q : ℕ × ℕ × ℕ). row_values q a) rows (r ∷ [])
@@ -151,6 +157,7 @@ row_is mid new e x y g place there last size room = record {
   exist =
       let less = no_less mid new g in
       All-push (AreItemVariables new) [] (e.place, x, y) (All-nil (AreItemVariables new)) (omega (arith, less, place), omega (arith, less, there), last);
+  count = refl;
   seen = λ a w.
       ap (λ (v : ℤ). (value_of a e.place, v, value_of a y) ∷ []) (size a (world_before mid new a g w))
       ∙ ap (λ (v : ℤ). (value_of a e.place, linear_at e.size a, v) ∷ []) (room a w);

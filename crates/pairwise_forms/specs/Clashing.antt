@@ -45,5 +45,6 @@ pub record HasKeyPart (boxes : Boxes) (p : Part) : Type 0 where
 -- the members of the parts in every world, in order
 pub record AreKeyed (g : Ground) (ps : List Part) (es : List Keyed) : Type 0 where
   pub exist : All (IsKeyed (length g.domains)) es
+  pub kept : map (λ (e : Keyed). e.kept) es ≡ map (λ (p : Part). p.kept) ps
   pub seen : (a : List ℤ) → IsWorld g a → map (λ (e : Keyed). kept_key e a) es
       ≡ map (λ (p : Part). part_key p a) ps

@@ -4,3 +4,4 @@ pub mod Clashing
 pub mod Packing
 pub mod Rows
 pub mod Blocks
+pub mod Wholes

@@ -81,6 +81,7 @@ pub record HasItemPart (boxes : Boxes) (p : Part) : Type 0 where
 -- the items of the parts in every world, in order
 pub record AreItems (g : Ground) (ps : List Part) (es : List Packed) : Type 0 where
   pub exist : All (IsPacked g.domains) es
+  pub kept : map (λ (e : Packed). e.kept) es ≡ map (λ (p : Part). p.kept) ps
   pub sizes : map (λ (e : Packed). e.size) es ≡ map (λ (p : Part). second_number p.bodies.items) ps
   pub seen : (a : List ℤ) → IsWorld g a → map (λ (e : Packed). seen_item e a) es
       ≡ map (λ (p : Part). seen_part p a) ps

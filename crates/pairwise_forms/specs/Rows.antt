@@ -1,6 +1,6 @@
 -- Items by their variables. What a reader believes after this file: which variables stand for the
 -- places, sizes and rooms of items.
-use Rattle.std.specs.Prelude.{◌≡◌, ℕ, List, ℤ, map}
+use Rattle.std.specs.Prelude.{◌≡◌, ℕ, List, ℤ, length, map}
 use Rattle.std.specs.List.{All}
 use Rattle.ground_form.specs.declared.ground.Ground.{Ground}
 use Rattle.ground_form.specs.Meaning.{value_of}
@@ -19,5 +19,6 @@ item_values e a = (value_of a e.place, linear_at e.size a, linear_at e.room a)
 -- the variables of the items in every world, in order
 pub record AreRows (g : Ground) (es : List Packed) (rows : List (ℕ × ℕ × ℕ)) : Type 0 where
   pub exist : All (AreItemVariables g) rows
+  pub count : length rows ≡ length es
   pub seen : (a : List ℤ) → IsWorld g a → map (λ (r : ℕ × ℕ × ℕ). row_values r a) rows
       ≡ map (λ (e : Packed). item_values e a) es

@@ -3,11 +3,12 @@
 //! Where all members are kept in any case, and numbers are small, this is one constraint of the kind
 //! that was made for it, or of many members that differ one for each two blocks of them, and a
 //! packing. Else that values differ is stated pair by pair, and a packing by its form.
-ghost use Rattle.std.specs.Prelude.{◌≡◌, ◌<◌, ◌∷◌, [], List, ℤ, true, not, length, map, IfOk, IfSome, OnOk};
+ghost use Rattle.std.specs.Prelude.{◌≡◌, ◌<◌, ◌≤◌, ◌∷◌, [], List, ℤ, true, not, length, map, Contains, IfOk, OnOk};
 ghost use Rattle.std.specs.List.{All};
 ghost use Rattle.conf_eval.specs.Meaning.{truth_of};
 ghost use Rattle.conf_syntax.specs.declared.tree.QuantKind.TheVariants as kind;
 ghost use Rattle.ground_build.specs.Growing.{AreItemVariables};
+ghost use Rattle.ground_form.specs.declared.con.Con.TheVariants.{AllDiff};
 ghost use Rattle.ground_form.specs.Meaning.{all_differ};
 ghost use Rattle.form_build.specs.declared.form.Truth.TheVariants as truth;
 ghost use Rattle.form_build.specs.Worlds.{IsWorld, Adds, Defines};
@@ -17,6 +18,7 @@ ghost use Rattle.pairwise_forms.specs.AlikeParts.{AreAlike, AreSizes};
 ghost use Rattle.pairwise_forms.specs.Clashing.{some_clash, IsKeyed};
 ghost use Rattle.pairwise_forms.specs.Packing.{some_overfull, IsPacked, AreNarrow};
 ghost use Rattle.pairwise_forms.specs.Rows.{AreRows};
+ghost use Rattle.pairwise_forms.specs.Wholes.{AreKept, HasDifferent, HasPacking, HasItems};
 
 use crate::apart::state_no_clash;
 use crate::blocks::state_blocks;
@@ -32,7 +34,8 @@ use std::alloc::{AllocError, Global};
 
 /// Whether the truth holds in any case.
 fn is_sure(t: &Truth) -> bool
-    ensures { result ≡ true → t.now ≡ truth.Fixed true }
+    ensures sure { result ≡ true → t.now ≡ truth.Fixed true }
+    ensures all { t.now ≡ truth.Fixed true → result ≡ true }
 {
     match t {
         Truth::Fixed(b) => *b,
@@ -42,7 +45,8 @@ fn is_sure(t: &Truth) -> bool
 
 /// Whether each member is kept in any case.
 fn are_kept(members: &[Keyed]) -> bool
-    ensures { result ≡ true → All (λ e. e.kept ≡ truth.Fixed true) members.now }
+    ensures kept { result ≡ true → All (λ e. e.kept ≡ truth.Fixed true) members.now }
+    ensures all { All (λ e. e.kept ≡ truth.Fixed true) members.now → result ≡ true }
 {
     for e in members {
         if !is_sure(&e.kept) {
@@ -75,6 +79,8 @@ pub const MOST_PACKED: usize = 1024;
 fn state_values(maker: &mut Maker, vars: &[u32]) -> Result<(), AllocError>
     requires variables { All (λ x. x < length maker.old.domains) vars.now }
     ensures says { OnOk result (Adds [] maker.old maker.new (λ a. all_differ vars.now a)) }
+    ensures stands { OnOk result (length vars.now ≤ 64
+        → Contains maker.new.cons (AllDiff vars.now)) }
 {
     if vars.len() <= MOST_DIFFERENT {
         maker.ask(1)?;
@@ -93,6 +99,8 @@ fn require_different(maker: &mut Maker, members: &[Keyed]) -> Result<(), AllocEr
     requires members { All (IsKeyed (length maker.old.domains)) members.now }
     requires kept { All (λ e. e.kept ≡ truth.Fixed true) members.now }
     ensures says { OnOk result (Adds [] maker.old maker.new (λ a. not (some_clash members.now a))) }
+    ensures stands { OnOk result (length members.now ≤ 64
+        → Contains maker.new.cons (AllDiff (map (λ e. e.key) members.now))) }
 {
     let vars = keys(maker.alloc(), members)?;
     state_values(maker, vars.as_slice())?;
@@ -105,6 +113,9 @@ pub fn state_different(maker: &mut Maker, parts: &[Part]) -> Result<(), AllocErr
     requires alike { AreAlike maker.old.domains parts.now }
     ensures says { OnOk result (Adds [] maker.old maker.new
         (λ a. truth_of (over_values kind.AllDifferent (kept_values parts.now a)))) }
+    ensures whole { OnOk result (AreKept parts.now → length parts.now ≤ 64
+        → HasDifferent maker.new (length parts.now) (λ a. Unit {0})
+        (λ a. kept_values parts.now a)) }
 {
     let members = keyed(maker, parts)?;
     if are_kept(&members) {
@@ -117,7 +128,8 @@ pub fn state_different(maker: &mut Maker, parts: &[Part]) -> Result<(), AllocErr
 
 /// Whether each item is kept in any case.
 fn are_sure(items: &[Packed]) -> bool
-    ensures { result ≡ true → All (λ e. e.kept ≡ truth.Fixed true) items.now }
+    ensures kept { result ≡ true → All (λ e. e.kept ≡ truth.Fixed true) items.now }
+    ensures all { All (λ e. e.kept ≡ truth.Fixed true) items.now → result ≡ true }
 {
     for e in items {
         if !is_sure(&e.kept) {
@@ -174,6 +186,7 @@ fn require_fitting(maker: &mut Maker, items: &[Packed]) -> Result<(), AllocError
     requires kept { All (λ e. e.kept ≡ truth.Fixed true) items.now }
     ensures says { OnOk result (Adds [] maker.old maker.new
         (λ a. not (some_overfull items.now a))) }
+    ensures whole { OnOk result (HasItems maker.new items.now) }
 {
     let rows = rows_of(maker, items)?;
     maker.ask(1)?;
@@ -192,6 +205,9 @@ pub fn state_pack(maker: &mut Maker, parts: &[Part]) -> Result<(), AllocError>
     requires sizes { AreSizes maker.old.domains parts.now }
     ensures says { OnOk result (Adds [] maker.old maker.new
         (λ a. truth_of (over_values kind.Pack (kept_values parts.now a)))) }
+    ensures whole { OnOk result (AreKept parts.now
+        → HasPacking maker.new (length parts.now) (λ a. Unit {0})
+        (λ a. kept_values parts.now a)) }
 {
     let items = packed(maker, parts)?;
     if are_sure(&items) {

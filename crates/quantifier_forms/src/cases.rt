@@ -10,10 +10,10 @@ ghost use Rattle.quantifier_forms.specs.PartValues.{are_true, is_case};
 ghost use Rattle.quantifier_forms.specs.Quantified.{HasTruths, IsOnlyBody};
 
 use crate::part::Part;
-use crate::truths::{none_from, push_turned, truth_from, truth_in};
+use crate::truths::{none_from, push_turned, truth_in};
 use expr_forms::Form;
 use form_build::{Maker, Truth};
-use form_truths::Disjunction;
+use form_truths::{Disjunction, truth_in_blocks};
 use std::alloc::AllocError;
 
 /// The one body of a part that is kept in any case, where it is such a part.
@@ -152,6 +152,6 @@ pub(crate) fn some_case(maker: &mut Maker, want: bool, parts: &[Part]) -> Result
     for p in parts {
         push_case(maker, &mut cases, want, p)?;
     }
-    let t = truth_from(maker, &cases)?;
+    let t = truth_in_blocks(maker, &cases)?;
     Ok(t)
 }

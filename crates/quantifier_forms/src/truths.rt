@@ -1,14 +1,14 @@
 //! Disjunctions of truths that are lent, as truths.
-ghost use Rattle.std.specs.Prelude.{◌≡◌, ◌+◌, ◌||◌, not, List, ℤ, length, IfOk, OnOk};
+ghost use Rattle.std.specs.Prelude.{◌≡◌, ◌||◌, not, List, ℤ, length, IfOk, OnOk};
 ghost use Rattle.form_build.specs.Forms.{truth_at, HasVariable};
-ghost use Rattle.form_build.specs.Worlds.{IsWorld, Defines, HasRoomFor};
+ghost use Rattle.form_build.specs.Worlds.{IsWorld, Defines};
 ghost use Rattle.form_truths.specs.Disjunctions.{disjunction_at, IsWithin};
 ghost use Rattle.expr_forms.specs.FormValues.{truth_part};
 
 use expr_forms::Form;
 use form_build::{Maker, Truth, turned};
-use form_truths::{Disjunction, copy_truth, truth_of};
-use std::alloc::{AllocError, Global};
+use form_truths::{Disjunction, copy_truth, truth_in_blocks};
+use std::alloc::AllocError;
 
 /// The truth that a form is; false of what is none.
 pub(crate) fn truth_in(f: &Form) -> Result<Truth, AllocError>
@@ -38,30 +38,6 @@ pub fn push_turned(maker: &Maker, d: &mut Disjunction, t: &Truth) -> Result<(), 
     Ok(())
 }
 
-/// Asks for room for so many and one more.
-fn ask_for(maker: &Maker, count: usize) -> Result<(), AllocError>
-    ensures { OnOk result (HasRoomFor (count + 1) maker.now) }
-{
-    if count >= u32::MAX as usize {
-        return Err(AllocError);
-    }
-    maker.ask(count as u32 + 1)?;
-    Ok(())
-}
-
-/// The disjunction as a truth.
-pub(crate) fn truth_from(maker: &mut Maker, d: &Disjunction) -> Result<Truth, AllocError>
-    requires exist { IsWithin (length maker.old.domains) d.now.1 }
-    ensures variable { IfOk result (λ t. HasVariable (length maker.new.domains) t) }
-    ensures value { IfOk result (λ t. (a : List ℤ) → IsWorld maker.new a
-        → truth_at t a ≡ disjunction_at d.now a) }
-    ensures adds { IfOk result (λ t. Defines maker.old maker.new) }
-{
-    ask_for(maker, d.literals().len())?;
-    let t = truth_of(maker, d)?;
-    Ok(t)
-}
-
 /// The truth that holds where the disjunction doesn't.
 pub fn none_from(maker: &mut Maker, d: &Disjunction) -> Result<Truth, AllocError>
     requires exist { IsWithin (length maker.old.domains) d.now.1 }
@@ -70,7 +46,7 @@ pub fn none_from(maker: &mut Maker, d: &Disjunction) -> Result<Truth, AllocError
         → truth_at t a ≡ not (disjunction_at d.now a)) }
     ensures adds { IfOk result (λ t. Defines maker.old maker.new) }
 {
-    let t = truth_from(maker, d)?;
+    let t = truth_in_blocks(maker, d)?;
     let u = turned(maker.alloc(), maker.domains(), &t)?;
     Ok(u)
 }

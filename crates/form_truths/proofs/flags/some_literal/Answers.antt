@@ -1,4 +1,4 @@
-use Rattle.std.proofs.Common.{ℕ, List, Bool, true, false, not, ◌≡◌, refl, ap, sym, ◌∙◌}
+use Rattle.std.proofs.Common.{ℕ, List, Bool, not, ◌≡◌, ap, ◌∙◌}
 use Rattle.signed_clause.specs.Clauses.{clause_true}
 use Rattle.ground_form.specs.Meaning.{parts_true}
 use Rattle.form_build.proofs.Growth.{world_before, defines_more}

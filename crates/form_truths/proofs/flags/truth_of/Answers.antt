@@ -1,4 +1,4 @@
-use Rattle.std.proofs.Common.{[], List, ◌+◌, length, subst}
+use Rattle.std.proofs.Common.{[], ◌+◌, length, subst}
 use Rattle.signed_clause.specs.Clauses.{Literals}
 use Rattle.form_build.specs.Worlds.{IsFew}
 use Rattle.form_build.proofs.Growth.{adds_nothing}

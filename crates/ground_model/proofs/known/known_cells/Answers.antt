@@ -1,8 +1,7 @@
 use Rattle.std.proofs.Common.{true, [], All, ◌∙◌, sym, subst}
-use Rattle.std.specs.List.{list_all}
 use Rattle.signed_clause.specs.Clauses.{Boxes}
 use Rattle.ground_cells.specs.CellBoxes.{cell_boxes}
-use Rattle.ground_model.specs.Fixing.{holds_in}
+use Rattle.ground_model.specs.Fixing.{satisfied_by_fixing}
 use Rattle.ground_model.specs.Known.{IsSingle}
 use Rattle.ground_model.proofs.KnownCells.{singles_lie, singles_known}
 use Rattle.ground_model.proofs.known.known_cells.Goals as goal
@@ -13,7 +12,7 @@ returns-clause-cells c =
     let boxes = c.in_ok-root.root.boxes.items in
     let g = c.in_ok-g.g in
     let one = subst (λ (b : Boxes). All (IsSingle b g.search) c.in_ok-known.known.items) c.as_slice-2.ensures.value c.in_ok-known.ensures in
-    singles_lie o boxes g (λ values. list_all (holds_in true o values) c.args.list.now) [] c.in_ok-g.ensures.stands c.in_ok-root.ensures.within c.in_ok-root.ensures.holds c.in_ok-known.known.items one
+    singles_lie o boxes g (satisfied_by_fixing o c.args.list.now) [] c.in_ok-g.ensures.stands c.in_ok-root.ensures.within c.in_ok-root.ensures.holds c.in_ok-known.known.items one
 
 pub returns-clause-follow : goal.returns-clause-follow
 returns-clause-follow c t p passes =
@@ -21,4 +20,4 @@ returns-clause-follow c t p passes =
     let boxes = c.in_ok-root.root.boxes.items in
     let g = c.in_ok-g.g in
     let one = subst (λ (b : Boxes). All (IsSingle b g.search) c.in_ok-known.known.items) c.as_slice-2.ensures.value c.in_ok-known.ensures in
-    singles_known (cell_boxes o) boxes g (λ values. list_all (holds_in true o values) c.args.list.now) [] c.in_ok-g.ensures.stands c.in_ok-root.ensures.within c.in_ok-root.ensures.holds c.in_ok-known.known.items t one p passes
+    singles_known (cell_boxes o) boxes g (satisfied_by_fixing o c.args.list.now) [] c.in_ok-g.ensures.stands c.in_ok-root.ensures.within c.in_ok-root.ensures.holds c.in_ok-known.known.items t one p passes

@@ -42,10 +42,10 @@ loop-m-preserved c =
 pub returns-clause-value : goal.returns-clause-value
 returns-clause-value c a w =
     let i = c.loop-m.invariant in
-    let before = world_before c.loop-m.maker c.some_truth.new.maker a c.in_ok-t.ensures.adds.grows w in
+    let before = world_before c.loop-m.maker c.truth_in_blocks.new.m a c.in_ok-t.ensures.adds.grows w in
     c.in_ok-t.ensures.value a w ∙ i.value a before
     ∙ ap (list_any (λ (m : Member). nat_eq (choice_at c.args.c.now a) m.object && truth_at m.is a)) (take_all c.loop-m.m-index c.args.members.now c.loop-m-test.false)
     ∙ any_members (choice_at c.args.c.now a) c.args.members.now a
 
 pub returns-clause-adds : goal.returns-clause-adds
-returns-clause-adds c = defines_more c.args.maker.now c.loop-m.maker c.some_truth.new.maker c.loop-m.invariant.adds c.in_ok-t.ensures.adds
+returns-clause-adds c = defines_more c.args.maker.now c.loop-m.maker c.truth_in_blocks.new.m c.loop-m.invariant.adds c.in_ok-t.ensures.adds

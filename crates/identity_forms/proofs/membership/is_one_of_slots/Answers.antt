@@ -53,11 +53,11 @@ loop-slot-preserved c =
 pub returns-clause-value : goal.returns-clause-value
 returns-clause-value c a w =
     let i = c.loop-slot.invariant in
-    let before = world_before c.loop-slot.maker c.some_truth.new.maker a c.in_ok-t.ensures.adds.grows w in
+    let before = world_before c.loop-slot.maker c.truth_in_blocks.new.m a c.in_ok-t.ensures.adds.grows w in
     let owner : ℕ = number_for (value_of a c.args.x) c.args.pairs.now in
     c.in_ok-t.ensures.value a w ∙ i.value a before
     ∙ ap (list_any (λ (s : Slot). nat_eq (choice_at c.args.c.now a) s.object && is_owned owner a s)) (take_all c.loop-slot.slot-index c.args.slots.now c.loop-slot-test.false)
     ∙ any_owned (choice_at c.args.c.now a) owner c.args.slots.now a
 
 pub returns-clause-adds : goal.returns-clause-adds
-returns-clause-adds c = defines_more c.args.maker.now c.loop-slot.maker c.some_truth.new.maker c.loop-slot.invariant.adds c.in_ok-t.ensures.adds
+returns-clause-adds c = defines_more c.args.maker.now c.loop-slot.maker c.truth_in_blocks.new.m c.loop-slot.invariant.adds c.in_ok-t.ensures.adds

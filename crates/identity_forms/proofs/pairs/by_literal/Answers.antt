@@ -8,7 +8,7 @@ use Rattle.identity_forms.proofs.pairs.by_literal.Goals as goal
 
 pub returns-clause-value : goal.returns-clause-value
 returns-clause-value c a w =
-    let before = world_before c.args.maker.now c.some_truth.new.maker a c.in_ok-failing.ensures.adds.grows w in
+    let before = world_before c.args.maker.now c.truth_in_blocks.new.m a c.in_ok-failing.ensures.adds.grows w in
     both_of (truth_at c.args.s.now a) (truth_at c.args.t.now a) (truth_at c.in_ok-u.u a) (truth_at c.in_ok-failing.failing a)
     (c.in_ok-failing.ensures.value a w ∙ c.in_ok-not_both.ensures.value a before.within)
     (c.in_ok-u.ensures.value a (subst (λ (z : Boxes). IsInBoxes z a) (sym c.domains.ensures.items) w.within))

@@ -41,11 +41,11 @@ loop-n-preserved c =
 pub returns-clause-value : goal.returns-clause-value
 returns-clause-value c a w =
     let i = c.loop-n.invariant in
-    let before = world_before c.loop-n.maker c.some_truth.new.maker a c.in_ok-t.ensures.adds.grows w in
+    let before = world_before c.loop-n.maker c.truth_in_blocks.new.m a c.in_ok-t.ensures.adds.grows w in
     let first = world_before c.args.maker.now c.loop-n.maker a i.adds.grows before in
     c.in_ok-t.ensures.value a w ∙ i.value a before
     ∙ ap (list_any (λ (n : ℕ). nat_eq (choice_at c.args.c.now a) n && nat_eq (choice_at c.args.d.now a) n)) (take_all c.loop-n.n-index c.args.objects.now c.loop-n-test.false)
     ∙ both_among (choice_at c.args.c.now a) (choice_at c.args.d.now a) c.args.objects.now (c.requires.among a first.within)
 
 pub returns-clause-adds : goal.returns-clause-adds
-returns-clause-adds c = defines_more c.args.maker.now c.loop-n.maker c.some_truth.new.maker c.loop-n.invariant.adds c.in_ok-t.ensures.adds
+returns-clause-adds c = defines_more c.args.maker.now c.loop-n.maker c.truth_in_blocks.new.m c.loop-n.invariant.adds c.in_ok-t.ensures.adds

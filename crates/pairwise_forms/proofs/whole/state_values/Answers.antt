@@ -10,10 +10,8 @@ state_counted-requires c = record {
       c.in_ok-state_blocks.ensures.says.grows c.requires.variables;
 }
 
-pub returns-in_ok-state_counted : goal.returns-in_ok-state_counted
-returns-in_ok-state_counted c = record {
-  says =
-      said_already c.args.maker.now c.state_blocks.new.maker c.state_counted.new.maker
-      (λ a. all_differ c.args.vars.now a) c.in_ok-state_blocks.ensures.says
-      c.in_ok-state_counted.ensures.follows;
-}
+pub returns-in_ok-state_counted-clause-says : goal.returns-in_ok-state_counted-clause-says
+returns-in_ok-state_counted-clause-says c =
+    said_already c.args.maker.now c.state_blocks.new.maker c.state_counted.new.maker
+    (λ a. all_differ c.args.vars.now a) c.in_ok-state_blocks.ensures.says
+    c.in_ok-state_counted.ensures.follows

@@ -28,8 +28,8 @@ loop-p-preserved c =
 
 pub returns-clause-value : goal.returns-clause-value
 returns-clause-value c a w =
-    let before = world_before c.loop-p.maker c.truth_from.new.maker a c.in_ok-t.ensures.adds.grows w in
+    let before = world_before c.loop-p.maker c.truth_in_blocks.new.m a c.in_ok-t.ensures.adds.grows w in
     c.in_ok-t.ensures.value a w ∙ cases_all c.args.want c.args.parts.now c.loop-p.p-index a (disjunction_at c.loop-p.cases a) c.loop-p-test.false (c.loop-p.invariant.value a before)
 
 pub returns-clause-adds : goal.returns-clause-adds
-returns-clause-adds c = defines_more c.args.maker.now c.loop-p.maker c.truth_from.new.maker c.loop-p.invariant.adds c.in_ok-t.ensures.adds
+returns-clause-adds c = defines_more c.args.maker.now c.loop-p.maker c.truth_in_blocks.new.m c.loop-p.invariant.adds c.in_ok-t.ensures.adds
