@@ -10,11 +10,11 @@ ghost use Rattle.expr_forms.specs.FormValues.{form_value, number_part};
 ghost use Rattle.operator_forms.specs.Operating.{are_numbers, compares_numbers, is_comparison};
 ghost use Rattle.ground_expr.specs.Stated.{AreOpposite};
 
+use crate::long_sums::state_in_blocks;
 use conf_syntax::Op;
 use conf_types::{OpClass, class_of};
 use expr_forms::Form;
 use form_build::Maker;
-use form_truths::state;
 use operator_forms::test_of;
 use std::alloc::AllocError;
 
@@ -81,7 +81,6 @@ pub(crate) fn state_comparison(
         wanted want (truth_in (operate op (form_value l.now a) (form_value r.now a))))) }
 {
     let test = test_of(maker, wanted_comparison(op, want), l, r)?;
-    maker.ask(2)?;
-    state(maker, &test)?;
+    state_in_blocks(maker, &test)?;
     Ok(())
 }

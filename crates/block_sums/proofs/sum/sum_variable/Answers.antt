@@ -1,60 +1,18 @@
-use Rattle.std.proofs.Common.{rules, ◌≡◌, ◌+◌, ◌*◌, ◌<◌, ◌≤◌, List, ℤ, ℕ, length, w64, refl, ap, ◌∙◌, subst, arith}
+use Rattle.std.proofs.Common.{rules, List, ℤ, ℕ, w64, ap, arith}
 use Rattle.std.proofs.lemmas.Int.{ints, to_z-of_z}
 use Rattle.ground_form.specs.Meaning.{sum_at}
-use Rattle.ground_form.specs.Bounds.{weight_of}
 use Rattle.form_build.proofs.Growth.{defines_more, world_before}
-use Rattle.block_sums.specs.Blocks.{AreBlocks}
-use Rattle.block_sums.proofs.BlockSteps.{blocks_again, fewer}
 use Rattle.block_sums.proofs.sum.sum_variable.Goals as goal
-
-pub loop-b-init : goal.loop-b-init
-loop-b-init c =
-    let made = c.in_ok-blocks.ensures in
-    let short = made.short in
-    let few = made.few in
-    let variables = few.variables in
-    let constraints = few.constraints in
-    record {
-      blocks = made.blocks;
-      variables = omega (arith, short, variables);
-      constraints = omega (arith, short, constraints);
-      adds = made.adds;
-    }
-
-pub loop-b-preserved : goal.loop-b-preserved
-loop-b-preserved c =
-    let start = c.args.b.now in
-    let old = c.loop-b.b in
-    let new = c.blocks_of-in-loop-b.new.b in
-    let blocks = c.loop-b.blocks.items in
-    let more = c.in_ok-blocks-2.blocks.items in
-    let terms = c.args.terms.now in
-    let before = c.loop-b.invariant in
-    let made = c.in_ok-blocks-2.ensures in
-    let is = c.deref.ensures.value in
-    let size = ap (λ (z : List (ℤ × ℕ)). length z) is in
-    let count : c.len.result ≡ length blocks = c.len.ensures ∙ c.loop-b.blocks.ok.0 in
-    let test = c.loop-b-test.true in
-    let many : 64 < length blocks = omega (arith, count, test) in
-    let wide = made.short in
-    let short : 32 * length more ≤ length blocks + 32 = omega (arith, wide, size) in
-    record {
-      blocks =
-          blocks_again old new (weight_of terms start.domains) (weight_of blocks old.domains) terms blocks more made.adds.grows before.blocks refl
-          (subst (λ (z : List (ℤ × ℕ)). AreBlocks new (weight_of z old.domains) z more) is made.blocks);
-      variables = fewer (length start.domains) (length old.domains) (length new.domains) (length blocks) (length more) (length terms) short many before.variables made.few.variables;
-      constraints = fewer (length start.cons) (length old.cons) (length new.cons) (length blocks) (length more) (length terms) short many before.constraints made.few.constraints;
-      adds = defines_more start old new before.adds made.adds;
-    }
 
 pub returns-clause-value : goal.returns-clause-value
 returns-clause-value c a w =
-    let before = world_before c.loop-b.b c.block_variable-2.new.b a c.in_ok-x-2.ensures.adds.grows w in
-    let same = c.loop-b.invariant.blocks.value a before in
-    let is = ap (λ (z : List (ℤ × ℕ)). sum_at z a) c.deref-2.ensures.value in
+    let made = c.in_ok-blocks.ensures in
+    let before = world_before c.few_blocks.new.b c.block_variable-2.new.b a c.in_ok-x-2.ensures.adds.grows w in
+    let same = made.blocks.value a before in
+    let is = ap (λ (z : List (ℤ × ℕ)). sum_at z a) c.deref.ensures.value in
     let offset = to_z-of_z w64 c.args.offset (search rules) in
     let x = c.in_ok-x-2.ensures.value a w in
     omega (arith, ints, x, is, same, offset)
 
 pub returns-clause-adds : goal.returns-clause-adds
-returns-clause-adds c = defines_more c.args.b.now c.loop-b.b c.block_variable-2.new.b c.loop-b.invariant.adds c.in_ok-x-2.ensures.adds
+returns-clause-adds c = defines_more c.args.b.now c.few_blocks.new.b c.block_variable-2.new.b c.in_ok-blocks.ensures.adds c.in_ok-x-2.ensures.adds
