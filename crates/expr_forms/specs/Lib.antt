@@ -1,3 +1,4 @@
+pub mod FixedForms
 pub mod FormValues
 pub mod FormBounds
 pub mod Standing

@@ -1,22 +1,11 @@
 -- Paths that are the same in every configuration. What a reader believes after this file: which
 -- expressions name an object or a list with no reference on the way.
 use Rattle.std.specs.Prelude.{◌≡◌, ℕ, Bool, true, false, ◌&&◌, List, ℤ, Option}
-use Rattle.class_table.specs.declared.table.Resolved.{Resolved}
-use Rattle.class_table.specs.declared.table.Resolved.TheVariants as shape
 use Rattle.class_table.specs.Outline.{Outline}
 use Rattle.conf_types.specs.Trees.{Tree}
 use Rattle.conf_types.specs.Trees as tree
 use Rattle.conf_eval.specs.Meaning.{value}
-
--- the parts of an object, which no cell says
-abbrev pub is_part : Resolved → Bool
-is_part (shape.One c) = true
-is_part (shape.Many c n) = true
-is_part (shape.Span low high) = false
-is_part shape.Truth = false
-is_part (shape.Choice e) = false
-is_part (shape.Ref c) = false
-is_part (shape.RefSet c n) = false
+use Rattle.expr_forms.specs.FixedForms.{is_part}
 
 -- a class, or a path of parts
 abbrev pub is_fixed_path : Tree → Bool

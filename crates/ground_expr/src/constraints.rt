@@ -6,11 +6,12 @@ ghost use Rattle.conf_types.specs.TreeOf.{tree_of, quant_tree};
 ghost use Rattle.conf_types.specs.declared.tree.RQuant as quants;
 ghost use Rattle.conf_eval.specs.Meaning.{truth_of as truth_in};
 ghost use Rattle.form_build.specs.Worlds.{Adds};
+ghost use Rattle.expr_forms.specs.FixedForms.{is_part};
 ghost use Rattle.expr_forms.specs.Standing.{IsStanding, HasCells};
 ghost use Rattle.quantifier_forms.specs.PartValues.{kept_values, over_values};
 ghost use Rattle.quantifier_forms.specs.Quantified.{AreParts, compares_members};
 ghost use Rattle.pairwise_forms.specs.AlikeParts.{AreAlike, AreSizes};
-ghost use Rattle.ground_expr.specs.Fixed.{is_part, is_fixed_path, IsFixed};
+ghost use Rattle.ground_expr.specs.Fixed.{is_fixed_path, IsFixed};
 ghost use Rattle.ground_expr.specs.Stated.{Says};
 
 use crate::forms::own_parts_at;

@@ -85,6 +85,9 @@ variables_kept old new k ms h = All-weaker (λ (m : Member). HasVariable (length
 pub variables_push : (n : ℕ) (old new : List Member) (m : Member) → new ≡ old ++ m ∷ [] → HasVariable n m.is → All (λ (x : Member). HasVariable n x.is) old → All (λ (x : Member). HasVariable n x.is) new
 variables_push n old new m e i h = subst (λ (z : List Member). All (λ (x : Member). HasVariable n x.is) z) (sym e) (All-push (λ (x : Member). HasVariable n x.is) old m h i)
 
+pub sure_push : (old new : List Member) (m : Member) → new ≡ old ++ m ∷ [] → m.is ≡ truth.Fixed true → All (λ (x : Member). x.is ≡ truth.Fixed true) old → All (λ (x : Member). x.is ≡ truth.Fixed true) new
+sure_push old new m e i h = subst (λ (z : List Member). All (λ (x : Member). x.is ≡ truth.Fixed true) z) (sym e) (All-push (λ (x : Member). x.is ≡ truth.Fixed true) old m h i)
+
 -- with one slot more
 pub owned_step : (owner : ℕ) (ss : List Slot) (a : List ℤ) (k : ℕ) (s : Slot) (old new : List Member) (m : Member) → k < length ss → s ≡ get_or ss k s → new ≡ old ++ m ∷ [] → m.object ≡ s.object → truth_at m.is a ≡ is_owned owner a s → members_at old a ++ owned_at owner (drop k ss) a ≡ owned_at owner ss a → members_at new a ++ owned_at owner (drop (k + 1) ss) a ≡ owned_at owner ss a
 owned_step owner ss a k s old new m lt is e object there h =

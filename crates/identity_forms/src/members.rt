@@ -1,11 +1,13 @@
 //! Lists as members with a truth each.
-ghost use Rattle.std.specs.Prelude.{◌≡◌, ◌<◌, ℕ, ℤ, List, length, map, IfOk};
+ghost use Rattle.std.specs.Prelude.{◌≡◌, ◌<◌, ℕ, ℤ, List, true, length, map, IfOk};
 ghost use Rattle.std.specs.List.{All};
 ghost use Rattle.ground_form.specs.Meaning.{value_of};
 ghost use Rattle.form_build.specs.Forms.{HasVariable};
+ghost use Rattle.form_build.specs.declared.form.Truth.TheVariants as truth;
 ghost use Rattle.form_build.specs.Worlds.{IsWorld, Defines};
 ghost use Rattle.expr_forms.specs.declared.form.Member.{Member as AMember};
 ghost use Rattle.expr_forms.specs.declared.form.Slot.{Slot as ASlot};
+ghost use Rattle.expr_forms.specs.FixedForms.{is_fixed_list};
 ghost use Rattle.expr_forms.specs.FormValues.{number_for, members_at, owned_at, listing_at};
 ghost use Rattle.identity_forms.specs.Lists.{slot_objects, HasMembers, IsOwnedSlot};
 
@@ -20,6 +22,7 @@ fn sure_members(alloc: Global, objects: &[u32]) -> Result<Vec<Member>, AllocErro
     ensures objects { IfOk result (λ ms. map (λ (m : AMember). m.object) ms.items ≡ objects.now) }
     ensures variables { IfOk result
         (λ ms. (n : ℕ) → All (λ (m : AMember). HasVariable n m.is) ms.items) }
+    ensures sure { IfOk result (λ ms. All (λ (m : AMember). m.is ≡ truth.Fixed true) ms.items) }
 {
     let mut members = Vec::new(alloc);
     for object in objects {
@@ -70,6 +73,8 @@ pub fn members_of(maker: &mut Maker, listing: Listing) -> Result<Vec<Member>, Al
         (λ ms. map (λ (m : AMember). m.object) ms.items ≡ slot_objects listing) }
     ensures variables { IfOk result
         (λ ms. All (λ (m : AMember). HasVariable (length maker.new.domains) m.is) ms.items) }
+    ensures fixed { is_fixed_list listing ≡ true → IfOk result
+        (λ ms. All (λ (m : AMember). m.is ≡ truth.Fixed true) ms.items) }
     ensures adds { IfOk result (λ ms. Defines maker.old maker.new) }
 {
     match listing {

@@ -6,6 +6,7 @@ ghost use Rattle.conf_eval.specs.Fitting.{HasShape};
 ghost use Rattle.conf_eval.specs.Meaning.{first_object};
 ghost use Rattle.conf_limits.specs.Measures.{shape_interval, is_narrow};
 ghost use Rattle.expr_forms.specs.Standing.{HasCells};
+ghost use Rattle.expr_forms.specs.FixedForms.{is_part, is_fixed_form};
 ghost use Rattle.reference_forms.specs.Attributes.{IsCellOf, IsAttributeForm};
 
 use crate::sets::set_members;
@@ -62,6 +63,7 @@ pub fn attribute_form(
     requires narrow { is_narrow (shape_interval shape) ≡ true }
     requires cells { HasCells objects.now maker.now }
     ensures form { IfOk result (λ f. IsAttributeForm objects.now maker.now owner k shape f) }
+    ensures fixed { is_part shape ≡ true → IfOk result (λ f. is_fixed_form f ≡ true) }
 {
     let _count = objects.count();
     let _domains = maker.domains();
