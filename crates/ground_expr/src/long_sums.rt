@@ -13,32 +13,16 @@ ghost use Rattle.form_truths.specs.Tests.{test_at, IsTest};
 use block_sums::shortened;
 use form_build::{Linear, Maker};
 use form_truths::{Test, state};
-use ground_form::ends_of;
-use signed_clause::IntSet;
 use std::alloc::AllocError;
 
-/// How many cells one row has at most that are no flags.
+/// How many cells one row has at most.
 const MOST_CELLS: usize = 64;
 
-/// Whether more than two values, or others than 0 and 1, are in the set.
-fn is_number(set: &IntSet) -> bool {
-    let (low, high) = ends_of(set);
-    low < 0 || high > 1
-}
-
-/// The same of a variable's box.
-fn is_number_at(boxes: &[IntSet], x: u32) -> bool {
-    match boxes.get(x as usize) {
-        Some(at) => is_number(at),
-        None => false,
-    }
-}
-
-/// Whether more than so many of the terms are cells that are no flags.
-fn has_cells(boxes: &[IntSet], search: u32, terms: &[(i64, u32)], most: usize) -> bool {
+/// Whether more than so many of the terms are cells.
+fn has_cells(search: u32, terms: &[(i64, u32)], most: usize) -> bool {
     let mut left = most;
     for t in terms {
-        if t.1 < search && is_number_at(boxes, t.1) {
+        if t.1 < search {
             if left == 0 {
                 return true;
             }
@@ -48,9 +32,9 @@ fn has_cells(boxes: &[IntSet], search: u32, terms: &[(i64, u32)], most: usize) -
     false
 }
 
-/// Whether the sum has many cells that are no flags.
+/// Whether the sum has many cells.
 fn is_long(m: &Maker, f: &Linear) -> bool {
-    has_cells(m.domains(), m.search(), f.terms.items(), MOST_CELLS)
+    has_cells(m.search(), f.terms.items(), MOST_CELLS)
 }
 
 /// The comparison of a sum of blocks, where it compares a long sum of cells.
