@@ -3,10 +3,7 @@
 //! An end of a term is explained by all other terms of its row, so a search that sets n cells one
 //! by one may keep n * n / 2 literals. Rows of flags and products stay whole, since packings and
 //! goals are read off them.
-ghost use Rattle.std.specs.Prelude.{◌≡◌, ℤ, List, [], length, IfOk, OnOk, IfSome, IfNone};
-ghost use Rattle.ground_form.specs.Bounds.{most_sum};
-ghost use Rattle.form_build.specs.Forms.{linear_at};
-ghost use Rattle.form_build.specs.Sums.{IsLinear};
+ghost use Rattle.std.specs.Prelude.{◌≡◌, ℤ, List, [], IfOk, OnOk, IfSome, IfNone};
 ghost use Rattle.form_build.specs.Worlds.{IsWorld, Adds, Defines};
 ghost use Rattle.form_truths.specs.Tests.{test_at, IsTest};
 
