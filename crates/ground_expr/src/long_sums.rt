@@ -1,4 +1,4 @@
-//! Comparisons of long sums of cells, stated of sums of blocks.
+//! Comparisons of long sums of cells, stated of a variable that is the sum, made of blocks.
 //!
 //! An end of a term is explained by all other terms of its row, so a search that sets n cells one
 //! by one may keep n * n / 2 literals. Rows of flags and products stay whole, since packings and
@@ -7,7 +7,7 @@ ghost use Rattle.std.specs.Prelude.{◌≡◌, ℤ, List, [], IfOk, OnOk, IfSome
 ghost use Rattle.form_build.specs.Worlds.{IsWorld, Adds, Defines};
 ghost use Rattle.form_truths.specs.Tests.{test_at, IsTest};
 
-use block_sums::shortened;
+use block_sums::with_one_term;
 use form_build::{Linear, Maker};
 use form_truths::{Test, state};
 use std::alloc::AllocError;
@@ -34,7 +34,7 @@ fn is_long(m: &Maker, f: &Linear) -> bool {
     has_cells(m.search(), f.terms.items(), MOST_CELLS)
 }
 
-/// The comparison of a sum of blocks, where it compares a long sum of cells.
+/// The comparison of one variable, where it compares a long sum of cells.
 fn short_test(m: &mut Maker, test: &Test) -> Result<Option<Test>, AllocError>
     requires test { IsTest m.old.domains test.now }
     ensures test { IfOk result (λ o. IfSome o (λ t. IsTest m.new.domains t)) }
@@ -48,21 +48,21 @@ fn short_test(m: &mut Maker, test: &Test) -> Result<Option<Test>, AllocError>
             if !is_long(m, f) {
                 return Ok(None);
             }
-            let g = shortened(m, f)?;
+            let g = with_one_term(m, f)?;
             Ok(Some(Test::AtMost(g)))
         }
         Test::Zero(f, want) => {
             if !is_long(m, f) {
                 return Ok(None);
             }
-            let g = shortened(m, f)?;
+            let g = with_one_term(m, f)?;
             Ok(Some(Test::Zero(g, *want)))
         }
         Test::Holds(_) | Test::Same(_, _, _) => Ok(None),
     }
 }
 
-/// States the test, of a long sum of cells by blocks of them.
+/// States the test, of a long sum of cells by a variable that it is.
 pub(crate) fn state_in_blocks(m: &mut Maker, test: &Test) -> Result<(), AllocError>
     requires test { IsTest m.old.domains test.now }
     ensures says { OnOk result (Adds [] m.old m.new (λ a. test_at test.now a)) }
