@@ -32,6 +32,18 @@ class Ports(Placement):
     counts: list
 
     def conf(self):
+        return self.told("", arrays(SERVICES, self.counts), pairs("Service"))
+
+    def fast(self):
+        """How many of a kind a host bears, few ports first; only those of a kind can clash."""
+        most = "".join(
+            f"  where count s in {name} {{ s.host = this }} <= {n};\n" for name, _, n in SERVICES
+        )
+        apart = "\n".join(pairs(name) for name, *_ in SERVICES)
+        return self.told(most, arrays(SERVICES, self.counts, lambda kind: kind[2]), apart)
+
+    def told(self, of_host, services, apart):
+        """In ConfSolve, with what else stands in hosts, these arrays, and who differs in ports."""
         classes = "\n".join(
             f"class {name} extends Service {{ "
             f"where {first} <= port and port <= {first + n - 1}; }}"
@@ -42,14 +54,13 @@ class Ports(Placement):
 class Host {{
   var slots as {self.slots}..{self.slots};
   where count s in Service {{ s.host = this }} <= slots;
+{of_host}\
 }}
 abstract class Service {{ var port as 1024..10000; var host as ref Host; }}
 {classes}
 var hosts as Host[{self.hosts}];
-{arrays(SERVICES, self.counts)}
-where forall a in Service {{
-  forall b in Service where a != b {{ a.host = b.host -> a.port != b.port; }};
-}};
+{services}
+{apart}
 minimize count h in Host {{ exists s in Service {{ s.host = h; }} }};
 """
 
@@ -87,6 +98,14 @@ on(H,P,S) :- at(S,H), port(S,P).
 used(H) :- at(_,H).
 #minimize {{ 1,H : used(H) }}.
 """
+
+
+def pairs(name):
+    """Services of a class that stand on one host have different ports, in ConfSolve."""
+    return f"""\
+where forall a in {name} {{
+  forall b in {name} where a != b {{ a.host = b.host -> a.port != b.port; }};
+}};"""
 
 
 def draw_ports(rng, size):

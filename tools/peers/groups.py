@@ -10,6 +10,9 @@ WISHES = {"s": (4, 12, 12), "m": (10, 30, 30), "l": (20, 60, 60)}
 SLOTS = 4
 # The kinds of services with their memory, and how often one is drawn.
 PRODUCTS = (("Oracle", 6, 2), ("Mssql", 4, 2), ("Tomcat", 3, 4), ("Nginx", 2, 4))
+# How their licences are counted, and in which order they are settled.
+LICENCES = ("oracles", "mssqls")
+SETTLED = ("Mssql", "Tomcat", "Oracle", "Nginx")
 RACKS = {"s": (3, 2, 3, 12), "m": (4, 3, 4, 30), "l": (6, 4, 4, 60)}
 
 
@@ -213,6 +216,20 @@ class Licences(Placement):
     counts: list
 
     def conf(self):
+        return self.told("", arrays(PRODUCTS, self.counts), *map(on_hosts, PRODUCTS[:2]))
+
+    def fast(self):
+        """Licences counted first, at least what room asks for; Oracle behind what it can't bear."""
+        counted = "".join(
+            f"var {name} as 0..{self.hosts}; where {name} = {on_hosts(kind)};\n"
+            f"where {self.memory // kind[1]} * {name} >= {count};\n"
+            for name, kind, count in zip(LICENCES, PRODUCTS, self.counts)
+        )
+        services = arrays(PRODUCTS, self.counts, lambda kind: SETTLED.index(kind[0]))
+        return self.told(counted, services, *LICENCES)
+
+    def told(self, counted, services, oracle, mssql):
+        """In ConfSolve, with what stands before hosts, these arrays, and licences so counted."""
         classes = "\n".join(
             f"class {name} extends Service {{ where mem = {size}; }}" for name, size, _ in PRODUCTS
         )
@@ -225,12 +242,13 @@ class Host {{
 }}
 abstract class Service {{ var mem as 1..8; var host as ref Host; }}
 {classes}
+{counted}\
 var hosts as Host[{self.hosts}];
-{arrays(PRODUCTS, self.counts)}
-where count h in Host {{ exists o in Oracle {{ o.host = h; }} }} <= {self.most};
+{services}
+where {oracle} <= {self.most};
 where forall o in Oracle {{ forall t in Tomcat {{ o.host != t.host; }}; }};
-minimize 8 * (count h in Host {{ exists o in Oracle {{ o.host = h; }} }})
-  + 5 * (count h in Host {{ exists m in Mssql {{ m.host = h; }} }});
+minimize 8 * {oracle}
+  + 5 * {mssql};
 """
 
     def mzn(self):
@@ -264,6 +282,12 @@ runs(H,K) :- at(S,H), svc(S,K,_).
 :- runs(H,0), runs(H,2).
 #minimize {{ 8,H,0 : runs(H,0); 5,H,1 : runs(H,1) }}.
 """
+
+
+def on_hosts(kind):
+    """On how many hosts a product runs, in ConfSolve."""
+    name, letter = kind[0], kind[0][0].lower()
+    return f"(count h in Host {{ exists {letter} in {name} {{ {letter}.host = h; }} }})"
 
 
 def draw_licences(rng, size):

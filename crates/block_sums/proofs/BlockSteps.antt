@@ -14,7 +14,7 @@ use Rattle.block_sums.proofs.Terms.{sum_more, weight_more, sum_both, weight_both
 
 -- ---- a variable more
 
-one_weight : (x : ℕ) (boxes : Boxes) → term_weight (pos 1, x) boxes ≡ reach_of (box_of boxes x)
+pub one_weight : (x : ℕ) (boxes : Boxes) → term_weight (pos 1, x) boxes ≡ reach_of (box_of boxes x)
 unfolding term_weight
 one_weight x boxes = omega arith
 

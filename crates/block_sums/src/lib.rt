@@ -13,4 +13,4 @@ mod blocks;
 mod ordered;
 mod sum;
 
-pub use sum::{settled_in_blocks, shortened, sum_variable};
+pub use sum::{settled_in_blocks, sum_variable, with_one_term};

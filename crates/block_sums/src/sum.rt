@@ -2,7 +2,8 @@
 ghost use Rattle.std.specs.Prelude.{◌≡◌, ◌<◌, ◌≤◌, ◌+◌, ◌+ℤ◌, ℤ, List, length, unsigned_abs, IfOk};
 ghost use Rattle.std.specs.List.{All};
 ghost use Rattle.ground_form.specs.Meaning.{value_of, sum_at};
-ghost use Rattle.ground_form.specs.Bounds.{weight_of, most_sum};
+ghost use Rattle.ground_form.specs.Bounds.{reach_of, weight_of, most_sum};
+ghost use Rattle.signed_clause.specs.Clauses.{box_of};
 ghost use Rattle.form_build.specs.Forms.{linear_at};
 ghost use Rattle.form_build.specs.Worlds.{IsWorld, Defines, IsFew};
 ghost use Rattle.form_build.specs.Sums.{IsLinear};
@@ -43,6 +44,8 @@ pub fn sum_variable(b: &mut Maker, terms: &[(i64, u32)], offset: i64) -> Result<
     ensures exists { IfOk result (λ x. x < length b.new.domains) }
     ensures value { IfOk result (λ x. (a : List ℤ) → IsWorld b.new a
         → value_of a x ≡ sum_at terms.now a +ℤ offset) }
+    ensures reach { IfOk result (λ x. reach_of (box_of b.new.domains x)
+        ≤ weight_of terms.now b.old.domains + unsigned_abs offset) }
     ensures adds { IfOk result (λ x. Defines b.old b.new) }
     ensures few { IfOk result (λ x. IsFew (length terms.now + 1) b.old b.new) }
 {
@@ -55,16 +58,18 @@ pub fn sum_variable(b: &mut Maker, terms: &[(i64, u32)], offset: i64) -> Result<
     Ok(x)
 }
 
-/// The same sum with few terms, where it has many: of blocks of them, or of blocks of blocks.
-pub fn shortened(b: &mut Maker, f: &Linear) -> Result<Linear, AllocError>
+/// The same sum with one term: a variable that is what its terms add up to. So what bounds a sum
+/// bounds each other one of the same terms.
+pub fn with_one_term(b: &mut Maker, f: &Linear) -> Result<Linear, AllocError>
     requires linear { IsLinear most_sum b.old.domains f.now }
     ensures value { IfOk result (λ r. (a : List ℤ)
         → IsWorld b.new a → linear_at r a ≡ linear_at f.now a) }
     ensures linear { IfOk result (λ r. IsLinear most_sum b.new.domains r) }
     ensures adds { IfOk result (λ r. Defines b.old b.new) }
 {
-    let blocks = few_blocks(b, f.terms.items())?;
-    let r = ordered_sum(b, &blocks, f.offset)?;
+    let x = sum_variable(b, f.terms.items(), 0)?;
+    let only = [(1, x)];
+    let r = ordered_sum(b, &only, f.offset)?;
     Ok(r)
 }
 

@@ -10,6 +10,7 @@ ghost use Rattle.packing_sums.specs.Packings.{IsPacking};
 ghost use Rattle.goal_rows.specs.Quotients.{IsGoalBy};
 ghost use Rattle.stated_facts.specs.Rows.{IsNought};
 
+use crate::bounds::add_bounds;
 use crate::costs::with_costs;
 use crate::dividing::{Quotient, goal_quotient, state_link};
 use crate::parts::add_parts;
@@ -210,8 +211,28 @@ fn add_with_costs(maker: &mut Maker, zero: Nought, goal: u32) -> Result<(), Allo
     Ok(())
 }
 
-/// Adds rows that follow from the packings of a problem and from what a goal is, so that bounds
-/// alone give what the linear relaxation gives. Nothing new is said.
+/// Adds the rows that follow from the packings, where there are some.
+fn add_with_packings(
+    maker: &mut Maker,
+    zero: Nought,
+    number: &Linear,
+    goal: u32,
+) -> Result<(), AllocError>
+    requires goal { goal < length maker.old.domains }
+    requires near { reach_of (box_of maker.old.domains goal) ≤ 2 ^ 19 }
+    requires nought { IsNought maker.old zero }
+    ensures { OnOk result (Defines maker.old maker.new) }
+{
+    if !has_packing(maker) {
+        return Ok(());
+    }
+    let zero = with_rows(maker, zero, number)?;
+    add_with_costs(maker, zero, goal)?;
+    Ok(())
+}
+
+/// Adds rows that follow from the rows and packings of a problem and from what a goal is, so that
+/// bounds alone give what the linear relaxation gives. Nothing new is said.
 pub fn add_goal_sums(maker: &mut Maker, number: &Linear, goal: u32) -> Result<(), AllocError>
     requires goal { goal < length maker.old.domains }
     requires number { IsLinear most_sum maker.old.domains number.now }
@@ -219,11 +240,11 @@ pub fn add_goal_sums(maker: &mut Maker, number: &Linear, goal: u32) -> Result<()
         → value_of a goal ≡ linear_at number.now a }
     ensures adds { OnOk result (Defines maker.old maker.new) }
 {
-    if !has_packing(maker) || !are_small(maker, number, goal) {
+    if !are_small(maker, number, goal) {
         return Ok(());
     }
     let zero = difference(maker, number, goal)?;
-    let zero = with_rows(maker, zero, number)?;
-    add_with_costs(maker, zero, goal)?;
+    add_bounds(maker, &zero, goal)?;
+    add_with_packings(maker, zero, number, goal)?;
     Ok(())
 }

@@ -1,4 +1,4 @@
-//! Rows that follow from the packings of a problem and from what its goal is.
+//! Rows that follow from the packings and rows of a problem and from what its goal is.
 //!
 //! Where a goal counts items in some bins, or bins in use, each bin's room alone bounds nothing: it
 //! takes the rooms of all of them, added up. Such a sum of rows follows from the packing. With a
@@ -10,6 +10,7 @@
 //! Surrogate constraints (Glover, 1968); that good multiples are dual values is linear programming.
 //!
 //! - `adding`: what is added for a goal.
+//! - `bounds`: bounds of a goal by rows over its sum.
 //! - `costs`: a goal whose terms follow from where an item is.
 //! - `counting`: rows that count the same items, each in a bin of its own.
 //! - `covers`: that a variable has one of its values, as a row over flags.
@@ -20,6 +21,7 @@
 #![tactic(auto)]
 
 mod adding;
+mod bounds;
 mod costs;
 mod counting;
 mod covers;

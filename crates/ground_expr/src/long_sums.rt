@@ -1,44 +1,25 @@
-//! Comparisons of long sums of cells, stated of sums of blocks.
+//! Comparisons of long sums of cells, stated of a variable that is the sum, made of blocks.
 //!
 //! An end of a term is explained by all other terms of its row, so a search that sets n cells one
 //! by one may keep n * n / 2 literals. Rows of flags and products stay whole, since packings and
 //! goals are read off them.
-ghost use Rattle.std.specs.Prelude.{◌≡◌, ℤ, List, [], length, IfOk, OnOk, IfSome, IfNone};
-ghost use Rattle.ground_form.specs.Bounds.{most_sum};
-ghost use Rattle.form_build.specs.Forms.{linear_at};
-ghost use Rattle.form_build.specs.Sums.{IsLinear};
+ghost use Rattle.std.specs.Prelude.{◌≡◌, ℤ, List, [], IfOk, OnOk, IfSome, IfNone};
 ghost use Rattle.form_build.specs.Worlds.{IsWorld, Adds, Defines};
 ghost use Rattle.form_truths.specs.Tests.{test_at, IsTest};
 
-use block_sums::shortened;
+use block_sums::with_one_term;
 use form_build::{Linear, Maker};
 use form_truths::{Test, state};
-use ground_form::ends_of;
-use signed_clause::IntSet;
 use std::alloc::AllocError;
 
-/// How many cells one row has at most that are no flags.
+/// How many cells one row has at most.
 const MOST_CELLS: usize = 64;
 
-/// Whether more than two values, or others than 0 and 1, are in the set.
-fn is_number(set: &IntSet) -> bool {
-    let (low, high) = ends_of(set);
-    low < 0 || high > 1
-}
-
-/// The same of a variable's box.
-fn is_number_at(boxes: &[IntSet], x: u32) -> bool {
-    match boxes.get(x as usize) {
-        Some(at) => is_number(at),
-        None => false,
-    }
-}
-
-/// Whether more than so many of the terms are cells that are no flags.
-fn has_cells(boxes: &[IntSet], search: u32, terms: &[(i64, u32)], most: usize) -> bool {
+/// Whether more than so many of the terms are cells.
+fn has_cells(search: u32, terms: &[(i64, u32)], most: usize) -> bool {
     let mut left = most;
     for t in terms {
-        if t.1 < search && is_number_at(boxes, t.1) {
+        if t.1 < search {
             if left == 0 {
                 return true;
             }
@@ -48,12 +29,12 @@ fn has_cells(boxes: &[IntSet], search: u32, terms: &[(i64, u32)], most: usize) -
     false
 }
 
-/// Whether the sum has many cells that are no flags.
+/// Whether the sum has many cells.
 fn is_long(m: &Maker, f: &Linear) -> bool {
-    has_cells(m.domains(), m.search(), f.terms.items(), MOST_CELLS)
+    has_cells(m.search(), f.terms.items(), MOST_CELLS)
 }
 
-/// The comparison of a sum of blocks, where it compares a long sum of cells.
+/// The comparison of one variable, where it compares a long sum of cells.
 fn short_test(m: &mut Maker, test: &Test) -> Result<Option<Test>, AllocError>
     requires test { IsTest m.old.domains test.now }
     ensures test { IfOk result (λ o. IfSome o (λ t. IsTest m.new.domains t)) }
@@ -67,21 +48,21 @@ fn short_test(m: &mut Maker, test: &Test) -> Result<Option<Test>, AllocError>
             if !is_long(m, f) {
                 return Ok(None);
             }
-            let g = shortened(m, f)?;
+            let g = with_one_term(m, f)?;
             Ok(Some(Test::AtMost(g)))
         }
         Test::Zero(f, want) => {
             if !is_long(m, f) {
                 return Ok(None);
             }
-            let g = shortened(m, f)?;
+            let g = with_one_term(m, f)?;
             Ok(Some(Test::Zero(g, *want)))
         }
         Test::Holds(_) | Test::Same(_, _, _) => Ok(None),
     }
 }
 
-/// States the test, of a long sum of cells by blocks of them.
+/// States the test, of a long sum of cells by a variable that it is.
 pub(crate) fn state_in_blocks(m: &mut Maker, test: &Test) -> Result<(), AllocError>
     requires test { IsTest m.old.domains test.now }
     ensures says { OnOk result (Adds [] m.old m.new (λ a. test_at test.now a)) }

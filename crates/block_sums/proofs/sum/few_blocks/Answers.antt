@@ -44,4 +44,3 @@ loop-b-preserved c =
       constraints = λ all. fewer (length start.cons) (length old.cons) (length new.cons) (length blocks) (length more) (length terms) short many (before.constraints all) made.few.constraints;
       adds = defines_more start old new before.adds made.adds;
     }
-
