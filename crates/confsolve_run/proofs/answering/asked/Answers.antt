@@ -1,8 +1,9 @@
 use Rattle.std.proofs.Common.{◌∙◌, ap, map}
 use Rattle.proof_log.specs.Rounds.{Journal}
-use Rattle.confsolve_run.proofs.AskedParts.{blamed_answer, blamed_recorded}
+use Rattle.confsolve_run.proofs.AskedParts.{blamed_answer, blamed_recorded, blamed_cut}
 use Rattle.confsolve_run.proofs.PresentRound.{solve_lines, repair_lines, gen_lines, core_lines, no_lines, empty_lines, check_problem, verify_problem}
 use Rattle.confsolve_run.proofs.RepairParts.{repaired, checked, check_refused}
+use Rattle.round_commands.proofs.Stepping.{on_err}
 use Rattle.confsolve_run.proofs.answering.asked.Goals as goal
 
 pub returns-in_ok-solve-in-Reconfigure-clause-answer :
@@ -48,6 +49,16 @@ returns-in_ok-blame_model-in-Core-clause-recorded g c =
     asked.order asked.is c.args.built.objects.now c.args.built.model.now.constraints
     c.args.built.model.now.goals (map (λ x. x.order) c.args.with.choosers.now) c.blame_model.new.journal
     a.status a.text.items c.in_ok-blame_model-in-Core.ensures.answer
+
+pub returns-in_err-blame_model-in-Core-clause-cut :
+    goal.returns-in_err-blame_model-in-Core-clause-cut
+returns-in_err-blame_model-in-Core-clause-cut g c =
+    let asked = c.in-Core in
+    on_err c.from_residual-in_err-blame_model-in-Core.result _
+    (blamed_cut (g.D.Desk.files c.args.desk.now) c.args.request.now asked.model asked.budget
+    asked.order asked.is c.args.built.objects.now c.args.built.model.now.constraints
+    c.args.built.model.now.goals (map (λ x. x.order) c.args.with.choosers.now) c.blame_model.new.journal
+    c.in_err-blame_model-in-Core.ensures.cut)
 
 pub returns-in_ok-solve-in-Solve-clause-lines : goal.returns-in_ok-solve-in-Solve-clause-lines
 returns-in_ok-solve-in-Solve-clause-lines g c =
