@@ -8,8 +8,8 @@ use Rattle.conf_core.proofs.PartLists.{all_as}
 use Rattle.conf_core.proofs.Rounds.{grown_round, tried_round}
 use Rattle.conf_core.proofs.SuspectLaws.{marked_ascend, marked_exist, marked_so, marked_has, marked_same, IsLess, one_cleared, told_other, told_by_set, cleared_less, cleared_length, when_settled, tried_one, all_marked, fresh_settled, open_fresh}
 use Rattle.conf_core.specs.Cores.{HasRound, IsWithout}
-use Rattle.conf_core.specs.Parts.{IsPart, HasTried}
-use Rattle.conf_core.specs.Searching.{HasGrown, IsNarrowed, IsShownAll, end_without}
+use Rattle.conf_core.specs.Parts.{IsPart}
+use Rattle.conf_core.specs.Searching.{HasTried, HasGrown, IsNarrowed, IsShownAll, end_without}
 use Rattle.conf_core.specs.Suspects.{is_kept, is_open, marked, cleared, told, settled, AreTried, IsFresh, IsSettled, NoneOpen}
 use Rattle.conf_core.specs.declared.suspects.Suspect.{Suspect}
 use Rattle.conf_core.specs.declared.suspects.Suspect.TheVariants.{Cleared, Open, Needed, Unsure}

@@ -1,5 +1,5 @@
 -- Rounds over parts of a model, one after the other.
-use Rattle.std.proofs.Common.{◌≡◌, ℕ, true, List, [], ◌∷◌, ◌++◌, None, Some, refl, sym, ap, ◌∙◌, subst, length, map, All}
+use Rattle.std.proofs.Common.{◌≡◌, inl, inr, ℕ, true, List, [], ◌∷◌, ◌++◌, None, Some, refl, sym, ap, ◌∙◌, subst, length, map, All}
 use Rattle.std.specs.List.{Contains, list_all, range_with_len}
 use Rattle.std.proofs.lemmas.Bool.{and_from, and_parts}
 use Rattle.std.proofs.lemmas.List.{append-nil, append_assoc}
@@ -7,17 +7,21 @@ use Rattle.std.proofs.lemmas.List.Elements.{All-nil, All-cons, All-append, Conta
 use Rattle.branch_choice.specs.declared.split.Order.TheVariants as orders
 use Rattle.class_table.specs.Outline.{Outline}
 use Rattle.conf_core.specs.Cores.{HasRound, BeginsSo}
-use Rattle.conf_core.specs.Parts.{part_of, IsPart, IsPartRound, ArePartRounds, HasTried}
-use Rattle.conf_core.specs.Searching.{HasClosed, HasGrown, EndsAccepted}
+use Rattle.conf_core.specs.Parts.{part_of, IsPart, IsPartRound, ArePartRounds}
+use Rattle.conf_core.specs.Searching.{HasClosed, HasGrown, HasTried, EndsAccepted}
 use Rattle.conf_limits.specs.Measures.{model_narrow, constraint_narrow, goal_narrow}
 use Rattle.conf_limits.proofs.PartLaws.{part_passes}
 use Rattle.conf_types.specs.Programs.{ResolvedConstraint, ResolvedGoal, constraint_at}
 use Rattle.ground_form.specs.declared.ground.Ground.{Ground}
+use Rattle.ground_form.specs.WellMade.{IsWellMade}
 use Rattle.log_form.specs.Acceptance.{accepted}
+use Rattle.log_form.specs.declared.line.Line.{Line}
 use Rattle.model_search.specs.Rounds.{journal_of, told_by, end_of}
 use Rattle.model_search.specs.Runs.{HasRun}
 use Rattle.proof_log.specs.declared.journal.Round.{Round}
 use Rattle.log_check.specs.Verdicts.{Ending}
+use Rattle.run_finder.specs.SoFar.{AreSoFar}
+use Rattle.run_law.specs.Replay.{is_run}
 use Rattle.log_check.specs.declared.verdict.VerdictKind.{VerdictKind}
 
 -- ---- a part is within the limits
@@ -76,6 +80,14 @@ tried_grown o ks budget part rounds now end h =
       are = All-cons (IsPartRound o ks budget) h.round [] h.is (All-nil (IsPartRound o ks budget));
     }
 
+-- ---- where a search broke off
+
+pub none_so_far : (ls : List Line) → ls ≡ [] → AreSoFar ls
+none_so_far ls none = inl none
+
+pub run_so_far : (g : Ground) (ls : List Line) → IsWellMade g → is_run g ls ≡ true → AreSoFar ls
+run_so_far g ls well_made run = inr (g, well_made, run)
+
 some_same : (g h : Ground) → Some g ≡ Some h → g ≡ h
 some_same g h e = cc
 
@@ -90,7 +102,7 @@ tried_accepted o ks budget part rounds now end h =
       more = h.more;
       well_made = h.is.ground;
       taken = subst (λ g. accepted g h.round.lines ≡ true)
-          (sym (some_same h.round.ground run.ground run.kept)) run.taken;
+          (sym (some_same h.round.ground run.ground run.kept)) run.whole.taken;
     }
 
 pub tried_begins : (o : Outline) (ks : List ResolvedConstraint) (budget : ℕ) (part : List ℕ)

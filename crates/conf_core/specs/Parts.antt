@@ -1,15 +1,14 @@
 -- Parts of a model, and searches over them. What a reader believes after this file: which
 -- constraints a part has; and that a round of the journal is a run of a search over the part that
 -- it names, without the model's objectives.
-use Rattle.std.specs.Prelude.{◌≡◌, ◌<◌, ◌++◌, ◌∷◌, [], ℕ, List, None, All, AllPairs, length, map}
+use Rattle.std.specs.Prelude.{◌<◌, [], ℕ, List, None, All, AllPairs, length, map}
 use Rattle.branch_choice.specs.declared.split.Order.TheVariants as orders
 use Rattle.class_table.specs.Outline.{Outline}
 use Rattle.conf_types.specs.Programs.{ResolvedConstraint, constraint_at}
 use Rattle.ground_form.specs.WellMade.{IsWellMade}
-use Rattle.model_search.specs.Rounds.{journal_of, told_by, end_of}
+use Rattle.model_search.specs.Rounds.{journal_of, told_by}
 use Rattle.model_search.specs.Runs.{HasRun}
 use Rattle.proof_log.specs.declared.journal.Round.{Round}
-use Rattle.log_check.specs.declared.verdict.VerdictKind.{VerdictKind}
 
 -- the constraints with these indexes
 abbrev pub part_of : List ResolvedConstraint → List ℕ → List ResolvedConstraint
@@ -32,12 +31,3 @@ pub record IsPartRound (o : Outline) (ks : List ResolvedConstraint) (budget : �
 -- all rounds are
 abbrev pub ArePartRounds : Outline → List ResolvedConstraint → ℕ → List Round → Type 0
 ArePartRounds o ks budget rounds = All (IsPartRound o ks budget) rounds
-
--- the rounds have one more, over this part, and its search ended so
-pub record HasTried (o : Outline) (ks : List ResolvedConstraint) (budget : ℕ) (part : List ℕ)
-    (rounds now : List Round) (end : VerdictKind) : Type 0 where
-  pub round : Round
-  pub more : now ≡ rounds ++ round ∷ []
-  pub is : IsPartRound o ks budget round
-  pub part_is : round.part ≡ part
-  pub ended : end_of (told_by round) ≡ end

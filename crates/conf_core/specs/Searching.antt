@@ -4,7 +4,7 @@ use Rattle.std.specs.Prelude.{◌≡◌, ◌≤◌, ◌++◌, ◌∷◌, [], ℕ
 use Rattle.std.specs.List.{range_with_len}
 use Rattle.class_table.specs.Outline.{Outline}
 use Rattle.conf_core.specs.Cores.{HasRound, IsWithout, IsCore}
-use Rattle.conf_core.specs.Parts.{ArePartRounds}
+use Rattle.conf_core.specs.Parts.{IsPartRound, ArePartRounds}
 use Rattle.conf_core.specs.declared.answer.CoreAnswer.{CoreAnswer}
 use Rattle.conf_core.specs.declared.answer.CoreAnswer.TheVariants as answers
 use Rattle.conf_core.specs.declared.narrowing.Narrowing.{Narrowing}
@@ -15,6 +15,7 @@ use Rattle.conf_types.specs.Programs.{ResolvedConstraint}
 use Rattle.ground_form.specs.WellMade.{IsWellMade}
 use Rattle.log_form.specs.Acceptance.{accepted}
 use Rattle.model_search.specs.Problems.{IsProblemOf}
+use Rattle.model_search.specs.Rounds.{told_by, end_of}
 use Rattle.proof_log.specs.Rounds.{Journal}
 use Rattle.proof_log.specs.declared.journal.Round.{Round}
 use Rattle.run_finder.specs.Searched.{HasSearched}
@@ -31,6 +32,15 @@ pub record HasClosed (o : Outline) (ks : List ResolvedConstraint) (budget : ℕ)
   pub problem : IsProblemOf o ks [] None round.ground
   pub well_made : IsWellMade round.ground
   pub searched : HasSearched round.ground budget round.lines verdict
+
+-- the rounds have one more, over this part, and its search ended so
+pub record HasTried (o : Outline) (ks : List ResolvedConstraint) (budget : ℕ) (part : List ℕ)
+    (rounds now : List Round) (end : VerdictKind) : Type 0 where
+  pub round : Round
+  pub more : now ≡ rounds ++ round ∷ []
+  pub is : IsPartRound o ks budget round
+  pub part_is : round.part ≡ part
+  pub ended : end_of (told_by round) ≡ end
 
 -- further searches over parts were made
 pub record HasGrown (o : Outline) (ks : List ResolvedConstraint) (budget : ℕ)

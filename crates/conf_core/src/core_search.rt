@@ -9,6 +9,7 @@ ghost use Rattle.conf_limits.specs.Measures.{model_narrow};
 ghost use Rattle.conf_types.specs.Typing.{IsTypedModel};
 ghost use Rattle.proof_log.specs.Rounds.{empty};
 ghost use Rattle.log_check.specs.declared.verdict.VerdictKind.TheVariants as kinds;
+ghost use Rattle.run_finder.specs.SoFar.{AreSoFar};
 
 use crate::answer::CoreAnswer;
 use crate::blame::{Blamed, blamed_by};
@@ -47,6 +48,7 @@ fn are_impossible<F: Finder>(
         with.entry.budget journal.old.rounds journal.new.rounds }
     ensures ground { OnOk result (journal.new.ground ≡ None) }
     ensures lines { OnOk result (journal.new.lines ≡ []) }
+    ensures so_far { AreSoFar journal.new.lines }
     ensures budget { F.allowed finder.new ≡ F.allowed finder.old }
 {
     let end = decide_part(with, list, found, finder, journal)?;
@@ -79,6 +81,7 @@ fn suspected<F: Finder>(
         with.entry.budget journal.old.rounds journal.new.rounds }
     ensures ground { OnOk result (journal.new.ground ≡ None) }
     ensures lines { OnOk result (journal.new.lines ≡ []) }
+    ensures so_far { AreSoFar journal.new.lines }
     ensures budget { F.allowed finder.new ≡ F.allowed finder.old }
 {
     let blamed = blamed_by(with.alloc, with.model.constraints(), origins, journal)?;
@@ -134,6 +137,7 @@ fn all_settled<F: Finder>(
         with.entry.budget journal.old.rounds journal.new.rounds }
     ensures ground { OnOk result (journal.new.ground ≡ None) }
     ensures lines { OnOk result (journal.new.lines ≡ []) }
+    ensures so_far { AreSoFar journal.new.lines }
     ensures budget { F.allowed finder.new ≡ F.allowed finder.old }
 {
     let first = Narrowing {
@@ -179,6 +183,7 @@ fn blame<F: Finder>(
         with.entry.budget journal.old.rounds journal.new.rounds }
     ensures ground { OnOk result (journal.new.ground ≡ None) }
     ensures lines { OnOk result (journal.new.lines ≡ []) }
+    ensures so_far { AreSoFar journal.new.lines }
     ensures budget { F.allowed finder.new ≡ F.allowed finder.old }
 {
     let blamed = suspected(with, origins, found, finder, journal)?;
@@ -211,6 +216,7 @@ fn first_search<F: Finder>(
     ensures none { OnErr result (journal.new.rounds ≡ []) }
     ensures ground { OnOk result (journal.new.ground ≡ None) }
     ensures lines { OnOk result (journal.new.lines ≡ []) }
+    ensures so_far { AreSoFar journal.new.lines }
     ensures budget { F.allowed finder.new ≡ F.allowed finder.old }
 {
     let all = all_indexes(with.alloc, with.model.constraints().len())?;
@@ -246,6 +252,7 @@ pub fn find_core<F: Finder>(
         ⊎ BeginsSo model.now.constraints journal.new.rounds kinds.NoSolution) }
     ensures ground { OnOk result (journal.new.ground ≡ None) }
     ensures lines { OnOk result (journal.new.lines ≡ []) }
+    ensures so_far { AreSoFar journal.new.lines }
     ensures budget { F.allowed finder.new ≡ F.allowed finder.old }
 {
     let with = Subject {

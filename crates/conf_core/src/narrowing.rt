@@ -12,6 +12,7 @@ ghost use Rattle.conf_limits.specs.Measures.{model_narrow};
 ghost use Rattle.conf_types.specs.Programs.{ResolvedConstraint};
 ghost use Rattle.conf_types.specs.Typing.{IsTypedModel};
 ghost use Rattle.proof_log.specs.declared.journal.Round.{Round as ARound};
+ghost use Rattle.run_finder.specs.SoFar.{AreSoFar};
 
 use crate::part_search::{Subject, decide_part};
 use crate::suspects::{Suspect, kept_indexes, settle, with_cleared};
@@ -182,6 +183,7 @@ fn step<F: Finder>(
         with.entry.budget journal.old.rounds journal.new.rounds }
     ensures ground { OnOk result (journal.new.ground ≡ None) }
     ensures lines { OnOk result (journal.new.lines ≡ []) }
+    ensures so_far { AreSoFar journal.new.lines }
     ensures budget { F.allowed finder.new ≡ F.allowed finder.old }
 {
     let size = n.chunk.min(n.rest.len());
@@ -219,6 +221,7 @@ pub(crate) fn narrowed<F: Finder>(
         with.entry.budget journal.old.rounds journal.new.rounds }
     ensures ground { OnOk result (journal.new.ground ≡ None) }
     ensures lines { OnOk result (journal.new.lines ≡ []) }
+    ensures so_far { AreSoFar journal.new.lines }
     ensures budget { F.allowed finder.new ≡ F.allowed finder.old }
 {
     let mut n = first;

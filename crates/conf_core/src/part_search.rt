@@ -1,12 +1,13 @@
 //! A search over a part of a model, which is a round of the journal.
 ghost use Rattle.std.specs.Prelude.{◌≡◌, [], true, None, length, IfOk, OnOk, OnErr};
-ghost use Rattle.conf_core.specs.Parts.{IsPart, HasTried};
+ghost use Rattle.conf_core.specs.Parts.{IsPart};
 ghost use Rattle.conf_core.specs.Cores.{HasRound};
-ghost use Rattle.conf_core.specs.Searching.{HasClosed, HasGrown};
+ghost use Rattle.conf_core.specs.Searching.{HasClosed, HasGrown, HasTried};
 ghost use Rattle.conf_limits.specs.Measures.{model_narrow};
 ghost use Rattle.conf_types.specs.Typing.{IsTypedModel};
 ghost use Rattle.ground_form.specs.WellMade.{IsWellMade};
 ghost use Rattle.model_search.specs.Problems.{IsProblemOf};
+ghost use Rattle.run_finder.specs.SoFar.{AreSoFar};
 
 use conf_types::TypedModel;
 use ground_form::Ground;
@@ -88,6 +89,7 @@ fn note_found(found: &mut Vec<i64>, verdict: &Verdict) -> Result<(), AllocError>
 /// Searches the problem of a part, without objectives, and closes the round: by the values that
 /// were found last, which mostly break only what wasn't in that part. With the verdict comes for
 /// which constraints of the part each of the problem's was stated.
+#[tactic(auto, using(crate::proofs::Rounds::none_so_far, crate::proofs::Rounds::run_so_far))]
 fn closed_round<F: Finder>(
     with: Subject<'_>,
     model: &TypedModel,
@@ -107,6 +109,7 @@ fn closed_round<F: Finder>(
     ensures rounds { OnErr result (journal.new.rounds ≡ journal.old.rounds) }
     ensures ground { OnOk result (journal.new.ground ≡ None) }
     ensures lines { OnOk result (journal.new.lines ≡ []) }
+    ensures so_far { AreSoFar journal.new.lines }
     ensures budget { F.allowed finder.new ≡ F.allowed finder.old }
 {
     let mut origins = Origins::new(with.alloc);
@@ -143,6 +146,7 @@ pub(crate) fn try_part<F: Finder>(
     ensures rounds { OnErr result (journal.new.rounds ≡ journal.old.rounds) }
     ensures ground { OnOk result (journal.new.ground ≡ None) }
     ensures lines { OnOk result (journal.new.lines ≡ []) }
+    ensures so_far { AreSoFar journal.new.lines }
     ensures budget { F.allowed finder.new ≡ F.allowed finder.old }
 {
     let model = with.model.only(with.alloc, &part)?;
@@ -180,6 +184,7 @@ fn part_end<F: Finder>(
         with.entry.budget journal.old.rounds journal.new.rounds }
     ensures ground { OnOk result (journal.new.ground ≡ None) }
     ensures lines { OnOk result (journal.new.lines ≡ []) }
+    ensures so_far { AreSoFar journal.new.lines }
     ensures budget { F.allowed finder.new ≡ F.allowed finder.old }
 {
     let tried = try_part(with, part.to_vec(with.alloc)?, found, finder, journal)?;
@@ -222,6 +227,7 @@ pub(crate) fn decide_part<F: Finder>(
         with.entry.budget journal.old.rounds journal.new.rounds }
     ensures ground { OnOk result (journal.new.ground ≡ None) }
     ensures lines { OnOk result (journal.new.lines ≡ []) }
+    ensures so_far { AreSoFar journal.new.lines }
     ensures budget { F.allowed finder.new ≡ F.allowed finder.old }
 {
     let end = part_end(with, part, found, finder, journal)?;

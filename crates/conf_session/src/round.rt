@@ -7,6 +7,7 @@ ghost use Rattle.reconfigure.specs.Failing.{unknown_word};
 ghost use Rattle.reconfigure.specs.Repairing.{Extends};
 ghost use Rattle.conf_session.specs.Standing.{IsOver};
 ghost use Rattle.conf_session.specs.Steps.{RepairsFor, IsSearched};
+ghost use Rattle.run_finder.specs.SoFar.{AreSoFar};
 
 use crate::state::{State, copied};
 use conf_syntax::PathText;
@@ -69,6 +70,7 @@ pub(crate) fn searched<F: Finder>(
     requires lines { journal.old.lines ≡ [] }
     ensures searched { IfOk result (λ verdict. IsSearched objects.now state.now
         (F.allowed finder.old) journal.new verdict) }
+    ensures so_far { AreSoFar journal.new.lines }
     ensures rounds { journal.new.rounds ≡ journal.old.rounds }
     ensures budget { F.allowed finder.new ≡ F.allowed finder.old }
 {

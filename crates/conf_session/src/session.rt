@@ -6,6 +6,7 @@ ghost use Rattle.object_alloc.specs.Paths.{object_named};
 ghost use Rattle.conf_session.specs.Standing.{IsOver};
 ghost use Rattle.conf_session.specs.Failed.{failed_behind};
 ghost use Rattle.conf_session.specs.Steps.{Steps, IsStep, IsSearched, IsClosed};
+ghost use Rattle.run_finder.specs.SoFar.{AreSoFar};
 
 use crate::learning::behind;
 use crate::round::searched;
@@ -77,6 +78,7 @@ fn closed(
         × IsSearched o state budget journal.old verdict.now }
     ensures closed { IfOk result (λ new. IsClosed state journal.old journal.new verdict.now new) }
     ensures rounds { OnErr result (journal.new.rounds ≡ journal.old.rounds) }
+    ensures lines { OnErr result (journal.new.lines ≡ journal.old.lines) }
 {
     let Some(g) = journal.ground() else {
         unreachable!()
@@ -102,6 +104,7 @@ fn advanced<F: Finder>(
     ensures step { IfOk result (λ r. IsStep objects.now event.now (F.allowed finder.old)
         state r.0 journal.old journal.new r.1) }
     ensures rounds { OnErr result (journal.new.rounds ≡ journal.old.rounds) }
+    ensures so_far { AreSoFar journal.new.lines }
     ensures budget { F.allowed finder.new ≡ F.allowed finder.old }
 {
     let state = with_event(alloc, state, event)?;
@@ -194,6 +197,7 @@ impl Session {
             self.old.state self.new.state journal.old journal.new step) }
         ensures void { OnErr result (self.new.state ≡ None) }
         ensures rounds { OnErr result (journal.new.rounds ≡ journal.old.rounds) }
+        ensures so_far { AreSoFar journal.new.lines }
         ensures budget { F.allowed finder.new ≡ F.allowed finder.old }
     {
         let Some(state) = self.state.take() else {

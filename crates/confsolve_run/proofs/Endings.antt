@@ -13,7 +13,7 @@ use Rattle.run_promise.specs.Answer.{IsAnswer}
 use Rattle.run_promise.specs.Asking.{OfAsked, OfText, log_file}
 use Rattle.model_reader.specs.TextModel.{IsModelOf}
 use Rattle.run_promise.specs.Delivery.{Outside, outside, log_text, IsLoggedIn, IsLogFrontIn, IsLogFront, IsCutOff}
-use Rattle.round_commands.specs.Ending.{Trace, trace, Searches, IsBegun, EndsModel, EndsModelAt, Ends, EndsAt, RunEnds, RunEndsAt}
+use Rattle.round_commands.specs.Ending.{Trace, trace, IsBegun, EndsModel, EndsModelAt, Ends, EndsAt, RunEnds, RunEndsAt}
 use Rattle.model_reader.specs.Models.{IsWithin, outline_of, constraints_of, goals_of}
 use Rattle.run_promise.specs.Recorded.{IsRecorded}
 use Rattle.run_promise.specs.Refusal.{IsReason, IsDeniedOf, IsTooLongText}

@@ -2,6 +2,7 @@ pub mod AskedParts
 pub mod Endings
 pub mod LogFiles
 pub mod OneAnswer
+pub mod PresentRound
 pub mod RepairParts
 pub mod RunLaws
 pub mod SearchRecords

@@ -1,5 +1,5 @@
 -- From a repair, and what a search or a log tells of it, to what answers the request.
-use Rattle.std.proofs.Common.{◌≡◌, ◌∙◌, ◌≤◌, inr, ap, List, Option, None, Some, Result, Ok, Err, IfOk, IfErr, refl, sym, subst, ℕ}
+use Rattle.std.proofs.Common.{◌≡◌, ◌∙◌, ◌≤◌, inr, ap, List, Option, Some, Result, Ok, Err, IfOk, IfErr, sym, subst, ℕ}
 use Rattle.branch_choice.specs.declared.split.Order.{Order}
 use Rattle.class_table.specs.Outline.{Outline}
 use Rattle.conf_request.specs.declared.options.OrderName.{OrderName}

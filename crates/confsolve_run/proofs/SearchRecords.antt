@@ -1,9 +1,9 @@
 -- What the journal of a search holds, whatever is known of files.
-use Rattle.std.proofs.Common.{◌≡◌, ◌∙◌, Bool, true, false, List, Option, None, sym, subst, ap, refl, ℕ}
+use Rattle.std.proofs.Common.{◌≡◌, ◌∙◌, Bool, true, false, List, Option, None, ap, refl, ℕ}
 use Rattle.branch_choice.specs.declared.split.Order.{Order}
 use Rattle.class_table.specs.Outline.{Outline}
 use Rattle.conf_types.specs.Programs.{ResolvedConstraint, ResolvedGoal}
-use Rattle.model_search.specs.Runs.{is_open, values_for}
+use Rattle.model_search.specs.Runs.{values_for}
 use Rattle.model_search.specs.declared.finding.Finding.{Finding}
 use Rattle.proof_log.specs.Rounds.{Journal}
 use Rattle.reconfigure.specs.declared.repair.Repair.{Repair}
@@ -19,15 +19,10 @@ module _ (o : Outline) (ks : List ResolvedConstraint) (gs : List ResolvedGoal) (
         ground = h.ground;
         kept = h.kept;
         well_made = h.problem.stands.well_made;
-        run = h.run;
         values = values_for h.ground.search r;
         none = λ e. ap (values_for h.ground.search) (none e);
-        ordered = h.ordered;
-        taken = h.taken;
+        whole = h.whole;
         status_is = a.status_is ∙ ap (searched_status budget) h.shown;
-        within = h.within;
-        all = λ is. (h.spent (subst (λ f. is_open f ≡ true) (sym h.shown) is)).all;
-        due = λ is. (h.spent (subst (λ f. is_open f ≡ true) (sym h.shown) is)).due;
       }
 
   -- a search without a repair had no values to go by

@@ -16,7 +16,7 @@ ghost use Rattle.run_promise.specs.Delivery.{outside};
 ghost use Rattle.round_commands.specs.Ending.{Ends, EndsModel, trace};
 ghost use Rattle.round_commands.specs.Holding.{ForModel};
 ghost use Rattle.model_reader.specs.Ready.{IsReady};
-ghost use Rattle.run_promise.specs.Recorded.{AreRoundsFor, IsRecorded};
+ghost use Rattle.run_promise.specs.Recorded.{AreRoundsFor, AreLinesFor, KeepsProblem, IsRecorded};
 ghost use Rattle.run_promise.specs.Refusal.{IsDenied};
 ghost use Rattle.model_reader.specs.ModelRefusal.{IsTextRefused};
 ghost use Rattle.run_status.specs.Stages.{Answered, stage_of, IsUnless};
@@ -64,6 +64,7 @@ fn wanted(budget: u32, order: OrderName, log: &Option<FileName>) -> SearchWish
 }
 
 /// The answer to what is asked of a model that is within the limits.
+#[tactic(auto, using(crate::proofs::PresentRound::other_problem))]
 fn asked<D: Desk>(
     with: Resources<'_>,
     desk: &mut D,
@@ -94,6 +95,9 @@ fn asked<D: Desk>(
         (D.read_faults desk.new) s (IsDenied (D.files desk.old) request.now journal.new s
         built.entry.objects.now built.entry.model.now.constraints
         built.entry.model.now.goals)) }
+    ensures lines { AreLinesFor (map (λ c. c.order) with.entry.choosers.now) request.now
+        journal.new.lines }
+    ensures problem { IfErr result (λ s. KeepsProblem request.now s journal.new) }
     ensures cut { OnErr result ((journal.new.rounds ≡ [])
         ⊎ (AreRoundsFor request.now journal.new.rounds
         × OfAsked (D.files desk.old) request.now (λ asked. IsModelSearched built.entry.objects.now
@@ -150,6 +154,7 @@ fn asked<D: Desk>(
 }
 
 /// Answers what is asked of a model that is within the limits.
+#[tactic(auto, using(crate::proofs::PresentRound::answered_problem, crate::proofs::PresentRound::other_problem))]
 fn answer_built<D: Desk>(
     with: Resources<'_>,
     desk: &mut D,
@@ -175,6 +180,9 @@ fn answer_built<D: Desk>(
         (D.write_faults desk.new)) p result) }
     ensures rounds { closes_rounds request.now ≡ false → journal.new.rounds ≡ journal.old.rounds }
     ensures kept { leaves_journal request.now ≡ true → journal.new ≡ journal.old }
+    ensures lines { AreLinesFor (map (λ c. c.order) with.entry.choosers.now) request.now
+        journal.new.lines }
+    ensures problem { KeepsProblem request.now result journal.new }
 {
     if let Request::Session {
         former,
@@ -230,6 +238,9 @@ fn answer_model<D: Desk>(
         (D.write_faults desk.new)) program.now result }
     ensures rounds { closes_rounds request.now ≡ false → journal.new.rounds ≡ journal.old.rounds }
     ensures kept { leaves_journal request.now ≡ true → journal.new ≡ journal.old }
+    ensures lines { AreLinesFor (map (λ c. c.order) with.entry.choosers.now) request.now
+        journal.new.lines }
+    ensures problem { KeepsProblem request.now result journal.new }
 {
     let table = match table_of(with.alloc, program) {
         Ok(table) => table,
@@ -276,6 +287,9 @@ pub(crate) fn run_text<D: Desk>(
     ensures stands { (s : AStatus) → IsTextRefused text.now s → IsUnless s result }
     ensures rounds { closes_rounds request.now ≡ false → journal.new.rounds ≡ journal.old.rounds }
     ensures kept { leaves_journal request.now ≡ true → journal.new ≡ journal.old }
+    ensures lines { AreLinesFor (map (λ c. c.order) with.entry.choosers.now) request.now
+        journal.new.lines }
+    ensures problem { KeepsProblem request.now result journal.new }
 {
     match read_model(with.alloc, text) {
         Ok(program) => answer_model(with, desk, &program, request, kit, journal),

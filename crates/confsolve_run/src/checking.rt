@@ -1,5 +1,5 @@
 //! `check`: what a log shows of a model, or of a repair of it.
-ghost use Rattle.std.specs.Prelude.{◌≡◌, ◌≤◌, None, IfOk, IfErr, IfSome, OnOk, IsTrue, option_copied};
+ghost use Rattle.std.specs.Prelude.{◌≡◌, ◌≤◌, None, true, IfOk, IfErr, IfSome, OnOk, IsTrue, option_copied};
 ghost use Rattle.desk_io.specs.Desk.{OfFile};
 ghost use Rattle.ground_form.specs.WellMade.{IsWellMade};
 ghost use Rattle.log_check.specs.Fed.{IsLogOf};
@@ -16,6 +16,7 @@ ghost use Rattle.model_reader.specs.Ready.{IsReady};
 ghost use Rattle.run_promise.specs.Recorded.{HasChecked};
 ghost use Rattle.run_promise.specs.Refusal.{IsUnfit, IsUnchecked};
 ghost use Rattle.run_status.specs.Stages.{Answered, stage_of};
+ghost use Rattle.round_commands.specs.Statuses.{is_of_log};
 ghost use Rattle.round_commands.specs.Unreadable.{Unreadable};
 
 use answer_text::check_text;
@@ -175,6 +176,8 @@ pub(crate) fn check<D: Desk>(
         (D.read_faults desk.new) s (OfFile (D.files desk.old) file.now
         (λ bytes. IsUnchecked built.entry.objects.now built.entry.model.now.constraints
         built.entry.model.now.goals (option_copied repair.entry) journal.new bytes s))) }
+    ensures problem { IfErr result (λ s. is_of_log s ≡ true → HasChecked journal.new) }
+    ensures lines { journal.new.lines ≡ journal.old.lines }
     ensures rounds { journal.new.rounds ≡ journal.old.rounds }
     ensures files { D.files desk.new ≡ D.files desk.old }
     ensures printed { D.printed desk.new ≡ D.printed desk.old }

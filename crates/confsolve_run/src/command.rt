@@ -7,11 +7,11 @@ ghost use Rattle.desk_io.specs.Desk.{with_printed};
 ghost use Rattle.desk_io.specs.Fault.{HasRisen};
 ghost use Rattle.proof_log.specs.Rounds.{empty};
 ghost use Rattle.run_status.specs.declared.status.Status.{Status as AStatus};
-ghost use Rattle.run_promise.specs.Answer.{IsAnswer, IsAnswerBegun, IsAnswerSearched};
+ghost use Rattle.run_promise.specs.Answer.{IsAnswer, IsAnswerSearched};
 ghost use Rattle.run_promise.specs.Asking.{Reads, Writes, IsFurther, OfRequest, OfText, closes_rounds, leaves_journal, log_file, text_of};
-ghost use Rattle.run_promise.specs.Delivery.{outside, IsLogged, IsLogFront, IsCutOff};
+ghost use Rattle.run_promise.specs.Delivery.{outside, IsLogged, IsLogFront, IsBrokenOff};
 ghost use Rattle.round_commands.specs.Ending.{RunEnds, trace};
-ghost use Rattle.run_promise.specs.Recorded.{AreRoundsFor, IsRecorded};
+ghost use Rattle.run_promise.specs.Recorded.{AreRoundsFor, AreLinesFor, KeepsProblem, IsRecorded};
 ghost use Rattle.run_promise.specs.Refusal.{IsReason, IsStanding};
 ghost use Rattle.run_status.specs.Stages.{Refused, Answered, stage_of, is_silent, is_partial, IsSettled, IsUnless};
 
@@ -53,6 +53,9 @@ fn run_request<D: Desk>(
         → IsUnless s result }
     ensures rounds { closes_rounds request.now ≡ false → journal.new.rounds ≡ journal.old.rounds }
     ensures kept { leaves_journal request.now ≡ true → journal.new ≡ journal.old }
+    ensures lines { AreLinesFor (map (λ c. c.order) with.entry.choosers.now) request.now
+        journal.new.lines }
+    ensures problem { KeepsProblem request.now result journal.new }
 {
     match text_of(with.alloc, desk, request) {
         Ok(text) => run_text(with, desk, &text, request, kit, journal),
@@ -64,6 +67,7 @@ fn run_request<D: Desk>(
 /// stands yet, then holds the ground problem of the model that was searched or whose log was
 /// checked, and of a search the lines that it wrote. `choosers` are those of the orders first,
 /// small and former.
+#[tactic(auto, using(crate::proofs::PresentRound::lost_lines, crate::proofs::PresentRound::lost_problem))]
 pub fn run<D: Desk>(
     alloc: Global,
     words: &[String],
@@ -101,9 +105,8 @@ pub fn run<D: Desk>(
     // writing broke off within the log or the text of an answer; of a session the rounds are those
     // of the events that were answered, and all answers but the last were printed whole
     ensures write_fault { result ≡ Status.WriteFault → OfRequest (D.files desk.old) words.now
-        (λ r asked p. (s : AStatus) × (whole : List ℕ) × (text : List ℕ)
-        × IsAnswerBegun (map (λ c. c.order) choosers.now) journal.new asked p s whole text
-        × IsCutOff r journal.new whole text (outside (D.files desk.old) (D.printed desk.old))
+        (IsBrokenOff (map (λ c. c.order) choosers.now) journal.new
+        (outside (D.files desk.old) (D.printed desk.old))
         (outside (D.files desk.new) (D.printed desk.new))) }
     // want of memory came before writing and before a round was closed; or the same is so; or it
     // came among the searches for what to blame, before writing
@@ -111,9 +114,8 @@ pub fn run<D: Desk>(
         → ((outside (D.files desk.new) (D.printed desk.new)
         ≡ outside (D.files desk.old) (D.printed desk.old)) × (journal.new.rounds ≡ []))
         ⊎ (OfRequest (D.files desk.old) words.now
-        (λ r asked p. (s : AStatus) × (whole : List ℕ) × (text : List ℕ)
-        × IsAnswerBegun (map (λ c. c.order) choosers.now) journal.new asked p s whole text
-        × IsCutOff r journal.new whole text (outside (D.files desk.old) (D.printed desk.old))
+        (IsBrokenOff (map (λ c. c.order) choosers.now) journal.new
+        (outside (D.files desk.old) (D.printed desk.old))
         (outside (D.files desk.new) (D.printed desk.new)))
         ⊎ ((outside (D.files desk.new) (D.printed desk.new)
         ≡ outside (D.files desk.old) (D.printed desk.old))
@@ -145,6 +147,11 @@ pub fn run<D: Desk>(
     // no command but a session and `core` has rounds
     ensures rounds { IfSome (request words.now) (λ r. closes_rounds r ≡ false
         → journal.new.rounds ≡ journal.old.rounds) }
+    // the lines of the present round are a run, however it ends
+    ensures lines { IfSome (request words.now)
+        (λ r. AreLinesFor (map (λ c. c.order) choosers.now) r journal.new.lines) }
+    // where the log of `check` is refused, the journal has the problem that it was checked against
+    ensures problem { IfSome (request words.now) (λ r. KeepsProblem r result journal.new) }
     // `verify` has nothing in the journal, however it ends
     ensures untouched { IfSome (request words.now) (λ r. leaves_journal r ≡ true
         → journal.new ≡ journal.old) }

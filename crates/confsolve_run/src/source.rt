@@ -1,11 +1,12 @@
 //! The text of the model that a request is about.
-ghost use Rattle.std.specs.Prelude.{◌≡◌, ◌≤◌, List, Some, length, IfOk, IfErr, IsTrue, ℕ};
+ghost use Rattle.std.specs.Prelude.{◌≡◌, ◌≤◌, List, Some, false, length, IfOk, IfErr, IsTrue, ℕ};
 ghost use Rattle.conf_request.specs.Words.{model_file, IsLawful};
 ghost use Rattle.desk_io.specs.Desk.{OfFile};
 ghost use Rattle.model_generator.specs.Generated.{generated};
 ghost use Rattle.model_limits.specs.Limits.{model_bytes};
 ghost use Rattle.run_promise.specs.Asking.{OfText};
 ghost use Rattle.run_promise.specs.Refusal.{IsTooLongText};
+ghost use Rattle.round_commands.specs.Statuses.{is_of_log};
 ghost use Rattle.round_commands.specs.Unreadable.{Unreadable};
 
 use conf_request::{FileName, Request};
@@ -24,6 +25,7 @@ fn file_text<D: Desk>(alloc: Global, desk: &mut D, file: &FileName) -> Result<Ve
     ensures refused { IfErr result (λ s. Unreadable (D.read_faults desk.old)
         (D.read_faults desk.new) s (OfFile (D.files desk.old) file.now
         (λ bytes. IsTooLongText bytes s))) }
+    ensures other { IfErr result (λ s. is_of_log s ≡ false) }
     ensures files { D.files desk.new ≡ D.files desk.old }
     ensures printed { D.printed desk.new ≡ D.printed desk.old }
     ensures read_faults { D.read_faults desk.old ≤ D.read_faults desk.new }
@@ -71,6 +73,7 @@ pub(crate) fn text_of<D: Desk>(
     ensures refused { IfErr result (λ s. Unreadable (D.read_faults desk.old)
         (D.read_faults desk.new) s (OfText (D.files desk.old) request.now
         (λ bytes. IsTooLongText bytes s))) }
+    ensures other { IfErr result (λ s. is_of_log s ≡ false) }
     ensures files { D.files desk.new ≡ D.files desk.old }
     ensures printed { D.printed desk.new ≡ D.printed desk.old }
     ensures read_faults { D.read_faults desk.old ≤ D.read_faults desk.new }

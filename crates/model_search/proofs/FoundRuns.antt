@@ -1,5 +1,5 @@
 -- What the journal holds when a search over a model has ended.
-use Rattle.std.proofs.Common.{◌≡◌, ◌∙◌, ℕ, ◌+◌, ◌≤◌, Bool, true, false, List, ℤ, Option, Some, None, ap, subst, sym, refl}
+use Rattle.std.proofs.Common.{◌≡◌, ◌∙◌, inl, inr, [], ℕ, ◌+◌, ◌≤◌, Bool, true, false, List, ℤ, Option, Some, None, ap, subst, sym, refl}
 use Rattle.bound_search.specs.declared.solving.Ended.{Ended}
 use Rattle.bound_search.specs.declared.solving.Ended.TheVariants as ended
 use Rattle.branch_choice.specs.declared.split.Order.{Order}
@@ -26,7 +26,7 @@ use Rattle.model_search.proofs.Solutions.{verdict_tells}
 use Rattle.model_search.specs.Findings.{finding, finding_by, Tells}
 use Rattle.model_search.specs.Problems.{IsProblemOf}
 use Rattle.model_search.specs.Rounds.{journal_of, told_by, end_of}
-use Rattle.model_search.specs.Runs.{is_open, values_for, IsSpent, HasRun}
+use Rattle.model_search.specs.Runs.{is_open, values_for, IsRunBy, IsWholeRun, HasRun, HasBegun}
 use Rattle.model_search.specs.declared.finding.Finding.{Finding}
 
 -- ---- a search whose lines were checked
@@ -70,13 +70,24 @@ open_not_closed : (g : Ground) (closed : Bool) (found : Option (List ℤ)) →
 open_not_closed g true found e = absurd (closed_tells g found e)
 open_not_closed g false found e = refl
 
-spent_of : (o : Outline) (g : Ground) (budget : ℕ) (j : Journal) (v : Ending) →
+pub whole_run : (g : Ground) (order : Order) (values : List (Option ℤ)) (budget : ℕ)
+    (ls : List Line) (v : Ending) → HasSearched g budget ls v → IsOrdered g order values ls →
+    IsWholeRun g order values budget ls
+whole_run g order values budget ls v searched ordered =
+    record {
+      by = record { run = searched.run; ordered = ordered };
+      taken = run_accepted g ls searched.run;
+      within = searched.within;
+      spent = λ lacks. searched.spent (ap (λ (x : Ending). x.closed) searched.verdict_is ∙ lacks);
+    }
+
+more_of : (o : Outline) (g : Ground) (budget : ℕ) (j : Journal) (v : Ending) →
     HasSearched g budget j.lines v →
     (MayDecide g j.lines → decisions j.lines + 2 ≤ configuration_count o) →
-    is_open (finding g v) ≡ true → IsSpent o g budget j
-spent_of o g budget j v searched more is =
+    is_open (finding g v) ≡ true → budget + 2 ≤ configuration_count o
+more_of o g budget j v searched more is =
     let h = searched.spent (open_not_closed g v.closed v.found is) in
-    record { all = h.0; due = h.1; more = subst (λ n. n + 2 ≤ configuration_count o) h.0 (more h.1) }
+    subst (λ n. n + 2 ≤ configuration_count o) h.0 (more h.1)
 
 -- the journal's lines are those of the search, its problem stands there, and its verdict is told
 pub has_run : (o : Outline) (ks : List ResolvedConstraint) (gs : List ResolvedGoal)
@@ -90,14 +101,11 @@ has_run o ks gs r g order budget j told v kept problem searched ordered is more 
       ground = g;
       kept = kept;
       problem = problem;
-      run = searched.run;
-      ordered = ordered;
-      taken = run_accepted g j.lines searched.run;
+      whole = whole_run g order (values_for g.search r) budget j.lines v searched ordered;
       shown = is ∙ ap (λ e. finding g e) searched.verdict_is;
       tells = subst (λ f. Tells o ks gs r f) (sym is)
           (verdict_tells o ks gs r g v problem searched.sound searched.found);
-      within = searched.within;
-      spent = λ told_open. spent_of o g budget j v searched more (subst (λ f. is_open f ≡ true) is told_open);
+      more = λ told_open. more_of o g budget j v searched more (subst (λ f. is_open f ≡ true) is told_open);
     }
 
 some_same : (g h : Ground) → Some g ≡ Some h → g ≡ h
@@ -115,6 +123,26 @@ found_run o ks gs r g h order budget j told v kept there problem searched ordere
     has_run o ks gs r g order budget j told v kept problem searched ordered
     (is ∙ ap (λ x. finding x v) same)
     (subst (λ x. MayDecide x j.lines → decisions j.lines + 2 ≤ configuration_count o) same more)
+
+-- wherever it broke off
+pub no_lines : (o : Outline) (ks : List ResolvedConstraint) (gs : List ResolvedGoal)
+    (r : Option Repair) (order : Order) (j : Journal) → j.lines ≡ [] → HasBegun o ks gs r order j
+no_lines o ks gs r order j none = record { so_far = inl none }
+
+pub lines_begun : (o : Outline) (ks : List ResolvedConstraint) (gs : List ResolvedGoal)
+    (r : Option Repair) (g : Ground) (order : Order) (j : Journal) → IsProblemOf o ks gs r g →
+    IsRunBy g order (values_for g.search r) j.lines → HasBegun o ks gs r order j
+lines_begun o ks gs r g order j problem by = record { so_far = inr (g, problem, by) }
+
+-- no line is a run
+pub none_run : (g : Ground) (order : Order) (values : List (Option ℤ)) (ls : List Line) → ls ≡ [] →
+    IsRunBy g order values ls
+none_run g order values ls none =
+    subst (λ xs. IsRunBy g order values xs) (sym none) (record { run = refl; ordered = tt })
+
+pub run_by : (g : Ground) (order : Order) (values : List (Option ℤ)) (ls : List Line) →
+    is_run g ls ≡ true → IsOrdered g order values ls → IsRunBy g order values ls
+run_by g order values ls run ordered = record { run = run; ordered = ordered }
 
 -- ---- a round is one
 

@@ -3,10 +3,9 @@ ghost use Rattle.std.specs.Prelude.{◌≡◌, [], true, length, None, Some, rep
 ghost use Rattle.conf_limits.specs.Measures.{model_narrow};
 ghost use Rattle.conf_types.specs.Typing.{IsTypedModel};
 ghost use Rattle.ground_form.specs.WellMade.{IsWellMade};
-ghost use Rattle.model_search.specs.Runs.{HasRun, values_for};
+ghost use Rattle.model_search.specs.Runs.{HasRun, HasBegun, IsRunBy, values_for};
 ghost use Rattle.model_search.specs.Wanted.{IsUnderstood};
 ghost use Rattle.run_finder.specs.Searched.{HasSearched};
-ghost use Rattle.run_law.specs.Ordered.{IsOrdered};
 
 use crate::finding::{Finding, finding_of};
 use crate::laws::undecided_has_more;
@@ -33,6 +32,7 @@ pub fn no_hints(alloc: Global, count: u32) -> Result<Vec<Option<i64>>, AllocErro
 }
 
 /// Searches by values to go by: the former ones of a repair, or none.
+#[tactic(auto, using(crate::proofs::FoundRuns::none_run))]
 fn searched<F: Finder>(
     alloc: Global,
     g: Ground,
@@ -45,8 +45,8 @@ fn searched<F: Finder>(
     requires problem { journal.old.ground ≡ None }
     requires lines { journal.old.lines ≡ [] }
     ensures problem { OnOk result (journal.new.ground ≡ Some g) }
-    ensures ordered { OnOk result (IsOrdered g (F.order finder.old)
-        (values_for g.search (option_copied repair.entry)) journal.new.lines) }
+    ensures run { IsRunBy g (F.order finder.old)
+        (values_for g.search (option_copied repair.entry)) journal.new.lines }
     ensures searched { IfOk result (λ v.
         HasSearched g (F.allowed finder.old) journal.new.lines v) }
     ensures rounds { journal.new.rounds ≡ journal.old.rounds }
@@ -66,7 +66,8 @@ fn searched<F: Finder>(
 ///
 /// # Errors
 ///
-/// Want of memory; of the journal's present round nothing is said then.
+/// Want of memory; the journal's present round then has the lines so far, which are a run.
+#[tactic(auto, using(crate::proofs::FoundRuns::no_lines, crate::proofs::FoundRuns::lines_begun))]
 pub fn find_best<F: Finder>(
     alloc: Global,
     question: Question<'_>,
@@ -85,6 +86,10 @@ pub fn find_best<F: Finder>(
         question.entry.model.now.constraints question.entry.model.now.goals
         (option_copied question.entry.repair) (F.order finder.old) (F.allowed finder.old)
         journal.new f) }
+    // however it ends
+    ensures begun { HasBegun question.entry.objects.now question.entry.model.now.constraints
+        question.entry.model.now.goals (option_copied question.entry.repair)
+        (F.order finder.old) journal.new }
     ensures rounds { journal.new.rounds ≡ journal.old.rounds }
 {
     let g = problem_of(alloc, question)?;

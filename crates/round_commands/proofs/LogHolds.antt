@@ -11,4 +11,4 @@ use Rattle.round_commands.specs.Told.{HoldsLog}
 
 pub holds_log : (o : Outline) (ks : List ResolvedConstraint) (gs : List ResolvedGoal) (r : Option Repair) (order : Order) (budget : ℕ) (journal : Journal) (told : Finding) → HasRun o ks gs r order budget journal told → HoldsLog journal
 holds_log o ks gs r order budget journal told h =
-    record { ground = h.ground; kept = h.kept; well_made = h.problem.stands.well_made; taken = h.taken }
+    record { ground = h.ground; kept = h.kept; well_made = h.problem.stands.well_made; taken = h.whole.taken }

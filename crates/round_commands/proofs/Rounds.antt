@@ -1,5 +1,5 @@
 -- What holds of the journal's rounds, whatever is known of files.
-use Rattle.std.proofs.Common.{◌≡◌, ◌∙◌, true, List, [], Option, None, Some, slice_index_or, refl, sym, subst, ap, ℕ}
+use Rattle.std.proofs.Common.{◌≡◌, ◌∙◌, List, [], Option, None, Some, slice_index_or, refl, sym, subst, ap, ℕ, ℤ}
 use Rattle.std.specs.List.{All}
 use Rattle.branch_choice.specs.declared.split.Order.TheVariants as orders
 use Rattle.class_table.specs.Outline.{Outline}
@@ -13,10 +13,10 @@ use Rattle.run_promise.specs.CoreTexts.{core_status}
 use Rattle.ground_form.specs.WellMade.{IsWellMade}
 use Rattle.ground_form.specs.declared.ground.Ground.{Ground}
 use Rattle.log_check.specs.Verdicts.{ending}
-use Rattle.log_form.specs.Acceptance.{accepted}
+use Rattle.log_form.specs.declared.line.Line.{Line}
 use Rattle.model_search.specs.Rounds.{end_of, journal_of, told_by}
 use Rattle.model_search.specs.Findings.{finding}
-use Rattle.model_search.specs.Runs.{HasRun, is_open}
+use Rattle.model_search.specs.Runs.{IsWholeRun, HasRun, values_for}
 use Rattle.model_search.specs.declared.finding.Finding.{Finding}
 use Rattle.model_search.specs.declared.finding.Finding.TheVariants as findings
 use Rattle.proof_log.specs.Rounds.{Journal}
@@ -28,11 +28,21 @@ use Rattle.log_check.specs.declared.verdict.VerdictKind.{VerdictKind}
 use Rattle.log_check.specs.declared.verdict.VerdictKind.TheVariants as kinds
 use Rattle.run_status.specs.declared.status.Status.{Status}
 use Rattle.run_status.specs.declared.status.Status.TheVariants as status
-use Rattle.run_law.specs.Decisions.{MayDecide}
-use Rattle.run_law.specs.Replay.{is_run}
+use Rattle.run_law.proofs.Orders.{own_ordered}
 
 some_ground : (g h : Ground) → Some g ≡ Some h → g ≡ h
 some_ground g h e = cc
+
+-- a run by whatever order goes by no values
+own_run : (g : Ground) (values : List (Option ℤ)) (budget : ℕ) (ls : List Line) →
+    IsWholeRun g orders.Own values budget ls → IsWholeRun g orders.Own [] budget ls
+own_run g values budget ls h =
+    record {
+      by = record { run = h.by.run; ordered = own_ordered g [] ls };
+      taken = h.taken;
+      within = h.within;
+      spent = h.spent;
+    }
 
 -- a round of which a run is told is one within the budget, and tells the same
 pub round_of : (o : Outline) (ks : List ResolvedConstraint) (gs : List ResolvedGoal)
@@ -45,12 +55,8 @@ round_of o ks gs r budget round told h =
     ∙ ap (λ (g : Ground). finding g (ending g round.lines)) (sym same)) in (
       record {
         well_made = subst (λ (g : Ground). IsWellMade g) (sym same) h.problem.stands.well_made;
-        run = subst (λ (g : Ground). is_run g round.lines ≡ true) (sym same) h.run;
-        taken = subst (λ (g : Ground). accepted g round.lines ≡ true) (sym same) h.taken;
-        within = h.within;
-        all = λ is. (h.spent (subst (λ (f : Finding). is_open f ≡ true) shown is)).all;
-        due = λ is. subst (λ (g : Ground). MayDecide g round.lines) (sym same)
-            (h.spent (subst (λ (f : Finding). is_open f ≡ true) shown is)).due;
+        whole = subst (λ (g : Ground). IsWholeRun g orders.Own [] budget round.lines) (sym same)
+            (own_run h.ground (values_for h.ground.search r) budget round.lines h.whole);
       },
       shown,
     )

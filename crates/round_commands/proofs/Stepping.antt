@@ -23,11 +23,12 @@ use Rattle.model_search.specs.Runs.{HasRun}
 use Rattle.model_search.specs.declared.finding.Finding.{Finding}
 use Rattle.model_search.specs.declared.finding.Finding.TheVariants as findings
 use Rattle.object_alloc.specs.Hints.{AreHints}
-use Rattle.proof_log.specs.Rounds.{Journal}
+use Rattle.proof_log.specs.Rounds.{Journal, empty}
 use Rattle.proof_log.specs.declared.journal.Round.{Round}
 use Rattle.reconfigure.specs.Failing.{unknown_word}
 use Rattle.reconfigure.specs.declared.repair.Repair.{Repair}
-use Rattle.round_commands.specs.Events.{IsAt, StandsAt, situation_of, IsHinted, HasStepped, HasRound, IsTried, IsCut}
+use Rattle.round_commands.specs.Events.{IsAt, IsBetween, StandsAt, situation_of, IsHinted, HasStepped, HasRound, IsTried, IsCut}
+use Rattle.run_finder.specs.SoFar.{AreSoFar}
 use Rattle.run_promise.specs.Sessions.{Subject, Situation, situation_behind, former_told}
 
 -- ---- where a session stands
@@ -185,6 +186,14 @@ pub cut_short : (s : Subject) (p : Situation) (e : Event) (rounds now : List Rou
 cut_short s p e rounds now printed printed_now is (inl same) = inl (same, is)
 cut_short s p e rounds now printed printed_now is (inr h) =
     inr (h.0, h.1, h.2, (0, omega arith, is ∙ sym (nothing_printed printed)))
+
+-- ---- the lines of the present round
+
+pub between_so_far : (journal : Journal) → IsBetween journal → AreSoFar journal.lines
+between_so_far journal h = inl h.lines
+
+pub empty_so_far : (journal : Journal) → journal ≡ empty → AreSoFar journal.lines
+empty_so_far journal h = inl (ap (λ (j : Journal). j.lines) h)
 
 -- ---- errors
 

@@ -8,9 +8,9 @@ use Rattle.desk_io.specs.Desk.{with_printed}
 use Rattle.desk_io.specs.Fault.{HasRisen}
 use Rattle.proof_log.specs.Rounds.{Journal}
 use Rattle.run_status.specs.declared.status.Status.{Status}
-use Rattle.run_promise.specs.Answer.{IsAnswer, IsAnswerBegun, IsAnswerSearched}
+use Rattle.run_promise.specs.Answer.{IsAnswer, IsAnswerSearched}
 use Rattle.run_promise.specs.Asking.{Asked, OfAsked, OfModel, OfText}
-use Rattle.run_promise.specs.Delivery.{Outside, IsLogged, IsLogFront, IsCutOff}
+use Rattle.run_promise.specs.Delivery.{Outside, IsLogged, IsLogFront, IsBrokenOff}
 use Rattle.run_promise.specs.Recorded.{AreRoundsFor, IsRecorded}
 use Rattle.model_reader.specs.Models.{IsWithin}
 use Rattle.run_promise.specs.Refusal.{IsReason, IsDeniedOf}
@@ -52,10 +52,7 @@ Prints t s asked p =
 
 -- writing an answer broke off
 abbrev pub Breaks : Trace → Asked → Program → Type 0
-Breaks t asked p =
-    (s : Status) × (whole : List ℕ) × (text : List ℕ)
-    × IsAnswerBegun t.orders t.journal asked p s whole text
-    × IsCutOff t.request t.journal whole text t.before t.now
+Breaks t asked p = IsBrokenOff t.orders t.journal t.before t.now t.request asked p
 
 -- memory failed among searches, before anything was printed or written
 abbrev pub Searches : Trace → Asked → Program → Type 0

@@ -2,6 +2,7 @@
 ghost use Rattle.std.specs.Prelude.{◌≡◌, ◌⊎◌, ◌≤◌, [], None, IfOk, OnErr};
 ghost use Rattle.model_reader.specs.Ready.{IsReady};
 ghost use Rattle.proof_log.specs.Rounds.{empty};
+ghost use Rattle.run_finder.specs.SoFar.{AreSoFar};
 ghost use Rattle.run_promise.specs.Blaming.{IsBlamed, IsSearchedSoFar};
 ghost use Rattle.run_promise.specs.CoreTexts.{core_status};
 ghost use Rattle.run_status.specs.Stages.{Answered, stage_of};
@@ -53,6 +54,7 @@ fn blame<F: Finder>(
     ensures cut { OnErr result ((journal.new.rounds ≡ [])
         ⊎ IsSearchedSoFar built.entry.objects.now built.entry.model.now.constraints
         (F.allowed finder.old) journal.new.rounds) }
+    ensures so_far { AreSoFar journal.new.lines }
 {
     let budget = finder.budget();
     let answer = find_core(alloc, built.model, built.objects, finder, journal)?;
@@ -103,6 +105,7 @@ pub fn blame_model(
     ensures cut { OnErr result ((journal.new.rounds ≡ [])
         ⊎ IsSearchedSoFar built.entry.objects.now built.entry.model.now.constraints budget
         journal.new.rounds) }
+    ensures so_far { AreSoFar journal.new.lines }
 {
     let choosers = with.choosers;
     let all = &choosers[..];

@@ -12,6 +12,7 @@ ghost use Rattle.model_search.specs.declared.finding.Finding.TheVariants as find
 ghost use Rattle.object_alloc.specs.Hints.{AreHints};
 ghost use Rattle.object_alloc.specs.Paths.{object_named};
 ghost use Rattle.round_commands.specs.Events.{IsBetween, IsHinted, StandsAt, situation_of, HasStepped, HasRound, IsTold, IsTried, IsCut};
+ghost use Rattle.run_finder.specs.SoFar.{AreSoFar};
 ghost use Rattle.run_promise.specs.Sessions.{situation_behind, subject};
 
 use crate::answer::question_of;
@@ -61,6 +62,7 @@ fn stepped<F: Finder>(
         (situation_of session.old.state) event.now journal.old.rounds journal.new.rounds
         session.new.state step) }
     ensures between { OnOk result (IsBetween journal.new) }
+    ensures so_far { AreSoFar journal.new.lines }
     ensures rounds { OnErr result (journal.new.rounds ≡ journal.old.rounds) }
     ensures budget { F.allowed finder.new ≡ F.allowed finder.old }
 {
@@ -127,6 +129,7 @@ fn answered<F: Finder>(
         with.entry.built.model.now.constraints with.entry.built.model.now.goals with.entry.budget)
         (situation_behind (situation_of session.old.state) event.now a.told) session.new.state) }
     ensures between { OnOk result (IsBetween journal.new) }
+    ensures so_far { AreSoFar journal.new.lines }
     ensures cut { OnErr result (IsTried (subject with.entry.built.objects.now
         with.entry.built.model.now.constraints with.entry.built.model.now.goals with.entry.budget)
         (situation_of session.old.state) event.now journal.old.rounds journal.new.rounds) }
@@ -165,6 +168,7 @@ pub(crate) fn answer_event<D: Desk, F: Finder>(
         with.entry.built.model.now.constraints with.entry.built.model.now.goals with.entry.budget)
         (situation_behind (situation_of session.old.state) event.now told) session.new.state) }
     ensures between { OnOk result (IsBetween journal.new) }
+    ensures so_far { AreSoFar journal.new.lines }
     ensures cut { OnErr result (IsCut (subject with.entry.built.objects.now
         with.entry.built.model.now.constraints with.entry.built.model.now.goals with.entry.budget)
         (situation_of session.old.state) event.now journal.old.rounds journal.new.rounds

@@ -1,5 +1,5 @@
 //! The text of a configuration, as it was or is to be: its file, and what it is read as.
-ghost use Rattle.std.specs.Prelude.{◌≡◌, ◌≤◌, Some, IsSome, IfOk, IfErr, IsTrue};
+ghost use Rattle.std.specs.Prelude.{◌≡◌, ◌≤◌, Some, false, IsSome, IfOk, IfErr, IsTrue};
 ghost use Rattle.config_json.specs.Reading.{json_of, value_read};
 ghost use Rattle.desk_io.specs.Desk.{OfFile};
 ghost use Rattle.model_reader.specs.Ready.{IsReady};
@@ -10,7 +10,7 @@ ghost use Rattle.run_promise.specs.Answer.{IsRepairOf};
 ghost use Rattle.run_promise.specs.Asking.{IsShort, former_text};
 ghost use Rattle.run_promise.specs.Refusal.{IsUnread, IsFormerLong, IsFormerRefused};
 ghost use Rattle.round_commands.specs.Unreadable.{Unreadable};
-ghost use Rattle.round_commands.specs.Statuses.{former_status};
+ghost use Rattle.round_commands.specs.Statuses.{former_status, is_of_log};
 
 use conf_request::FileName;
 use conf_session::copied_words;
@@ -54,6 +54,7 @@ pub fn config_bytes<D: Desk>(
     ensures long { IfErr result (λ s. Unreadable (D.read_faults desk.old)
         (D.read_faults desk.new) s (OfFile (D.files desk.old) file.now
         (λ bytes. IsFormerLong bytes s))) }
+    ensures other { IfErr result (λ s. is_of_log s ≡ false) }
     ensures files { D.files desk.new ≡ D.files desk.old }
     ensures printed { D.printed desk.new ≡ D.printed desk.old }
     ensures read_faults { D.read_faults desk.old ≤ D.read_faults desk.new }
@@ -73,11 +74,13 @@ pub fn config_bytes<D: Desk>(
 }
 
 /// What the bytes of a configuration's text are read as.
+#[tactic(auto, using(crate::proofs::Reading::former_other))]
 pub fn former_of(alloc: Global, bytes: &[u8]) -> Result<ConfigText, Status>
     requires short { IsShort bytes.now }
     ensures read { IfOk result (λ former. value_read bytes.now ≡ Some (json_of former)) }
     ensures object { IfOk result (λ former. IsSome (as_object (json_of former))) }
     ensures refused { IfErr result (λ s. Denied s (IsUnread bytes.now s)) }
+    ensures other { IfErr result (λ s. is_of_log s ≡ false) }
 {
     match read_config(alloc, bytes) {
         Ok(former) => Ok(former),
@@ -100,6 +103,7 @@ pub fn repair_in(
     ensures understood { IfOk result (λ r. IsUnderstood built.entry.objects.now r) }
     ensures refused { IfErr result (λ s. Denied s (IsFormerRefused built.entry.objects.now
         (former_text bytes.now failed.now) s)) }
+    ensures other { IfErr result (λ s. is_of_log s ≡ false) }
 {
     let read = former_of(alloc, bytes)?;
     if let Some(word) = unknown_word(built.objects, failed) {
@@ -129,6 +133,7 @@ pub fn repair_of<D: Desk>(
     ensures refused { IfErr result (λ s. Unreadable (D.read_faults desk.old)
         (D.read_faults desk.new) s (OfFile (D.files desk.old) file.now
         (λ bytes. IsFormerRefused built.entry.objects.now (former_text bytes failed.now) s))) }
+    ensures other { IfErr result (λ s. is_of_log s ≡ false) }
     ensures files { D.files desk.new ≡ D.files desk.old }
     ensures printed { D.printed desk.new ≡ D.printed desk.old }
     ensures read_faults { D.read_faults desk.old ≤ D.read_faults desk.new }

@@ -9,6 +9,7 @@ ghost use Rattle.model_search.specs.Runs.{is_open};
 ghost use Rattle.model_search.specs.declared.finding.Finding.{Finding as AFinding};
 ghost use Rattle.object_alloc.specs.Paths.{object_named};
 ghost use Rattle.round_commands.specs.Events.{IsBetween, StandsAt, situation_of};
+ghost use Rattle.run_finder.specs.SoFar.{AreSoFar};
 ghost use Rattle.run_promise.specs.Sessions.{subject, is_none_told, session_status, AreHeld, AreBegun};
 
 use crate::event::{Setting, answer_event};
@@ -75,6 +76,7 @@ fn end_of(budget: u32, undecided: bool, lacking: bool) -> Status
 ///
 /// Where writing failed, or there was no memory: the rounds are those of the first events, and of
 /// their answers all but the last were printed, and a front of that one.
+#[tactic(auto, using(crate::proofs::Stepping::between_so_far))]
 pub(crate) fn hold_session<D: Desk, F: Finder>(
     with: Setting<'_>,
     desk: &mut D,
@@ -101,6 +103,7 @@ pub(crate) fn hold_session<D: Desk, F: Finder>(
         with.entry.built.model.now.goals with.entry.budget) (situation_of session.state) events.now
         journal.new.rounds whole text
         × PrintsFront text (with_printed whole (D.printed desk.old)) (D.printed desk.new)) }
+    ensures so_far { AreSoFar journal.new.lines }
     ensures fault { IsErrOf result WriteError.WriteFault → HasRisen (D.write_faults desk.old)
         (D.write_faults desk.new) }
     ensures files { D.files desk.new ≡ D.files desk.old }

@@ -12,6 +12,7 @@ ghost use Rattle.object_alloc.specs.Hints.{AreHints};
 ghost use Rattle.object_alloc.specs.Paths.{object_named};
 ghost use Rattle.proof_log.specs.Rounds.{Journal as AJournal, empty};
 ghost use Rattle.round_commands.specs.Events.{StandsAt, situation_of};
+ghost use Rattle.run_finder.specs.SoFar.{AreSoFar};
 ghost use Rattle.run_promise.specs.Sessions.{situation, subject};
 ghost use Rattle.run_status.specs.Stages.{Denied};
 ghost use Rattle.run_promise.specs.Asking.{IsShort, OfAsked, former_text};
@@ -288,6 +289,7 @@ fn hold_opened<D: Desk>(
     ensures part { OnErr result (HasPart built.entry.objects.now
         built.entry.model.now.constraints built.entry.model.now.goals opened journal.new
         (D.printed desk.old) (D.printed desk.new)) }
+    ensures so_far { AreSoFar journal.new.lines }
     ensures fault { IsErrOf result WriteError.WriteFault → HasRisen (D.write_faults desk.old)
         (D.write_faults desk.new) }
     ensures files { D.files desk.new ≡ D.files desk.old }
@@ -324,6 +326,7 @@ fn hold_opened<D: Desk>(
 
 /// Answers the events of a session over a model: each by a round of the journal, and printed as
 /// soon as it is found. What is refused leaves everything as it was.
+#[tactic(auto, using(crate::proofs::Stepping::empty_so_far))]
 pub fn hold_model<D: Desk>(
     with: Resources<'_>,
     desk: &mut D,
@@ -346,6 +349,7 @@ pub fn hold_model<D: Desk>(
         (outside (D.files desk.new) (D.printed desk.new))
         (D.read_faults desk.old) (D.read_faults desk.new) (D.write_faults desk.old)
         (D.write_faults desk.new)) p result) }
+    ensures so_far { AreSoFar journal.new.lines }
 {
     let opened = match session_wished(with.alloc, desk, wish, built) {
         Ok(opened) => opened,

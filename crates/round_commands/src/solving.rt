@@ -5,7 +5,7 @@ ghost use Rattle.std.specs.Option.{option_map};
 ghost use Rattle.conf_limits.specs.Measures.{model_narrow};
 ghost use Rattle.conf_request.specs.declared.options.OrderName.TheVariants as names;
 ghost use Rattle.conf_types.specs.Typing.{IsTypedModel};
-ghost use Rattle.model_search.specs.Runs.{HasRun};
+ghost use Rattle.model_search.specs.Runs.{HasRun, HasBegun};
 ghost use Rattle.model_search.specs.Wanted.{IsUnderstood};
 ghost use Rattle.proof_log.specs.Rounds.{empty};
 ghost use Rattle.run_promise.specs.Answer.{IsSearched, searched_status, order_at};
@@ -68,6 +68,9 @@ fn found(
         question.entry.model.now.constraints question.entry.model.now.goals
         (option_copied question.entry.repair)
         (order_at (map (λ c. c.order) with.entry.choosers.now) order) budget journal.new told) }
+    ensures begun { HasBegun question.entry.objects.now question.entry.model.now.constraints
+        question.entry.model.now.goals (option_copied question.entry.repair)
+        (order_at (map (λ c. c.order) with.entry.choosers.now) order) journal.new }
     ensures rounds { journal.new.rounds ≡ journal.old.rounds }
 {
     let choosers = with.choosers;
@@ -124,6 +127,9 @@ pub fn solve(
     ensures stage { IfOk result (λ a. stage_of a.status ≡ Answered) }
     ensures log { IfOk result (λ a. IsToldLog wanted.logged journal.new
         (option_map (λ text. text.items) a.log)) }
+    ensures begun { HasBegun built.entry.objects.now built.entry.model.now.constraints
+        built.entry.model.now.goals (option_copied repair.entry)
+        (order_at (map (λ c. c.order) with.entry.choosers.now) wanted.order) journal.new }
     ensures rounds { journal.new.rounds ≡ journal.old.rounds }
 {
     let question = question_of(built, repair);
@@ -156,6 +162,9 @@ pub fn generated(
         a.text.items) }
     ensures stage { IfOk result (λ a. stage_of a.status ≡ Answered) }
     ensures log { IfOk result (λ a. a.log ≡ None) }
+    ensures begun { HasBegun built.entry.objects.now built.entry.model.now.constraints
+        built.entry.model.now.goals None
+        (order_at (map (λ c. c.order) with.entry.choosers.now) names.First) journal.new }
     ensures rounds { journal.new.rounds ≡ journal.old.rounds }
 {
     let told = found(

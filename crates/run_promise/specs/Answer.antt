@@ -47,9 +47,8 @@ searched_status budget findings.NoneExists = status.NoneExists
 searched_status budget (findings.Open last) = status.Undecided budget
 
 abbrev pub checked_status : Finding → Status
-checked_status (findings.Best t) = status.Done
 checked_status findings.NoneExists = status.NoneExists
-checked_status (findings.Open last) = status.Done
+checked_status told = status.Done
 
 -- ---- what they say
 

@@ -92,18 +92,13 @@ abbrev pub OfRequest : Option Files → List (String Global)
 OfRequest told words P =
     IfSome (request words) (λ r. OfText told r (λ text. OfModel told r text (P r)))
 
--- where files are told, P holds of the former text that is named, and one is
-abbrev pub OfNamed : Option Files → Option (List ℕ) → List (List ℕ) → (FormerText → Type 0)
-    → Type 0
-OfNamed told None failed P = ⊥
-OfNamed told (Some former) failed P = OfFile told former (λ bytes. P (former_text bytes failed))
-
 -- where files are told, P holds of the former text of the repair that the request names, and it
 -- names one
 abbrev pub OfFormer : Option Files → Request → (FormerText → Type 0) → Type 0
 OfFormer told (Reconfigure model former failed budget log order) P =
-    OfNamed told (Some former) failed P
-OfFormer told (Check model log former failed) P = OfNamed told former failed P
+    OfFile told former (λ bytes. P (former_text bytes failed))
+OfFormer told (Check model log (Some former) failed) P =
+    OfFile told former (λ bytes. P (former_text bytes failed))
 OfFormer told r P = ⊥
 
 -- the searches of the request are rounds of the journal

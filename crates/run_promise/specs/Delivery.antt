@@ -2,14 +2,18 @@
 -- its file, and how far writing came where it broke off.
 use Rattle.std.specs.Prelude.{◌≡◌, ◌⊎◌, List, [], Option, None, Some, ℕ}
 use Rattle.std.specs.Option.{option_map}
+use Rattle.branch_choice.specs.declared.split.Order.{Order}
 use Rattle.conf_request.specs.declared.request.Request.{Request}
+use Rattle.conf_syntax.specs.declared.tree.Program.{Program}
 use Rattle.desk_io.specs.Desk.{Files, with_file, with_printed}
 use Rattle.desk_io.specs.Whole.{PrintsFront, StoresFront}
 use Rattle.ground_form.specs.declared.ground.Ground.{Ground}
 use Rattle.log_check.specs.Trimmed.{trimmed}
 use Rattle.proof_log.specs.Rounds.{Journal}
 use Rattle.proof_log.specs.Spelling.{lines_text}
-use Rattle.run_promise.specs.Asking.{log_file}
+use Rattle.run_promise.specs.Answer.{IsAnswerBegun}
+use Rattle.run_promise.specs.Asking.{Asked, log_file}
+use Rattle.run_status.specs.declared.status.Status.{Status}
 
 -- the files, and what was printed, where they are told
 pub record Outside : Type 0 where
@@ -52,3 +56,10 @@ IsCutOff r journal whole text before now =
     ((whole ≡ []) × (now.printed ≡ before.printed) × IsLogFront r journal before.files now.files)
     ⊎ (IsLogged r journal before.files now.files
     × PrintsFront text (with_printed whole before.printed) now.printed)
+
+-- and that answer is what the request asks of a model, as far as it was answered
+abbrev pub IsBrokenOff : List Order → Journal → Outside → Outside → Request → Asked → Program
+    → Type 0
+IsBrokenOff os journal before now r asked p =
+    (s : Status) × (whole : List ℕ) × (text : List ℕ)
+    × IsAnswerBegun os journal asked p s whole text × IsCutOff r journal whole text before now

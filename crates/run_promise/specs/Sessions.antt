@@ -44,8 +44,7 @@ situation former failed = record { former = former; failed = failed }
 -- the values in force behind what is told
 abbrev pub former_told : List (Option ℤ) → Finding → List (Option ℤ)
 former_told former (findings.Best t) = map Some t
-former_told former findings.NoneExists = former
-former_told former (findings.Open last) = former
+former_told former told = former
 
 abbrev pub situation_behind : Situation → Event → Finding → Situation
 situation_behind p e told = situation (former_told p.former told) (failed_behind e p.failed)
@@ -83,9 +82,8 @@ situation_after p (e ∷ es) (told ∷ ts) = situation_after (situation_behind p
 -- ---- how a session ends
 
 abbrev pub is_none_told : Finding → Bool
-is_none_told (findings.Best t) = false
 is_none_told findings.NoneExists = true
-is_none_told (findings.Open last) = false
+is_none_told told = false
 
 -- undecided where some event was; else none exists where for some event none did
 abbrev pub session_status : ℕ → List Finding → Status

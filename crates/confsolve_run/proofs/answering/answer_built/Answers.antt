@@ -5,6 +5,7 @@ use Rattle.run_promise.specs.Asking.{closes_rounds, leaves_journal}
 use Rattle.run_promise.specs.Delivery.{outside}
 use Rattle.round_commands.proofs.Ends.{model_denied, same_outside}
 use Rattle.round_commands.specs.Ending.{trace, EndsModel}
+use Rattle.confsolve_run.proofs.PresentRound.{session_lines, session_problem}
 use Rattle.confsolve_run.proofs.AskedParts.{model_answer, model_refusal, model_cut, no_session}
 use Rattle.confsolve_run.proofs.Endings.{begun_from, answered_from}
 use Rattle.confsolve_run.proofs.answering.answer_built.Goals as goal
@@ -133,3 +134,16 @@ returns-clause-ends g c =
     c.in_default.not-Session (model_answer told r os journal p table built.objects.now built.model.now.constraints
     built.model.now.goals objects_are made within a.status a.text.items e.answer) in
     inr (inl (b.begins, (b.within, b.breaks)))
+
+pub returns-in-Session-clause-lines : goal.returns-in-Session-clause-lines
+returns-in-Session-clause-lines g c =
+    let q = c.in-Session in
+    session_lines (map (λ x. x.order) c.args.with.choosers.now) c.args.request.now
+    c.hold_model.new.journal.lines q.model q.former q.events q.budget q.order q.is
+    c.hold_model.ensures.so_far
+
+pub returns-in-Session-clause-problem : goal.returns-in-Session-clause-problem
+returns-in-Session-clause-problem g c =
+    let q = c.in-Session in
+    session_problem c.args.request.now c.hold_model.new.journal q.model q.former q.events q.budget
+    q.order q.is c.hold_model.result

@@ -4,6 +4,7 @@ use Rattle.run_promise.specs.Delivery.{outside}
 use Rattle.round_commands.proofs.Ends.{model_denied}
 use Rattle.round_commands.proofs.Reading.{denied_for}
 use Rattle.round_commands.specs.Ending.{trace}
+use Rattle.confsolve_run.proofs.PresentRound.{empty_lines, model_other, other_problem}
 use Rattle.confsolve_run.proofs.answering.answer_model.Goals as goal
 
 pub returns-in-Err-clause-ends : goal.returns-in-Err-clause-ends
@@ -53,3 +54,33 @@ returns-clause-ends g c =
     let made = c.in-Ok-typed_model.ensures.resolved in
     c.answer_built.ensures.ends p c.in-Ok.table c.in-Ok-objects_of.ensures.objects made
     (c.in-Ok-objects_of.ensures.within p made)
+
+pub returns-in-Err-clause-lines : goal.returns-in-Err-clause-lines
+returns-in-Err-clause-lines g c =
+    empty_lines (map (λ x. x.order) c.args.with.choosers.now) c.args.request.now c.args.journal.now
+    c.requires.empty
+
+pub returns-in-Err-clause-problem : goal.returns-in-Err-clause-problem
+returns-in-Err-clause-problem g c =
+    other_problem c.args.request.now c.in-Err.status c.args.journal.now
+    (model_other c.args.program.now c.in-Err.status c.in-Err.ensures.refused)
+
+pub returns-in-Err-typed_model-clause-lines : goal.returns-in-Err-typed_model-clause-lines
+returns-in-Err-typed_model-clause-lines g c =
+    empty_lines (map (λ x. x.order) c.args.with.choosers.now) c.args.request.now c.args.journal.now
+    c.requires.empty
+
+pub returns-in-Err-typed_model-clause-problem : goal.returns-in-Err-typed_model-clause-problem
+returns-in-Err-typed_model-clause-problem g c =
+    other_problem c.args.request.now c.in-Err-typed_model.status c.args.journal.now
+    (model_other c.args.program.now c.in-Err-typed_model.status c.in-Err-typed_model.ensures.refused)
+
+pub returns-in-Err-objects_of-clause-lines : goal.returns-in-Err-objects_of-clause-lines
+returns-in-Err-objects_of-clause-lines g c =
+    empty_lines (map (λ x. x.order) c.args.with.choosers.now) c.args.request.now c.args.journal.now
+    c.requires.empty
+
+pub returns-in-Err-objects_of-clause-problem : goal.returns-in-Err-objects_of-clause-problem
+returns-in-Err-objects_of-clause-problem g c =
+    other_problem c.args.request.now c.in-Err-objects_of.status c.args.journal.now
+    (model_other c.args.program.now c.in-Err-objects_of.status (c.in-Err-objects_of.ensures.refused c.args.program.now c.in-Ok-typed_model.ensures.resolved))

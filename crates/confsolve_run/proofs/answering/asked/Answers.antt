@@ -1,6 +1,9 @@
-use Rattle.std.proofs.Common.{map}
-use Rattle.confsolve_run.proofs.AskedParts.{blamed_answer, blamed_recorded}
+use Rattle.std.proofs.Common.{◌∙◌, ap, map}
+use Rattle.proof_log.specs.Rounds.{Journal}
+use Rattle.confsolve_run.proofs.AskedParts.{blamed_answer, blamed_recorded, blamed_cut}
+use Rattle.confsolve_run.proofs.PresentRound.{solve_lines, repair_lines, gen_lines, core_lines, no_lines, empty_lines, check_problem, verify_problem}
 use Rattle.confsolve_run.proofs.RepairParts.{repaired, checked, check_refused}
+use Rattle.round_commands.proofs.Stepping.{on_err}
 use Rattle.confsolve_run.proofs.answering.asked.Goals as goal
 
 pub returns-in_ok-solve-in-Reconfigure-clause-answer :
@@ -46,3 +49,110 @@ returns-in_ok-blame_model-in-Core-clause-recorded g c =
     asked.order asked.is c.args.built.objects.now c.args.built.model.now.constraints
     c.args.built.model.now.goals (map (λ x. x.order) c.args.with.choosers.now) c.blame_model.new.journal
     a.status a.text.items c.in_ok-blame_model-in-Core.ensures.answer
+
+pub returns-in_err-blame_model-in-Core-clause-cut :
+    goal.returns-in_err-blame_model-in-Core-clause-cut
+returns-in_err-blame_model-in-Core-clause-cut g c =
+    let asked = c.in-Core in
+    on_err c.from_residual-in_err-blame_model-in-Core.result _
+    (blamed_cut (g.D.Desk.files c.args.desk.now) c.args.request.now asked.model asked.budget
+    asked.order asked.is c.args.built.objects.now c.args.built.model.now.constraints
+    c.args.built.model.now.goals (map (λ x. x.order) c.args.with.choosers.now) c.blame_model.new.journal
+    c.in_err-blame_model-in-Core.ensures.cut)
+
+pub returns-in_ok-solve-in-Solve-clause-lines : goal.returns-in_ok-solve-in-Solve-clause-lines
+returns-in_ok-solve-in-Solve-clause-lines g c =
+    let q = c.in-Solve in
+    solve_lines (map (λ x. x.order) c.args.with.choosers.now) c.args.request.now
+    c.solve.new.journal c.args.built.objects.now c.args.built.model.now.constraints c.args.built.model.now.goals
+    q.model q.budget q.log q.order c.wanted-wanted.result.order q.is
+    c.wanted-wanted.ensures.order c.solve.ensures.begun
+
+pub returns-in_ok-solve-in-Reconfigure-clause-lines : goal.returns-in_ok-solve-in-Reconfigure-clause-lines
+returns-in_ok-solve-in-Reconfigure-clause-lines g c =
+    let q = c.in-Reconfigure in
+    repair_lines (map (λ x. x.order) c.args.with.choosers.now) c.args.request.now
+    c.solve-in-Reconfigure.new.journal c.args.built.objects.now c.args.built.model.now.constraints c.args.built.model.now.goals
+    _ q.model q.former q.failed q.budget q.log q.order
+    c.wanted-wanted-in-Reconfigure.result.order q.is c.wanted-wanted-in-Reconfigure.ensures.order
+    c.solve-in-Reconfigure.ensures.begun
+
+pub returns-in_ok-generated-in-Gen-clause-lines : goal.returns-in_ok-generated-in-Gen-clause-lines
+returns-in_ok-generated-in-Gen-clause-lines g c =
+    gen_lines (map (λ x. x.order) c.args.with.choosers.now) c.args.request.now c.generated.new.journal
+    c.args.built.objects.now c.args.built.model.now.constraints c.args.built.model.now.goals
+    c.in-Gen.n c.in-Gen.is c.generated.ensures.begun
+
+pub returns-in_ok-blame_model-in-Core-clause-lines : goal.returns-in_ok-blame_model-in-Core-clause-lines
+returns-in_ok-blame_model-in-Core-clause-lines g c =
+    let q = c.in-Core in
+    core_lines (map (λ x. x.order) c.args.with.choosers.now) c.args.request.now c.blame_model.new.journal.lines
+    q.model q.budget q.order q.is c.blame_model.ensures.so_far
+
+pub returns-in_err-solve-in-Solve-clause-lines : goal.returns-in_err-solve-in-Solve-clause-lines
+returns-in_err-solve-in-Solve-clause-lines g c =
+    let q = c.in-Solve in
+    solve_lines (map (λ x. x.order) c.args.with.choosers.now) c.args.request.now
+    c.solve.new.journal c.args.built.objects.now c.args.built.model.now.constraints c.args.built.model.now.goals
+    q.model q.budget q.log q.order c.wanted-wanted.result.order q.is
+    c.wanted-wanted.ensures.order c.solve.ensures.begun
+
+pub returns-in_err-solve-in-Reconfigure-clause-lines : goal.returns-in_err-solve-in-Reconfigure-clause-lines
+returns-in_err-solve-in-Reconfigure-clause-lines g c =
+    let q = c.in-Reconfigure in
+    repair_lines (map (λ x. x.order) c.args.with.choosers.now) c.args.request.now
+    c.solve-in-Reconfigure.new.journal c.args.built.objects.now c.args.built.model.now.constraints c.args.built.model.now.goals
+    _ q.model q.former q.failed q.budget q.log q.order
+    c.wanted-wanted-in-Reconfigure.result.order q.is c.wanted-wanted-in-Reconfigure.ensures.order
+    c.solve-in-Reconfigure.ensures.begun
+
+pub returns-in_err-generated-in-Gen-clause-lines : goal.returns-in_err-generated-in-Gen-clause-lines
+returns-in_err-generated-in-Gen-clause-lines g c =
+    gen_lines (map (λ x. x.order) c.args.with.choosers.now) c.args.request.now c.generated.new.journal
+    c.args.built.objects.now c.args.built.model.now.constraints c.args.built.model.now.goals
+    c.in-Gen.n c.in-Gen.is c.generated.ensures.begun
+
+pub returns-in_err-blame_model-in-Core-clause-lines : goal.returns-in_err-blame_model-in-Core-clause-lines
+returns-in_err-blame_model-in-Core-clause-lines g c =
+    let q = c.in-Core in
+    core_lines (map (λ x. x.order) c.args.with.choosers.now) c.args.request.now c.blame_model.new.journal.lines
+    q.model q.budget q.order q.is c.blame_model.ensures.so_far
+
+pub returns-in_err-repair-in-Reconfigure-clause-lines : goal.returns-in_err-repair-in-Reconfigure-clause-lines
+returns-in_err-repair-in-Reconfigure-clause-lines g c =
+    empty_lines (map (λ x. x.order) c.args.with.choosers.now) c.args.request.now c.args.journal.now c.requires.empty
+
+pub returns-in_err-repair-in-Some-clause-lines : goal.returns-in_err-repair-in-Some-clause-lines
+returns-in_err-repair-in-Some-clause-lines g c =
+    empty_lines (map (λ x. x.order) c.args.with.choosers.now) c.args.request.now c.args.journal.now c.requires.empty
+
+pub returns-in-None-clause-lines : goal.returns-in-None-clause-lines
+returns-in-None-clause-lines g c =
+    no_lines (map (λ x. x.order) c.args.with.choosers.now) c.args.request.now c.check.new.journal.lines
+    (c.check.ensures.lines ∙ ap (λ (j : Journal). j.lines) c.requires.empty)
+
+pub returns-in_ok-repair-in-Some-clause-lines : goal.returns-in_ok-repair-in-Some-clause-lines
+returns-in_ok-repair-in-Some-clause-lines g c =
+    no_lines (map (λ x. x.order) c.args.with.choosers.now) c.args.request.now c.check-in-Some.new.journal.lines
+    (c.check-in-Some.ensures.lines ∙ ap (λ (j : Journal). j.lines) c.requires.empty)
+
+pub returns-in-Verify-clause-lines : goal.returns-in-Verify-clause-lines
+returns-in-Verify-clause-lines g c =
+    empty_lines (map (λ x. x.order) c.args.with.choosers.now) c.args.request.now c.args.journal.now c.requires.empty
+
+pub returns-in-None-clause-problem : goal.returns-in-None-clause-problem
+returns-in-None-clause-problem g c =
+    let q = c.in-Check in
+    check_problem c.args.request.now c.check.new.journal q.model q.log q.former q.failed q.is
+    c.check.result c.check.ensures.problem
+
+pub returns-in_ok-repair-in-Some-clause-problem : goal.returns-in_ok-repair-in-Some-clause-problem
+returns-in_ok-repair-in-Some-clause-problem g c =
+    let q = c.in-Check in
+    check_problem c.args.request.now c.check-in-Some.new.journal q.model q.log q.former q.failed q.is
+    c.check-in-Some.result c.check-in-Some.ensures.problem
+
+pub returns-in-Verify-clause-problem : goal.returns-in-Verify-clause-problem
+returns-in-Verify-clause-problem g c =
+    let q = c.in-Verify in
+    verify_problem c.args.request.now c.args.journal.now q.model q.config q.is c.verify.result

@@ -3,6 +3,7 @@ use Rattle.std.proofs.Common.{ap, ◌≡◌, ◌≤◌, ℕ, List, length, map, 
 use Rattle.model_limits.specs.Limits.{model_bytes}
 use Rattle.run_promise.specs.Asking.{OfText}
 use Rattle.run_promise.specs.Delivery.{outside}
+use Rattle.confsolve_run.proofs.PresentRound.{empty_lines, other_problem}
 use Rattle.confsolve_run.proofs.Endings.{run_ends, denied_from}
 use Rattle.confsolve_run.proofs.RunLaws.{stands_read}
 use Rattle.confsolve_run.proofs.command.run_request.Goals as goal
@@ -40,3 +41,12 @@ returns-in-Err-clause-ends g c =
     let reads = g.D.Desk.read_faults in
     let writes = g.D.Desk.write_faults in
     denied_from c.args.request.now (map (λ x. x.order) c.args.with.choosers.now) c.args.journal.now (files before) (files now) (printed before) (printed now) (reads before) (reads now) (writes before) (writes now) c.in-Err.status (ap (λ (j : Journal). j.rounds) c.requires.empty) e.files e.printed e.refused
+
+pub returns-in-Err-clause-lines : goal.returns-in-Err-clause-lines
+returns-in-Err-clause-lines g c =
+    empty_lines (map (λ x. x.order) c.args.with.choosers.now) c.args.request.now c.args.journal.now
+    c.requires.empty
+
+pub returns-in-Err-clause-problem : goal.returns-in-Err-clause-problem
+returns-in-Err-clause-problem g c =
+    other_problem c.args.request.now c.in-Err.status c.args.journal.now c.in-Err.ensures.other

@@ -15,7 +15,7 @@ returns-clause-run g c =
     (g.F.Finder.order c.args.finder.now) (g.F.Finder.allowed c.args.finder.now)
     c.searched.new.journal c.in_ok-told.told c.in_ok-verdict.verdict
     c.in_ok-verdict.ensures.problem c.in-Some.ensures.some c.in_ok-g.ensures.problem
-    c.in_ok-verdict.ensures.searched c.in_ok-verdict.ensures.ordered c.in_ok-told.ensures.finding
+    c.in_ok-verdict.ensures.searched c.searched.ensures.run.ordered c.in_ok-told.ensures.finding
     (subst (λ ls. MayDecide here ls → decisions ls + 2 ≤ configuration_count o) c.lines.ensures
     c.undecided_has_more.ensures.more)
 

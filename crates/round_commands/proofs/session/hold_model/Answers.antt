@@ -9,8 +9,8 @@ use Rattle.round_commands.proofs.Reading.{unread_map}
 use Rattle.round_commands.specs.Ending.{trace}
 use Rattle.round_commands.proofs.session.hold_model.Goals as goal
 
-pub returns-in-Err : goal.returns-in-Err
-returns-in-Err g c =
+pub returns-in-Err-clause-ends : goal.returns-in-Err-clause-ends
+returns-in-Err-clause-ends g c =
     let d = g.D.Desk in
     let w = c.args.wish in
     let built = c.args.built in
@@ -19,22 +19,20 @@ returns-in-Err g c =
     let e = c.session_wished.ensures in
     let at = outside (d.files before) (d.printed before) in
     let at_now = outside (d.files now) (d.printed now) in
-    record {
-      ends = λ model.
-          ends_denied
-          (trace (Session model w.former.now w.events.now w.budget w.order)
-          (map (λ x. x.order) c.args.with.choosers.now) c.args.journal.now at at_now
-          (d.read_faults before) (d.read_faults now) (d.write_faults before) (d.write_faults now))
-          built.objects.now built.model.now.constraints built.model.now.goals c.in-Err.status
-          (ap (λ (j : Journal). j.rounds) c.requires.empty)
-          (same_outside (d.files before) (d.files now) (d.printed before) (d.printed now) e.files
-          e.printed)
-          (unread_map (d.read_faults before) (d.read_faults now) c.in-Err.status _ _ (λ h. h model)
-          c.in-Err.ensures.refused);
-    }
+    λ model.
+    ends_denied
+    (trace (Session model w.former.now w.events.now w.budget w.order)
+    (map (λ x. x.order) c.args.with.choosers.now) c.args.journal.now at at_now
+    (d.read_faults before) (d.read_faults now) (d.write_faults before) (d.write_faults now))
+    built.objects.now built.model.now.constraints built.model.now.goals c.in-Err.status
+    (ap (λ (j : Journal). j.rounds) c.requires.empty)
+    (same_outside (d.files before) (d.files now) (d.printed before) (d.printed now) e.files
+    e.printed)
+    (unread_map (d.read_faults before) (d.read_faults now) c.in-Err.status _ _ (λ h. h model)
+    c.in-Err.ensures.refused)
 
-pub returns-in-Ok-hold_opened : goal.returns-in-Ok-hold_opened
-returns-in-Ok-hold_opened g c =
+pub returns-in-Ok-hold_opened-clause-ends : goal.returns-in-Ok-hold_opened-clause-ends
+returns-in-Ok-hold_opened-clause-ends g c =
     let d = g.D.Desk in
     let w = c.args.wish in
     let built = c.args.built in
@@ -42,20 +40,18 @@ returns-in-Ok-hold_opened g c =
     let mid = c.session_wished.new.desk in
     let now = c.hold_opened.new.desk in
     let e = c.in-Ok.ensures in
-    record {
-      ends = λ model.
-          ends_whole
-          (trace (Session model w.former.now w.events.now w.budget w.order)
-          (map (λ x. x.order) c.args.with.choosers.now) c.hold_opened.new.journal
-          (outside (d.files before) (d.printed before)) (outside (d.files now) (d.printed now))
-          (d.read_faults before) (d.read_faults now) (d.write_faults before) (d.write_faults now))
-          built.objects.now built.model.now.constraints built.model.now.goals c.in-Ok.opened
-          (d.printed mid) e.printed (e.asked model) e.budget (c.hold_opened.ensures.files ∙ e.files)
-          c.in-Ok-hold_opened.status c.in-Ok-hold_opened.ensures.whole;
-    }
+    λ model.
+    ends_whole
+    (trace (Session model w.former.now w.events.now w.budget w.order)
+    (map (λ x. x.order) c.args.with.choosers.now) c.hold_opened.new.journal
+    (outside (d.files before) (d.printed before)) (outside (d.files now) (d.printed now))
+    (d.read_faults before) (d.read_faults now) (d.write_faults before) (d.write_faults now))
+    built.objects.now built.model.now.constraints built.model.now.goals c.in-Ok.opened
+    (d.printed mid) e.printed (e.asked model) e.budget (c.hold_opened.ensures.files ∙ e.files)
+    c.in-Ok-hold_opened.status c.in-Ok-hold_opened.ensures.whole
 
-pub returns-in-Err-WriteFault : goal.returns-in-Err-WriteFault
-returns-in-Err-WriteFault g c =
+pub returns-in-Err-WriteFault-clause-ends : goal.returns-in-Err-WriteFault-clause-ends
+returns-in-Err-WriteFault-clause-ends g c =
     let d = g.D.Desk in
     let w = c.args.wish in
     let built = c.args.built in
@@ -65,20 +61,18 @@ returns-in-Err-WriteFault g c =
     let e = c.in-Ok.ensures in
     let risen = subst (λ n. HasRisen n (d.write_faults now)) e.write_faults
     (c.in-Err-WriteFault.ensures.fault (ap Err c.in-Err-WriteFault.field-0-is)) in
-    record {
-      ends = λ model.
-          ends_unwritten
-          (trace (Session model w.former.now w.events.now w.budget w.order)
-          (map (λ x. x.order) c.args.with.choosers.now) c.hold_opened.new.journal
-          (outside (d.files before) (d.printed before)) (outside (d.files now) (d.printed now))
-          (d.read_faults before) (d.read_faults now) (d.write_faults before) (d.write_faults now))
-          built.objects.now built.model.now.constraints built.model.now.goals c.in-Ok.opened
-          (d.printed mid) e.printed (e.asked model) e.budget (c.hold_opened.ensures.files ∙ e.files)
-          risen c.in-Err-WriteFault.ensures.part;
-    }
+    λ model.
+    ends_unwritten
+    (trace (Session model w.former.now w.events.now w.budget w.order)
+    (map (λ x. x.order) c.args.with.choosers.now) c.hold_opened.new.journal
+    (outside (d.files before) (d.printed before)) (outside (d.files now) (d.printed now))
+    (d.read_faults before) (d.read_faults now) (d.write_faults before) (d.write_faults now))
+    built.objects.now built.model.now.constraints built.model.now.goals c.in-Ok.opened
+    (d.printed mid) e.printed (e.asked model) e.budget (c.hold_opened.ensures.files ∙ e.files)
+    risen c.in-Err-WriteFault.ensures.part
 
-pub returns-in-Err-Memory : goal.returns-in-Err-Memory
-returns-in-Err-Memory g c =
+pub returns-in-Err-Memory-clause-ends : goal.returns-in-Err-Memory-clause-ends
+returns-in-Err-Memory-clause-ends g c =
     let d = g.D.Desk in
     let w = c.args.wish in
     let built = c.args.built in
@@ -86,14 +80,12 @@ returns-in-Err-Memory g c =
     let mid = c.session_wished.new.desk in
     let now = c.hold_opened.new.desk in
     let e = c.in-Ok.ensures in
-    record {
-      ends = λ model.
-          ends_lost
-          (trace (Session model w.former.now w.events.now w.budget w.order)
-          (map (λ x. x.order) c.args.with.choosers.now) c.hold_opened.new.journal
-          (outside (d.files before) (d.printed before)) (outside (d.files now) (d.printed now))
-          (d.read_faults before) (d.read_faults now) (d.write_faults before) (d.write_faults now))
-          built.objects.now built.model.now.constraints built.model.now.goals c.in-Ok.opened
-          (d.printed mid) e.printed (e.asked model) e.budget (c.hold_opened.ensures.files ∙ e.files)
-          c.in-Err-Memory.ensures.part;
-    }
+    λ model.
+    ends_lost
+    (trace (Session model w.former.now w.events.now w.budget w.order)
+    (map (λ x. x.order) c.args.with.choosers.now) c.hold_opened.new.journal
+    (outside (d.files before) (d.printed before)) (outside (d.files now) (d.printed now))
+    (d.read_faults before) (d.read_faults now) (d.write_faults before) (d.write_faults now))
+    built.objects.now built.model.now.constraints built.model.now.goals c.in-Ok.opened
+    (d.printed mid) e.printed (e.asked model) e.budget (c.hold_opened.ensures.files ∙ e.files)
+    c.in-Err-Memory.ensures.part
