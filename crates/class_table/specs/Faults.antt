@@ -173,14 +173,8 @@ pub data Stands : List Item → TableFault → Type 0 where
 
 -- P holds of a fault that is told; want of memory has no cause
 abbrev pub OnFault : TableFault → (TableFault → Type 0) → Type 0
-OnFault (Duplicate at) P = P (Duplicate at)
-OnFault (Unknown at) P = P (Unknown at)
-OnFault (NotAClass at) P = P (NotAClass at)
-OnFault (InheritCycle at) P = P (InheritCycle at)
-OnFault (ContainCycle at) P = P (ContainCycle at)
-OnFault (AbstractObject at) P = P (AbstractObject at)
-OnFault (EmptyRange at) P = P (EmptyRange at)
 OnFault Memory P = Unit {0}
+OnFault fault P = P fault
 
 -- each class that a name means is one of the n classes
 abbrev pub IsNumbered : Space → ℕ → Type 0

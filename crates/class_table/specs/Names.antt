@@ -27,8 +27,7 @@ space_from (item.Class d ∷ is) c e v = (d.name.name, meaning.Class c) ∷ spac
 space_from (item.Enum d ∷ is) c e v =
     (d.name.name, meaning.Enumeration e) ∷ space_from is c (e + 1) v
 space_from (item.Var d ∷ is) c e v = (d.name.name, meaning.Variable v) ∷ space_from is c e (v + 1)
-space_from (item.Where w ∷ is) c e v = space_from is c e v
-space_from (item.Goal g ∷ is) c e v = space_from is c e v
+space_from (other ∷ is) c e v = space_from is c e v
 
 abbrev pub space : List Item → Space
 space items = space_from items 0 0 0
@@ -74,8 +73,7 @@ abbrev pub item_name : Item → List Ident
 item_name (item.Class d) = d.name ∷ []
 item_name (item.Enum d) = d.name ∷ []
 item_name (item.Var d) = d.name ∷ []
-item_name (item.Where w) = []
-item_name (item.Goal g) = []
+item_name other = []
 
 abbrev pub declared : List Item → List Ident
 declared items = flat_map item_name items

@@ -128,14 +128,12 @@ pub record Item : Type 0 where
   pub size : ℤ
   pub room : ℤ
 
+-- the number that is value k of these
+abbrev pub int_at : List Value → ℕ → ℤ
+int_at vs k = int_of (slice_index_or vs k (Int (pos 0)))
+
 abbrev pub item_of : List Value → Item
-item_of vs =
-    record {
-      bin = first_of vs;
-      size = int_of (slice_index_or vs 1 (Int (pos 0)));
-      room = int_of
-          (slice_index_or vs 2 (Int (pos 0)));
-    }
+item_of vs = record { bin = first_of vs; size = int_at vs 1; room = int_at vs 2 }
 
 abbrev pub total : List ℤ → ℤ
 total [] = pos 0

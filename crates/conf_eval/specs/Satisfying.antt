@@ -44,8 +44,6 @@ objectives o gs values = map (objective o values) gs
 -- at the first objective where the two differ the first list's value is greater for `maximize`,
 -- less for `minimize`
 abbrev pub better : List ResolvedGoal → List ℤ → List ℤ → Bool
-better [] vs ws = false
-better (g ∷ gs) [] ws = false
-better (g ∷ gs) (v ∷ vs) [] = false
 better (g ∷ gs) (v ∷ vs) (w ∷ ws) =
     cond (int_same v w) (better gs vs ws) (cond g.max (int_lt w v) (int_lt v w))
+better gs vs ws = false

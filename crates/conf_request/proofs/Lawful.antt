@@ -10,10 +10,10 @@ use Rattle.conf_request.specs.declared.options.OrderName.{OrderName}
 use Rattle.conf_request.specs.declared.options.OrderName.TheVariants as orders
 use Rattle.conf_request.specs.declared.scan.Expected.TheVariants as expected
 use Rattle.conf_request.specs.declared.request.Request.{Request}
-use Rattle.conf_request.specs.declared.request.Request.TheVariants.{Gen}
+use Rattle.conf_request.specs.declared.request.Request.TheVariants.{Solve, Reconfigure, Check}
+use Rattle.conf_request.specs.declared.request.Request.TheVariants.{Verify, Gen, Session, Core}
 use Rattle.conf_request.specs.Words.{Given, number_within, budget_of, order_of}
-use Rattle.conf_request.specs.Words.{has_none, solve_of, reconfigure_of, check_of, verify_of}
-use Rattle.conf_request.specs.Words.{gen_of, session_of, core_of, asked, command_named, plain_words}
+use Rattle.conf_request.specs.Words.{has_none, searched, asked, command_named, plain_words}
 use Rattle.conf_request.specs.Words.{is_read, scan, nothing, parsed, IsLawful}
 
 -- of the number of a budget, and of a request, where there is one
@@ -63,89 +63,71 @@ budget_within (Some word) = upto (number_within 7 0 1000000 word) (within 7 0 10
 
 -- ---- each command
 
-of_solve : (plain : List (List ℕ)) (budget : Option ℕ) (log : Option (List ℕ))
-    (order : Option OrderName) → IsBudget budget → IsGood (solve_of plain budget log order)
-of_solve [] budget log order b = tt
-of_solve (model ∷ []) None log order b = tt
-of_solve (model ∷ []) (Some budget) log None b = tt
-of_solve (model ∷ []) (Some budget) log (Some order) b = b
-of_solve (model ∷ more ∷ plain) budget log order b = tt
-
-of_reconfigure : (plain : List (List ℕ)) (budget : Option ℕ) (log : Option (List ℕ))
-    (order : Option OrderName) →
-    IsBudget budget → IsGood (reconfigure_of plain budget log order)
-of_reconfigure [] budget log order b = tt
-of_reconfigure (model ∷ []) budget log order b = tt
-of_reconfigure (model ∷ former ∷ failed) None log order b = tt
-of_reconfigure (model ∷ former ∷ failed) (Some budget) log None b = tt
-of_reconfigure (model ∷ former ∷ failed) (Some budget) log (Some order) b = b
-
-of_check : (plain : List (List ℕ)) → IsGood (check_of plain)
-of_check [] = tt
-of_check (model ∷ []) = tt
-of_check (model ∷ log ∷ []) = refl
-of_check (model ∷ log ∷ former ∷ failed) = tt
-
-of_verify : (plain : List (List ℕ)) → IsGood (verify_of plain)
-of_verify [] = tt
-of_verify (model ∷ []) = tt
-of_verify (model ∷ config ∷ []) = tt
-of_verify (model ∷ config ∷ more ∷ plain) = tt
+of_searched : (make : ℕ → OrderName → Request) (budget : Option ℕ) (order : Option OrderName) →
+    ((n : ℕ) (o : OrderName) → n ≤ 1000000 → IsLawful (make n o)) → IsBudget budget →
+    IsGood (searched make budget order)
+of_searched make None order h b = tt
+of_searched make (Some n) None h b = tt
+of_searched make (Some n) (Some o) h b = h n o b
 
 is_gen : (o : Option ℕ) → IfSome o (λ n. (1 ≤ n) × (n ≤ 100)) → IsGood (option_map Gen o)
 is_gen None h = tt
 is_gen (Some n) h = h
 
-of_gen : (plain : List (List ℕ)) → IsGood (gen_of plain)
-of_gen [] = tt
-of_gen (word ∷ []) = is_gen (number_within 3 1 100 word) (within 3 1 100 word)
-of_gen (word ∷ more ∷ plain) = tt
-
-of_session : (plain : List (List ℕ)) (budget : Option ℕ) (order : Option OrderName) →
-    IsBudget budget → IsGood (session_of plain budget order)
-of_session [] budget order b = tt
-of_session (model ∷ []) budget order b = tt
-of_session (model ∷ former ∷ []) budget order b = tt
-of_session (model ∷ former ∷ events ∷ []) None order b = tt
-of_session (model ∷ former ∷ events ∷ []) (Some budget) None b = tt
-of_session (model ∷ former ∷ events ∷ []) (Some budget) (Some order) b = b
-of_session (model ∷ former ∷ events ∷ more ∷ plain) budget order b = tt
-
-of_core : (plain : List (List ℕ)) (budget : Option ℕ) (order : Option OrderName) →
-    IsBudget budget → IsGood (core_of plain budget order)
-of_core [] budget order b = tt
-of_core (model ∷ []) None order b = tt
-of_core (model ∷ []) (Some budget) None b = tt
-of_core (model ∷ []) (Some budget) (Some order) b = b
-of_core (model ∷ more ∷ plain) budget order b = tt
-
 -- ---- any request
 
 of_asked : (c : Command) (plain : List (List ℕ)) (given : Given) → IsGood (asked c plain given)
-of_asked command.Solve plain given =
-    if_left (is_read given.log plain)
-    (solve_of plain (budget_of given.budget) given.log (order_of orders.First given.order))
-    (of_solve plain (budget_of given.budget) given.log (order_of orders.First given.order)
+of_asked command.Solve [] given = tt
+of_asked command.Solve (model ∷ []) given =
+    let make : ℕ → OrderName → Request = λ budget order. Solve model budget given.log order in
+    if_left (is_read given.log (model ∷ []))
+    (searched make (budget_of given.budget) (order_of orders.First given.order))
+    (of_searched make (budget_of given.budget) (order_of orders.First given.order) (λ n o h. h)
     (budget_within given.budget))
-of_asked command.Reconfigure plain given =
-    if_left (is_read given.log plain)
-    (reconfigure_of plain (budget_of given.budget) given.log
-    (order_of orders.Former given.order))
-    (of_reconfigure plain (budget_of given.budget) given.log (order_of orders.Former given.order)
+of_asked command.Solve (model ∷ more ∷ plain) given = tt
+of_asked command.Reconfigure [] given = tt
+of_asked command.Reconfigure (model ∷ []) given = tt
+of_asked command.Reconfigure (model ∷ former ∷ failed) given =
+    let make : ℕ → OrderName → Request =
+    λ budget order. Reconfigure model former failed budget given.log order in
+    if_left (is_read given.log (model ∷ former ∷ failed))
+    (searched make (budget_of given.budget) (order_of orders.Former given.order))
+    (of_searched make (budget_of given.budget) (order_of orders.Former given.order) (λ n o h. h)
     (budget_within given.budget))
-of_asked command.Check plain given = if_kept (has_none given) (check_of plain) (of_check plain)
-of_asked command.Verify plain given = if_kept (has_none given) (verify_of plain) (of_verify plain)
-of_asked command.Gen plain given = if_kept (has_none given) (gen_of plain) (of_gen plain)
-of_asked command.Session plain given =
+of_asked command.Check [] given = tt
+of_asked command.Check (model ∷ []) given = tt
+of_asked command.Check (model ∷ log ∷ []) given =
+    if_kept (has_none given) (Some (Check model log None [])) refl
+of_asked command.Check (model ∷ log ∷ former ∷ failed) given =
+    if_kept (has_none given) (Some (Check model log (Some former) failed)) tt
+of_asked command.Verify [] given = tt
+of_asked command.Verify (model ∷ []) given = tt
+of_asked command.Verify (model ∷ config ∷ []) given =
+    if_kept (has_none given) (Some (Verify model config)) tt
+of_asked command.Verify (model ∷ config ∷ more ∷ plain) given = tt
+of_asked command.Gen [] given = tt
+of_asked command.Gen (word ∷ []) given =
+    if_kept (has_none given) (option_map Gen (number_within 3 1 100 word))
+    (is_gen (number_within 3 1 100 word) (within 3 1 100 word))
+of_asked command.Gen (word ∷ more ∷ plain) given = tt
+of_asked command.Session [] given = tt
+of_asked command.Session (model ∷ []) given = tt
+of_asked command.Session (model ∷ former ∷ []) given = tt
+of_asked command.Session (model ∷ former ∷ events ∷ []) given =
+    let make : ℕ → OrderName → Request = Session model former events in
     if_kept (is_none given.log)
-    (session_of plain (budget_of given.budget) (order_of orders.Former given.order))
-    (of_session plain (budget_of given.budget) (order_of orders.Former given.order)
+    (searched make (budget_of given.budget) (order_of orders.Former given.order))
+    (of_searched make (budget_of given.budget) (order_of orders.Former given.order) (λ n o h. h)
     (budget_within given.budget))
-of_asked command.Core plain given =
+of_asked command.Session (model ∷ former ∷ events ∷ more ∷ plain) given = tt
+of_asked command.Core [] given = tt
+of_asked command.Core (model ∷ []) given =
+    let make : ℕ → OrderName → Request = Core model in
     if_kept (is_none given.log)
-    (core_of plain (budget_of given.budget) (order_of orders.First given.order))
-    (of_core plain (budget_of given.budget) (order_of orders.First given.order)
+    (searched make (budget_of given.budget) (order_of orders.First given.order))
+    (of_searched make (budget_of given.budget) (order_of orders.First given.order) (λ n o h. h)
     (budget_within given.budget))
+of_asked command.Core (model ∷ more ∷ plain) given = tt
 
 good : (words : List (List ℕ)) → IsGood (parsed words)
 good [] = tt

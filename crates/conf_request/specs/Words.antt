@@ -5,7 +5,7 @@ use Rattle.std.specs.Prelude.{nat_eq, nat_le, nat_lt, List, [], ◌∷◌, ◌++
 use Rattle.std.specs.Prelude.{string_bytes, codes, bytes_eq, Option, Some, None, is_none, IfNone}
 use Rattle.std.specs.Prelude.{option_map}
 use Rattle.std.specs.Option.{option_and_then, option_map_or}
-use Rattle.std.specs.List.{starts_with, position_or_len, before_first, after_first}
+use Rattle.std.specs.List.{find, starts_with, position_or_len, before_first, after_first}
 use Rattle.std.specs.Str.{byte}
 use Rattle.std.specs.declared.alloc.Global.{Global}
 use Rattle.command_limits.specs.Limits.{usual_budget, most_budget}
@@ -49,11 +49,7 @@ option_text Log = codes "--log"
 option_text Order = codes "--order"
 
 abbrev pub option_named : List ℕ → Option OptionName
-option_named name =
-    if bytes_eq name (option_text Budget) then Some Budget
-    else if bytes_eq name (option_text Log) then Some Log
-    else if bytes_eq name (option_text Order) then Some Order
-    else None
+option_named name = find (λ o. bytes_eq name (option_text o)) (Budget ∷ Log ∷ Order ∷ [])
 
 -- ---- what each word is, from left to right
 
@@ -90,9 +86,7 @@ behind e (Setting o value) = expected.Any
 -- the word itself where it is plain
 abbrev pub plain_part : Role → List ℕ → List (List ℕ)
 plain_part Plain word = word ∷ []
-plain_part Closing word = []
-plain_part (Opening o) word = []
-plain_part (Setting o value) word = []
+plain_part other word = []
 
 -- the plain words, in order, up to a word without a role
 abbrev pub plain_words : Expected → List (List ℕ) → List (List ℕ)
@@ -125,10 +119,8 @@ with_value Order value given =
 
 -- the values with the one that a word of this role gives
 abbrev pub take_in : Role → Given → Option Given
-take_in Plain given = Some given
-take_in Closing given = Some given
-take_in (Opening o) given = Some given
 take_in (Setting o value) given = with_value o value given
+take_in other given = Some given
 
 -- the values of the options, each at most once; none where a word has no role or a value is
 -- missing
@@ -178,58 +170,39 @@ is_read (Some log) [] = false
 is_read (Some log) (first ∷ []) = bytes_eq log first
 is_read (Some log) (first ∷ second ∷ more) = bytes_eq log first || bytes_eq log second
 
-abbrev pub solve_of :
-    List (List ℕ) → Option ℕ → Option (List ℕ) → Option OrderName → Option Request
-solve_of (model ∷ []) (Some budget) log (Some order) = Some (Solve model budget log order)
-solve_of plain budget log order = None
+-- a search, where its budget and its order are known
+abbrev pub searched : (ℕ → OrderName → Request) → Option ℕ → Option OrderName → Option Request
+searched make (Some budget) (Some order) = Some (make budget order)
+searched make budget order = None
 
-abbrev pub reconfigure_of :
-    List (List ℕ) → Option ℕ → Option (List ℕ) → Option OrderName → Option Request
-reconfigure_of (model ∷ former ∷ failed) (Some budget) log (Some order) =
-    Some (Reconfigure model former failed budget log order)
-reconfigure_of plain budget log order = None
-
-abbrev pub check_of : List (List ℕ) → Option Request
-check_of (model ∷ log ∷ []) = Some (Check model log None [])
-check_of (model ∷ log ∷ former ∷ failed) = Some (Check model log (Some former) failed)
-check_of plain = None
-
-abbrev pub verify_of : List (List ℕ) → Option Request
-verify_of (model ∷ config ∷ []) = Some (Verify model config)
-verify_of plain = None
-
-abbrev pub gen_of : List (List ℕ) → Option Request
-gen_of (word ∷ []) = option_map Gen (number_within 3 1 100 word)
-gen_of plain = None
-
-abbrev pub session_of : List (List ℕ) → Option ℕ → Option OrderName → Option Request
-session_of (model ∷ former ∷ events ∷ []) (Some budget) (Some order) =
-    Some (Session model former events budget order)
-session_of plain budget order = None
-
-abbrev pub core_of : List (List ℕ) → Option ℕ → Option OrderName → Option Request
-core_of (model ∷ []) (Some budget) (Some order) = Some (Core model budget order)
-core_of plain budget order = None
-
--- which options a command has, and its order where none is named; no log is written over a file
--- that is read
+-- which plain words and options a command has, and its order where none is named; no log is written
+-- over a file that is read
 abbrev pub asked : Command → List (List ℕ) → Given → Option Request
-asked command.Solve plain given =
-    if is_read given.log plain then None
-    else solve_of plain (budget_of given.budget) given.log (order_of orders.First given.order)
-asked command.Reconfigure plain given =
-    if is_read given.log plain then None
-    else reconfigure_of plain (budget_of given.budget) given.log
-    (order_of orders.Former given.order)
-asked command.Check plain given = if has_none given then check_of plain else None
-asked command.Verify plain given = if has_none given then verify_of plain else None
-asked command.Gen plain given = if has_none given then gen_of plain else None
-asked command.Session plain given =
+asked command.Solve (model ∷ []) given =
+    if is_read given.log (model ∷ []) then None
+    else searched (λ budget order. Solve model budget given.log order) (budget_of given.budget)
+    (order_of orders.First given.order)
+asked command.Reconfigure (model ∷ former ∷ failed) given =
+    if is_read given.log (model ∷ former ∷ failed) then None
+    else searched (λ budget order. Reconfigure model former failed budget given.log order)
+    (budget_of given.budget) (order_of orders.Former given.order)
+asked command.Check (model ∷ log ∷ []) given =
+    if has_none given then Some (Check model log None []) else None
+asked command.Check (model ∷ log ∷ former ∷ failed) given =
+    if has_none given then Some (Check model log (Some former) failed) else None
+asked command.Verify (model ∷ config ∷ []) given =
+    if has_none given then Some (Verify model config) else None
+asked command.Gen (word ∷ []) given =
+    if has_none given then option_map Gen (number_within 3 1 100 word) else None
+asked command.Session (model ∷ former ∷ events ∷ []) given =
     if is_none given.log
-    then session_of plain (budget_of given.budget) (order_of orders.Former given.order) else None
-asked command.Core plain given =
+    then searched (Session model former events) (budget_of given.budget)
+    (order_of orders.Former given.order) else None
+asked command.Core (model ∷ []) given =
     if is_none given.log
-    then core_of plain (budget_of given.budget) (order_of orders.First given.order) else None
+    then searched (Core model) (budget_of given.budget) (order_of orders.First given.order)
+    else None
+asked command plain given = None
 
 -- ---- requests
 
@@ -243,16 +216,13 @@ command_text command.Gen = codes "gen"
 command_text command.Session = codes "session"
 command_text command.Core = codes "core"
 
+abbrev pub commands : List Command
+commands =
+    command.Solve ∷ command.Reconfigure ∷ command.Check ∷ command.Verify ∷ command.Gen
+    ∷ command.Session ∷ command.Core ∷ []
+
 abbrev pub command_named : List ℕ → Option Command
-command_named word =
-    if bytes_eq word (command_text command.Solve) then Some command.Solve
-    else if bytes_eq word (command_text command.Reconfigure) then Some command.Reconfigure
-    else if bytes_eq word (command_text command.Check) then Some command.Check
-    else if bytes_eq word (command_text command.Verify) then Some command.Verify
-    else if bytes_eq word (command_text command.Gen) then Some command.Gen
-    else if bytes_eq word (command_text command.Session) then Some command.Session
-    else if bytes_eq word (command_text command.Core) then Some command.Core
-    else None
+command_named word = find (λ c. bytes_eq word (command_text c)) commands
 
 -- what words ask for: the first word is the command, those behind it are plain
 -- words and options

@@ -2,8 +2,9 @@
 //!
 //! `draft_of` reads words without memory: it asks of each command which options and how many plain
 //! words it may have. `Draft::build` copies the words into the request.
-ghost use Rattle.std.specs.Prelude.{◌≡◌, map, string_bytes, option_map, option_copied, IfOk};
-ghost use Rattle.conf_request.specs.Words.{asked, check_of, verify_of, gen_of, is_read, parsed};
+ghost use Rattle.std.specs.Prelude.{◌≡◌, true, map, string_bytes, option_map, option_copied, IfOk};
+ghost use Rattle.conf_request.specs.Words.{asked, has_none, is_read, parsed};
+ghost use Rattle.conf_request.specs.Words.{Given as GivenBytes};
 ghost use Rattle.conf_request.specs.declared.command.Command.TheVariants as command;
 ghost use Rattle.conf_request.specs.Views.{given, plain, request_of};
 
@@ -91,7 +92,8 @@ fn reconfigure<'a>(words: PlainWords<'a>, options: &Given<'a>) -> Option<Draft<'
 
 /// What `check` asks for.
 fn check(words: PlainWords<'_>) -> Option<Draft<'_>>
-    ensures { option_map request_of result ≡ check_of (plain words.entry) }
+    ensures { (g : GivenBytes) → has_none g ≡ true
+        → option_map request_of result ≡ asked command.Check (plain words.entry) g }
 {
     let (model, more) = words.split_first()?;
     let (log, more) = more.split_first()?;
@@ -103,7 +105,8 @@ fn check(words: PlainWords<'_>) -> Option<Draft<'_>>
 
 /// What `verify` asks for.
 fn verify(words: PlainWords<'_>) -> Option<Draft<'_>>
-    ensures { option_map request_of result ≡ verify_of (plain words.entry) }
+    ensures { (g : GivenBytes) → has_none g ≡ true
+        → option_map request_of result ≡ asked command.Verify (plain words.entry) g }
 {
     let (model, more) = words.split_first()?;
     let (config, more) = more.split_first()?;
@@ -115,7 +118,8 @@ fn verify(words: PlainWords<'_>) -> Option<Draft<'_>>
 
 /// What `gen` asks for.
 fn generate(words: PlainWords<'_>) -> Option<Draft<'_>>
-    ensures { option_map request_of result ≡ gen_of (plain words.entry) }
+    ensures { (g : GivenBytes) → has_none g ≡ true
+        → option_map request_of result ≡ asked command.Gen (plain words.entry) g }
 {
     let (word, more) = words.split_first()?;
     match more.split_first() {

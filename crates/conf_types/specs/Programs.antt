@@ -9,7 +9,7 @@ use Rattle.conf_syntax.specs.declared.tree.Item.TheVariants as item
 use Rattle.conf_syntax.specs.declared.tree.Member.{Member}
 use Rattle.conf_syntax.specs.declared.tree.Member.TheVariants as member
 use Rattle.conf_types.specs.declared.fault.TypeFault.{TypeFault}
-use Rattle.conf_types.specs.declared.fault.TypeFault.TheVariants.{Unknown, WrongType, NonLinear, Shadow, Memory}
+use Rattle.conf_types.specs.declared.fault.TypeFault.TheVariants.{Memory}
 use Rattle.conf_types.specs.declared.types.Need.TheVariants as need
 use Rattle.conf_types.specs.Readings.{Reading, read, needed}
 pub use Rattle.conf_types.specs.Resolved.{ResolvedConstraint, ResolvedGoal}
@@ -79,15 +79,13 @@ abbrev pub faults : Outline → List Item → List TypeFault
 faults o items =
     flat_map (constraint_faults o) (constraints items) ++ flat_map (goal_faults o) (goals items)
 
--- Resolved, each name of them: the place is that of the expression's first token
+-- what is read, for a class's objects: the place is that of the expression's first token
+abbrev pub stated_for : Option ℕ → Reading → ResolvedConstraint
+stated_for c r = record { class = c; place = r.first; tree = r.tree }
+
+-- Resolved, each name of them
 abbrev pub resolved_constraint : Outline → Stated → ResolvedConstraint
-resolved_constraint o k =
-    record {
-      class = k.class;
-      place = (constraint_reading o k).first;
-      tree
-          = (constraint_reading o k).tree;
-    }
+resolved_constraint o k = stated_for k.class (constraint_reading o k)
 
 abbrev pub resolved_goal : Outline → GoalDecl → ResolvedGoal
 resolved_goal o g = record { max = g.max; tree = (goal_reading o g).tree }
@@ -98,8 +96,5 @@ constraint_at ks k = slice_index_or ks k (record { class = None; place = 0; tree
 
 -- P holds of a fault that is told; want of memory has no cause
 abbrev pub OnFault : TypeFault → (TypeFault → Type 0) → Type 0
-OnFault (Unknown at) P = P (Unknown at)
-OnFault (WrongType at) P = P (WrongType at)
-OnFault (NonLinear at) P = P (NonLinear at)
-OnFault (Shadow at) P = P (Shadow at)
 OnFault Memory P = Unit {0}
+OnFault fault P = P fault

@@ -56,6 +56,15 @@ abbrev pub typed_if : Bool → ExprType → Option ExprType
 typed_if true t = Some t
 typed_if false t = None
 
+-- what has this type where no fault stands in it
+abbrev pub typed : ExprType → Tree → ℕ → Reading
+typed t x at = record { type = Some t; faults = []; tree = x; first = at; literal = false }
+
+-- what has no type, with the faults that stand in it; `at` is the place of what is missing
+abbrev pub untyped : List TypeFault → ℕ → ℕ → Reading
+untyped fs at first =
+    record { type = None; faults = fs; tree = tree.Missing at; first = first; literal = false }
+
 -- Leaves
 
 abbrev pub number_reading : ℕ → ℕ → Reading
@@ -63,88 +72,38 @@ number_reading at n =
     record { type = Some Int; faults = []; tree = tree.Number at n; first = at; literal = true }
 
 abbrev pub truth_reading : ℕ → Bool → Reading
-truth_reading at b =
-    record { type = Some Truth; faults = []; tree = tree.Truth at b; first = at; literal = false }
+truth_reading at b = typed Truth (tree.Truth at b) at
+
+-- a word that means nothing where it stands
+abbrev pub unknown_reading : ℕ → Reading
+unknown_reading at = untyped (Unknown at ∷ []) at at
 
 -- `this` stands in a class
 abbrev pub this_reading : ℕ → Option ℕ → Reading
-this_reading at (Some c) =
-    record { type = Some (Object c); faults = []; tree = tree.This at; first = at; literal = false }
-this_reading at None =
-    record {
-      type = None;
-      faults = Unknown at ∷ [];
-      tree = tree.Missing at;
-      first = at;
-      literal
-          = false;
-    }
+this_reading at (Some c) = typed (Object c) (tree.This at) at
+this_reading at None = unknown_reading at
 
 abbrev pub object_of : Option ℕ → Option ExprType
 object_of None = None
 object_of (Some c) = Some (Object c)
 
--- a word that means nothing where it stands
-abbrev pub unknown_reading : ℕ → Reading
-unknown_reading at =
-    record {
-      type = None;
-      faults = Unknown at ∷ [];
-      tree = tree.Missing at;
-      first = at;
-      literal
-          = false;
-    }
-
 -- a word: a variable or an attribute. An enumeration and a class mean nothing here
 abbrev pub word_reading : ℕ → Sense → Reading
 word_reading at (ALocal k c) =
     record { type = object_of c; faults = []; tree = tree.Local at k; first = at; literal = false }
-word_reading at (AnOwn k s) =
-    record {
-      type = Some (shape_type s);
-      faults = [];
-      tree = tree.Own at k s;
-      first = at;
-      literal
-          = false;
-    }
-word_reading at (ARoot k s) =
-    record {
-      type = Some (shape_type s);
-      faults = [];
-      tree = tree.Root at k s;
-      first = at;
-      literal
-          = false;
-    }
+word_reading at (AnOwn k s) = typed (shape_type s) (tree.Own at k s) at
+word_reading at (ARoot k s) = typed (shape_type s) (tree.Root at k s) at
 word_reading at other = unknown_reading at
 
 -- a class behind `in`, as the whole of what stands there; all else is read as elsewhere
 abbrev pub over_reading : ℕ → Sense → Reading → Reading
-over_reading at (AClass c) r =
-    record {
-      type = Some (Class c);
-      faults = [];
-      tree = tree.Class at c;
-      first = at;
-      literal
-          = false;
-    }
+over_reading at (AClass c) r = typed (Class c) (tree.Class at c) at
 over_reading at other r = r
 
 -- Parentheses, `-` and `not`
 
 abbrev pub paren_reading : ℕ → Reading → Reading
-paren_reading at r =
-    record {
-      type = r.type;
-      faults = r.faults;
-      tree = tree.Paren at r.tree;
-      first = at;
-      literal
-          = r.literal;
-    }
+paren_reading at r = record r { tree = tree.Paren at r.tree; first = at }
 
 abbrev pub minus_reading : ℕ → Reading → Reading
 minus_reading at r = record {
@@ -172,69 +131,25 @@ values_of o e = (slice_index_or o.enumerations e (record { name = []; values = [
 
 -- `E.v`, with the number of v among the values of enumeration e
 abbrev pub value_reading : ℕ → ℕ → Ident → Option ℕ → Reading
-value_reading at e i (Some k) =
-    record {
-      type = Some (Choice e);
-      faults = [];
-      tree = tree.Value at e k;
-      first = at;
-      literal
-          = false;
-    }
-value_reading at e i None =
-    record {
-      type = None;
-      faults = Unknown i.at ∷ [];
-      tree = tree.Missing at;
-      first = at;
-      literal
-          = false;
-    }
+value_reading at e i (Some k) = typed (Choice e) (tree.Value at e k) at
+value_reading at e i None = untyped (Unknown i.at ∷ []) at at
 
 -- `x.a`, with the attribute a of the class of x
 abbrev pub found_reading : ℕ → Reading → Ident → Option Found → Reading
-found_reading at r i (Some f) =
-    record {
-      type = Some (shape_type f.shape);
-      faults = r.faults;
-      tree = tree.Dot at r.tree f.number
-          f.shape;
-      first = r.first;
-      literal = false;
-    }
-found_reading at r i None =
-    record {
-      type = None;
-      faults = r.faults ++ Unknown i.at ∷ [];
-      tree = tree.Missing at;
-      first
-          = r.first;
-      literal = false;
-    }
+found_reading at r i (Some f) = record r {
+  type = Some (shape_type f.shape);
+  tree = tree.Dot at r.tree f.number f.shape;
+  literal = false;
+}
+found_reading at r i None = untyped (r.faults ++ Unknown i.at ∷ []) at r.first
 
 -- x is no object: it is wrong, and so is the name behind it
 abbrev pub wrong_reading : ℕ → Reading → Ident → Reading
-wrong_reading at r i =
-    record {
-      type = None;
-      faults = r.faults ++ WrongType r.first ∷ Unknown i.at ∷ [];
-      tree
-          = tree.Missing at;
-      first = r.first;
-      literal = false;
-    }
+wrong_reading at r i = untyped (r.faults ++ WrongType r.first ∷ Unknown i.at ∷ []) at r.first
 
 abbrev pub attribute_reading : Outline → ℕ → Reading → Ident → Option ExprType → Reading
 attribute_reading o at r i (Some (Object c)) = found_reading at r i (attribute_named o c i.name)
-attribute_reading o at r i None =
-    record {
-      type = None;
-      faults = r.faults;
-      tree = tree.Missing at;
-      first = r.first;
-      literal
-          = false;
-    }
+attribute_reading o at r i None = untyped r.faults at r.first
 attribute_reading o at r i other = wrong_reading at r i
 
 -- an enumeration stands before a dot as a word alone

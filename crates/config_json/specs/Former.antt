@@ -108,8 +108,7 @@ value_in o Truth d = option_map one (option_map truth_number (as_bool d))
 value_in o (Choice e) d = option_map one (option_and_then (value_number o e) (as_str d))
 value_in o (Ref c) d = option_map one (option_map pos (object_in o c d))
 value_in o (RefSet c count) d = option_and_then (set_in o c count) (as_array d)
-value_in o (One c) d = None
-value_in o (Many c count) d = None
+value_in o other d = None
 
 -- the former value of a leaf
 abbrev pub former : Outline → Data → Leaf → Option (List ℤ)

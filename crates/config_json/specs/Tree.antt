@@ -44,8 +44,7 @@ leaf_data o values is (Choice e) =
 leaf_data o values is (Ref c) = path_data o (nat_abs (only_value values is))
 leaf_data o values is (RefSet c n) =
     array (paths_data o (filter_map (member_at (cells o) values) is))
-leaf_data o values is (One c) = null
-leaf_data o values is (Many c n) = null
+leaf_data o values is other = null
 
 -- Objects
 
@@ -59,14 +58,7 @@ abbrev pub attribute_data : (ℕ → Data) → Outline → List ℤ → Option �
 attribute_data of_object o values owner k (One c) = first_data of_object (parts_of o owner k)
 attribute_data of_object o values owner k (Many c n) =
     array (all_data of_object (parts_of o owner k))
-attribute_data of_object o values owner k (Span low high) =
-    leaf_data o values (own_cells o owner k) (Span low high)
-attribute_data of_object o values owner k Truth = leaf_data o values (own_cells o owner k) Truth
-attribute_data of_object o values owner k (Choice e) =
-    leaf_data o values (own_cells o owner k) (Choice e)
-attribute_data of_object o values owner k (Ref c) = leaf_data o values (own_cells o owner k) (Ref c)
-attribute_data of_object o values owner k (RefSet c n) =
-    leaf_data o values (own_cells o owner k) (RefSet c n)
+attribute_data of_object o values owner k s = leaf_data o values (own_cells o owner k) s
 
 -- the keys found so far, with one for each of these variables, the first of which has number k
 abbrev pub with_variables : (ℕ → Data) → Outline → List ℤ → Option ℕ → ℕ → List Variable → Members

@@ -23,35 +23,25 @@ pub record Stack : Type 0 where
   pub top : Level
   pub below : List Level
 
+abbrev pub level : Boxes → Boxes → List Entry → Level
+level first now entries = record { first = first; now = now; entries = entries }
+
 -- level 0 alone, with nothing done
 abbrev pub bottom : Boxes → Stack
-bottom boxes = record { top = record { first = boxes; now = boxes; entries = [] }; below = [] }
+bottom boxes = record { top = level boxes boxes []; below = [] }
 
 -- the boxes behind an entry: a decision opens a level, which begins with them, and a pruning stays
 -- in the last level
 abbrev pub with_entry : Option ℕ → Boxes → Entry → Stack → Stack
-with_entry None boxes e s =
-    record {
-      top = record { first = boxes; now = boxes; entries = e ∷ [] };
-      below =
-          s.top ∷ s.below;
-    }
+with_entry None boxes e s = record { top = level boxes boxes (e ∷ []); below = s.top ∷ s.below }
 with_entry (Some j) boxes e s =
-    record {
-      top = record { first = s.top.first; now = boxes; entries = e ∷ s.top.entries };
-      below =
-          s.below;
-    }
+    record { top = level s.top.first boxes (e ∷ s.top.entries); below = s.below }
 
 -- the variable gets another box, by a clause or by a decision
 abbrev pub moved : Option ℕ → ℕ → Ranges → Stack → Stack
 moved from x set s =
-    with_entry from (slice_set s.top.now x set) (record {
-      var = x;
-      before =
-          box_of s.top.now x;
-      from = from;
-    }) s
+    with_entry from (slice_set s.top.now x set)
+    (record { var = x; before = box_of s.top.now x; from = from }) s
 
 -- the levels behind it, where n is the clause's number
 abbrev pub pruned_by : ℕ → Option (ℕ × Ranges) → Stack → Stack

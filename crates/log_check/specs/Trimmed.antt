@@ -7,6 +7,7 @@ use Rattle.ground_form.specs.declared.ground.GroundGoal.{GroundGoal}
 use Rattle.log_form.specs.declared.line.Line.{Line}
 use Rattle.log_form.specs.declared.line.Line.TheVariants.{Axiom, Chain, Bound, Use, Found, Decide, Empty}
 use Rattle.log_form.specs.Acceptance.{has_empty, made}
+use Rattle.numbered_clauses.specs.declared.chain.Chain.{Chain as AChain}
 
 -- ---- which clauses a line makes and names
 
@@ -65,20 +66,14 @@ number_of numbers j = slice_index_or numbers j 0
 abbrev pub steps_renumbered : List ℕ → List (ℕ × ℕ) → List (ℕ × ℕ)
 steps_renumbered numbers ss = map (λ s. (s.0, number_of numbers s.1)) ss
 
+abbrev pub chain_renumbered : List ℕ → AChain → AChain
+chain_renumbered ns chain =
+    record { first = number_of ns chain.first; steps = steps_renumbered ns chain.steps }
+
 -- the line, with these numbers in place of those that it names
 abbrev pub renumbered : List ℕ → Line → Line
-renumbered numbers (Axiom k c) = Axiom k c
-renumbered numbers (Chain chain c) =
-    Chain (record {
-      first = number_of numbers chain.first;
-      steps = steps_renumbered numbers
-          chain.steps;
-    }) c
-renumbered numbers (Bound values) = Bound values
-renumbered numbers (Use i) = Use i
-renumbered numbers (Found a) = Found a
-renumbered numbers (Decide x set) = Decide x set
-renumbered numbers (Empty x) = Empty x
+renumbered numbers (Chain chain c) = Chain (chain_renumbered numbers chain) c
+renumbered numbers other = other
 
 -- the next number behind k clauses that stay or go
 abbrev pub next_number : Bool → ℕ → ℕ → ℕ

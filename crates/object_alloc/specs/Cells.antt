@@ -60,8 +60,7 @@ shape_cells o l Truth = cell l None (domain.Span (pos 0) (pos 1)) ∷ []
 shape_cells o l (Choice e) = cell l None (domain.Span (pos 0) (pos (value_count o e) -ℤ pos 1)) ∷ []
 shape_cells o l (Ref c) = cell l None (domain.Extent c) ∷ []
 shape_cells o l (RefSet c m) = member_cells l (extent o c)
-shape_cells o l (One c) = []
-shape_cells o l (Many c m) = []
+shape_cells o l other = []
 
 abbrev pub leaf_cells : Outline → Leaf → List Cell
 leaf_cells o l = shape_cells o l l.shape

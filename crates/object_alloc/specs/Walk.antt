@@ -57,11 +57,7 @@ elements visit w k c (suc m) i n =
 abbrev pub attribute : Visit → Inside → ℕ → Resolved → ℕ → List Met
 attribute visit w k (One c) n = visit n (object w k c 0)
 attribute visit w k (Many c m) n = elements visit w k c m 0 n
-attribute visit w k (Span low high) n = Passed (leaf w k (Span low high)) ∷ []
-attribute visit w k Truth n = Passed (leaf w k Truth) ∷ []
-attribute visit w k (Choice e) n = Passed (leaf w k (Choice e)) ∷ []
-attribute visit w k (Ref c) n = Passed (leaf w k (Ref c)) ∷ []
-attribute visit w k (RefSet c m) n = Passed (leaf w k (RefSet c m)) ∷ []
+attribute visit w k s n = Passed (leaf w k s) ∷ []
 
 -- the attributes from number k on
 abbrev pub members : Visit → Inside → ℕ → List Variable → ℕ → List Met
