@@ -3,7 +3,7 @@
 //! A text is made as a tree and then as bytes, so it stands in memory more than once. Where names
 //! and paths are so long that it would have more than half a gigabyte, memory is said to lack
 //! before it does. No former text may have a thirtieth of that.
-ghost use Rattle.std.specs.Prelude.{◌<◌, length, IfSome};
+ghost use Rattle.std.specs.Prelude.{◌≡◌, ◌+◌, ◌<◌, length, IfSome, IfOk, OnErr};
 ghost use Rattle.object_alloc.specs.Variables.{variables_of};
 ghost use Rattle.object_alloc.specs.Walk.{objects as all_objects};
 
@@ -20,7 +20,10 @@ const MOST_BYTES: usize = 1 << 29;
 const BYTES_BESIDE: usize = 16;
 
 /// What is left of the room behind so many bytes.
-fn behind(room: usize, bytes: usize) -> Result<usize, AllocError> {
+fn behind(room: usize, bytes: usize) -> Result<usize, AllocError>
+    ensures left { IfOk result (λ left. left + bytes ≡ room) }
+    ensures refused { OnErr result (room < bytes) }
+{
     room.checked_sub(bytes).ok_or(AllocError)
 }
 

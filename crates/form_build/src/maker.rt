@@ -3,7 +3,7 @@
 //! A maker is seen as the ground problem that it has come to. That problem is well made, and no
 //! box in it is empty. After want of memory nothing is said of what was added, and the maker is to
 //! be dropped.
-ghost use Rattle.std.specs.Prelude.{◌≡◌, ◌<◌, ◌≤◌, ◌+◌, ◌-◌, ◌^◌, [], true, int_le, length, Contains, IfOk, OnOk};
+ghost use Rattle.std.specs.Prelude.{◌≡◌, ◌<◌, ◌≤◌, ◌+◌, ◌-◌, ◌^◌, ◌↔◌, [], true, int_le, length, Contains, IfOk, IsTrue, OnErr, OnOk};
 ghost use Rattle.std.specs.List.{All};
 ghost use Rattle.std.specs.Ordering.{int_eq};
 ghost use Rattle.signed_clause.specs.Ranges.{has};
@@ -57,7 +57,7 @@ impl Model for Maker {
 
 /// Whether n more can be numbered, where so many are.
 fn have_room(count: usize, n: u32) -> bool
-    ensures { result ≡ true → count + n ≤ 2 ^ 32 - 1 }
+    ensures { IsTrue result ↔ count + n ≤ 2 ^ 32 - 1 }
 {
     let most = u32::MAX as usize;
     count <= most && n as usize <= most - count
@@ -120,6 +120,7 @@ impl Maker {
     /// memory lacks. Who makes one thing after the other asks before each step.
     pub fn ask(&self, n: u32) -> Result<(), AllocError>
         ensures room { OnOk result (HasRoomFor n self.now) }
+        ensures refused { OnErr result (HasRoomFor n self.now → ⊥) }
     {
         let variables = self.builder.domains().len();
         let constraints = self.builder.cons().len();

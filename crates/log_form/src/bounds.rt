@@ -4,13 +4,14 @@
 //! earlier goal is better than there, or that this one is as good; that of the last says that some
 //! earlier goal is better, or this one is. `earlier` is kept as a clause while the goals are
 //! walked, and each clause is it with one more literal.
-ghost use Rattle.std.specs.Prelude.{◌≡◌, ◌<◌, ◌++◌, [], ◌∷◌, IfOk, OnOk, false, drop, length};
+ghost use Rattle.std.specs.Prelude.{◌≡◌, ◌<◌, ◌≤◌, ◌+◌, ◌++◌, [], ◌∷◌, IfOk, OnOk, OnErr, false, drop, length};
 ghost use Rattle.std.specs.List.{All};
 ghost use Rattle.signed_clause.specs.Ranges.{is_nil, IsValid};
 ghost use Rattle.signed_clause.specs.Clauses.{box_of, IsClause};
 ghost use Rattle.ground_form.specs.Meaning.{value_of};
 ghost use Rattle.log_form.specs.Acceptance as acceptance;
 ghost use Rattle.log_form.specs.Literals.{joined_with};
+ghost use Rattle.log_form.specs.Parts.{clause_parts};
 
 use ground_form::{GroundGoal, Number};
 use signed_clause::{Clause, ClauseHandle, IntSet, push_copy, push_rest};
@@ -21,7 +22,10 @@ use std::alloc::{AllocError, Global};
 const MOST_PARTS: usize = 1 << 25;
 
 /// What is left of so many parts behind the literals of a clause and their ranges.
-fn behind(parts: usize, c: &Clause) -> Result<usize, AllocError> {
+fn behind(parts: usize, c: &Clause) -> Result<usize, AllocError>
+    ensures left { IfOk result (λ left. left + clause_parts c.now ≡ parts) }
+    ensures refused { OnErr result (parts ≤ clause_parts c.now) }
+{
     let mut left = parts;
     for l in c.literals() {
         left = left.saturating_sub(1).saturating_sub(l.1.ranges().len());

@@ -8,7 +8,7 @@
 //! Of each bin are counted, over the items that are fixed there: the load, the tightest room, the
 //! least room, the growth of a size, and how many they are. Where the ranges of the bins' boxes
 //! begin and end, added up from bin to bin, tells how many items may be there.
-ghost use Rattle.std.specs.Prelude.{◌≡◌, ◌<◌, ◌≤◌, ◌≤ℤ◌, ◌+◌, ◌-◌, ◌^◌, ◌+ℤ◌, ◌-ℤ◌, ◌||◌, ℕ, ℤ, [], suc, pos, cond, IfOk, IfSome, length, drop, true, slice_index_or};
+ghost use Rattle.std.specs.Prelude.{◌≡◌, ◌<◌, ◌≤◌, ◌≤ℤ◌, ◌+◌, ◌-◌, ◌^◌, ◌+ℤ◌, ◌-ℤ◌, ◌||◌, ℕ, ℤ, [], suc, pos, cond, IfOk, IfSome, OnErr, length, drop, true, slice_index_or};
 ghost use Rattle.std.specs.Int.{int_max, int_min};
 ghost use Rattle.std.specs.List.{All};
 ghost use Rattle.std.specs.Ordering.{int_eq};
@@ -288,7 +288,8 @@ fn count_items(
 /// How many numbers `first..last` has, where that is a number of 64 bits: no memory has more.
 fn bins_between(first: Number, last: Number) -> Result<usize, AllocError>
     requires { first.value ≤ℤ last.value }
-    ensures { IfOk result (λ n. n ≡ width first.value last.value) }
+    ensures width { IfOk result (λ n. n ≡ width first.value last.value) }
+    ensures refused { OnErr result (width first.value last.value ≡ 2 ^ 64) }
 {
     let steps = last.value.abs_diff(first.value);
     if steps < u64::MAX {
