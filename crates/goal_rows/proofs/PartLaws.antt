@@ -5,7 +5,6 @@ use Rattle.std.proofs.lemmas.List.Elements.{All-push, All-get_or}
 use Rattle.std.specs.Ordering.{int_eq}
 use Rattle.ground_form.specs.Meaning.{value_of}
 use Rattle.ground_form.specs.declared.ground.Ground.{Ground}
-use Rattle.form_build.specs.Worlds.{IsWorld, AllHold}
 use Rattle.packing_sums.specs.Loads.{sizes_where}
 use Rattle.packing_sums.specs.Packings.{AreSome, MayHave, AreFitting}
 use Rattle.packing_sums.proofs.HostLaws.{sizes_push}

@@ -1,5 +1,6 @@
 //! What is added for a goal.
 ghost use Rattle.std.specs.Prelude.{◌≡◌, ◌<◌, ◌≤◌, ◌^◌, ℤ, List, true, length, IfOk, OnOk};
+ghost use Rattle.std.specs.List.{list_any};
 ghost use Rattle.signed_clause.specs.Clauses.{box_of};
 ghost use Rattle.ground_form.specs.Meaning.{value_of};
 ghost use Rattle.ground_form.specs.Bounds.{reach_of, most_sum};
@@ -8,6 +9,7 @@ ghost use Rattle.form_build.specs.Worlds.{IsWorld, AllHold, Defines};
 ghost use Rattle.form_build.specs.Sums.{IsLinear};
 ghost use Rattle.packing_sums.specs.Packings.{IsPacking};
 ghost use Rattle.goal_rows.specs.Quotients.{IsGoalBy};
+ghost use Rattle.goal_rows.specs.Rows.{gives_rows};
 ghost use Rattle.stated_facts.specs.Rows.{IsNought};
 
 use crate::bounds::add_bounds;
@@ -111,18 +113,6 @@ fn add_for(maker: &mut Maker, zero: &Nought, aim: &Aim, k: usize) -> Result<(), 
     }
 }
 
-/// Adds the rows that follow from each constraint that is a packing.
-fn add_for_all(maker: &mut Maker, zero: &Nought, aim: &Aim) -> Result<(), AllocError>
-    requires nought { IsNought maker.old zero.now }
-    ensures { OnOk result (Defines maker.old maker.new) }
-{
-    let count = maker.cons().len();
-    for k in 0..count {
-        add_for(maker, zero, aim, k)?;
-    }
-    Ok(())
-}
-
 /// Whether some constraint is a packing.
 fn has_packing(maker: &Maker) -> bool {
     for con in maker.cons() {
@@ -133,23 +123,38 @@ fn has_packing(maker: &Maker) -> bool {
     false
 }
 
+/// Whether this is a row or a packing.
+fn gives_rows(con: &Con) -> bool
+    ensures { result ≡ gives_rows con.now }
+{
+    match con {
+        Con::LinLe { .. } | Con::Pack { .. } => true,
+        _ => false,
+    }
+}
+
 /// Whether some constraint is a row or a packing, from which rows over a goal may follow.
-pub fn has_rows(maker: &Maker) -> bool {
+pub fn has_rows(maker: &Maker) -> bool
+    ensures rows { result ≡ list_any gives_rows maker.now.cons }
+{
     for con in maker.cons() {
-        if let Con::Pack { .. } | Con::LinLe { .. } = con {
+        if gives_rows(con) {
             return true;
         }
     }
     false
 }
 
-/// Adds the rows that follow from what is 0, a goal's sum less the goal.
+/// Adds the rows that follow from each packing and from what is 0, a goal's sum less the goal.
 fn add_by(maker: &mut Maker, zero: &Nought) -> Result<(), AllocError>
     requires nought { IsNought maker.old zero.now }
     ensures { OnOk result (Defines maker.old maker.new) }
 {
     let aim = aim_of(maker, zero)?;
-    add_for_all(maker, zero, &aim)?;
+    let count = maker.cons().len();
+    for k in 0..count {
+        add_for(maker, zero, &aim, k)?;
+    }
     Ok(())
 }
 

@@ -80,19 +80,7 @@ fn bound_by(
     Ok(z)
 }
 
-/// States the bound, where nothing but one variable is left.
-fn state_bound(maker: &mut Maker, bound: &Nought) -> Result<(), AllocError>
-    requires { IsNought maker.old bound.now }
-    ensures { OnOk result (Defines maker.old maker.new) }
-{
-    if bound.sum.terms.items().len() != 1 {
-        return Ok(());
-    }
-    state_row(maker, bound)?;
-    Ok(())
-}
-
-/// Adds the bound that follows from a row.
+/// Adds the bound that follows from a row, where nothing but one variable is left of it.
 fn add_by_row(maker: &mut Maker, zero: &Nought, goal: u32, row: &Nought) -> Result<(), AllocError>
     requires nought { IsNought maker.old zero.now }
     requires row { IsNought maker.old row.now }
@@ -104,7 +92,10 @@ fn add_by_row(maker: &mut Maker, zero: &Nought, goal: u32, row: &Nought) -> Resu
     let Some(bound) = bound_by(maker, row, zero, times)? else {
         return Ok(());
     };
-    state_bound(maker, &bound)?;
+    if bound.sum.terms.items().len() != 1 {
+        return Ok(());
+    }
+    state_row(maker, &bound)?;
     Ok(())
 }
 

@@ -13,7 +13,6 @@ use Rattle.class_table.specs.Outline.{Outline}
 use Rattle.conf_types.specs.declared.types.ExprType.{ExprType}
 use Rattle.conf_types.specs.declared.types.ExprType.TheVariants as type
 use Rattle.conf_types.specs.Readings as reading
-use Rattle.conf_types.specs.Trees.{Tree}
 use Rattle.conf_types.specs.Trees as tree
 use Rattle.conf_types.specs.Typing.{Place, local_class, tree_type, value_there}
 use Rattle.object_alloc.specs.Cells.{extent, value_count}

@@ -5,7 +5,7 @@ use Rattle.std.specs.Prelude.{◌≡◌, ℕ, ◌≤◌, true, List, ℤ, Option
 use Rattle.class_table.specs.Outline.{Outline}
 use Rattle.conf_syntax.specs.declared.tree.QuantKind.{QuantKind}
 use Rattle.conf_syntax.specs.declared.tree.QuantKind.TheVariants as kind
-use Rattle.conf_types.specs.Trees.{Tree, NoFilter, Bodies}
+use Rattle.conf_types.specs.Trees.{Tree, NoFilter}
 use Rattle.conf_types.specs.Trees as tree
 use Rattle.conf_eval.specs.declared.value.Value.{Value}
 use Rattle.conf_eval.specs.Meaning.{value, objects_of}

@@ -10,7 +10,7 @@ ghost use Rattle.expr_forms.specs.FormValues.{form_value, number_part};
 ghost use Rattle.operator_forms.specs.Operating.{are_numbers, compares_numbers, is_comparison};
 ghost use Rattle.ground_expr.specs.Stated.{AreOpposite};
 
-use crate::long_sums::state_in_blocks;
+use crate::long_sums::state_short;
 use conf_syntax::Op;
 use conf_types::{OpClass, class_of};
 use expr_forms::Form;
@@ -81,6 +81,6 @@ pub(crate) fn state_comparison(
         wanted want (truth_in (operate op (form_value l.now a) (form_value r.now a))))) }
 {
     let test = test_of(maker, wanted_comparison(op, want), l, r)?;
-    state_in_blocks(maker, &test)?;
+    state_short(maker, &test)?;
     Ok(())
 }

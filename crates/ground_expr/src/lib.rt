@@ -16,7 +16,7 @@
 //! - `forms`: the form of an expression; the recursion is on the resolved tree.
 //! - `known`: attributes of an owner that is known, where values of cells are known.
 //! - `known_members`: the members of a list, where values of cells are known.
-//! - `long_sums`: comparisons of long sums of cells, stated of sums of blocks.
+//! - `long_sums`: comparisons of long sums of cells, each stated of a variable that is the sum.
 //! - `names`: what names stand for.
 //! - `operators`: operators over forms of any kind.
 //! - `pushes`: expressions that are pushed into a disjunction.

@@ -63,7 +63,7 @@ fn short_test(m: &mut Maker, test: &Test) -> Result<Option<Test>, AllocError>
 }
 
 /// States the test, of a long sum of cells by a variable that it is.
-pub(crate) fn state_in_blocks(m: &mut Maker, test: &Test) -> Result<(), AllocError>
+pub(crate) fn state_short(m: &mut Maker, test: &Test) -> Result<(), AllocError>
     requires test { IsTest m.old.domains test.now }
     ensures says { OnOk result (Adds [] m.old m.new (λ a. test_at test.now a)) }
 {

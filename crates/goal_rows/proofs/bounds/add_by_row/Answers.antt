@@ -7,3 +7,6 @@ returns-in_default c = adds_nothing [] c.args.maker.now
 
 pub returns-in_default-2 : goal.returns-in_default-2
 returns-in_default-2 c = adds_nothing [] c.args.maker.now
+
+pub returns-then-items-ne1 : goal.returns-then-items-ne1
+returns-then-items-ne1 c = adds_nothing [] c.args.maker.now

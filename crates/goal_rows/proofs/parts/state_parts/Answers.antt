@@ -1,4 +1,3 @@
-use Rattle.std.proofs.Common.{[]}
 use Rattle.form_build.proofs.Growth.{defines_more}
 use Rattle.packing_sums.proofs.PackingLaws.{packing_kept}
 use Rattle.goal_rows.proofs.parts.state_parts.Goals as goal

@@ -3,7 +3,7 @@ use Rattle.std.specs.List.{All, list_all}
 use Rattle.std.proofs.lemmas.Result.{on_ok_weaker}
 use Rattle.conf_types.specs.declared.tree.RExpr.{RExpr}
 use Rattle.conf_types.specs.declared.tree.RQuant as quant
-use Rattle.conf_types.specs.Trees.{Tree, Bodies, Body, NoBody}
+use Rattle.conf_types.specs.Trees.{Tree}
 use Rattle.conf_types.specs.TreeOf.{tree_of, node_tree, quant_tree, optional_tree, trees_of}
 use Rattle.conf_types.specs.Trees as tree
 use Rattle.conf_eval.specs.Evaluating.{height, bodies_height}

@@ -1,7 +1,7 @@
 use Rattle.std.proofs.Common.{[]}
 use Rattle.form_build.proofs.Growth.{adds_nothing, defines_more}
 use Rattle.stated_facts.proofs.NoughtLaws.{nought_kept}
-use Rattle.goal_rows.proofs.adding.add_for_all.Goals as goal
+use Rattle.goal_rows.proofs.adding.add_by.Goals as goal
 
 pub loop-k-init : goal.loop-k-init
 loop-k-init c = record {

@@ -1,6 +1,6 @@
 use Rattle.form_build.specs.Worlds.{Defines}
 use Rattle.stated_facts.specs.Rows.{IsNought}
-use Rattle.goal_rows.proofs.adding.add_for_all.Given as goal
+use Rattle.goal_rows.proofs.adding.add_by.Given as goal
 
 abbrev pub invariant-loop-k : goal.invariant-loop-k
 invariant-loop-k l = record {

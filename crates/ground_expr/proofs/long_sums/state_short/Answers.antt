@@ -4,7 +4,7 @@ use Rattle.form_build.specs.Worlds.{IsWorld, Adds}
 use Rattle.form_truths.specs.declared.tests.Test.{Test}
 use Rattle.form_truths.specs.Tests.{test_at}
 use Rattle.form_truths.proofs.Stating.{defined_says}
-use Rattle.ground_expr.proofs.long_sums.state_in_blocks.Goals as goal
+use Rattle.ground_expr.proofs.long_sums.state_short.Goals as goal
 
 pub returns-in-Some : goal.returns-in-Some
 returns-in-Some c =
