@@ -6,8 +6,7 @@ use Rattle.std.specs.List.{All}
 use Rattle.std.proofs.lemmas.Bool.{cases_eq}
 use Rattle.signed_clause.specs.Ranges.{Ranges, has, is_nil, IsValid}
 use Rattle.signed_clause.specs.SetAlgebra.{is_within}
-use Rattle.signed_clause.specs.Clauses.{Boxes, Literals, box_of, false_in, unit_of, IsClause}
-use Rattle.signed_clause.specs.Running.{AreValid}
+use Rattle.signed_clause.specs.Clauses.{Boxes, Literals, box_of, false_in, unit_of, IsClause, AreValid}
 use Rattle.signed_clause.proofs.SetFacts.{within_law}
 use Rattle.ground_form.specs.declared.ground.Ground.{Ground}
 use Rattle.fd_store.specs.declared.store.Applied.{Applied}

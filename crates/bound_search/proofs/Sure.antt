@@ -5,8 +5,7 @@ use Rattle.std.proofs.lemmas.Bool.Decides.{Decides-eqb}
 use Rattle.std.proofs.lemmas.List.Elements.{All-push, All-cons}
 use Rattle.signed_clause.specs.Ranges.{Ranges, has, is_nil, IsValid, IsSubset}
 use Rattle.signed_clause.specs.SetAlgebra.{is_disjoint, is_within, meet}
-use Rattle.signed_clause.specs.Clauses.{Boxes, Literals, box_of, false_in, unit_of, alone_of, IsClauseFrom, IsClause, IsWithinBoxes}
-use Rattle.signed_clause.specs.Running.{AreValid}
+use Rattle.signed_clause.specs.Clauses.{Boxes, Literals, box_of, false_in, unit_of, alone_of, IsClauseFrom, IsClause, IsWithinBoxes, AreValid}
 use Rattle.signed_clause.proofs.SetFacts.{nil_law, within_law}
 use Rattle.signed_clause.proofs.ClauseLaws.{has_from_disjoint}
 use Rattle.ground_form.specs.declared.ground.Ground.{Ground}

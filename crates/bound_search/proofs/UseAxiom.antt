@@ -1,7 +1,6 @@
 -- The steps that use a clause and that write a constraint's.
 use Rattle.std.proofs.Common.{◌≡◌, ℕ, ◌≤◌, true, List, [], ◌∷◌, ◌++◌, length, refl, sym, ap, ◌∙◌, arith, subst, All}
-use Rattle.signed_clause.specs.Clauses.{Literals, IsClause}
-use Rattle.signed_clause.specs.Running.{AreValid}
+use Rattle.signed_clause.specs.Clauses.{Literals, IsClause, AreValid}
 use Rattle.ground_form.specs.declared.ground.Ground.{Ground}
 use Rattle.fd_store.specs.Levels.{Stack, reacted}
 use Rattle.branch_choice.specs.declared.split.Order.{Order}

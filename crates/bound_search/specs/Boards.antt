@@ -2,8 +2,7 @@
 -- watches are those of the problem, and what they know is true in the present boxes; and each level
 -- below stands at a fixpoint of the constraints.
 use Rattle.std.specs.Prelude.{◌≡◌, List, [], ◌∷◌, length}
-use Rattle.signed_clause.specs.Clauses.{Boxes}
-use Rattle.signed_clause.specs.Running.{AreValid}
+use Rattle.signed_clause.specs.Clauses.{Boxes, AreValid}
 use Rattle.ground_form.specs.declared.ground.Ground.{Ground}
 use Rattle.fd_store.specs.Levels.{Level, Stack}
 use Rattle.fd_store.specs.Undo.{AreWider}

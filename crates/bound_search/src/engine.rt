@@ -27,7 +27,8 @@ use learn_clauses::analyse;
 use log_form::Line;
 use numbered_clauses::Clauses;
 use proof_log::Journal;
-use signed_clause::{Clause, ClauseHandle, IntSet, RunningClause};
+use running_clause::RunningClause;
+use signed_clause::{Clause, ClauseHandle, IntSet};
 use std::alloc::{AllocError, Global};
 
 /// What goes with the lines of a search.

@@ -24,7 +24,8 @@ use log_form::Line;
 use numbered_clauses::Clauses;
 use proof_log::Journal;
 use rule_law::Kit;
-use signed_clause::{IntSet, RunningClause};
+use running_clause::RunningClause;
+use signed_clause::IntSet;
 use std::alloc::{AllocError, Global};
 
 /// How a search ends.

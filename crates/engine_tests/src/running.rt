@@ -7,7 +7,8 @@
 //! - `owners CLAUSE`: the clause, where two owners have it and the second becomes its one owner
 //!   once the first is gone.
 use crate::given::{answer_of, two_lists};
-use signed_clause::{Clause, ClauseHandle, RunningClause, resolve};
+use running_clause::RunningClause;
+use signed_clause::{Clause, ClauseHandle, resolve};
 use std::alloc::{AllocError, Global};
 use test_case_files::{Case, Subject, push_word, words_of};
 use test_problems::{Unread, clause_of, clause_text, variable};

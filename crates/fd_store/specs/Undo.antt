@@ -2,8 +2,7 @@
 use Rattle.std.specs.Prelude.{◌≡◌, ◌≢◌, ◌<◌, ◌+◌, ℕ, suc, true, cond, List, ◌∷◌, Option, Some, None, length, slice_set, nat_lt, []}
 use Rattle.signed_clause.specs.Ranges.{IsValid, IsSubset}
 use Rattle.signed_clause.specs.SetAlgebra.{is_within}
-use Rattle.signed_clause.specs.Clauses.{Boxes, box_of}
-use Rattle.signed_clause.specs.Running.{AreValid}
+use Rattle.signed_clause.specs.Clauses.{Boxes, box_of, AreValid}
 use Rattle.fd_store.specs.Levels.{Entry, Level, Stack}
 
 -- the levels up to k are left, of a last level and those below it

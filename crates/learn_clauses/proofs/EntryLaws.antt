@@ -4,8 +4,7 @@ use Rattle.std.proofs.lemmas.List.{get_or-set_same, get_or-set_other}
 use Rattle.std.proofs.lemmas.Bool.{and_parts, cases_eq, eq-eqb}
 use Rattle.signed_clause.specs.Ranges.{Ranges, has, IsValid, IsSubset, HaveNoCommonValue}
 use Rattle.signed_clause.specs.SetAlgebra.{is_disjoint, is_within, meet}
-use Rattle.signed_clause.specs.Clauses.{Boxes, Literals, box_of, set_of, has_var, false_in, unit_of, alone_of, resolvent, IsClauseFrom, IsClause}
-use Rattle.signed_clause.specs.Running.{AreValid}
+use Rattle.signed_clause.specs.Clauses.{Boxes, Literals, box_of, set_of, has_var, false_in, unit_of, alone_of, resolvent, IsClauseFrom, IsClause, AreValid}
 use Rattle.signed_clause.proofs.SetFacts.{within_law}
 use Rattle.signed_clause.proofs.RangeSteps.{has-meet_valid, has-join_valid}
 use Rattle.signed_clause.proofs.ClauseLaws.{IsClauseFrom-resolvent}

@@ -4,8 +4,7 @@ use Rattle.std.proofs.lemmas.List.{get_or-set_same, get_or-set_other}
 use Rattle.std.proofs.lemmas.Bool.{and_parts, cases_eq, ne_eqb, eq-eqb}
 use Rattle.signed_clause.specs.Ranges.{Ranges, has, IsSubset, HaveNoCommonValue}
 use Rattle.signed_clause.specs.SetAlgebra.{is_disjoint}
-use Rattle.signed_clause.specs.Clauses.{Boxes, Literals, box_of, set_of, has_var, false_in, IsClauseFrom, IsClause}
-use Rattle.signed_clause.specs.Running.{AreValid}
+use Rattle.signed_clause.specs.Clauses.{Boxes, Literals, box_of, set_of, has_var, false_in, IsClauseFrom, IsClause, AreValid}
 use Rattle.signed_clause.proofs.SetFacts.{disjoint_law}
 use Rattle.signed_clause.proofs.ResolventLaws.{set_here, set_later, set_below, var_below}
 

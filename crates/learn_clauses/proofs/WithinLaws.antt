@@ -7,8 +7,7 @@ use Rattle.std.proofs.lemmas.Bool.{and_parts, cases_eq, cases_lt}
 use Rattle.std.specs.List.{All}
 use Rattle.signed_clause.specs.Ranges.{Ranges, has, is_nil, IsValid, IsSubset, HasNoValue}
 use Rattle.signed_clause.specs.SetAlgebra.{is_disjoint}
-use Rattle.signed_clause.specs.Clauses.{Boxes, Literals, box_of, set_of, has_var, false_in, resolvent, IsClauseFrom, IsClause}
-use Rattle.signed_clause.specs.Running.{AreValid}
+use Rattle.signed_clause.specs.Clauses.{Boxes, Literals, box_of, set_of, has_var, false_in, resolvent, IsClauseFrom, IsClause, AreValid}
 use Rattle.signed_clause.proofs.SetFacts.{nil_law, disjoint_law}
 use Rattle.signed_clause.proofs.RangeSteps.{has-meet_valid, has-join_valid}
 use Rattle.signed_clause.proofs.ResolventLaws.{set_here, set_later, set_below, set_valid, other_is, pivot_is}

@@ -12,14 +12,15 @@
 ghost use Rattle.std.specs.Prelude.{◌≡◌, ◌<◌, ◌≤◌, ◌↔◌, [], ℕ, true, false, length, IfOk, OnOk, Some};
 ghost use Rattle.std.specs.List.{All};
 ghost use Rattle.signed_clause.specs.Clauses.{has_var, false_in, resolvent, IsClause, IsWithinBoxes};
-ghost use Rattle.signed_clause.specs.Running.{listed};
+ghost use Rattle.running_clause.specs.Running.{listed};
 ghost use Rattle.learn_clauses.specs.Walk.{clause_at, walk_from};
 ghost use Rattle.learn_clauses.specs.Learnt.{domains_of, CameFrom, IsWithinDomains, IsDroppedBy, IsLearnt};
 ghost use Rattle.learn_clauses.specs.Turns.{is_passed, ends_at, next_clause, next_steps, IsReadable, IsResolvable, IsStart};
 
 use fd_store::{Moved, Store};
 use numbered_clauses::{Chain, ChainSteps, Clauses};
-use signed_clause::{Clause, RunningClause};
+use running_clause::RunningClause;
+use signed_clause::Clause;
 use std::alloc::{AllocError, Global};
 
 /// What a conflict shows.

@@ -7,13 +7,14 @@
 //! comparison of two clauses.
 ghost use Rattle.std.specs.Prelude.{◌≡◌, ◌&&◌, true, IfOk, length, nat_lt};
 ghost use Rattle.signed_clause.specs.Clauses.{has_var, resolvent, IsWithinBoxes};
-ghost use Rattle.signed_clause.specs.Running.{listed};
+ghost use Rattle.running_clause.specs.Running.{listed};
 ghost use Rattle.log_form.specs.Acceptance.{clause_at, chain_holds, chain_end, same_clause};
 ghost use Rattle.log_check.specs.Chains.{step_holds, AreBelow};
 
 use crate::store::ClauseStore;
 use numbered_clauses::Chain;
-use signed_clause::{Clause, RunningClause};
+use running_clause::RunningClause;
+use signed_clause::Clause;
 use std::alloc::{AllocError, Global};
 
 /// Whether the chain is one of clauses that were made before, and ends with `stated`.

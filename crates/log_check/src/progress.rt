@@ -24,7 +24,8 @@ use crate::verdict::Verdict;
 use box_rules::justified;
 use ground_form::Ground;
 use log_form::{Line, Values, empty_clause};
-use signed_clause::{Clause, RunningClause};
+use running_clause::RunningClause;
+use signed_clause::Clause;
 use std::alloc::{AllocError, Global};
 
 /// What the lines so far leave.

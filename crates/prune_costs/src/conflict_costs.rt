@@ -8,7 +8,8 @@ ghost use Rattle.learn_clauses.specs.Learnt.{domains_of, CameFrom, IsWithinDomai
 use fd_store::{Applied, Store};
 use ground_form::{Cons, Domains, Goals, Ground};
 use learn_clauses::{Clauses, analyse};
-use signed_clause::{Clause, ClauseHandle, IntSet, RunningClause};
+use running_clause::RunningClause;
+use signed_clause::{Clause, ClauseHandle, IntSet};
 use std::alloc::{AllocError, Global};
 use std::rt::Runtime;
 use test_clock::Clock;

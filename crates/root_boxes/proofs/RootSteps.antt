@@ -6,8 +6,7 @@ use Rattle.std.proofs.lemmas.Option.{slice_get-get_or, slice_get_within, get_or_
 use Rattle.std.proofs.lemmas.List.Elements.{All-head, All-tail, All-from_get_or}
 use Rattle.signed_clause.specs.Ranges.{Ranges, has, is_nil, IsValid, IsSubset}
 use Rattle.signed_clause.specs.SetAlgebra.{is_disjoint, is_within, meet}
-use Rattle.signed_clause.specs.Clauses.{Boxes, Literals, box_of, false_in, unit_of, alone_of, clause_true, IsClauseFrom, IsWithinBoxes}
-use Rattle.signed_clause.specs.Running.{AreValid}
+use Rattle.signed_clause.specs.Clauses.{Boxes, Literals, box_of, false_in, unit_of, alone_of, clause_true, IsClauseFrom, IsWithinBoxes, AreValid}
 use Rattle.signed_clause.proofs.ClauseLaws.{has_from_disjoint}
 use Rattle.signed_clause.proofs.RangeSteps.{has-meet_valid}
 use Rattle.signed_clause.proofs.SetFacts.{within_law}

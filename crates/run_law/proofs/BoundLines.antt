@@ -5,8 +5,7 @@ use Rattle.std.proofs.lemmas.List.{get_or_past}
 use Rattle.std.proofs.lemmas.Bool.{and_from, cases_lt, false_from_ne_true}
 use Rattle.signed_clause.specs.Ranges.{Ranges, has, is_nil, IsValid}
 use Rattle.signed_clause.specs.SetAlgebra.{is_disjoint}
-use Rattle.signed_clause.specs.Clauses.{Boxes, Literals, box_of, false_in, clause_true, IsClauseFrom, IsClause}
-use Rattle.signed_clause.specs.Running.{AreValid}
+use Rattle.signed_clause.specs.Clauses.{Boxes, Literals, box_of, false_in, clause_true, IsClauseFrom, IsClause, AreValid}
 use Rattle.signed_clause.proofs.RangeSteps.{meet-none}
 use Rattle.signed_clause.proofs.SetFacts.{disjoint_law}
 use Rattle.ground_form.specs.declared.ground.Ground.{Ground}

@@ -7,8 +7,7 @@ use Rattle.std.proofs.lemmas.Bool.{and_parts, and_from, false_from_ne_true}
 use Rattle.std.proofs.lemmas.Bool.Decides.{Decides-int_eq}
 use Rattle.signed_clause.specs.Ranges.{Ranges, has, IsValid}
 use Rattle.signed_clause.specs.SetAlgebra.{is_disjoint}
-use Rattle.signed_clause.specs.Clauses.{Boxes, Literals, box_of, false_in, unit_of, clause_true, IsClauseFrom, IsClause}
-use Rattle.signed_clause.specs.Running.{AreValid}
+use Rattle.signed_clause.specs.Clauses.{Boxes, Literals, box_of, false_in, unit_of, clause_true, IsClauseFrom, IsClause, AreValid}
 use Rattle.signed_clause.proofs.SetFacts.{disjoint_law}
 use Rattle.ground_form.specs.declared.con.Con.{Con}
 use Rattle.ground_form.specs.declared.ground.Ground.{Ground}

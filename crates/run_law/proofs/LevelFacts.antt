@@ -4,8 +4,7 @@ use Rattle.std.proofs.lemmas.List.{length-set, get_or_append_left}
 use Rattle.std.proofs.lemmas.Bool.{and_parts, cases_eq}
 use Rattle.signed_clause.specs.Ranges.{Ranges, has, is_nil, IsValid, IsSubset}
 use Rattle.signed_clause.specs.SetAlgebra.{meet}
-use Rattle.signed_clause.specs.Clauses.{Boxes, Literals, box_of, false_in, unit_of, IsClause}
-use Rattle.signed_clause.specs.Running.{AreValid}
+use Rattle.signed_clause.specs.Clauses.{Boxes, Literals, box_of, false_in, unit_of, IsClause, AreValid}
 use Rattle.signed_clause.proofs.SetFacts.{within_law}
 use Rattle.signed_clause.proofs.RangeSteps.{has-meet_valid, IsValid-meet}
 use Rattle.fd_store.specs.Levels.{Entry, Level, Stack}

@@ -4,8 +4,7 @@ use Rattle.std.specs.List.{Contains}
 use Rattle.std.proofs.lemmas.Bool.{and_parts, and_from, not-true}
 use Rattle.std.proofs.lemmas.List.{get_or_default}
 use Rattle.signed_clause.specs.Ranges.{is_nil, IsValid}
-use Rattle.signed_clause.specs.Clauses.{Boxes, Literals, box_of, unit_of, IsClause}
-use Rattle.signed_clause.specs.Running.{AreValid}
+use Rattle.signed_clause.specs.Clauses.{Boxes, Literals, box_of, unit_of, IsClause, AreValid}
 use Rattle.signed_clause.proofs.SetFacts.{within_law}
 use Rattle.ground_form.specs.declared.ground.Ground.{Ground}
 use Rattle.ground_form.specs.WellMade.{IsWellMade}

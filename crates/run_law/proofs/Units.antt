@@ -6,8 +6,7 @@ use Rattle.std.proofs.lemmas.List.{get_or-set_same, get_or-set_other}
 use Rattle.std.proofs.lemmas.Bool.{and_parts, cases_eq, false_from_ne_true}
 use Rattle.signed_clause.specs.Ranges.{Ranges, has, IsValid, is_nil}
 use Rattle.signed_clause.specs.SetAlgebra.{is_disjoint, is_within, meet}
-use Rattle.signed_clause.specs.Clauses.{Boxes, Literals, box_of, false_in, unit_of, alone_of, IsClauseFrom}
-use Rattle.signed_clause.specs.Running.{AreValid}
+use Rattle.signed_clause.specs.Clauses.{Boxes, Literals, box_of, false_in, unit_of, alone_of, IsClauseFrom, AreValid}
 use Rattle.signed_clause.proofs.RangeSteps.{meet-none}
 use Rattle.signed_clause.proofs.ClauseLaws.{has_from_disjoint, has_from_within}
 

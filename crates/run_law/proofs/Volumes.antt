@@ -4,8 +4,7 @@ use Rattle.std.proofs.Math.Nat.{mul_assoc, mul_comm, mul-le-mul_right, one-le-mu
 use Rattle.std.proofs.lemmas.Bool.{and_parts, cases_lt, not-true}
 use Rattle.signed_clause.specs.Ranges.{Ranges, IsValid, is_nil, count_of}
 use Rattle.signed_clause.specs.SetAlgebra.{is_disjoint, is_within, meet, less}
-use Rattle.signed_clause.specs.Clauses.{Boxes, box_of}
-use Rattle.signed_clause.specs.Running.{AreValid}
+use Rattle.signed_clause.specs.Clauses.{Boxes, box_of, AreValid}
 use Rattle.signed_clause.proofs.CountLaws.{count-part, count-beside, count-meet-le, count-some}
 use Rattle.ground_form.specs.Solutions.{volume}
 use Rattle.run_law.specs.Replay.{none_empty}

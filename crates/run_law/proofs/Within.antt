@@ -4,8 +4,7 @@ use Rattle.std.specs.List.{AllByRecursion}
 use Rattle.std.proofs.lemmas.Bool.{and_parts, cases_eq, eqb-true}
 use Rattle.signed_clause.specs.Ranges.{Ranges, has, is_nil, IsValid, IsSubset}
 use Rattle.signed_clause.specs.SetAlgebra.{is_within, join, meet}
-use Rattle.signed_clause.specs.Clauses.{Boxes, Literals, box_of, has_var, resolvent, IsClause, IsClauseFrom}
-use Rattle.signed_clause.specs.Running.{AreValid}
+use Rattle.signed_clause.specs.Clauses.{Boxes, Literals, box_of, has_var, resolvent, IsClause, IsClauseFrom, AreValid}
 use Rattle.signed_clause.proofs.SetFacts.{within_law}
 use Rattle.signed_clause.proofs.RangeSteps.{has-meet_valid, has-join_valid, IsValid-meet}
 use Rattle.signed_clause.proofs.ClauseLaws.{IsClauseFrom-resolvent}

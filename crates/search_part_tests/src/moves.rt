@@ -1,7 +1,8 @@
 //! What is done to a store and its clauses, where it may be done.
 use fd_store::{Applied, Store};
 use learn_clauses::{Clauses, Learnt, analyse};
-use signed_clause::{Clause, ClauseHandle, IntSet, RunningClause};
+use running_clause::RunningClause;
+use signed_clause::{Clause, ClauseHandle, IntSet};
 use std::alloc::{AllocError, Global};
 use test_search_checks::{has_boxes, may_analyse};
 

@@ -6,4 +6,3 @@ pub mod CountLaws
 pub mod ClauseLaws
 pub mod ClauseForm
 pub mod ResolventLaws
-pub mod RunningLaws

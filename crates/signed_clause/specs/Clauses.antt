@@ -60,6 +60,10 @@ clause_true (l ∷ ls) a = has l.1 (slice_index_or a l.0 (pos 0)) || clause_true
 abbrev pub box_of : Boxes → ℕ → Ranges
 box_of boxes x = slice_index_or boxes x []
 
+-- each set is valid
+abbrev pub AreValid : Boxes → Type 0
+AreValid sets = (x : ℕ) → IsValid (box_of sets x)
+
 -- each variable has a box
 abbrev pub IsWithinBoxes : Literals → Boxes → Type 0
 IsWithinBoxes ls boxes = All (λ l. l.0 < length boxes) ls

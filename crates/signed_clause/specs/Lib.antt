@@ -4,4 +4,3 @@ pub mod SetAlgebra
 pub mod Union
 pub mod Merging
 pub mod Clauses
-pub mod Running

@@ -66,7 +66,7 @@ impl Clause {
     }
 
     /// The clause of literals that are known to be those of one.
-    pub(crate) fn made_of(lits: Vec<(u32, IntSet)>) -> Clause
+    pub fn made_of(lits: Vec<(u32, IntSet)>) -> Clause
         requires { IsClause lits.items }
         ensures { result ≡ lits.items }
     {

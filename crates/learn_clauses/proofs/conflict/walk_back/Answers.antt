@@ -1,5 +1,5 @@
 use Rattle.std.proofs.Common.{◌≡◌, ◌-◌, true, false, arith, length, sym, ◌∙◌}
-use Rattle.signed_clause.specs.Running.{listed}
+use Rattle.running_clause.specs.Running.{listed}
 use Rattle.learn_clauses.specs.Turns.{ends_at}
 use Rattle.learn_clauses.proofs.WalkByIndex.{start_readable, walking_begins, entry_var, entry_resolves, walking_on, walk_ends, walk_closes}
 use Rattle.learn_clauses.proofs.conflict.walk_back.Goals as goal

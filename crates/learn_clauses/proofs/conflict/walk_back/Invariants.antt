@@ -1,5 +1,5 @@
 use Rattle.std.proofs.Common.{◌≡◌, ◌≤◌, length}
-use Rattle.signed_clause.specs.Running.{listed}
+use Rattle.running_clause.specs.Running.{listed}
 use Rattle.learn_clauses.proofs.WalkByIndex.{WalkingAt}
 use Rattle.learn_clauses.proofs.conflict.walk_back.Given as goal
 

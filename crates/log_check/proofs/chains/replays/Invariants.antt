@@ -1,5 +1,5 @@
 use Rattle.std.proofs.Common.{◌≡◌, drop, length}
-use Rattle.signed_clause.specs.Running.{listed}
+use Rattle.running_clause.specs.Running.{listed}
 use Rattle.log_form.specs.Acceptance.{chain_holds, chain_end}
 use Rattle.log_check.proofs.chains.replays.Given as goal
 

@@ -1,5 +1,5 @@
 use Rattle.std.proofs.Common.{◌≡◌, length}
-use Rattle.signed_clause.specs.Running.{AreValid}
+use Rattle.signed_clause.specs.Clauses.{AreValid}
 use Rattle.fd_store.specs.Undo.{dropped, entries_in}
 use Rattle.prop_queue.specs.Work.{IsOver, AreKnown}
 use Rattle.clause_watches.specs.Watching.{Fits}

@@ -1,9 +1,0 @@
-use Rattle.std.proofs.Common.{◌≡◌, drop, length}
-use Rattle.signed_clause.specs.Running.{AreNoted}
-use Rattle.signed_clause.proofs.running.empty_out.Given as goal
-
-abbrev pub invariant-loop-x : goal.invariant-loop-x
-invariant-loop-x l = record {
-  noted : AreNoted l.sets.items (drop l.x-index l.used);
-  len : length l.sets.items ≡ length l.initial.sets.items;
-}
