@@ -13,7 +13,8 @@ use Rattle.conf_syntax.specs.declared.tree.Item.{Item}
 use Rattle.conf_syntax.specs.declared.tree.Item.TheVariants as item
 use Rattle.conf_syntax.specs.declared.tree.Member.{Member}
 use Rattle.conf_syntax.specs.declared.tree.Member.TheVariants as member
-use Rattle.conf_syntax.specs.Trees.{item_tokens, member_tokens, class_tokens, enum_tokens, values_tokens, further_tokens, abstract_tokens, parent_tokens}
+use Rattle.conf_syntax.specs.Trees.{item_tokens, member_tokens, class_tokens, enum_tokens, values_tokens, further_tokens, parent_tokens}
+use Rattle.conf_syntax.specs.OnlyIf.{only_if}
 use Rattle.class_table.specs.Faults.{IsSmall}
 use Rattle.class_table.specs.Names.{classes, enumerations, own, member_variable}
 
@@ -22,7 +23,7 @@ append_le a b n h = omega (arith, length-append a b)
 
 item_has : (i : Item) → 1 ≤ length (item_tokens i)
 item_has (item.Enum d) = omega arith
-item_has (item.Class d) = append_le (abstract_tokens d.is_abstract) _ 1 (omega arith)
+item_has (item.Class d) = append_le (only_if d.is_abstract (Key key.Abstract)) _ 1 (omega arith)
 item_has (item.Var d) = omega arith
 item_has (item.Where d) = omega arith
 item_has (item.Goal d) = omega arith
@@ -43,7 +44,7 @@ own_le : (d : ClassDecl) → length (own d) ≤ length (class_tokens d)
 own_le d =
     let a = members_le d.members in
     let front : length (own d) ≤ length (flat_map member_tokens d.members ++ Mark mark.CloseBrace ∷ []) = omega (arith, length-append (flat_map member_tokens d.members) (Mark mark.CloseBrace ∷ [])) in
-    append_le (abstract_tokens d.is_abstract) (Key key.Class ∷ Word d.name.name ∷ (parent_tokens d.parent ++ Mark mark.OpenBrace ∷ (flat_map member_tokens d.members ++ Mark mark.CloseBrace ∷ []))) (length (own d))
+    append_le (only_if d.is_abstract (Key key.Abstract)) (Key key.Class ∷ Word d.name.name ∷ (parent_tokens d.parent ++ Mark mark.OpenBrace ∷ (flat_map member_tokens d.members ++ Mark mark.CloseBrace ∷ []))) (length (own d))
     (let b = append_le (parent_tokens d.parent) (Mark mark.OpenBrace ∷ (flat_map member_tokens d.members ++ Mark mark.CloseBrace ∷ [])) (length (own d)) (omega arith) in omega arith)
 
 attributes_le : (items : List Item) → length (flat_map own (classes items)) ≤ length (flat_map item_tokens items)

@@ -19,8 +19,9 @@ use Rattle.conf_syntax.specs.declared.tree.Member.{Member}
 use Rattle.conf_syntax.specs.declared.tree.Member.TheVariants as member
 use Rattle.conf_syntax.specs.declared.tree.VarDecl.{VarDecl}
 use Rattle.conf_syntax.specs.Spelling.{is_letter, is_word, goes_on}
-use Rattle.conf_syntax.specs.Trees.{item_tokens, member_tokens, var_tokens, shape_tokens, abstract_tokens, parent_tokens}
+use Rattle.conf_syntax.specs.Trees.{item_tokens, member_tokens, var_tokens, shape_tokens, parent_tokens}
 use Rattle.conf_syntax.specs.Words.{is_worded, AreWords}
+use Rattle.conf_syntax.specs.OnlyIf.{only_if}
 use Rattle.class_table.specs.declared.names.NameMeaning.TheVariants as meaning
 use Rattle.class_table.specs.declared.table.Class.{Class}
 use Rattle.class_table.specs.declared.table.Enumeration.{Enumeration}
@@ -84,7 +85,7 @@ class_named d a =
     let body = flat_map member_tokens d.members in
     let opened : List Token = token.Mark mark.OpenBrace ∷ (body ++ token.Mark mark.CloseBrace ∷ []) in
     let named : List Token = token.Key key.Class ∷ token.Word d.name.name ∷ (parent_tokens d.parent ++ opened) in
-    let words = and_parts (is_word d.name.name) (list_all is_worded (parent_tokens d.parent ++ opened)) (right (abstract_tokens d.is_abstract) named a) in
+    let words = and_parts (is_word d.name.name) (list_all is_worded (parent_tokens d.parent ++ opened)) (right (only_if d.is_abstract (token.Key key.Abstract)) named a) in
     let inner = right (parent_tokens d.parent) opened words.1 in
     members_named d.members (left body (token.Mark mark.CloseBrace ∷ []) inner)
 

@@ -5,9 +5,10 @@ use Rattle.conf_syntax.specs.declared.token.Mark.TheVariants as mark
 use Rattle.conf_syntax.specs.declared.token.Token.{Token}
 use Rattle.conf_syntax.specs.declared.token.Token.TheVariants.{Word, Number, Key, Mark}
 use Rattle.conf_syntax.specs.declared.tree.QuantKind.{QuantKind}
-use Rattle.conf_syntax.specs.Trees.{op_token, kind_token, goal_key, abstract_tokens, op_level, left_level, may_filter}
+use Rattle.conf_syntax.specs.Trees.{op_token, kind_token, goal_key, op_level, left_level, may_filter}
 use Rattle.conf_syntax.specs.Plain.{sign_token, sign_level, dotted, level, part, quant, bodies, semicolons, may_more, tokens_of, IsAt, IsHead, IsGood, end_tokens, ref_tokens, shape_tokens, values_tokens, exprs_tokens, members_tokens, class_tokens, Program, program_tokens, AreExprs, AreMembers, IsProgram, nesting}
 use Rattle.conf_syntax.specs.Begun.{IsBegunIn, IsRefused, IsTooDeep, IsProgramIn}
+use Rattle.conf_syntax.specs.OnlyIf.{only_if}
 use Rattle.conf_grammar.specs.declared.piece.Piece.{Piece}
 use Rattle.conf_grammar.specs.Machine.{Home, Outside, InClass, Ground, Lone, Inner, GoalOf, Corner, HomeAt, Enums, ClassHead, ShapeAt, HighAt, CountAt, WhereAt, BracesAt, Line, EnumLine, ValueLine, AbstractLine, ClassLine, ParentLine, VarLine, LowLine, DotsLine, HighLine, EndLine, RefLine, CountLine, Frame, InRight, InUnder, InRound, InOver, InFilter, InFirst, InSingle, InThen, State, At, Row, Need, Have, Dotted, VarAt, NamedAt, Next, takes_all, word, leasts, arrive, slots, home_done, missing, corner_done, completed, Outcome, Whole, Wrong, Deep}
 
@@ -43,7 +44,7 @@ corner_front (HomeAt h) = home_front h
 corner_front (Enums p w vs) =
     program_tokens p ++ (Key key.Enum ∷ Word w ∷ Mark mark.OpenBrace ∷ values_tokens vs)
 corner_front (ClassHead p a w) =
-    program_tokens p ++ (abstract_tokens a ++ (Key key.Class ∷ Word w ∷ []))
+    program_tokens p ++ (only_if a (Key key.Abstract) ++ (Key key.Class ∷ Word w ∷ []))
 corner_front (ShapeAt h w) = home_front h ++ (Key key.Var ∷ Word w ∷ Key key.As ∷ [])
 corner_front (HighAt h w low) =
     home_front h ++ (Key key.Var ∷ Word w ∷ Key key.As ∷ (end_tokens low
@@ -83,7 +84,7 @@ line_front (ValueLine p w vs) =
 line_front (AbstractLine p) = program_tokens p ++ (Key key.Abstract ∷ [])
 line_front (ClassLine p) = program_tokens p ++ (Key key.Class ∷ [])
 line_front (ParentLine p a w) =
-    program_tokens p ++ (abstract_tokens a ++ (Key key.Class ∷ Word w ∷ Key key.Extends ∷ []))
+    program_tokens p ++ (only_if a (Key key.Abstract) ++ (Key key.Class ∷ Word w ∷ Key key.Extends ∷ []))
 line_front (VarLine h) = home_front h ++ (Key key.Var ∷ [])
 line_front (LowLine h w) =
     home_front h ++ (Key key.Var ∷ Word w ∷ Key key.As ∷ Mark mark.Minus ∷ [])

@@ -8,8 +8,8 @@ use Rattle.conf_syntax.specs.declared.token.Token.{Token}
 use Rattle.conf_syntax.specs.declared.tree.Program as tree
 use Rattle.conf_syntax.specs.AllPlaces.{program_places}
 use Rattle.conf_syntax.specs.Begun.{IsProgramIn}
-use Rattle.conf_syntax.specs.Models.{IsTreeOf, IsProgramOf, place_of}
-use Rattle.conf_syntax.specs.Places.{bare, first_at}
+use Rattle.conf_syntax.specs.Models.{IsTreeOf, IsProgramOf}
+use Rattle.conf_syntax.specs.Places.{bare, first_at, place_of}
 use Rattle.conf_syntax.specs.Plain.{Program}
 use Rattle.conf_syntax.specs.Standing.{ProgramStands}
 use Rattle.conf_syntax.specs.Views.{program_of}

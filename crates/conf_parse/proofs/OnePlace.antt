@@ -4,8 +4,8 @@ use Rattle.model_limits.specs.Limits.{most_nesting}
 use Rattle.conf_syntax.specs.declared.token.Placed.{Placed}
 use Rattle.conf_syntax.specs.declared.token.Token.{Token}
 use Rattle.conf_syntax.specs.declared.tree.Program.{Program}
-use Rattle.conf_syntax.specs.Models.{IsTreeOf, IsProgramOf, place_of}
-use Rattle.conf_syntax.specs.Places.{bare}
+use Rattle.conf_syntax.specs.Models.{IsTreeOf, IsProgramOf}
+use Rattle.conf_syntax.specs.Places.{bare, place_of}
 use Rattle.conf_syntax.specs.Trees.{program_tokens, program_fits, nesting}
 use Rattle.conf_parse.specs.Begun.{IsBegun, IsBegunIn, IsRefused, IsTooDeep}
 use Rattle.conf_parse.specs.Means.{IsSyntax, IsDeep, Means, IsSameOrMemory}

@@ -17,7 +17,8 @@ use Rattle.conf_syntax.specs.declared.tree.VarDecl.{VarDecl}
 use Rattle.conf_syntax.specs.declared.tree.WhereDecl.{WhereDecl}
 use Rattle.conf_syntax.specs.Places.{first_at}
 use Rattle.conf_syntax.specs.Standing.{statement_size, value_size, enum_size, abstract_size, parent_size, member_size, class_size, where_size, goal_size, InRow, WordStands, ExprStands, MemberStands, ParentStands, ClassBodyStands}
-use Rattle.conf_syntax.specs.Trees.{statement_tokens, values_tokens, further_tokens, parent_tokens, member_tokens, abstract_tokens, goal_key}
+use Rattle.conf_syntax.specs.Trees.{statement_tokens, values_tokens, further_tokens, parent_tokens, member_tokens, goal_key}
+use Rattle.conf_syntax.specs.OnlyIf.{only_if}
 use Rattle.conf_grammar.specs.declared.piece.Piece.TheVariants as piece
 use Rattle.conf_grammar.specs.Machine.{leasts}
 use Rattle.conf_parse.specs.Cursor.{Takes, Follows, NamesThen}
@@ -105,7 +106,7 @@ body_size a i p ms = omega (
   flat_size member_tokens ms,
   length-append (flat_map member_tokens ms) (Mark mark.CloseBrace ∷ []),
   length-append (parent_tokens p) (Mark mark.OpenBrace ∷ (flat_map member_tokens ms ++ (Mark mark.CloseBrace ∷ []))),
-  length-append (abstract_tokens a) (Key key.Class ∷ Word i.name ∷ (parent_tokens p ++ (Mark mark.OpenBrace ∷ (flat_map member_tokens ms ++ (Mark mark.CloseBrace ∷ []))))),
+  length-append (only_if a (Key key.Abstract)) (Key key.Class ∷ Word i.name ∷ (parent_tokens p ++ (Mark mark.OpenBrace ∷ (flat_map member_tokens ms ++ (Mark mark.CloseBrace ∷ []))))),
 )
 
 pub members_begin : (p : Option Ident) (xs : List Member) (tokens inside : List Placed) → ParentReads tokens p inside → xs ≡ [] → MembersRead (drop (parent_end p) tokens) xs inside

@@ -2,8 +2,7 @@
 use Rattle.std.specs.Prelude.{◌≡◌, ℕ, List, ◌++◌}
 use Rattle.model_limits.specs.Limits.{most_nesting}
 use Rattle.conf_syntax.specs.declared.token.Placed.{Placed}
-use Rattle.conf_syntax.specs.Models.{place_of}
-use Rattle.conf_syntax.specs.Places.{bare}
+use Rattle.conf_syntax.specs.Places.{bare, place_of}
 use Rattle.conf_parse.specs.Begun.{IsBegunIn, IsRefused, IsTooDeep}
 use Rattle.conf_parse.specs.declared.parser.ParseError.{ParseError}
 use Rattle.conf_parse.specs.declared.parser.ParseError.TheVariants.{Syntax, TooDeep, Memory}

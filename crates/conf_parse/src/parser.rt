@@ -5,8 +5,8 @@ ghost use Rattle.std.specs.Prelude.{◌≡◌, ◌-◌, ◌*◌, ◌^◌, ◌<�
 ghost use Rattle.model_limits.specs.Limits.{most_nesting};
 ghost use Rattle.conf_syntax.specs.AllPlaces.{program_places};
 ghost use Rattle.conf_syntax.specs.Begun.{IsProgramIn};
-ghost use Rattle.conf_syntax.specs.Models.{IsTreeOf, IsProgramOf, place_of};
-ghost use Rattle.conf_syntax.specs.Places.{bare};
+ghost use Rattle.conf_syntax.specs.Models.{IsTreeOf, IsProgramOf};
+ghost use Rattle.conf_syntax.specs.Places.{bare, place_of};
 ghost use Rattle.conf_syntax.specs.Plain as plain;
 ghost use Rattle.conf_syntax.specs.Views.{program_of};
 ghost use Rattle.conf_parse.specs.Means.{Means, IsSyntax, IsDeep, IsSameOrMemory};

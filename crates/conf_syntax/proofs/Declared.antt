@@ -14,6 +14,7 @@ use Rattle.conf_syntax.specs.declared.tree.Member as members
 use Rattle.conf_syntax.specs.declared.tree.Member.TheVariants as member
 use Rattle.conf_syntax.specs.declared.tree.Shape as shapes
 use Rattle.conf_syntax.specs.declared.tree.Shape.TheVariants as shape
+use Rattle.conf_syntax.specs.OnlyIf.{only_if}
 use Rattle.conf_syntax.specs.Trees as trees
 use Rattle.conf_syntax.specs.Plain as plain
 use Rattle.conf_syntax.specs.Plain.{Tree, IsGood, IsAt, IsExpr, Exprs, WithExpr, NoExpr, Member, Members, NoMember, WithMember, Values, OneValue, WithValue, Item, Program, Empty, With, AreExprs, IsMember, AreMembers, IsItem, IsProgram}
@@ -22,7 +23,7 @@ use Rattle.conf_syntax.proofs.Tied.{nest_is, tokens_is, good_fits}
 
 -- Nesting
 
-exprs_nest : (es : Exprs) (xs : List Expr) → plain.exprs_nest (exprs_from es xs) ≡ max (plain.exprs_nest es) (trees.depth_of_all xs)
+exprs_nest : (es : Exprs) (xs : List Expr) → plain.exprs_nest (exprs_from es xs) ≡ max (plain.exprs_nest es) (trees.deepest trees.expr_depth xs)
 exprs_nest es [] = omega arith
 exprs_nest es (x ∷ xs) = omega (arith, exprs_nest (WithExpr es (tree_of x.node)) xs, nest_is x.node)
 
@@ -30,7 +31,7 @@ exprs_nest es (x ∷ xs) = omega (arith, exprs_nest (WithExpr es (tree_of x.node
 pub never : IsGood no_tree → ⊥
 never g = let e = g.1 in absurd (omega arith)
 
-where_nest : (b : Bool) (xs : List Expr) → IsMember (where_of b xs) → plain.member_nest (where_of b xs) ≡ trees.depth_of_all xs
+where_nest : (b : Bool) (xs : List Expr) → IsMember (where_of b xs) → plain.member_nest (where_of b xs) ≡ trees.deepest trees.expr_depth xs
 where_nest true xs g = exprs_nest NoExpr xs ∙ omega arith
 where_nest false [] g = absurd (never g.0)
 where_nest false (e ∷ []) g = nest_is e.node ∙ omega arith
@@ -44,7 +45,7 @@ pub members_less : (ms : Members) (xs : List members.Member) → AreMembers (mem
 members_less ms [] g = g
 members_less ms (x ∷ xs) g = (members_less (WithMember ms (member_of x)) xs g).0
 
-members_nest : (ms : Members) (xs : List members.Member) → AreMembers (members_from ms xs) → plain.members_nest (members_from ms xs) ≡ max (plain.members_nest ms) (trees.depth_of_members xs)
+members_nest : (ms : Members) (xs : List members.Member) → AreMembers (members_from ms xs) → plain.members_nest (members_from ms xs) ≡ max (plain.members_nest ms) (trees.deepest trees.member_depth xs)
 members_nest ms [] g = omega arith
 members_nest ms (x ∷ xs) g = omega (arith, members_nest (WithMember ms (member_of x)) xs g, member_nest x (members_less (WithMember ms (member_of x)) xs g).1)
 
@@ -63,11 +64,11 @@ pub program_less : (p : Program) (xs : List items.Item) → IsProgram (program_f
 program_less p [] g = g
 program_less p (x ∷ xs) g = (program_less (With p (item_of x)) xs g).0
 
-program_nest : (p : Program) (xs : List items.Item) → IsProgram (program_from p xs) → plain.nesting (program_from p xs) ≡ max (plain.nesting p) (trees.depth_of_items xs)
+program_nest : (p : Program) (xs : List items.Item) → IsProgram (program_from p xs) → plain.nesting (program_from p xs) ≡ max (plain.nesting p) (trees.deepest trees.item_depth xs)
 program_nest p [] g = omega arith
 program_nest p (x ∷ xs) g = omega (arith, program_nest (With p (item_of x)) xs g, item_nest x (program_less (With p (item_of x)) xs g).1)
 
-pub nesting_is : (xs : List items.Item) → IsProgram (program_of xs) → plain.nesting (program_of xs) ≡ trees.depth_of_items xs
+pub nesting_is : (xs : List items.Item) → IsProgram (program_of xs) → plain.nesting (program_of xs) ≡ trees.deepest trees.item_depth xs
 nesting_is xs g = program_nest Empty xs g ∙ omega arith
 
 -- Tokens
@@ -133,9 +134,9 @@ class_row a k w o ms = simp append_assoc
 pub item_tokens : (i : items.Item) → IsItem (item_of i) → plain.item_tokens (item_of i) ≡ trees.item_tokens i
 item_tokens (item.Enum e) g = enum_tokens e.name.name e.values g
 item_tokens (item.Class c) g =
-    class_row (trees.abstract_tokens c.is_abstract) (Key key.Class) (Word c.name.name) (plain.parent_tokens (parent_of c.parent)) (plain.members_tokens (members_from NoMember c.members))
-    ∙ ap (λ (y : List Token). trees.abstract_tokens c.is_abstract ++ (Key key.Class ∷ Word c.name.name ∷ (y ++ (Mark mark.OpenBrace ∷ (plain.members_tokens (members_from NoMember c.members) ++ (Mark mark.CloseBrace ∷ [])))))) (parent_tokens c.parent)
-    ∙ ap (λ (y : List Token). trees.abstract_tokens c.is_abstract ++ (Key key.Class ∷ Word c.name.name ∷ (trees.parent_tokens c.parent ++ (Mark mark.OpenBrace ∷ (y ++ (Mark mark.CloseBrace ∷ [])))))) (members_tokens NoMember c.members g)
+    class_row (only_if c.is_abstract (Key key.Abstract)) (Key key.Class) (Word c.name.name) (plain.parent_tokens (parent_of c.parent)) (plain.members_tokens (members_from NoMember c.members))
+    ∙ ap (λ (y : List Token). only_if c.is_abstract (Key key.Abstract) ++ (Key key.Class ∷ Word c.name.name ∷ (y ++ (Mark mark.OpenBrace ∷ (plain.members_tokens (members_from NoMember c.members) ++ (Mark mark.CloseBrace ∷ [])))))) (parent_tokens c.parent)
+    ∙ ap (λ (y : List Token). only_if c.is_abstract (Key key.Abstract) ++ (Key key.Class ∷ Word c.name.name ∷ (trees.parent_tokens c.parent ++ (Mark mark.OpenBrace ∷ (y ++ (Mark mark.CloseBrace ∷ [])))))) (members_tokens NoMember c.members g)
 item_tokens (item.Var v) g = var_tokens v.name.name v.shape
 item_tokens (item.Where w) g = where_tokens w.braces w.list g
 item_tokens (item.Goal q) g = ap (λ (y : List Token). trees.goal_key q.max ∷ (y ++ (Mark mark.Semicolon ∷ []))) (tokens_is q.expr.node g.0)

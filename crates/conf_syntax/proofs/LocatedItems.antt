@@ -1,5 +1,5 @@
 -- The places of a model follow from its plain tree and its tokens.
-use Rattle.std.proofs.Common.{◌≡◌, ◌+◌, ℕ, true, false, Bool, List, [], ◌∷◌, ◌++◌, refl, sym, ◌∙◌, ap, subst, append_assoc, append-nil, arith, Option, None, Some, length, drop, length-append}
+use Rattle.std.proofs.Common.{◌≡◌, ◌+◌, ℕ, true, false, Bool, cond, List, [], ◌∷◌, ◌++◌, refl, sym, ◌∙◌, ap, subst, append_assoc, append-nil, arith, Option, None, Some, length, drop, length-append}
 use Rattle.std.specs.List.{flat_map}
 use Rattle.conf_syntax.specs.declared.token.Ident.{Ident}
 use Rattle.conf_syntax.specs.declared.token.Mark.TheVariants as mark
@@ -16,7 +16,7 @@ use Rattle.conf_syntax.specs.AllPlaces as listed
 use Rattle.conf_syntax.specs.Places.{first_at, at_index}
 use Rattle.conf_syntax.specs.Plain as plain
 use Rattle.conf_syntax.specs.Plain.{End, Shape, Exprs, NoExpr, WithExpr, Member, Members, NoMember, WithMember, Values, OneValue, WithValue, Item, Program, Empty, With, IsMember, AreMembers, IsItem, IsProgram}
-use Rattle.conf_syntax.specs.Standing.{before_constraints, statement_size, value_size, member_size, item_size, abstract_size, parent_size, InRow, WordStands, ExprStands, ShapeStands, MemberStands, ParentStands, ItemStands}
+use Rattle.conf_syntax.specs.Standing.{statement_size, value_size, member_size, item_size, abstract_size, parent_size, InRow, WordStands, ExprStands, ShapeStands, MemberStands, ParentStands, ItemStands}
 use Rattle.conf_syntax.specs.Trees as trees
 use Rattle.conf_syntax.specs.Views.{tree_of, shape_of, exprs_from, where_of, member_of, members_from, values_from, enum_of, parent_of, item_of, program_from, program_of}
 use Rattle.conf_syntax.proofs.Declared.{never, member_tokens, item_tokens, members_less, program_less}
@@ -103,7 +103,7 @@ exprs_are tokens es (x ∷ xs) h =
     ∙ append_assoc (exprs_places tokens es) (tree_places (drop (exprs_size es) tokens) (tree_of x.node)) (flat_map listed.expr_places xs)
     ∙ ap (λ (y : List ℕ). exprs_places tokens es ++ (y ++ flat_map listed.expr_places xs)) (sym (places_are (drop (exprs_size es) tokens) x.at x.node h.0))
 
-where_are : (tokens : List Placed) (at : ℕ) (b : Bool) (xs : List Expr) → IsMember (where_of b xs) → at ≡ first_at tokens → InRow ExprStands statement_size (drop (before_constraints b) tokens) xs → at ∷ flat_map listed.expr_places xs ≡ member_places tokens (where_of b xs)
+where_are : (tokens : List Placed) (at : ℕ) (b : Bool) (xs : List Expr) → IsMember (where_of b xs) → at ≡ first_at tokens → InRow ExprStands statement_size (drop (cond b 2 1) tokens) xs → at ∷ flat_map listed.expr_places xs ≡ member_places tokens (where_of b xs)
 where_are tokens at true xs g a h = one_place at (first_at tokens) (flat_map listed.expr_places xs) (exprs_places (drop 2 tokens) (exprs_from NoExpr xs)) a (sym (exprs_are (drop 2 tokens) NoExpr xs h))
 where_are tokens at false [] g a h = absurd (never g.0)
 where_are tokens at false (e ∷ []) g a h = one_place at (first_at tokens) (listed.expr_places e ++ []) (tree_places (drop 1 tokens) (tree_of e.node)) a (append-nil (listed.expr_places e) ∙ places_are (drop 1 tokens) e.at e.node h.0)

@@ -1,6 +1,7 @@
 pub mod Lexis
 pub mod Spelling
 pub mod Words
+pub mod OnlyIf
 pub mod Trees
 pub mod Plain
 pub mod Begun

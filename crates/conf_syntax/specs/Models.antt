@@ -1,6 +1,6 @@
 -- What it means that a model is that of some tokens: its tokens, its grammar, its nesting and its
 -- places.
-use Rattle.std.specs.Prelude.{◌≡◌, ◌≤◌, ℕ, true, List, [], ◌∷◌}
+use Rattle.std.specs.Prelude.{◌≡◌, ◌≤◌, true, List}
 use Rattle.model_limits.specs.Limits.{most_nesting}
 use Rattle.conf_syntax.specs.declared.token.Placed.{Placed}
 use Rattle.conf_syntax.specs.declared.tree.Program.{Program}
@@ -17,8 +17,3 @@ pub record IsTreeOf (tokens : List Placed) (p : Program) : Type 0 where
 pub record IsProgramOf (tokens : List Placed) (p : Program) : Type 0 where
   pub tree : IsTreeOf tokens p
   pub places : ProgramStands tokens p
-
--- the place of the first token, or of the text's end where there is none
-abbrev pub place_of : List Placed → ℕ → ℕ
-place_of [] end = end
-place_of (x ∷ xs) end = x.at

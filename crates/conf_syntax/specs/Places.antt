@@ -1,6 +1,6 @@
 -- That each place in a tree is that of its token: an expression's the place of its first token, and
 -- a pair's that of its operator. The tokens begin with those of the tree.
-use Rattle.std.specs.Prelude.{◌≡◌, ◌+◌, ℕ, List, [], ◌∷◌, length, drop}
+use Rattle.std.specs.Prelude.{◌≡◌, ◌+◌, ℕ, List, [], ◌∷◌, map, length, drop}
 use Rattle.conf_syntax.specs.declared.token.Placed.{Placed}
 use Rattle.conf_syntax.specs.declared.token.Token.{Token}
 use Rattle.conf_syntax.specs.declared.tree.Node as node
@@ -10,13 +10,15 @@ use Rattle.conf_syntax.specs.Trees.{tokens_of, body_end, filter_tokens}
 
 -- the tokens without their places
 abbrev pub bare : List Placed → List Token
-bare [] = []
-bare (x ∷ xs) = x.token ∷ bare xs
+bare tokens = map (λ (x : Placed). x.token) tokens
 
--- the place of the first token; 0 where there is none
+-- the place of the first token, or another one where there is none
+abbrev pub place_of : List Placed → ℕ → ℕ
+place_of [] end = end
+place_of (x ∷ xs) end = x.at
+
 abbrev pub first_at : List Placed → ℕ
-first_at [] = 0
-first_at (x ∷ xs) = x.at
+first_at tokens = place_of tokens 0
 
 -- the place of the token behind n others
 abbrev pub at_index : ℕ → List Placed → ℕ

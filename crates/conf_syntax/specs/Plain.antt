@@ -10,7 +10,8 @@ use Rattle.conf_syntax.specs.declared.tree.Op.{Op}
 use Rattle.conf_syntax.specs.declared.tree.Op.TheVariants as op
 use Rattle.conf_syntax.specs.declared.tree.QuantKind.{QuantKind}
 use Rattle.conf_syntax.specs.declared.tree.QuantKind.TheVariants as kind
-use Rattle.conf_syntax.specs.Trees.{op_token, kind_token, minus_tokens, count_tokens, goal_key, abstract_tokens, op_level, left_level, may_filter}
+use Rattle.conf_syntax.specs.OnlyIf.{only_if}
+use Rattle.conf_syntax.specs.Trees.{op_token, kind_token, count_tokens, goal_key, op_level, left_level, may_filter}
 
 -- Expressions
 
@@ -230,7 +231,7 @@ pub data Program : Type 0 where
   With : Program → Item → Program
 
 abbrev pub end_tokens : End → List Token
-end_tokens (EndOf m n) = minus_tokens m ++ (Number n ∷ [])
+end_tokens (EndOf m n) = only_if m (Mark mark.Minus) ++ (Number n ∷ [])
 
 abbrev pub ref_tokens : Bool → List Token
 ref_tokens true = Key key.Ref ∷ []
@@ -269,7 +270,8 @@ parent_tokens (Some w) = Key key.Extends ∷ Word w ∷ []
 -- a class up to its opening brace
 abbrev pub class_tokens : Bool → List ℕ → Option (List ℕ) → List Token
 class_tokens a w o =
-    abstract_tokens a ++ (Key key.Class ∷ Word w ∷ (parent_tokens o ++ (Mark mark.OpenBrace ∷ [])))
+    only_if a (Key key.Abstract)
+    ++ (Key key.Class ∷ Word w ∷ (parent_tokens o ++ (Mark mark.OpenBrace ∷ [])))
 
 abbrev pub item_tokens : Item → List Token
 item_tokens (Enum w vs) =

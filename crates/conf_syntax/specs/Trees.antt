@@ -1,6 +1,7 @@
 -- Which tokens are those of which tree, which trees the grammar has, and how deep a tree is.
-use Rattle.std.specs.Prelude.{ℕ, ◌+◌, max, nat_le, Bool, true, false, ◌&&◌, ◌||◌, ◌==◌, List, [], ◌∷◌, ◌++◌, Option, None, Some, length}
+use Rattle.std.specs.Prelude.{ℕ, ◌+◌, max, nat_le, Bool, true, false, cond, ◌&&◌, ◌||◌, ◌==◌, List, [], ◌∷◌, ◌++◌, Option, length}
 use Rattle.std.specs.List.{flat_map, list_all}
+use Rattle.std.specs.Option.{option_map_or}
 use Rattle.conf_syntax.specs.declared.token.Ident.{Ident}
 use Rattle.conf_syntax.specs.declared.token.Key.TheVariants as key
 use Rattle.conf_syntax.specs.declared.token.Mark.TheVariants as mark
@@ -26,6 +27,7 @@ use Rattle.conf_syntax.specs.declared.tree.Shape.{Shape}
 use Rattle.conf_syntax.specs.declared.tree.Shape.TheVariants as shape
 use Rattle.conf_syntax.specs.declared.tree.VarDecl.{VarDecl}
 use Rattle.conf_syntax.specs.declared.tree.WhereDecl.{WhereDecl}
+use Rattle.conf_syntax.specs.OnlyIf.{only_if}
 
 -- Tokens
 
@@ -60,8 +62,7 @@ body_end kind.AllDifferent = []
 body_end other = Mark mark.Semicolon ∷ []
 
 abbrev pub truth_token : Bool → Token
-truth_token true = Key key.True
-truth_token false = Key key.False
+truth_token b = Key (cond b key.True key.False)
 
 abbrev mutual
   pub tokens_of : node.Node → List Token
@@ -96,12 +97,8 @@ expr_tokens e = tokens_of e.node
 abbrev pub statement_tokens : Expr → List Token
 statement_tokens e = expr_tokens e ++ Mark mark.Semicolon ∷ []
 
-abbrev pub minus_tokens : Bool → List Token
-minus_tokens true = Mark mark.Minus ∷ []
-minus_tokens false = []
-
 abbrev pub bound_tokens : Bound → List Token
-bound_tokens b = minus_tokens b.minus ++ Number b.value ∷ []
+bound_tokens b = only_if b.minus (Mark mark.Minus) ++ Number b.value ∷ []
 
 abbrev pub count_tokens : ℕ → List Token
 count_tokens n = Mark mark.OpenBracket ∷ Number n ∷ Mark mark.CloseBracket ∷ []
@@ -128,8 +125,7 @@ abbrev pub where_tokens : WhereDecl → List Token
 where_tokens w = Key key.Where ∷ where_body w.braces w.list
 
 abbrev pub goal_key : Bool → Token
-goal_key true = Key key.Maximize
-goal_key false = Key key.Minimize
+goal_key max = Key (cond max key.Maximize key.Minimize)
 
 abbrev pub goal_tokens : GoalDecl → List Token
 goal_tokens g = goal_key g.max ∷ statement_tokens g.expr
@@ -146,13 +142,8 @@ enum_tokens e =
     Key key.Enum ∷ Word e.name.name ∷ Mark mark.OpenBrace ∷ (values_tokens e.values
     ++ Mark mark.CloseBrace ∷ [])
 
-abbrev pub abstract_tokens : Bool → List Token
-abstract_tokens true = Key key.Abstract ∷ []
-abstract_tokens false = []
-
 abbrev pub parent_tokens : Option Ident → List Token
-parent_tokens None = []
-parent_tokens (Some i) = Key key.Extends ∷ Word i.name ∷ []
+parent_tokens parent = option_map_or (λ i. Key key.Extends ∷ Word i.name ∷ []) parent []
 
 abbrev pub member_tokens : Member → List Token
 member_tokens (member.Var v) = var_tokens v
@@ -160,8 +151,9 @@ member_tokens (member.Where w) = where_tokens w
 
 abbrev pub class_tokens : ClassDecl → List Token
 class_tokens c =
-    abstract_tokens c.is_abstract ++ Key key.Class ∷ Word c.name.name ∷ (parent_tokens c.parent
-    ++ Mark mark.OpenBrace ∷ (flat_map member_tokens c.members ++ Mark mark.CloseBrace ∷ []))
+    only_if c.is_abstract (Key key.Abstract) ++ Key key.Class ∷ Word c.name.name
+    ∷ (parent_tokens c.parent ++ Mark mark.OpenBrace ∷ (flat_map member_tokens c.members
+    ++ Mark mark.CloseBrace ∷ []))
 
 abbrev pub item_tokens : Item → List Token
 item_tokens (item.Enum e) = enum_tokens e
@@ -307,30 +299,25 @@ abbrev mutual
   body_depth quant.end_of-Expr = 0
   body_depth (quant.more_of-Expr at e rest) = max (depth e) (body_depth rest)
 
--- the depth of the deepest of the expressions
-abbrev pub depth_of_all : List Expr → ℕ
-depth_of_all [] = 0
-depth_of_all (e ∷ es) = max (depth e.node) (depth_of_all es)
+-- the depth of the deepest of what stands in a list
+abbrev pub deepest : {X : Type 0} → (X → ℕ) → List X → ℕ
+deepest depth_of [] = 0
+deepest depth_of (x ∷ xs) = max (depth_of x) (deepest depth_of xs)
+
+abbrev pub expr_depth : Expr → ℕ
+expr_depth e = depth e.node
 
 abbrev pub member_depth : Member → ℕ
 member_depth (member.Var v) = 0
-member_depth (member.Where w) = depth_of_all w.list
-
-abbrev pub depth_of_members : List Member → ℕ
-depth_of_members [] = 0
-depth_of_members (m ∷ ms) = max (member_depth m) (depth_of_members ms)
+member_depth (member.Where w) = deepest expr_depth w.list
 
 abbrev pub item_depth : Item → ℕ
 item_depth (item.Enum e) = 0
-item_depth (item.Class c) = depth_of_members c.members
+item_depth (item.Class c) = deepest member_depth c.members
 item_depth (item.Var v) = 0
-item_depth (item.Where w) = depth_of_all w.list
-item_depth (item.Goal g) = depth g.expr.node
-
-abbrev pub depth_of_items : List Item → ℕ
-depth_of_items [] = 0
-depth_of_items (i ∷ is) = max (item_depth i) (depth_of_items is)
+item_depth (item.Where w) = deepest expr_depth w.list
+item_depth (item.Goal g) = expr_depth g.expr
 
 -- the depth of the deepest expression of a model
 abbrev pub nesting : Program → ℕ
-nesting p = depth_of_items p.items
+nesting p = deepest item_depth p.items

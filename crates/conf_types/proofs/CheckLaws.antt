@@ -8,7 +8,7 @@ use Rattle.conf_syntax.specs.declared.tree.Expr.{Expr}
 use Rattle.conf_syntax.specs.declared.tree.Op.{Op}
 use Rattle.conf_syntax.specs.declared.tree.Quant as quant
 use Rattle.conf_syntax.specs.declared.tree.QuantKind.{QuantKind}
-use Rattle.conf_syntax.specs.Trees.{depth, depth_of_all}
+use Rattle.conf_syntax.specs.Trees.{depth, deepest, expr_depth}
 use Rattle.conf_types.specs.declared.fault.TypeFault.{TypeFault}
 use Rattle.conf_types.specs.declared.fault.TypeFault.TheVariants.{Unknown, WrongType, NonLinear, Shadow, Memory}
 use Rattle.conf_types.specs.declared.rules.Checked.{Checked}
@@ -122,16 +122,16 @@ module _ (o : Outline) (s : Scope) (k : QuantKind) (body : List Expr) where
       let same : suc (i + 1) ≡ suc i + 1 = omega arith in
       subst (λ n. drop i ys ≡ e ∷ drop n (y ∷ ys)) same (next ys i e (omega (arith, h)) is)
 
-  pub depth_at : (es : List Expr) (i : ℕ) (e : Expr) → i < length es → e ≡ get_or es i e → depth e.node ≤ depth_of_all (drop i es)
-  depth_at es i e h is = let d = ap depth_of_all (next es i e h is) in omega (arith, d)
+  pub depth_at : (es : List Expr) (i : ℕ) (e : Expr) → i < length es → e ≡ get_or es i e → depth e.node ≤ deepest expr_depth (drop i es)
+  depth_at es i e h is = let d = ap (deepest expr_depth) (next es i e h is) in omega (arith, d)
 
-  pub depth_left : (es : List Expr) (i : ℕ) (e : Expr) → i < length es → e ≡ get_or es i e → depth_of_all (drop (i + 1) es) ≤ depth_of_all (drop i es)
-  depth_left es i e h is = let d = ap depth_of_all (next es i e h is) in omega (arith, d)
+  pub depth_left : (es : List Expr) (i : ℕ) (e : Expr) → i < length es → e ≡ get_or es i e → deepest expr_depth (drop (i + 1) es) ≤ deepest expr_depth (drop i es)
+  depth_left es i e h is = let d = ap (deepest expr_depth) (next es i e h is) in omega (arith, d)
 
-  pub depth_drop : (es : List Expr) (i : ℕ) → depth_of_all (drop i es) ≤ depth_of_all es
+  pub depth_drop : (es : List Expr) (i : ℕ) → deepest expr_depth (drop i es) ≤ deepest expr_depth es
   depth_drop [] i = by i
     where
-      by : (i : ℕ) → depth_of_all (drop i []) ≤ 0
+      by : (i : ℕ) → deepest expr_depth (drop i []) ≤ 0
       by zero = omega arith
       by (suc i) = omega arith
   depth_drop (e ∷ es) zero = omega arith

@@ -13,7 +13,8 @@ use Rattle.conf_syntax.specs.declared.tree.Item.TheVariants as item
 use Rattle.conf_syntax.specs.declared.tree.Member.{Member}
 use Rattle.conf_syntax.specs.declared.tree.Member.TheVariants as member
 use Rattle.conf_syntax.specs.declared.tree.Program.{Program}
-use Rattle.conf_syntax.specs.Trees.{expr_tokens, statement_tokens, where_body, member_tokens, abstract_tokens, parent_tokens, class_tokens, item_tokens, program_tokens}
+use Rattle.conf_syntax.specs.Trees.{expr_tokens, statement_tokens, where_body, member_tokens, parent_tokens, class_tokens, item_tokens, program_tokens}
+use Rattle.conf_syntax.specs.OnlyIf.{only_if}
 use Rattle.conf_types.specs.Programs.{stated, member_exprs, item_constraints, next_class, constraints_from, constraints, ResolvedConstraint, resolved_constraint}
 
 append_le : {X : Type 0} (a b : List X) (n : ℕ) → n ≤ length b → n ≤ length (a ++ b)
@@ -49,7 +50,7 @@ class_few d =
     let a = members_few d.members in
     let b : n ≤ length body = omega (arith, length-append (flat_map member_tokens d.members) (Mark mark.CloseBrace ∷ [])) in
     let c = append_le (parent_tokens d.parent) (Mark mark.OpenBrace ∷ body) n (omega arith) in
-    append_le (abstract_tokens d.is_abstract) (Key key.Class ∷ Word d.name.name ∷ (parent_tokens d.parent ++ Mark mark.OpenBrace ∷ body)) n (omega arith)
+    append_le (only_if d.is_abstract (Key key.Abstract)) (Key key.Class ∷ Word d.name.name ∷ (parent_tokens d.parent ++ Mark mark.OpenBrace ∷ body)) n (omega arith)
 
 item_few : (i : Item) (c : ℕ) → length (item_constraints i c) ≤ length (item_tokens i)
 item_few (item.Class d) c = let a = class_few d in omega (arith, length-map (flat_map member_exprs d.members) (stated (Some c)))

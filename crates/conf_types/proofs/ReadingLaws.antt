@@ -3,7 +3,7 @@ use Rattle.std.proofs.Common.{◌≡◌, ℕ, max, ◌∷◌, Some, refl, ap, �
 use Rattle.class_table.specs.Outline.{Outline}
 use Rattle.conf_syntax.specs.declared.token.Ident.{Ident}
 use Rattle.conf_syntax.specs.declared.tree.Quant as quant
-use Rattle.conf_syntax.specs.Trees.{depth, quant_depth, body_depth, depth_of_all}
+use Rattle.conf_syntax.specs.Trees.{depth, quant_depth, body_depth, deepest, expr_depth}
 use Rattle.conf_types.specs.declared.scope.Found.{Found}
 use Rattle.conf_types.specs.declared.types.ExprType.{ExprType}
 use Rattle.conf_types.specs.declared.types.ExprType.TheVariants.{Object}
@@ -24,10 +24,10 @@ pub quant_is : (q : quant.Quant) (o : Outline) (at : ℕ) (s : Scope) → quant_
 quant_is (quant.Quant' k var at over quant.None' shape body) o place s = search (rules, quant.the_lemmas, rows_are)
 quant_is (quant.Quant' k var at over (quant.Some' at' e) shape body) o place s = search (rules, quant.the_lemmas, rows_are)
 
-rows_depth : (m : _) (row : quant.Row_of-Expr m) → body_depth row ≡ depth_of_all (quant.items-the_row-Expr m row)
+rows_depth : (m : _) (row : quant.Row_of-Expr m) → body_depth row ≡ deepest expr_depth (quant.items-the_row-Expr m row)
 rows_depth m quant.end_of-Expr = refl
 rows_depth m (quant.more_of-Expr at e rest) = ap (λ n. max (depth e) n) (rows_depth _ rest)
 
-pub quant_depth_is : (q : quant.Quant) → quant_depth q ≡ max (depth (quant.out-Quant q).over.node) (max (optional_depth (quant.out-Quant q).filter) (depth_of_all (quant.out-Quant q).body.items))
+pub quant_depth_is : (q : quant.Quant) → quant_depth q ≡ max (depth (quant.out-Quant q).over.node) (max (optional_depth (quant.out-Quant q).filter) (deepest expr_depth (quant.out-Quant q).body.items))
 quant_depth_is (quant.Quant' k var at over quant.None' shape body) = search (rules, quant.the_lemmas, rows_depth)
 quant_depth_is (quant.Quant' k var at over (quant.Some' at' e) shape body) = search (rules, quant.the_lemmas, rows_depth)

@@ -5,7 +5,7 @@ ghost use Rattle.model_limits.specs.Limits.{model_bytes, most_nesting};
 ghost use Rattle.class_table.specs.Names.{item_class};
 ghost use Rattle.class_table.specs.Outline.{Outline, outline};
 ghost use Rattle.class_table.specs.Sound.{IsSound};
-ghost use Rattle.conf_syntax.specs.Trees.{depth, depth_of_all, depth_of_items, depth_of_members, item_depth, nesting, program_tokens};
+ghost use Rattle.conf_syntax.specs.Trees.{depth, item_depth, nesting, program_tokens, deepest, expr_depth, member_depth};
 ghost use Rattle.conf_types.specs.Checked.{scope_of};
 ghost use Rattle.conf_types.specs.Programs.{OnFault, constraint_at, resolved_constraint, resolved_goal, constraint_faults, goal_faults, faults, constraints, goals, stated, member_exprs, item_constraints, item_goal, next_class, outside};
 ghost use Rattle.conf_types.specs.Typing.{IsTypedConstraint, IsTypedGoal, IsTypedModel};
@@ -143,7 +143,7 @@ fn check_list(
 ) -> Result<(), TypeFault>
     requires sound { IsSound table.now }
     requires class { IfSome class (λ c. c < length table.now.classes) }
-    requires depth { depth_of_all list.now ≤ most_nesting }
+    requires depth { deepest expr_depth list.now ≤ most_nesting }
     ensures constraints { OnOk result (found.new.items ≡ found.old.items
         ++ map (resolved_constraint table.now) (map (stated class) list.now)) }
     ensures right { OnOk result (flat_map (constraint_faults table.now)
@@ -172,7 +172,7 @@ fn check_members(
 ) -> Result<(), TypeFault>
     requires sound { IsSound table.now }
     requires class { class < length table.now.classes }
-    requires depth { depth_of_members members.now ≤ most_nesting }
+    requires depth { deepest member_depth members.now ≤ most_nesting }
     ensures constraints { OnOk result (found.new.items ≡ found.old.items
         ++ map (resolved_constraint table.now)
         (map (stated (Some class)) (flat_map member_exprs members.now))) }
@@ -262,7 +262,7 @@ fn check_items(alloc: Global, table: &ClassTable, items: &[Item]) -> Result<Part
     requires table { table.now ≡ outline items.now }
     requires sound { IsSound table.now }
     requires few { length items.now < 2 ^ 32 - 1 }
-    requires depth { depth_of_items items.now ≤ most_nesting }
+    requires depth { deepest item_depth items.now ≤ most_nesting }
     ensures constraints { IfOk result (λ m. m.constraints.items
         ≡ map (resolved_constraint table.now) (constraints items.now)) }
     ensures goals { IfOk result (λ m. m.goals.items ≡ map (resolved_goal table.now)

@@ -5,7 +5,7 @@
 //! typed parts stands in `rules`. The recursion is on the tree, which nests at most `MOST_NESTING`.
 ghost use Rattle.std.specs.Prelude.{◌≡◌, ◌≤◌, ◌+◌, true, length, Contains, IfOk, IfErr};
 ghost use Rattle.model_limits.specs.Limits.{most_nesting};
-ghost use Rattle.conf_syntax.specs.Trees.{depth, depth_of_all, quant_depth};
+ghost use Rattle.conf_syntax.specs.Trees.{depth, quant_depth, deepest, expr_depth};
 ghost use Rattle.conf_types.specs.Checked.{scope_of, told, IsScope, IsRead, IsTypeOf, IsFilter, AreBodies, optional_reading, optional_depth, readings, quantifier_at};
 ghost use Rattle.conf_types.specs.Programs.{OnFault};
 ghost use Rattle.conf_types.specs.Readings.{read, needed, faults_of, alone, over_reading, right_reading, paren_reading, dot_reading, attribute_reading, minus_reading, not_reading, pair_reading, quant_reading, filter_faults, bodies_faults};
@@ -347,7 +347,7 @@ fn check_bodies<'a>(
     body: &'a [Expr],
 ) -> Result<Vec<RExpr>, TypeFault>
     requires scope { IsScope table.now scope.now }
-    requires room { length scope.now.locals.items + depth_of_all body.now ≤ most_nesting }
+    requires room { length scope.now.locals.items + deepest expr_depth body.now ≤ most_nesting }
     ensures read { IfOk result (λ xs. AreBodies kind xs.items
         (readings table.now (scope_of scope.now) body.now) 0) }
     ensures fault { IfErr result (λ f. OnFault f

@@ -2,10 +2,10 @@ use Rattle.std.proofs.Common.{◌≡◌, ◌≤◌, ◌+◌, ◌++◌, map, drop
 use Rattle.std.specs.List.{flat_map}
 use Rattle.model_limits.specs.Limits.{most_nesting}
 use Rattle.class_table.specs.Names.{classes}
-use Rattle.conf_syntax.specs.Trees.{depth_of_items}
 use Rattle.conf_types.specs.Programs.{resolved_constraint, resolved_goal, constraint_faults, goal_faults, constraints, constraints_from, goals}
 use Rattle.conf_types.specs.Typing.{IsTypedModel}
 use Rattle.conf_types.proofs.checker.check_items.Given as goal
+use Rattle.conf_syntax.specs.Trees.{deepest, item_depth}
 
 -- with what is left the constraints, objectives and faults are those of all items; those so far are typed
 abbrev pub invariant-loop-item : goal.invariant-loop-item
@@ -19,5 +19,5 @@ invariant-loop-item l =
       classes_are : l.class + length (classes left) ≡ length (classes l.items);
       few : l.class ≤ l.item-index;
       typed : IsTypedModel l.table l.found.constraints.items l.found.goals.items;
-      depth : depth_of_items left ≤ most_nesting;
+      depth : deepest item_depth left ≤ most_nesting;
     }

@@ -1,6 +1,6 @@
 use Rattle.std.proofs.Common.{◌≡◌, arith, sym, subst, ap, ◌∙◌, IfOk}
 use Rattle.conf_syntax.specs.declared.tree.Quant as quant
-use Rattle.conf_syntax.specs.Trees.{depth_of_all}
+use Rattle.conf_syntax.specs.Trees.{deepest, expr_depth}
 use Rattle.conf_types.specs.Checked.{IsRead, scope_of, told}
 use Rattle.std.specs.Prelude.{Contains}
 use Rattle.std.proofs.Common.{true}
@@ -91,7 +91,7 @@ pub check_parts-check_bodies-requires : goal.check_parts-check_bodies-requires
 check_parts-check_bodies-requires t c =
     let q = quant_depth_is c.args.quant.now in
     let d = c.decreases in
-    let same = ap depth_of_all c.deref.ensures.value in
+    let same = ap (deepest expr_depth) c.deref.ensures.value in
     (omega (arith, d, q, same), (c.in_ok-inner.ensures.exists, omega (arith, q, c.requires.room, c.in_ok-inner.ensures.more, same)))
 
 pub check_parts-returns-clause-read : goal.check_parts-returns-clause-read

@@ -1,6 +1,6 @@
 use Rattle.std.proofs.Common.{◌≡◌, ◌≤◌, ◌+◌, ◌*◌, max, drop, length}
 use Rattle.model_limits.specs.Limits.{most_nesting}
-use Rattle.conf_syntax.specs.Trees.{depth, depth_of_all, quant_depth}
+use Rattle.conf_syntax.specs.Trees.{depth, quant_depth, deepest, expr_depth}
 use Rattle.conf_types.specs.Checked.{scope_of, readings, trees_onto, optional_depth}
 use Rattle.conf_types.specs.Readings.{bodies_faults, bodies_hold, bodies_tree}
 use Rattle.conf_types.proofs.expressions.+check.Given as goal
@@ -39,7 +39,7 @@ abbrev pub decreases-check_filter : goal.decreases-check_filter
 decreases-check_filter l = 8 * optional_depth l.filter.now + 2
 
 abbrev pub decreases-check_bodies : goal.decreases-check_bodies
-decreases-check_bodies l = 8 * depth_of_all l.body.now + 2
+decreases-check_bodies l = 8 * deepest expr_depth l.body.now + 2
 
 abbrev pub decreases-check_parts : goal.decreases-check_parts
 decreases-check_parts l = 8 * quant_depth l.quant.now + 5
@@ -57,5 +57,5 @@ invariant-check_bodies-loop-k l =
       right : bodies_faults l.kind left l.k ≡ bodies_faults l.kind all 0;
       hold : bodies_hold l.kind left l.k ≡ bodies_hold l.kind all 0;
       trees : trees_onto l.found.items (bodies_tree left) ≡ bodies_tree all;
-      room : length l.scope.locals.items + depth_of_all (drop l.k l.body) ≤ most_nesting;
+      room : length l.scope.locals.items + deepest expr_depth (drop l.k l.body) ≤ most_nesting;
     }
