@@ -17,12 +17,13 @@ use Rattle.conf_syntax.specs.declared.tree.VarDecl.{VarDecl}
 use Rattle.conf_syntax.specs.declared.tree.Program.{Program}
 use Rattle.conf_syntax.specs.OneModel.{AreOneModel}
 use Rattle.conf_syntax.proofs.WholeItems.{whole_items, one_whole}
+use Rattle.conf_syntax.specs.OnlyIf.{only_if}
 use Rattle.class_table.specs.declared.fault.TableFault.{TableFault}
-use Rattle.class_table.specs.declared.fault.TableFault.TheVariants.{Duplicate, InheritCycle}
+use Rattle.class_table.specs.declared.fault.TableFault.TheVariants.{Duplicate, InheritCycle, AbstractObject}
 use Rattle.class_table.specs.declared.names.NameMeaning.{NameMeaning}
 use Rattle.class_table.specs.declared.names.NameMeaning.TheVariants as meaning
 use Rattle.class_table.specs.Ancestry.{attributes_within}
-use Rattle.class_table.specs.Faults.{repeated, taken, is_abstract, abstract_object, named_faults, many_faults, shape_faults, parent_faults, member_faults, item_faults, parent_of, own_of, class_count, attributes_of, variable_ident, Holds, ContainsOne, IsParent, Stands, name_repeated, within_item, attribute_repeated, derives_itself, contains_itself}
+use Rattle.class_table.specs.Faults.{repeated, taken, is_abstract, named_faults, many_faults, shape_faults, parent_faults, member_faults, item_faults, parent_of, own_of, class_count, attributes_of, variable_ident, Holds, ContainsOne, IsParent, Stands, name_repeated, within_item, attribute_repeated, derives_itself, contains_itself}
 use Rattle.class_table.specs.Names.{Space, space, means, classes, declared, own}
 use Rattle.class_table.specs.Outline.{Outline, outline, parent_in, class_meant}
 use Rattle.graph_walk.specs.Steps.{StepsBy}
@@ -53,13 +54,13 @@ named_alike : (ds es : List ClassDecl) (i : Ident) (m : Option NameMeaning) → 
 named_alike ds es i None h = refl
 named_alike ds es i (Some (meaning.Variable v)) h = refl
 named_alike ds es i (Some (meaning.Enumeration e)) h = refl
-named_alike ds es i (Some (meaning.Class c)) h = ap (λ (f : ℕ → Bool). abstract_object (f c) i.at) h
+named_alike ds es i (Some (meaning.Class c)) h = ap (λ (f : ℕ → Bool). only_if (f c) (AbstractObject i.at)) h
 
 many_alike : (ds es : List ClassDecl) (i : Ident) (m : Option NameMeaning) → AreAlike ds es → many_faults ds i m ≡ many_faults es i m
 many_alike ds es i None h = refl
 many_alike ds es i (Some (meaning.Variable v)) h = refl
 many_alike ds es i (Some (meaning.Enumeration e)) h = refl
-many_alike ds es i (Some (meaning.Class c)) h = ap (λ (f : ℕ → Bool). abstract_object (f c) i.at) h
+many_alike ds es i (Some (meaning.Class c)) h = ap (λ (f : ℕ → Bool). only_if (f c) (AbstractObject i.at)) h
 
 shape_alike : (names : Space) (ds es : List ClassDecl) (s : Shape) → AreAlike ds es → shape_faults names ds s ≡ shape_faults names es s
 shape_alike names ds es (shape.Range low high) h = refl

@@ -5,7 +5,8 @@ use Rattle.std.specs.List.{list_any, position_from}
 use Rattle.std.specs.Cmp.Lexicographic.{nat_list_eq_equiv}
 use Rattle.std.proofs.lemmas.Iterator.Adapters.{position_from-zero}
 use Rattle.conf_syntax.specs.declared.token.Ident.{Ident}
-use Rattle.class_table.specs.Faults.{repeated, again}
+use Rattle.conf_syntax.specs.OnlyIf.{only_if}
+use Rattle.class_table.specs.Faults.{repeated}
 use Rattle.class_table.specs.Outline.{value_name}
 use Rattle.class_table.specs.Same.{same_name}
 use Rattle.class_table.specs.Tables.{all_differ}
@@ -15,7 +16,7 @@ pub differ_from : (is : List Ident) (seen : List (List ℕ)) → repeated is see
 differ_from [] seen h = refl
 differ_from (i ∷ is) seen h = by (list_any (same_name i.name) seen) (λ g. differ_from is (seen ++ i.name ∷ []) g) h
   where
-    by : (b : Bool) → (repeated is (seen ++ i.name ∷ []) ≡ [] → all_differ (map value_name is) (seen ++ i.name ∷ []) ≡ true) → again b i.at ++ repeated is (seen ++ i.name ∷ []) ≡ [] → cond b false (all_differ (map value_name is) (seen ++ i.name ∷ [])) ≡ true
+    by : (b : Bool) → (repeated is (seen ++ i.name ∷ []) ≡ [] → all_differ (map value_name is) (seen ++ i.name ∷ []) ≡ true) → only_if b i.at ++ repeated is (seen ++ i.name ∷ []) ≡ [] → cond b false (all_differ (map value_name is) (seen ++ i.name ∷ [])) ≡ true
     by true more g = cc
     by false more g = more g
 

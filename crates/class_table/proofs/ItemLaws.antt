@@ -4,10 +4,11 @@ use Rattle.std.specs.Prelude.{Contains, if◌then◌else◌, not}
 use Rattle.std.specs.List.{flat_map, list_any}
 use Rattle.std.proofs.lemmas.List.{map-append}
 use Rattle.conf_syntax.specs.declared.token.Ident.{Ident}
+use Rattle.conf_syntax.specs.OnlyIf.{only_if}
 use Rattle.class_table.specs.declared.fault.TableFault.TheVariants.{Duplicate}
 use Rattle.class_table.specs.Same.{same_name}
 use Rattle.class_table.specs.Outline.{value_name}
-use Rattle.class_table.specs.Faults.{repeated, again}
+use Rattle.class_table.specs.Faults.{repeated}
 use Rattle.class_table.proofs.ListLaws.{drop_next}
 
 -- what an item adds stood before what is left
@@ -57,7 +58,7 @@ value_added is k i w old new fresh h e name fresh_is on new_is =
           ∙ append_assoc old (i.name ∷ []) (map value_name left)
           ∙ ap (λ l. old ++ map value_name l) (sym next);
       right = ap (repeated left) added
-          ∙ sym (ap (λ b. again b i.at ++ repeated left (old ++ i.name ∷ [])) here)
+          ∙ sym (ap (λ b. only_if b i.at ++ repeated left (old ++ i.name ∷ [])) here)
           ∙ ap (λ l. repeated l old) (sym next);
     }
 
@@ -68,5 +69,5 @@ value_repeated is k i w old all fresh h e name fresh_is off all_is =
     let some : list_any (same_name i.name) old ≡ true =
     ap (λ x. list_any (same_name x) old) (sym name) ∙ is_old (list_any (same_name w) old) fresh fresh_is off in
     let same : i.at ∷ rest ≡ all =
-    sym (ap (λ b. again b i.at ++ rest) some) ∙ ap (λ l. repeated l old) (sym (drop_next is k i h e)) ∙ all_is in
+    sym (ap (λ b. only_if b i.at ++ rest) some) ∙ ap (λ l. repeated l old) (sym (drop_next is k i h e)) ∙ all_is in
     subst (λ l. Contains (map (λ at. Duplicate at) l) (Duplicate i.at)) same (0, omega arith, refl)

@@ -8,12 +8,13 @@ use Rattle.std.specs.List.{flat_map, list_any}
 use Rattle.conf_syntax.specs.declared.token.Ident.{Ident}
 use Rattle.conf_syntax.specs.declared.tree.ClassDecl.{ClassDecl}
 use Rattle.conf_syntax.specs.declared.tree.VarDecl.{VarDecl}
+use Rattle.conf_syntax.specs.OnlyIf.{only_if}
 use Rattle.class_table.specs.declared.fault.TableFault.{TableFault}
 use Rattle.class_table.specs.declared.fault.TableFault.TheVariants.{Duplicate}
 use Rattle.class_table.specs.declared.table.Class.{Class}
 use Rattle.graph_walk.specs.declared.walk.State.{State}
 use Rattle.graph_walk.specs.declared.walk.State.TheVariants.{New, Open, Done}
-use Rattle.class_table.specs.Faults.{repeated, again, variable_ident}
+use Rattle.class_table.specs.Faults.{repeated, variable_ident}
 use Rattle.class_table.specs.Names.{own, same_name}
 use Rattle.class_table.specs.Outline.{parent_in, value_name}
 use Rattle.class_table.specs.Scopes.{IsFamily, IsScope, IsRepeated, RootsReached, Differ, attributes_at, own_at, names_of, open_own, open_weight}
@@ -29,8 +30,8 @@ repeated_append [] ys seen = ap (λ s. repeated ys s) (sym (append-nil seen))
 repeated_append (x ∷ xs) ys seen =
     let rest = repeated_append xs ys (seen ++ x.name ∷ []) in
     let same : (seen ++ x.name ∷ []) ++ map value_name xs ≡ seen ++ (x.name ∷ map value_name xs) = append_assoc seen (x.name ∷ []) (map value_name xs) in
-    ap (λ t. again (list_any (same_name x.name) seen) x.at ++ t) (rest ∙ ap (λ s. repeated xs (seen ++ x.name ∷ []) ++ repeated ys s) same)
-    ∙ sym (append_assoc (again (list_any (same_name x.name) seen) x.at) (repeated xs (seen ++ x.name ∷ [])) (repeated ys (seen ++ (x.name ∷ map value_name xs))))
+    ap (λ t. only_if (list_any (same_name x.name) seen) x.at ++ t) (rest ∙ ap (λ s. repeated xs (seen ++ x.name ∷ []) ++ repeated ys s) same)
+    ∙ sym (append_assoc (only_if (list_any (same_name x.name) seen) x.at) (repeated xs (seen ++ x.name ∷ [])) (repeated ys (seen ++ (x.name ∷ map value_name xs))))
 
 pub map_append : {X Y : Type 0} (f : X → Y) (xs ys : List X) → map f (xs ++ ys) ≡ map f xs ++ map f ys
 map_append f [] ys = refl

@@ -27,7 +27,7 @@ use Rattle.class_table.specs.declared.table.Class.{Class}
 use Rattle.class_table.specs.declared.table.Enumeration.{Enumeration}
 use Rattle.class_table.specs.declared.table.Variable.{Variable}
 use Rattle.class_table.specs.Ancestry.{attributes_within, derives_from_itself}
-use Rattle.class_table.specs.Faults.{repeated, again}
+use Rattle.class_table.specs.Faults.{repeated}
 use Rattle.class_table.specs.Named.{IsNamed, IsPlain, lacks, dot, bracket}
 use Rattle.class_table.specs.Names.{Space, space, space_from, means, classes, roots, own, declared, item_class, item_root, member_variable}
 use Rattle.class_table.specs.Outline.{variable_of, class_of, own_in, attributes, parent_in}
@@ -130,7 +130,7 @@ within_plain up of n each (suc k) c = plain_both (cond (derives_from_itself up n
 
 -- A name that is declared once
 
-no_again : (b : Bool) (at : ℕ) (rest : List ℕ) → again b at ++ rest ≡ [] → (b ≡ false) × (rest ≡ [])
+no_again : (b : Bool) (at : ℕ) (rest : List ℕ) → only_if b at ++ rest ≡ [] → (b ≡ false) × (rest ≡ [])
 no_again true at rest e = cc
 no_again false at rest e = (refl, e)
 

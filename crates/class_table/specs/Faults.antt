@@ -1,5 +1,5 @@
 -- Where each fault of a model's declarations stands.
-use Rattle.std.specs.Prelude.{◌≡◌, ℕ, suc, ◌-◌, ◌^◌, ◌<◌, Bool, true, false, List, [], ◌∷◌, ◌++◌, Option, None, Some, length, map, slice_get, int_le, Contains}
+use Rattle.std.specs.Prelude.{◌≡◌, ℕ, suc, ◌-◌, ◌^◌, ◌<◌, Bool, true, false, not, List, [], ◌∷◌, ◌++◌, Option, None, Some, length, map, slice_get, int_le, Contains}
 use Rattle.std.specs.Borrow.{Bor}
 use Rattle.std.specs.List.{flat_map, list_any}
 use Rattle.std.specs.Option.{option_map_or}
@@ -13,6 +13,7 @@ use Rattle.conf_syntax.specs.declared.tree.Member.TheVariants as member
 use Rattle.conf_syntax.specs.declared.tree.Shape.{Shape}
 use Rattle.conf_syntax.specs.declared.tree.Shape.TheVariants as shape
 use Rattle.conf_syntax.specs.declared.tree.VarDecl.{VarDecl}
+use Rattle.conf_syntax.specs.OnlyIf.{only_if}
 use Rattle.class_table.specs.declared.fault.TableFault.{TableFault}
 use Rattle.class_table.specs.declared.fault.TableFault.TheVariants.{Duplicate, Unknown, NotAClass, InheritCycle, ContainCycle, AbstractObject, EmptyRange, Memory}
 use Rattle.class_table.specs.declared.names.NameMeaning.{NameMeaning}
@@ -24,60 +25,45 @@ use Rattle.class_table.specs.Outline.{bound_value, class_of, parent_in, class_me
 
 -- Names that must differ: the place of each that stands before, too
 
-abbrev pub again : Bool → ℕ → List ℕ
-again true at = at ∷ []
-again false at = []
-
 abbrev pub repeated : List Ident → List (List ℕ) → List ℕ
 repeated [] seen = []
 repeated (i ∷ is) seen =
-    again (list_any (same_name i.name) seen) i.at ++ repeated is (seen ++ i.name ∷ [])
+    only_if (list_any (same_name i.name) seen) i.at ++ repeated is (seen ++ i.name ∷ [])
 
 -- an attribute may not have the name of an enumeration or of a class
 abbrev pub taken : Ident → Option NameMeaning → List TableFault
-taken i (Some (meaning.Class c)) = Duplicate i.at ∷ []
-taken i (Some (meaning.Enumeration e)) = Duplicate i.at ∷ []
 taken i (Some (meaning.Variable v)) = []
 taken i None = []
+taken i other = Duplicate i.at ∷ []
 
 -- Names in shapes and behind `extends`, and ranges
 
 abbrev pub is_abstract : List ClassDecl → ℕ → Bool
 is_abstract decls c = option_map_or (λ (d : ClassDecl). d.is_abstract) (slice_get decls c) false
 
-abbrev pub abstract_object : Bool → ℕ → List TableFault
-abstract_object true at = AbstractObject at ∷ []
-abstract_object false at = []
-
 -- the name of a shape `NAME`
 abbrev pub named_faults : List ClassDecl → Ident → Option NameMeaning → List TableFault
 named_faults decls i None = Unknown i.at ∷ []
 named_faults decls i (Some (meaning.Variable v)) = NotAClass i.at ∷ []
 named_faults decls i (Some (meaning.Enumeration e)) = []
-named_faults decls i (Some (meaning.Class c)) = abstract_object (is_abstract decls c) i.at
+named_faults decls i (Some (meaning.Class c)) = only_if (is_abstract decls c) (AbstractObject i.at)
 
 -- the name of a shape `NAME[count]`
 abbrev pub many_faults : List ClassDecl → Ident → Option NameMeaning → List TableFault
 many_faults decls i None = Unknown i.at ∷ []
-many_faults decls i (Some (meaning.Variable v)) = NotAClass i.at ∷ []
-many_faults decls i (Some (meaning.Enumeration e)) = NotAClass i.at ∷ []
-many_faults decls i (Some (meaning.Class c)) = abstract_object (is_abstract decls c) i.at
+many_faults decls i (Some (meaning.Class c)) = only_if (is_abstract decls c) (AbstractObject i.at)
+many_faults decls i other = NotAClass i.at ∷ []
 
 -- a name behind `ref` or `extends`
 abbrev pub class_faults : Ident → Option NameMeaning → List TableFault
 class_faults i None = Unknown i.at ∷ []
-class_faults i (Some (meaning.Variable v)) = NotAClass i.at ∷ []
-class_faults i (Some (meaning.Enumeration e)) = NotAClass i.at ∷ []
 class_faults i (Some (meaning.Class c)) = []
+class_faults i other = NotAClass i.at ∷ []
 
 -- a range whose least value is above its greatest
-abbrev pub empty_range : Bool → ℕ → List TableFault
-empty_range true at = []
-empty_range false at = EmptyRange at ∷ []
-
 abbrev pub shape_faults : Space → List ClassDecl → Shape → List TableFault
 shape_faults names decls (shape.Range low high) =
-    empty_range (int_le (bound_value low) (bound_value high)) low.at
+    only_if (not (int_le (bound_value low) (bound_value high))) (EmptyRange low.at)
 shape_faults names decls shape.Int = []
 shape_faults names decls shape.Bool = []
 shape_faults names decls (shape.Named i) = named_faults decls i (means names i.name)
@@ -86,8 +72,7 @@ shape_faults names decls (shape.Ref i) = class_faults i (means names i.name)
 shape_faults names decls (shape.RefSet i n) = class_faults i (means names i.name)
 
 abbrev pub parent_faults : Space → Option Ident → List TableFault
-parent_faults names None = []
-parent_faults names (Some i) = class_faults i (means names i.name)
+parent_faults names parent = option_map_or (λ i. class_faults i (means names i.name)) parent []
 
 abbrev pub member_faults : Space → List ClassDecl → Member → List TableFault
 member_faults names decls (member.Var v) =

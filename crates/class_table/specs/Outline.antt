@@ -1,7 +1,7 @@
 -- The outline of a model: its names, classes, enumerations and top-level variables, with shapes in
 -- which each name is resolved. A table is seen as its program's outline.
-use Rattle.std.specs.Prelude.{ℕ, Bool, true, false, List, [], Option, None, Some, ℤ, pos, neg_ℤ, length, map, slice_get}
-use Rattle.std.specs.Option.{option_map_or}
+use Rattle.std.specs.Prelude.{ℕ, Bool, cond, List, [], Option, None, Some, ℤ, pos, neg_ℤ, length, map, slice_get}
+use Rattle.std.specs.Option.{option_map_or, option_and_then}
 use Rattle.model_limits.specs.Limits.{least_int, greatest_int}
 use Rattle.conf_syntax.specs.declared.token.Ident.{Ident}
 use Rattle.conf_syntax.specs.declared.tree.Bound.{Bound}
@@ -29,34 +29,23 @@ pub record Outline : Type 0 where
 
 -- Shapes
 
-abbrev pub signed : Bool → ℕ → ℤ
-signed true n = neg_ℤ (pos n)
-signed false n = pos n
-
 abbrev pub bound_value : Bound → ℤ
-bound_value b = signed b.minus b.value
+bound_value b = cond b.minus (neg_ℤ (pos b.value)) (pos b.value)
 
--- `int` has the numbers between two limits
-abbrev pub any_int : Resolved
-any_int = Span least_int greatest_int
-
--- what a shape is taken for where a fault stands in it
-abbrev pub unresolved : Resolved
-unresolved = Truth
-
+-- where a fault stands in a shape, it is taken for a truth
 abbrev pub named : Option NameMeaning → Resolved
 named (Some (meaning.Class c)) = One c
 named (Some (meaning.Enumeration e)) = Choice e
-named (Some (meaning.Variable v)) = unresolved
-named None = unresolved
+named other = Truth
 
 abbrev pub of_class : (ℕ → Resolved) → Option NameMeaning → Resolved
 of_class shape_of (Some (meaning.Class c)) = shape_of c
-of_class shape_of other = unresolved
+of_class shape_of other = Truth
 
+-- `int` has the numbers between two limits
 abbrev pub resolved : Space → Shape → Resolved
 resolved names (shape.Range low high) = Span (bound_value low) (bound_value high)
-resolved names shape.Int = any_int
+resolved names shape.Int = Span least_int greatest_int
 resolved names shape.Bool = Truth
 resolved names (shape.Named i) = named (means names i.name)
 resolved names (shape.Many i n) = of_class (λ c. Many c n) (means names i.name)
@@ -70,8 +59,7 @@ class_meant (Some (meaning.Class c)) = Some c
 class_meant other = None
 
 abbrev pub parent_named : Space → Option Ident → Option ℕ
-parent_named names None = None
-parent_named names (Some i) = class_meant (means names i.name)
+parent_named names parent = option_and_then (λ i. class_meant (means names i.name)) parent
 
 abbrev pub variable_of : Space → VarDecl → Variable
 variable_of names v = record { name = v.name.name; shape = resolved names v.shape }

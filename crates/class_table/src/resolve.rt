@@ -7,8 +7,9 @@ ghost use Rattle.std.specs.Prelude.{◌≡◌, ◌≤◌, ◌<◌, ◌++◌, ◌
 ghost use Rattle.std.specs.List.{flat_map};
 ghost use Rattle.class_table.specs.declared.fault.TableFault.TheVariants.{Duplicate};
 ghost use Rattle.class_table.specs.Names.{means, own, member_variable};
-ghost use Rattle.class_table.specs.Outline.{bound_value, resolved, any_int, named, of_class, class_meant, parent_named, variable_of, class_of, enumeration_of, value_name};
-ghost use Rattle.class_table.specs.Faults.{OnFault, is_abstract, abstract_object, named_faults, many_faults, class_faults, shape_faults, parent_faults, member_faults, taken, repeated, IsNumbered, pointed};
+ghost use Rattle.class_table.specs.Outline.{bound_value, resolved, named, of_class, class_meant, parent_named, variable_of, class_of, enumeration_of, value_name};
+ghost use Rattle.class_table.specs.Faults.{OnFault, is_abstract, named_faults, many_faults, class_faults, shape_faults, parent_faults, member_faults, taken, repeated, IsNumbered, pointed};
+ghost use Rattle.conf_syntax.specs.OnlyIf.{only_if};
 
 use crate::names::{NameMeaning, Space};
 use crate::{Class, Enumeration, Resolved, TableFault, Values, Variable, Variables};
@@ -69,10 +70,10 @@ fn class_named(names: &Space, ident: &Ident) -> Result<u32, TableFault>
 fn object_class(decls: &[&ClassDecl], ident: &Ident, class: u32) -> Result<u32, TableFault>
     requires within { class < length decls.now }
     ensures class { IfOk result (λ c. c ≡ class) }
-    ensures right { OnOk result (abstract_object (is_abstract (pointed decls.now) class)
-        ident.now.at ≡ []) }
-    ensures fault { IfErr result (λ fault. abstract_object (is_abstract (pointed decls.now) class)
-        ident.now.at ≡ fault ∷ []) }
+    ensures right { OnOk result (only_if (is_abstract (pointed decls.now) class)
+        (TableFault.AbstractObject ident.now.at) ≡ []) }
+    ensures fault { IfErr result (λ fault. only_if (is_abstract (pointed decls.now) class)
+        (TableFault.AbstractObject ident.now.at) ≡ fault ∷ []) }
 {
     if decls[class as usize].is_abstract {
         Err(TableFault::AbstractObject(ident.at))

@@ -19,9 +19,10 @@ use Rattle.object_alloc.specs.Groups.{parts_of, own_cells}
 use Rattle.object_alloc.specs.Variables.{variables_of}
 use Rattle.object_alloc.specs.Own.{IsOwner, held_count, member_cell}
 use Rattle.object_alloc.proofs.OwnParts.{one_cell, parts_count, part_is, member_cells_are}
+use Rattle.object_alloc.specs.Members.{first_value, member_at}
 use Rattle.conf_eval.specs.declared.value.Value.{Value}
 use Rattle.conf_eval.specs.Fitting.{IsValueOf, IsReached, IsWithin}
-use Rattle.conf_eval.specs.Meaning.{attribute_value, first_value, first_object, chosen, int_of, int_same}
+use Rattle.conf_eval.specs.Meaning.{attribute_value, first_object, int_of, int_same}
 use Rattle.conf_limits.specs.Measures.{shape_reach, shape_interval}
 use Rattle.conf_eval.proofs.LawsClasses.{in_own_extent}
 
@@ -59,19 +60,19 @@ get_there (x ∷ xs) zero d h = refl
 get_there (x ∷ xs) (suc k) d h = get_there xs k d (omega (arith, h))
 
 module _ (o : Outline) (vs : List ℤ) (owner : Option ℕ) (k : ℕ) where
-  chosen_is : (i x : ℕ) → slice_get (cells o) i ≡ Some (member_cell owner k x) → chosen (cells o) vs i ≡ cond (int_same (slice_index_or vs i (pos 0)) (pos 1)) (Some x) None
+  chosen_is : (i x : ℕ) → slice_get (cells o) i ≡ Some (member_cell owner k x) → member_at (cells o) vs i ≡ cond (int_same (slice_index_or vs i (pos 0)) (pos 1)) (Some x) None
   chosen_is i x e = ap (λ r. cond (int_same (slice_index_or vs i (pos 0)) (pos 1)) (option_and_then (λ (c : Cell). c.element) r) None) e
 
-  pub set_members : (all is xs : List ℕ) → map (λ i. slice_get (cells o) i) is ≡ map Some (map (member_cell owner k) xs) → All (Contains all) xs → AreMembers all xs (filter_map (chosen (cells o) vs) is)
+  pub set_members : (all is xs : List ℕ) → map (λ i. slice_get (cells o) i) is ≡ map Some (map (member_cell owner k) xs) → All (Contains all) xs → AreMembers all xs (filter_map (member_at (cells o) vs) is)
   set_members all [] xs e h = record { members = All-nil (Contains all); count = omega arith }
   set_members all (i ∷ is) [] e h = cc
   set_members all (i ∷ is) (x ∷ xs) e h =
       let rest = set_members all is xs (rest_same e) (All-tail (Contains all) x xs h) in
-      subst (λ r. AreMembers all (x ∷ xs) (cons_option r (filter_map (chosen (cells o) vs) is))) (sym (chosen_is i x (first_same e)))
+      subst (λ r. AreMembers all (x ∷ xs) (cons_option r (filter_map (member_at (cells o) vs) is))) (sym (chosen_is i x (first_same e)))
       (by (int_same (slice_index_or vs i (pos 0)) (pos 1)) rest)
     where
-      by : (b : Bool) → AreMembers all xs (filter_map (chosen (cells o) vs) is) → AreMembers all (x ∷ xs) (cons_option (cond b (Some x) None) (filter_map (chosen (cells o) vs) is))
-      by true r = record { members = All-cons (Contains all) x (filter_map (chosen (cells o) vs) is) (All-head (Contains all) x xs h) r.members; count = omega (arith, r.count) }
+      by : (b : Bool) → AreMembers all xs (filter_map (member_at (cells o) vs) is) → AreMembers all (x ∷ xs) (cons_option (cond b (Some x) None) (filter_map (member_at (cells o) vs) is))
+      by true r = record { members = All-cons (Contains all) x (filter_map (member_at (cells o) vs) is) (All-head (Contains all) x xs h) r.members; count = omega (arith, r.count) }
       by false r = record { members = r.members; count = omega (arith, r.count) }
 
 -- what holds of an attribute of this shape

@@ -18,13 +18,13 @@ use Rattle.conf_types.specs.declared.types.ExprType.{ExprType}
 use Rattle.conf_types.specs.declared.types.ExprType.TheVariants as type
 use Rattle.conf_types.specs.declared.types.Need.{Need}
 use Rattle.conf_types.specs.declared.types.Need.TheVariants as need
-use Rattle.conf_types.specs.Readings.{has, typed_if, list_class, takes_both}
+use Rattle.conf_types.specs.Readings.{has, list_class, takes_both}
 use Rattle.conf_types.specs.Readings as reading
 use Rattle.conf_types.specs.Trees.{Tree, Filter, Bodies, NoBody, Body}
 use Rattle.conf_types.specs.Trees as tree
 use Rattle.conf_types.specs.Types.{body_need}
-use Rattle.conf_types.specs.Operators.{left_need, right_need}
 use Rattle.conf_types.specs.Typing.{Place, inside, within, attribute_type, tree_type, filter_fits, bodies_fit}
+use Rattle.conf_types.specs.Operators.{class_of, left_by, right_by}
 use Rattle.object_alloc.specs.Cells.{extent}
 use Rattle.object_alloc.specs.Configurations.{IsConfiguration}
 use Rattle.object_alloc.specs.Variables.{variables_of}
@@ -140,10 +140,10 @@ module _ (o : Outline) (sound : IsSound o) (vs : List ℤ) (conf : IsConfigurati
     value_within_at (tree.Not i t) p this vars ty h a e = none_within
     value_within_at (tree.Pair i q l r) p this vars ty h a e =
         let f = if_typed _ _ ty e in
-        let m = and_parts (has (left_need q) (tree_type o l p)) _ f.test in
-        let n = and_parts (has (right_need q) (tree_type o r p)) _ m.1 in
-        let x = typed_of_has (left_need q) (tree_type o l p) m.0 in
-        let y = typed_of_has (right_need q) (tree_type o r p) n.0 in
+        let m = and_parts (has (left_by (class_of q)) (tree_type o l p)) _ f.test in
+        let n = and_parts (has (right_by (class_of q)) (tree_type o r p)) _ m.1 in
+        let x = typed_of_has (left_by (class_of q)) (tree_type o l p) m.0 in
+        let y = typed_of_has (right_by (class_of q)) (tree_type o r p) n.0 in
         operated_within q (interval o l) (interval o r) (meaning.value l (here this vars)) (meaning.value r (here this vars)) (value_within_at l p this vars x.type_is h a x.there) (value_within_at r p this vars y.type_is h a y.there)
     value_within_at (tree.Local i k) p this vars ty h a e = none_within
     value_within_at (tree.Own i k s) p this vars ty h a e = own_within p.class this k s ty h e

@@ -15,15 +15,16 @@ use Rattle.conf_syntax.specs.declared.tree.Op.{Op}
 use Rattle.conf_syntax.specs.declared.tree.Op.TheVariants as op
 use Rattle.conf_syntax.specs.declared.tree.QuantKind.{QuantKind}
 use Rattle.conf_syntax.specs.declared.tree.QuantKind.TheVariants as kind
+use Rattle.conf_syntax.specs.OnlyIf.{some_if}
 use Rattle.conf_types.specs.declared.types.ExprType.{ExprType}
 use Rattle.conf_types.specs.declared.types.ExprType.TheVariants as type
-use Rattle.conf_types.specs.Readings.{has, typed_if, list_class}
+use Rattle.conf_types.specs.Readings.{has, list_class}
 use Rattle.conf_types.specs.Readings as reading
 use Rattle.conf_types.specs.Trees.{Tree}
 use Rattle.conf_types.specs.Trees as tree
 use Rattle.conf_types.specs.Types.{shape_type, quant_result}
-use Rattle.conf_types.specs.Operators.{result_of}
 use Rattle.conf_types.specs.Typing.{Place, local_class, same_shape, shaped, variable_type, attribute_type, value_there, quantifier_type, tree_type}
+use Rattle.conf_types.specs.Operators.{class_of, made_by}
 use Rattle.object_alloc.specs.Cells.{extent, value_count}
 use Rattle.object_alloc.specs.Configurations.{IsConfiguration}
 use Rattle.object_alloc.specs.Variables.{variables_of}
@@ -47,7 +48,7 @@ pub record IsIf (b : Bool) (t ty : ExprType) : Type 0 where
   pub test : b ≡ true
   pub is : t ≡ ty
 
-pub if_typed : (b : Bool) (t ty : ExprType) → typed_if b t ≡ Some ty → IsIf b t ty
+pub if_typed : (b : Bool) (t ty : ExprType) → some_if b t ≡ Some ty → IsIf b t ty
 if_typed true t ty e = record { test = refl; is = some_is e }
 if_typed false t ty e = cc
 
@@ -154,7 +155,7 @@ listed o (Some (type.Choice d)) c r v e h = cc
 listed o (Some (type.Object d)) c r v e h = cc
 listed o None c r v e h = cc
 
-operated : (o : Outline) (p : Op) (v w : Value) → IsValueOf o (result_of p) (operate p v w)
+operated : (o : Outline) (p : Op) (v w : Value) → IsValueOf o (made_by (class_of p)) (operate p v w)
 operated o op.Implies v w = tt
 operated o op.Or v w = tt
 operated o op.And v w = tt
@@ -169,7 +170,7 @@ operated o op.Add v w = tt
 operated o op.Sub v w = tt
 operated o op.Mul v w = tt
 
-result_reached : (r : ℕ) (p : Op) (v : Value) → IsReached r (result_of p) v
+result_reached : (r : ℕ) (p : Op) (v : Value) → IsReached r (made_by (class_of p)) v
 result_reached r op.Implies v = tt
 result_reached r op.Or v = tt
 result_reached r op.And v = tt
@@ -298,7 +299,7 @@ module _ (o : Outline) (sound : IsSound o) (vs : List ℤ) (conf : IsConfigurati
       let b = h (type.Object d.class) d.is_object in
       object_right d.class (object_of v) k s ty r d.variable (is_object o d.class v b.typed) b.reached
 
-  right_if : (b : Bool) (r : ℕ) (t ty : ExprType) (v : Value) → typed_if b t ≡ Some ty → IsRight r t v → IsRight r ty v
+  right_if : (b : Bool) (r : ℕ) (t ty : ExprType) (v : Value) → some_if b t ≡ Some ty → IsRight r t v → IsRight r ty v
   right_if b r t ty v e h = subst (λ x. IsRight r x v) (if_typed b t ty e).is h
 
   pub value_right_at : (t : Tree) (p : Place) (this : Option ℕ) (vars : List ℕ) (ty : ExprType) → IsThis o p.class this → AreVars o p.locals vars → tree_type o t p ≡ Some ty → IsRight (reach o t) ty (meaning.value t (at this vars))
@@ -311,7 +312,7 @@ module _ (o : Outline) (sound : IsSound o) (vs : List ℤ) (conf : IsConfigurati
   value_right_at (tree.Pair i q l r) p this vars ty h a e =
       let v = meaning.value l (at this vars) in
       let w = meaning.value r (at this vars) in
-      right_if _ 0 (result_of q) ty (operate q v w) e (record { typed = operated o q v w; reached = result_reached 0 q (operate q v w) })
+      right_if _ 0 (made_by (class_of q)) ty (operate q v w) e (record { typed = operated o q v w; reached = result_reached 0 q (operate q v w) })
   value_right_at (tree.Local i k) p this vars ty h a e = local_right p.locals vars k ty a e
   value_right_at (tree.Own i k s) p this vars ty h a e = own_right p.class this k s ty h e
   value_right_at (tree.Root i k s) p this vars ty h a e = variable_right None o.roots k s ty 1 (variable_typed o.roots k s ty e) (λ v g. g) tt (omega arith)

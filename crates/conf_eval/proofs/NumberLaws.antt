@@ -10,9 +10,10 @@ use Rattle.class_table.specs.Outline.{Outline}
 use Rattle.class_table.specs.Tables.{IsFew}
 use Rattle.conf_types.specs.Types.{shape_type}
 use Rattle.object_alloc.specs.Groups.{own_cells}
+use Rattle.object_alloc.specs.Members.{first_value}
 use Rattle.conf_eval.specs.Evaluating.{IsGiven}
 use Rattle.conf_eval.specs.Fitting.{HasShape, IsValueOf}
-use Rattle.conf_eval.specs.Meaning.{attribute_value, first_value}
+use Rattle.conf_eval.specs.Meaning.{attribute_value}
 use Rattle.conf_eval.proofs.LawsClasses.{object_low}
 use Rattle.conf_eval.proofs.LawsCells.{attribute_there}
 

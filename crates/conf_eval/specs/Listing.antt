@@ -6,9 +6,9 @@ use Rattle.class_table.specs.Outline.{Outline, is_a}
 use Rattle.object_alloc.specs.declared.object.Object.{Object}
 use Rattle.object_alloc.specs.Cells.{cells}
 use Rattle.object_alloc.specs.Walk.{objects}
+use Rattle.object_alloc.specs.Members.{member_at}
 use Rattle.conf_eval.specs.declared.members.Members.{Members}
 use Rattle.conf_eval.specs.declared.members.Members.TheVariants.{Extent, Parts, Chosen, Nobody}
-use Rattle.conf_eval.specs.Meaning.{chosen}
 
 -- one slot for each object: its number, where it is of the extent of class c; the first has number
 -- n
@@ -19,7 +19,7 @@ extent_slots cs c n (x ∷ xs) = cond (is_a cs x.class c) (Some n) None ∷ exte
 abbrev pub slots : Outline → List ℤ → Members → List (Option ℕ)
 slots o values (Extent c) = extent_slots o.classes c 0 (objects o)
 slots o values (Parts xs) = map Some xs.now
-slots o values (Chosen is) = map (chosen (cells o) values) is.now
+slots o values (Chosen is) = map (member_at (cells o) values) is.now
 slots o values Nobody = []
 
 -- what the slots hold

@@ -1,8 +1,7 @@
 -- What a resolved expression means at a configuration: one line for each kind of expression. It is
 -- a value for every tree; for a typed one it is a value of its type.
-use Rattle.std.specs.Prelude.{ℕ, zero, suc, ◌+◌, ◌-◌, Bool, true, false, not, ◌&&◌, ◌||◌, cond, List, [], ◌∷◌, ◌++◌, map, Option, None, Some, ℤ, pos, ◌+ℤ◌, ◌-ℤ◌, ◌*ℤ◌, neg_ℤ, int_le, int_lt, length, nat_abs, nat_eq, slice_get, slice_index_or, filter_map, count_by, option_and_then, unwrap_or}
+use Rattle.std.specs.Prelude.{ℕ, suc, ◌+◌, ◌-◌, Bool, true, false, not, ◌&&◌, ◌||◌, cond, List, [], ◌∷◌, ◌++◌, map, Option, None, Some, ℤ, pos, ◌+ℤ◌, ◌-ℤ◌, ◌*ℤ◌, neg_ℤ, int_le, int_lt, length, nat_abs, nat_eq, slice_index_or, filter_map, count_by, unwrap_or}
 use Rattle.std.specs.List.{list_all, list_any}
-use Rattle.std.specs.Option.{option_map_or}
 use Rattle.class_table.specs.declared.table.Resolved.{Resolved}
 use Rattle.class_table.specs.declared.table.Resolved.TheVariants as shape
 use Rattle.class_table.specs.Outline.{Outline}
@@ -12,9 +11,9 @@ use Rattle.conf_syntax.specs.declared.tree.QuantKind.{QuantKind}
 use Rattle.conf_syntax.specs.declared.tree.QuantKind.TheVariants as kind
 use Rattle.conf_types.specs.Trees.{Tree, Filter, NoFilter, Where, Bodies, NoBody, Body}
 use Rattle.conf_types.specs.Trees as tree
-use Rattle.object_alloc.specs.declared.object.Cell.{Cell}
 use Rattle.object_alloc.specs.Cells.{cells, extent}
 use Rattle.object_alloc.specs.Groups.{parts_of, own_cells}
+use Rattle.object_alloc.specs.Members.{first_value, member_at}
 use Rattle.conf_eval.specs.declared.value.Value.{Value}
 use Rattle.conf_eval.specs.declared.value.Value.TheVariants.{Int, Truth, Choice, Object, Objects}
 
@@ -52,8 +51,7 @@ abbrev pub int_same : ℤ → ℤ → Bool
 int_same v w = int_le v w && int_le w v
 
 abbrev pub truth_same : Bool → Bool → Bool
-truth_same true b = b
-truth_same false b = not b
+truth_same a b = cond a b (not b)
 
 -- `=`: equal numbers, truth values, values of one enumeration; the same object
 abbrev pub same_value : Value → Value → Bool
@@ -65,20 +63,9 @@ same_value v w = false
 
 -- Variables and attributes
 
--- the value of the first of these cells
-abbrev pub first_value : List ℤ → List ℕ → ℤ
-first_value values [] = pos 0
-first_value values (i ∷ is) = slice_index_or values i (pos 0)
-
 abbrev pub first_object : List ℕ → ℕ
 first_object [] = 0
 first_object (x ∷ xs) = x
-
--- the object that cell i of a reference set stands for, where it is in
-abbrev pub chosen : List Cell → List ℤ → ℕ → Option ℕ
-chosen cs values i =
-    cond (int_same (slice_index_or values i (pos 0)) (pos 1))
-    (option_and_then (λ (c : Cell). c.element) (slice_get cs i)) None
 
 -- the value of attribute k of this shape, of an object or of the top level
 abbrev pub attribute_value : Outline → List ℤ → Option ℕ → ℕ → Resolved → Value
@@ -91,7 +78,7 @@ attribute_value o values owner k (shape.Choice e) =
 attribute_value o values owner k (shape.Ref c) =
     Object (nat_abs (first_value values (own_cells o owner k)))
 attribute_value o values owner k (shape.RefSet c n) =
-    Objects (filter_map (chosen (cells o) values) (own_cells o owner k))
+    Objects (filter_map (member_at (cells o) values) (own_cells o owner k))
 attribute_value o values owner k (shape.One c) = Object (first_object (parts_of o owner k))
 attribute_value o values owner k (shape.Many c n) = Objects (parts_of o owner k)
 
@@ -150,8 +137,7 @@ load bin xs = total (map (λ (x : Item). cond (same_value bin x.bin) x.size (pos
 
 -- for each item the sizes at its bin add up to at most its room
 abbrev pub fits_all : List Item → List Item → Bool
-fits_all all [] = true
-fits_all all (x ∷ xs) = int_le (load x.bin all) x.room && fits_all all xs
+fits_all all xs = list_all (λ (x : Item). int_le (load x.bin all) x.room) xs
 
 abbrev pub all_true : List Value → Bool
 all_true vs = list_all truth_of vs

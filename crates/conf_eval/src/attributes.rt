@@ -4,7 +4,8 @@ ghost use Rattle.conf_eval.specs.Evaluating.{IsGiven};
 ghost use Rattle.conf_eval.specs.Fitting.{HasShape};
 ghost use Rattle.conf_eval.specs.Listing.{members};
 ghost use Rattle.conf_eval.specs.Memory.{is_list};
-ghost use Rattle.conf_eval.specs.Meaning.{attribute_value, first_value, first_object};
+ghost use Rattle.conf_eval.specs.Meaning.{attribute_value, first_object};
+ghost use Rattle.object_alloc.specs.Members.{first_value};
 
 use crate::members::{Members, listed, slot, slot_count};
 use crate::scene::Scene;

@@ -5,8 +5,9 @@ ghost use Rattle.std.specs.Prelude.{◌≡◌, None, length, nat_eq, slice_index
 ghost use Rattle.std.specs.List.{list_any};
 ghost use Rattle.object_alloc.specs.Cells.{cells as all_cells};
 ghost use Rattle.object_alloc.specs.Walk.{objects as all_objects};
+ghost use Rattle.object_alloc.specs.Members.{member_at};
 ghost use Rattle.conf_eval.specs.Listing.{extent_slots, slots, members};
-ghost use Rattle.conf_eval.specs.Meaning.{attribute_value, chosen, objects_of};
+ghost use Rattle.conf_eval.specs.Meaning.{attribute_value, objects_of};
 
 use crate::scene::Scene;
 use class_table::Resolved;
@@ -61,7 +62,7 @@ pub(crate) fn slot_count(scene: &Scene<'_, '_>, list: &Members<'_>) -> usize
 
 /// The object of a reference set's cell, where it is in.
 pub(crate) fn chosen_at(scene: &Scene<'_, '_>, cell: u32) -> Option<u32>
-    ensures chosen { result ≡ chosen (all_cells scene.now.objects.now) scene.now.values.now cell }
+    ensures chosen { result ≡ member_at (all_cells scene.now.objects.now) scene.now.values.now cell }
 {
     let value = scene.values.get(cell as usize).copied().unwrap_or(0);
     if value != 1 {

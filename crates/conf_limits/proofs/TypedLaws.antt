@@ -1,7 +1,7 @@
 -- What stands in a typed expression is of the outline.
 use Rattle.std.proofs.Common.{◌≡◌, ℕ, zero, suc, ◌<◌, Bool, true, false, ◌&&◌, List, [], ◌∷◌, length, All, refl, ap, arith}
 use Rattle.std.specs.Prelude.{Option, None, Some, is_some, nat_eq, nat_lt, IfSome}
-use Rattle.std.specs.Option.{option_map_or}
+use Rattle.std.specs.Option.{option_map_or, option_map}
 use Rattle.std.proofs.lemmas.Bool.{and_parts, eqb-true, ltb-true}
 use Rattle.std.proofs.lemmas.List.Elements.{All-weaker}
 use Rattle.class_table.specs.declared.table.Resolved.{Resolved}
@@ -13,20 +13,21 @@ use Rattle.class_table.specs.Tables.{HasShapes}
 use Rattle.conf_types.specs.declared.types.ExprType.{ExprType}
 use Rattle.conf_types.specs.declared.types.ExprType.TheVariants.{Int, Truth, Choice, Object, Objects, Class}
 use Rattle.conf_syntax.specs.declared.tree.QuantKind.{QuantKind}
+use Rattle.conf_syntax.specs.OnlyIf.{some_if}
 use Rattle.conf_types.specs.declared.types.Need.{Need}
 use Rattle.conf_types.specs.declared.types.Need.TheVariants as need
 use Rattle.conf_types.specs.Programs.{ResolvedConstraint, ResolvedGoal}
-use Rattle.conf_types.specs.Readings.{has, typed_if, list_class, object_of, takes_both}
+use Rattle.conf_types.specs.Readings.{has, list_class, takes_both}
 use Rattle.conf_types.specs.Trees.{Tree, Filter, NoFilter, Where, Bodies, NoBody, Body}
 use Rattle.conf_types.specs.Trees as tree
 use Rattle.conf_types.specs.Types.{shape_type, body_need}
-use Rattle.conf_types.specs.Operators.{left_need, right_need, is_linear, result_of}
+use Rattle.conf_types.specs.Operators.{is_linear, class_of, left_by, right_by, made_by}
 use Rattle.conf_types.specs.Typing.{Place, within, outermost, same_shape, shaped, variable_type, attribute_type, quantifier_type, is_literal, tree_type, filter_fits, bodies_fit, IsTypedConstraint, IsTypedGoal}
 use Rattle.conf_limits.specs.Limits.{IsShapeThere, IsThere, IsFilterThere, AreBodiesThere, IsConstraintThere, IsGoalThere}
 
 -- Types
 
-if_typed : (b : Bool) (t : ExprType) → is_some (typed_if b t) ≡ true → b ≡ true
+if_typed : (b : Bool) (t : ExprType) → is_some (some_if b t) ≡ true → b ≡ true
 if_typed true t h = refl
 if_typed false t h = h
 
@@ -87,7 +88,7 @@ module _ (o : Outline) where
       there (tree.Local at k) p h = tt
       there (tree.Value at e k) p h = tt
       there (tree.Missing at) p h = tt
-      there (tree.Own at k s) p h = (attribute_there sound (object_of p.class) k s h).1
+      there (tree.Own at k s) p h = (attribute_there sound (option_map Object p.class) k s h).1
       there (tree.Root at k s) p h = variable_there o.roots k s sound.closed.roots_have h
       there (tree.Class at c) p h = ltb-true c (length o.classes) (if_typed (nat_lt c (length o.classes)) (Class c) h)
       there (tree.Dot at e k s) p h = let a = attribute_there sound (tree_type o e p) k s h in (there e p a.0, a.1)
@@ -98,9 +99,9 @@ module _ (o : Outline) where
           let x = tree_type o l p in
           let y = tree_type o r p in
           let rest = takes_both op x y && is_linear op (is_literal l) (is_literal r) in
-          let a = and_parts (has (left_need op) x) (has (right_need op) y && rest) (if_typed (has (left_need op) x && (has (right_need op) y && rest)) (result_of op) h) in
-          let b = and_parts (has (right_need op) y) rest a.1 in
-          (there l p (if_has (left_need op) x a.0), there r p (if_has (right_need op) y b.0))
+          let a = and_parts (has (left_by (class_of op)) x) (has (right_by (class_of op)) y && rest) (if_typed (has (left_by (class_of op)) x && (has (right_by (class_of op)) y && rest)) (made_by (class_of op)) h) in
+          let b = and_parts (has (right_by (class_of op)) y) rest a.1 in
+          (there l p (if_has (left_by (class_of op)) x a.0), there r p (if_has (right_by (class_of op)) y b.0))
       there (tree.Quant at q over f bs) p h =
           let inner = within p (list_class (tree_type o over p)) in
           let a = listed (tree_type o over p) q (filter_fits o f inner && bodies_fit o q bs 0 inner) h in

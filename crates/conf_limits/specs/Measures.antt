@@ -1,7 +1,8 @@
 -- How much an expression may cost and how large its numbers may be: reach, weight and interval,
 -- functions of the source alone.
-use Rattle.std.specs.Prelude.{ℕ, zero, suc, ◌+◌, ◌*◌, Bool, true, false, ◌&&◌, cond, List, Option, None, Some, ℤ, pos, ◌+ℤ◌, ◌-ℤ◌, ◌*ℤ◌, neg_ℤ, int_le, length, min, sum_by}
+use Rattle.std.specs.Prelude.{ℕ, zero, suc, ◌+◌, ◌*◌, Bool, true, false, ◌&&◌, cond, List, Option, ℤ, pos, ◌+ℤ◌, ◌-ℤ◌, ◌*ℤ◌, neg_ℤ, int_le, length, min, sum_by}
 use Rattle.std.specs.List.{list_all}
+use Rattle.std.specs.Option.{option_map_or}
 use Rattle.std.specs.Int.{int_min, int_max}
 use Rattle.model_limits.specs.Limits.{most_width}
 use Rattle.class_table.specs.declared.table.Resolved.{Resolved}
@@ -22,15 +23,12 @@ pub use Rattle.conf_limits.specs.declared.interval.Interval.{Interval}
 
 -- Reach: how many objects an expression may be, or how many items its list may have
 
-abbrev pub extent_size : Outline → ℕ → ℕ
-extent_size o c = length (extent o c)
-
 -- the reach of an attribute of something with reach r
 abbrev pub shape_reach : Outline → ℕ → Resolved → ℕ
 shape_reach o r (shape.One c) = r
 shape_reach o r (shape.Many c n) = r * n
-shape_reach o r (shape.Ref c) = extent_size o c
-shape_reach o r (shape.RefSet c n) = extent_size o c
+shape_reach o r (shape.Ref c) = length (extent o c)
+shape_reach o r (shape.RefSet c n) = length (extent o c)
 shape_reach o r other = 0
 
 abbrev pub reach : Outline → Tree → ℕ
@@ -39,7 +37,7 @@ reach o (tree.Local at k) = 1
 reach o (tree.Own at k s) = shape_reach o 1 s
 reach o (tree.Root at k s) = shape_reach o 1 s
 reach o (tree.Dot at e k s) = shape_reach o (reach o e) s
-reach o (tree.Class at c) = extent_size o c
+reach o (tree.Class at c) = length (extent o c)
 reach o (tree.Paren at e) = reach o e
 reach o other = 0
 
@@ -68,9 +66,6 @@ looked_at_by Equality objects = objects
 looked_at_by Member objects = true
 looked_at_by other objects = false
 
-abbrev pub looks_at_reach : Op → Bool → Bool
-looks_at_reach op objects = looked_at_by (class_of op) objects
-
 -- a quantifier over something of reach r, which weighs so much, with a filter and bodies that weigh
 -- so much
 abbrev pub quantifier_weight : QuantKind → ℕ → ℕ → ℕ → ℕ → ℕ
@@ -82,23 +77,17 @@ quantifier_weight other r over filter bodies = 1 + r * (1 + over + filter + bodi
 
 abbrev mutual
   pub weight : Outline → Tree → ℕ
-  weight o (tree.Number at n) = 1
-  weight o (tree.Truth at b) = 1
-  weight o (tree.This at) = 1
-  weight o (tree.Local at k) = 1
-  weight o (tree.Root at k s) = 1
-  weight o (tree.Value at e k) = 1
-  weight o (tree.Class at c) = 1
   weight o (tree.Own at k s) = 3
   weight o (tree.Dot at e k s) = weight o e + reach o e + 1
   weight o (tree.Paren at e) = weight o e + 1
   weight o (tree.Minus at e) = weight o e + 1
   weight o (tree.Not at e) = weight o e + 1
-  weight o (tree.Pair at op l r) = weight o l + weight o r + cond (looks_at_reach op (is_object l))
-      (min (reach o l) (reach o r)) 0 + 1
+  weight o (tree.Pair at op l r) = weight o l + weight o r
+      + cond (looked_at_by (class_of op) (is_object l)) (min (reach o l) (reach o r)) 0 + 1
   weight o (tree.Quant at q over f bs) = quantifier_weight q (reach o over) (weight o over)
       (filter_weight o f) (bodies_weight o bs)
   weight o (tree.Missing at) = 0
+  weight o other = 1
 
   pub filter_weight : Outline → Filter → ℕ
   filter_weight o NoFilter = 0
@@ -110,8 +99,7 @@ abbrev mutual
 
 -- for how many objects a constraint is stated
 abbrev pub times_stated : Outline → Option ℕ → ℕ
-times_stated o None = 1
-times_stated o (Some c) = extent_size o c
+times_stated o class = option_map_or (λ c. length (extent o c)) class 1
 
 abbrev pub constraint_weight : Outline → ResolvedConstraint → ℕ
 constraint_weight o k = times_stated o k.class * weight o k.tree
@@ -173,13 +161,7 @@ abbrev mutual
   interval o (tree.Pair at op l r) = operator_interval op (interval o l) (interval o r)
   interval o (tree.Quant at q over f bs) = quantifier_interval q (reach o over)
       (body_interval o bs 0) (body_interval o bs 1)
-  interval o (tree.Truth at b) = none
-  interval o (tree.This at) = none
-  interval o (tree.Not at e) = none
-  interval o (tree.Local at k) = none
-  interval o (tree.Value at e k) = none
-  interval o (tree.Class at c) = none
-  interval o (tree.Missing at) = none
+  interval o other = none
 
   -- that of body number k
   pub body_interval : Outline → Bodies → ℕ → Interval
@@ -210,12 +192,7 @@ abbrev mutual
   narrow o (tree.Quant at q over f bs) = (narrow o over
       && (filter_narrow o f && bodies_narrow o bs))
       && is_narrow (interval o (tree.Quant at q over f bs))
-  narrow o (tree.Truth at b) = true
-  narrow o (tree.This at) = true
-  narrow o (tree.Local at k) = true
-  narrow o (tree.Value at e k) = true
-  narrow o (tree.Class at c) = true
-  narrow o (tree.Missing at) = true
+  narrow o other = true
 
   pub filter_narrow : Outline → Filter → Bool
   filter_narrow o NoFilter = true

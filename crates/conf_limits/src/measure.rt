@@ -5,8 +5,9 @@ ghost use Rattle.class_table.specs.Outline.{Outline};
 ghost use Rattle.class_table.specs.declared.table.Resolved.{Resolved as AShape};
 ghost use Rattle.conf_types.specs.Trees.{Tree, Filter as AFilter, Bodies as AllBodies};
 ghost use Rattle.conf_types.specs.Trees as tree;
+ghost use Rattle.conf_types.specs.Operators.{class_of};
 ghost use Rattle.conf_limits.specs.Limits.{capped, kept, narrowed, IsMeasure, IsFilterMeasure, IsBodiesMeasure, IsShapeThere, summed};
-ghost use Rattle.conf_limits.specs.Measures.{Interval as AnInterval, is_narrow, none, shape_reach, shape_is_object, shape_interval as interval_of, looks_at_reach, quantifier_weight, quantifier_interval};
+ghost use Rattle.conf_limits.specs.Measures.{Interval as AnInterval, is_narrow, none, shape_reach, shape_is_object, shape_interval as interval_of, looked_at_by, quantifier_weight, quantifier_interval};
 
 use crate::capped::{capped_product, capped_sum};
 use crate::interval::{Interval, many, negated, nothing, number, operated, shape_interval, up_to};
@@ -191,7 +192,7 @@ pub(crate) fn negation(inner: Measure) -> Measure
 }
 
 fn looks_at_reach(op: Op, objects: bool) -> bool
-    ensures { result ≡ looks_at_reach op objects }
+    ensures { result ≡ looked_at_by (class_of op) objects }
 {
     match class_of(op) {
         OpClass::Member => true,
@@ -203,7 +204,7 @@ fn looks_at_reach(op: Op, objects: bool) -> bool
 /// What an operator looks at of sides with these reaches.
 fn looked_at(op: Op, left: Measure, right: Measure) -> u64
     ensures { (l r : ℕ) (b : Bool) → left.reach ≡ capped l → right.reach ≡ capped r → left.objects
-        ≡ b → result ≡ capped (cond (looks_at_reach op b) (min l r) 0) }
+        ≡ b → result ≡ capped (cond (looked_at_by (class_of op) b) (min l r) 0) }
 {
     if looks_at_reach(op, left.objects) {
         left.reach.min(right.reach)

@@ -9,6 +9,7 @@ use Rattle.conf_syntax.specs.declared.tree.Op.{Op}
 use Rattle.conf_syntax.specs.declared.tree.Quant as quant
 use Rattle.conf_syntax.specs.declared.tree.QuantKind.{QuantKind}
 use Rattle.conf_syntax.specs.Trees.{depth, deepest, expr_depth}
+use Rattle.conf_syntax.specs.OnlyIf.{some_if, only_if}
 use Rattle.conf_types.specs.declared.fault.TypeFault.{TypeFault}
 use Rattle.conf_types.specs.declared.fault.TypeFault.TheVariants.{Unknown, WrongType, NonLinear, Shadow, Memory}
 use Rattle.conf_types.specs.declared.rules.Checked.{Checked}
@@ -20,14 +21,14 @@ use Rattle.conf_types.specs.declared.types.Need.{Need}
 use Rattle.conf_types.specs.declared.types.Need.TheVariants as need
 use Rattle.conf_types.specs.Checked.{IsRead, IsFilter, readings, optional_reading, scope_inside, quantifier_at, trees_onto, AreBodies}
 use Rattle.conf_types.specs.Programs.{OnFault}
-use Rattle.conf_types.specs.Readings.{Reading, read, alone, over_reading, pair_reading, quantifier_reading, shadow, filter_faults, filter_holds, filter_tree, mismatch, nonlinear_unless, typed_if, has, needs, needed, wrong_unless, found_reading, attribute_reading, bodies_faults, bodies_hold, bodies_tree}
+use Rattle.conf_types.specs.Readings.{Reading, read, alone, over_reading, pair_reading, quantifier_reading, shadow, filter_faults, filter_holds, filter_tree, mismatch, has, needs, needed, found_reading, attribute_reading, bodies_faults, bodies_hold, bodies_tree}
 use Rattle.conf_types.specs.Scopes.{Scope, Sense, Nothing, attribute_named, sense}
 use Rattle.conf_types.specs.declared.tree.RQuant as rquant
 use Rattle.conf_types.specs.Trees.{Tree, Bodies, NoBody, Body}
 use Rattle.conf_types.specs.TreeOf.{tree_of, trees_of, optional_tree, quant_tree, body_trees, node_tree}
 use Rattle.conf_types.specs.Trees as tree
 use Rattle.conf_types.specs.Types.{meets, body_need, quant_result}
-use Rattle.conf_types.specs.Operators.{left_need, right_need, is_linear}
+use Rattle.conf_types.specs.Operators.{is_linear, class_of, left_by, right_by}
 
 pub on_fault : (f : TypeFault) (P Q : TypeFault → Type 0) → ((g : TypeFault) → P g → Q g) → OnFault f P → OnFault f Q
 on_fault (Unknown at) P Q each h = each (Unknown at) h
@@ -59,15 +60,15 @@ attribute_keeps o at r i None g h = h
 pub in_attribute : (f : TypeFault) (o : Outline) (at : ℕ) (r : Reading) (i : Ident) (t : Option ExprType) → OnFault f (λ g. Contains r.faults g) → OnFault f (λ g. Contains (attribute_reading o at r i t).faults g)
 in_attribute f o at r i t h = on_fault f (λ g. Contains r.faults g) (λ g. Contains (attribute_reading o at r i t).faults g) (λ g c. attribute_keeps o at r i t g c) h
 
-pub in_left : (f : TypeFault) (at : ℕ) (o : Op) (n : Need) (l r : Reading) → n ≡ left_need o → OnFault f (λ g. Contains (needed n l) g) → OnFault f (λ g. Contains (pair_reading at o l r).faults g)
+pub in_left : (f : TypeFault) (at : ℕ) (o : Op) (n : Need) (l r : Reading) → n ≡ left_by (class_of o) → OnFault f (λ g. Contains (needed n l) g) → OnFault f (λ g. Contains (pair_reading at o l r).faults g)
 in_left f at o n l r e h =
-    in_first f (needed (left_need o) l) (needed (right_need o) r ++ (mismatch o l.type r.type l.first ++ nonlinear_unless (is_linear o l.literal r.literal) at))
+    in_first f (needed (left_by (class_of o)) l) (needed (right_by (class_of o)) r ++ (mismatch o l.type r.type l.first ++ only_if (not (is_linear o l.literal r.literal)) (NonLinear at)))
     (subst (λ m. OnFault f (λ g. Contains (needed m l) g)) e h)
 
-pub in_right : (f : TypeFault) (at : ℕ) (o : Op) (l r : Reading) → OnFault f (λ g. Contains (needed (right_need o) r) g) → OnFault f (λ g. Contains (pair_reading at o l r).faults g)
+pub in_right : (f : TypeFault) (at : ℕ) (o : Op) (l r : Reading) → OnFault f (λ g. Contains (needed (right_by (class_of o)) r) g) → OnFault f (λ g. Contains (pair_reading at o l r).faults g)
 in_right f at o l r h =
-    in_rest f (needed (left_need o) l) (needed (right_need o) r ++ (mismatch o l.type r.type l.first ++ nonlinear_unless (is_linear o l.literal r.literal) at))
-    (in_first f (needed (right_need o) r) (mismatch o l.type r.type l.first ++ nonlinear_unless (is_linear o l.literal r.literal) at) h)
+    in_rest f (needed (left_by (class_of o)) l) (needed (right_by (class_of o)) r ++ (mismatch o l.type r.type l.first ++ only_if (not (is_linear o l.literal r.literal)) (NonLinear at)))
+    (in_first f (needed (right_by (class_of o)) r) (mismatch o l.type r.type l.first ++ only_if (not (is_linear o l.literal r.literal)) (NonLinear at)) h)
 
 pub in_over : (f : TypeFault) (at : ℕ) (k : QuantKind) (name_at : ℕ) (x : Sense) (r : Reading) (a : Option Reading) (b : List Reading) → OnFault f (λ g. Contains (needed need.List r) g) → OnFault f (λ g. Contains (quantifier_reading at k name_at x r a b).faults g)
 in_over f at k name_at x r a b h = in_rest f (shadow name_at x) (needed need.List r ++ (filter_faults a ++ bodies_faults k b 0)) (in_first f (needed need.List r) (filter_faults a ++ bodies_faults k b 0) h)
@@ -107,7 +108,7 @@ in_quant_over f o at s q h =
 -- What is needed is met
 
 pub needed_none : (n : Need) (x : Checked) (r : Reading) → IsRead x r → meets n x.kind ≡ true → needed n r ≡ []
-needed_none n x r h m = ap (λ fs. fs ++ needs n r.type r.first) h.right ∙ ap (λ t. needs n t r.first) h.typed ∙ ap (λ b. wrong_unless b r.first) m
+needed_none n x r h m = ap (λ fs. fs ++ needs n r.type r.first) h.right ∙ ap (λ t. needs n t r.first) h.typed ∙ ap (λ b. only_if (not b) (WrongType r.first)) m
 
 pub has_met : (n : Need) (x : Checked) (r : Reading) → IsRead x r → meets n x.kind ≡ true → has n r.type ≡ true
 has_met n x r h m = ap (has n) h.typed ∙ m
@@ -197,9 +198,9 @@ pub quantifier_read : (x y : Checked) (k : QuantKind) (at name_at : ℕ) (r : Re
 quantifier_read x y k at name_at r f b filter xs h m hf hb t kind_is first_is literal_is =
     record {
       typed =
-          ap (λ z. typed_if (z && (filter_holds f && bodies_hold k b 0)) (quant_result k)) (has_met need.List x r h m)
-          ∙ ap (λ z. typed_if (z && bodies_hold k b 0) (quant_result k)) hf.holds
-          ∙ ap (λ z. typed_if z (quant_result k)) hb.hold
+          ap (λ z. some_if (z && (filter_holds f && bodies_hold k b 0)) (quant_result k)) (has_met need.List x r h m)
+          ∙ ap (λ z. some_if (z && bodies_hold k b 0) (quant_result k)) hf.holds
+          ∙ ap (λ z. some_if z (quant_result k)) hb.hold
           ∙ ap (λ z. Some z) (sym kind_is);
       right =
           ap (λ fs. fs ++ (filter_faults f ++ bodies_faults k b 0)) (needed_none need.List x r h m)

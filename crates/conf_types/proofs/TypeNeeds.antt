@@ -1,6 +1,6 @@
 -- What the type of a tree says of its parts: one law for each kind of tree.
 use Rattle.std.proofs.Common.{◌≡◌, ℕ, suc, ◌<◌, ◌⊎◌, inl, inr, Bool, true, false, ◌&&◌, List, Option, None, Some, ℤ, int_le, nat_eq, nat_lt, length, slice_get, refl, ap, sym, ◌∙◌, arith}
-use Rattle.std.specs.Option.{option_map_or}
+use Rattle.std.specs.Option.{option_map_or, option_map}
 use Rattle.std.proofs.lemmas.Bool.{and_parts, eqb-true, ltb-true}
 use Rattle.std.proofs.lemmas.Int.{ints}
 use Rattle.std.proofs.lemmas.Option.{same_Some}
@@ -10,15 +10,16 @@ use Rattle.class_table.specs.declared.table.Variable.{Variable}
 use Rattle.class_table.specs.Outline.{Outline, attributes}
 use Rattle.conf_syntax.specs.declared.tree.Op.{Op}
 use Rattle.conf_syntax.specs.declared.tree.QuantKind.{QuantKind}
+use Rattle.conf_syntax.specs.OnlyIf.{some_if}
 use Rattle.conf_types.specs.declared.types.ExprType.{ExprType}
 use Rattle.conf_types.specs.declared.types.ExprType.TheVariants.{Int, Truth, Choice, Object, Objects, Class}
 use Rattle.conf_types.specs.declared.types.Need.{Need}
 use Rattle.conf_types.specs.declared.types.Need.TheVariants as need
-use Rattle.conf_types.specs.Readings.{has, typed_if, takes_both, list_class, object_of}
+use Rattle.conf_types.specs.Readings.{has, takes_both, list_class}
 use Rattle.conf_types.specs.Trees.{Tree, Filter, Bodies, Where, Body}
 use Rattle.conf_types.specs.Trees as tree
 use Rattle.conf_types.specs.Types.{shape_type, meets, body_need, quant_result}
-use Rattle.conf_types.specs.Operators.{left_need, right_need, takes, result_of, is_linear}
+use Rattle.conf_types.specs.Operators.{is_linear, class_of, left_by, right_by, taken_by, made_by}
 use Rattle.conf_types.specs.Typing.{Place, inside, within, same_shape, shaped, variable_type, attribute_type, value_there, is_literal, quantifier_type, tree_type, filter_fits, bodies_fit}
 use Rattle.conf_types.proofs.TypedParts.{truth_is, int_is}
 
@@ -40,7 +41,7 @@ pub truth_needed : (x : Option ExprType) → has need.Truth x ≡ true → x ≡
 truth_needed None h = absurd cc
 truth_needed (Some t) h = ap (λ u. Some u) (truth_is t h)
 
-pub typed_parts : (b : Bool) (s t : ExprType) → typed_if b s ≡ Some t → (b ≡ true) × (s ≡ t)
+pub typed_parts : (b : Bool) (s t : ExprType) → some_if b s ≡ Some t → (b ≡ true) × (s ≡ t)
 typed_parts true s t h = (refl, same_Some s t h)
 typed_parts false s t h = absurd cc
 
@@ -56,23 +57,23 @@ not_parts o p at e t h = let s = typed_parts (has need.Truth (tree_type o e p)) 
 
 -- both sides have the types that are needed, the operator takes the pair, and one side of `*` is built of literals
 pub record IsTypedPair (o : Outline) (op : Op) (l r : Tree) (p : Place) (t : ExprType) : Type 0 where
-  pub left : IsMet (left_need op) (tree_type o l p)
-  pub right : IsMet (right_need op) (tree_type o r p)
-  pub taken : takes op left.type right.type ≡ true
+  pub left : IsMet (left_by (class_of op)) (tree_type o l p)
+  pub right : IsMet (right_by (class_of op)) (tree_type o r p)
+  pub taken : taken_by (class_of op) left.type right.type ≡ true
   pub linear : is_linear op (is_literal l) (is_literal r) ≡ true
-  pub result : t ≡ result_of op
+  pub result : t ≡ made_by (class_of op)
 
 pub pair_parts : (o : Outline) (p : Place) (at : ℕ) (op : Op) (l r : Tree) (t : ExprType) → tree_type o (tree.Pair at op l r) p ≡ Some t → IsTypedPair o op l r p t
 pair_parts o p at op l r t h =
     let a = tree_type o l p in
     let b = tree_type o r p in
     let linear = is_linear op (is_literal l) (is_literal r) in
-    let all = typed_parts (has (left_need op) a && (has (right_need op) b && (takes_both op a b && linear))) (result_of op) t h in
-    let first = and_parts (has (left_need op) a) (has (right_need op) b && (takes_both op a b && linear)) all.0 in
-    let second = and_parts (has (right_need op) b) (takes_both op a b && linear) first.1 in
+    let all = typed_parts (has (left_by (class_of op)) a && (has (right_by (class_of op)) b && (takes_both op a b && linear))) (made_by (class_of op)) t h in
+    let first = and_parts (has (left_by (class_of op)) a) (has (right_by (class_of op)) b && (takes_both op a b && linear)) all.0 in
+    let second = and_parts (has (right_by (class_of op)) b) (takes_both op a b && linear) first.1 in
     let third = and_parts (takes_both op a b) linear second.1 in
-    let left = has_met (left_need op) a first.0 in
-    let right = has_met (right_need op) b second.0 in
+    let left = has_met (left_by (class_of op)) a first.0 in
+    let right = has_met (right_by (class_of op)) b second.0 in
     record {
       left = left;
       right = right;
@@ -192,7 +193,7 @@ pub record IsObject (c : Option ℕ) (t : ExprType) : Type 0 where
   pub there : c ≡ Some class
   pub result : t ≡ Object class
 
-pub object_parts : (c : Option ℕ) (t : ExprType) → object_of c ≡ Some t → IsObject c t
+pub object_parts : (c : Option ℕ) (t : ExprType) → option_map Object c ≡ Some t → IsObject c t
 object_parts None t h = absurd cc
 object_parts (Some c) t h = record { class = c; there = refl; result = sym (same_Some (Object c) t h) }
 

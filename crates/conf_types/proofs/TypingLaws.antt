@@ -1,6 +1,6 @@
 -- The type of what an expression is resolved to is the type that was read: one law for each kind of expression, on readings.
 use Rattle.std.proofs.Common.{◌≡◌, ℕ, zero, suc, ◌+◌, ◌-◌, ◌<◌, Bool, true, false, ◌&&◌, List, [], ◌∷◌, ◌++◌, Option, None, Some, IfSome, ℤ, int_le, nat_lt, length, map, position, slice_get, slice_index_or, cond, refl, ap, sym, ◌∙◌, subst, arith}
-use Rattle.std.specs.Option.{option_map_or}
+use Rattle.std.specs.Option.{option_map_or, option_map}
 use Rattle.std.proofs.lemmas.Bool.{lt-ltb, eq-eqb, and_from}
 use Rattle.std.proofs.lemmas.Int.{ints}
 use Rattle.std.proofs.lemmas.List.Quantifiers.{position-Some}
@@ -17,15 +17,16 @@ use Rattle.class_table.specs.Tables.{IsClosed, IsMeant}
 use Rattle.conf_syntax.specs.declared.token.Ident.{Ident}
 use Rattle.conf_syntax.specs.declared.tree.Op.{Op}
 use Rattle.conf_syntax.specs.declared.tree.QuantKind.{QuantKind}
+use Rattle.conf_syntax.specs.OnlyIf.{some_if}
 use Rattle.conf_types.specs.declared.scope.Found.{Found}
 use Rattle.conf_types.specs.declared.types.ExprType.{ExprType}
 use Rattle.conf_types.specs.declared.types.ExprType.TheVariants.{Int, Truth, Choice, Object, Objects, Class}
 use Rattle.conf_types.specs.declared.types.Need.TheVariants as need
-use Rattle.conf_types.specs.Readings.{Reading, has, typed_if, takes_both, list_class, object_of, values_of, number_reading, truth_reading, this_reading, word_reading, over_reading, right_reading, paren_reading, minus_reading, not_reading, value_reading, found_reading, attribute_reading, dot_reading, pair_reading}
+use Rattle.conf_types.specs.Readings.{Reading, has, takes_both, list_class, values_of, number_reading, truth_reading, this_reading, word_reading, over_reading, right_reading, paren_reading, minus_reading, not_reading, value_reading, found_reading, attribute_reading, dot_reading, pair_reading}
 use Rattle.conf_types.specs.Scopes.{Scope, Sense, ALocal, AnOwn, ARoot, AnEnumeration, AClass, Nothing, shape_at, with_shape, attribute_named, own_named, own_or, local_or, declared_sense, sense}
 use Rattle.conf_types.specs.Scopes as scope
 use Rattle.conf_types.specs.Types.{shape_type, quant_result}
-use Rattle.conf_types.specs.Operators.{left_need, right_need, result_of, is_linear, keeps_literal, is_in}
+use Rattle.conf_types.specs.Operators.{is_linear, is_in, class_of, left_by, right_by, made_by, makes_numbers}
 use Rattle.conf_types.specs.Typing.{Place, inside, local_class, same_shape, shaped, variable_type, attribute_type, is_literal, quantifier_type, tree_type}
 
 -- the tree has the type that was read, and is built of literals where the expression was
@@ -56,7 +57,7 @@ shaped_there (v ∷ vs) zero h = same v.shape
 shaped_there (v ∷ vs) (suc k) h = shaped_there vs k (omega (arith, h))
 
 pub variable_typed : (vs : List Variable) (k : ℕ) → k < length vs → variable_type vs k (shape_at vs k) ≡ Some (shape_type (shape_at vs k))
-variable_typed vs k h = ap (λ b. typed_if b (shape_type (shape_at vs k))) (shaped_there vs k h)
+variable_typed vs k h = ap (λ b. some_if b (shape_type (shape_at vs k))) (shaped_there vs k h)
 
 -- Names
 
@@ -110,7 +111,7 @@ length_classes (v ∷ vs) [] h = absurd h
 -- what a word means stands at the place with its class, its shape or its number
 abbrev pub Holds : Outline → Place → Sense → Type 0
 Holds o p (ALocal k c) = local_class p.locals k ≡ c
-Holds o p (AnOwn k s) = attribute_type o (object_of p.class) k s ≡ Some (shape_type s)
+Holds o p (AnOwn k s) = attribute_type o (option_map Object p.class) k s ≡ Some (shape_type s)
 Holds o p (ARoot k s) = variable_type o.roots k s ≡ Some (shape_type s)
 Holds o p (AnEnumeration e) = Unit {0}
 Holds o p (AClass c) = nat_lt c (length o.classes) ≡ true
@@ -158,7 +159,7 @@ declared_holds o p None h = tt
 
 own_or_holds : (o : Outline) (p : Place) (c : ℕ) (x : Option Found) (other : Sense) → p.class ≡ Some c → IfSome x (IsFound (attributes o.classes c)) → Holds o p other → Holds o p (own_or other x)
 own_or_holds o p c None other e h g = g
-own_or_holds o p c (Some f) other e h g = ap (λ d. attribute_type o (object_of d) f.number f.shape) e ∙ h
+own_or_holds o p c (Some f) other e h g = ap (λ d. attribute_type o (option_map Object d) f.number f.shape) e ∙ h
 
 own_holds : (o : Outline) (p : Place) (w : List ℕ) (c : Option ℕ) (other : Sense) → p.class ≡ c → Holds o p other → Holds o p (own_or other (own_named o c w))
 own_holds o p w None other e g = g
@@ -179,10 +180,10 @@ truth_typed o p at b = record { type = refl; literal = refl }
 
 pub this_typed : (o : Outline) (p : Place) (at : ℕ) (c : Option ℕ) → p.class ≡ c → IsTyped o (this_reading at c) p
 this_typed o p at None e = record { type = refl; literal = refl }
-this_typed o p at (Some c) e = record { type = ap object_of e; literal = refl }
+this_typed o p at (Some c) e = record { type = ap (option_map Object) e; literal = refl }
 
 pub word_typed : (o : Outline) (p : Place) (at : ℕ) (x : Sense) → Holds o p x → IsTyped o (word_reading at x) p
-word_typed o p at (ALocal k c) h = record { type = ap object_of h; literal = refl }
+word_typed o p at (ALocal k c) h = record { type = ap (option_map Object) h; literal = refl }
 word_typed o p at (AnOwn k s) h = record { type = h; literal = refl }
 word_typed o p at (ARoot k s) h = record { type = h; literal = refl }
 word_typed o p at (AnEnumeration e) h = record { type = refl; literal = refl }
@@ -190,7 +191,7 @@ word_typed o p at (AClass c) h = record { type = refl; literal = refl }
 word_typed o p at Nothing h = record { type = refl; literal = refl }
 
 pub over_typed : (o : Outline) (p : Place) (at : ℕ) (x : Sense) (r : Reading) → Holds o p x → IsTyped o r p → IsTyped o (over_reading at x r) p
-over_typed o p at (AClass c) r h t = record { type = ap (λ b. typed_if b (Class c)) h; literal = refl }
+over_typed o p at (AClass c) r h t = record { type = ap (λ b. some_if b (Class c)) h; literal = refl }
 over_typed o p at (ALocal k c) r h t = t
 over_typed o p at (AnOwn k s) r h t = t
 over_typed o p at (ARoot k s) r h t = t
@@ -203,10 +204,10 @@ pub paren_typed : (o : Outline) (p : Place) (at : ℕ) (r : Reading) → IsTyped
 paren_typed o p at r t = record { type = t.type; literal = t.literal }
 
 pub minus_typed : (o : Outline) (p : Place) (at : ℕ) (r : Reading) → IsTyped o r p → IsTyped o (minus_reading at r) p
-minus_typed o p at r t = record { type = ap (λ x. typed_if (has need.Int x) Int) t.type; literal = t.literal }
+minus_typed o p at r t = record { type = ap (λ x. some_if (has need.Int x) Int) t.type; literal = t.literal }
 
 pub not_typed : (o : Outline) (p : Place) (at : ℕ) (r : Reading) → IsTyped o r p → IsTyped o (not_reading at r) p
-not_typed o p at r t = record { type = ap (λ x. typed_if (has need.Truth x) Truth) t.type; literal = refl }
+not_typed o p at r t = record { type = ap (λ x. some_if (has need.Truth x) Truth) t.type; literal = refl }
 
 -- Names behind a dot
 
@@ -217,7 +218,7 @@ value_is_there (d ∷ ds) (suc e) k h = value_is_there ds e k h
 
 value_typed : (o : Outline) (p : Place) (at e : ℕ) (i : Ident) (x : Option ℕ) → IfSome x (λ k. k < length (values_of o e)) → IsTyped o (value_reading at e i x) p
 value_typed o p at e i None h = record { type = refl; literal = refl }
-value_typed o p at e i (Some k) h = record { type = ap (λ b. typed_if b (Choice e)) (value_is_there o.enumerations e k h); literal = refl }
+value_typed o p at e i (Some k) h = record { type = ap (λ b. some_if b (Choice e)) (value_is_there o.enumerations e k h); literal = refl }
 
 found_typed : (o : Outline) (p : Place) (at c : ℕ) (r : Reading) (i : Ident) (x : Option Found) → tree_type o r.tree p ≡ Some (Object c) → IfSome x (IsFound (attributes o.classes c)) → IsTyped o (found_reading at r i x) p
 found_typed o p at c r i None e h = record { type = refl; literal = refl }
@@ -243,7 +244,7 @@ dot_typed o p at Nothing r i t = attribute_typed o p at r i r.type t.type
 -- Operators
 
 abbrev pair_type : Op → Option ExprType → Option ExprType → Bool → Bool → Option ExprType
-pair_type op a b x y = typed_if (has (left_need op) a && (has (right_need op) b && (takes_both op a b && is_linear op x y))) (result_of op)
+pair_type op a b x y = some_if (has (left_by (class_of op)) a && (has (right_by (class_of op)) b && (takes_both op a b && is_linear op x y))) (made_by (class_of op))
 
 pub pair_typed : (o : Outline) (p : Place) (at : ℕ) (op : Op) (l r : Reading) → IsTyped o l p → IsTyped o r p → IsTyped o (pair_reading at op l r) p
 pair_typed o p at op l r t u =
@@ -254,8 +255,8 @@ pair_typed o p at op l r t u =
           ∙ ap (λ x. pair_type op l.type r.type x (is_literal r.tree)) t.literal
           ∙ ap (λ y. pair_type op l.type r.type l.literal y) u.literal;
       literal =
-          ap (λ x. keeps_literal op && (x && is_literal r.tree)) t.literal
-          ∙ ap (λ y. keeps_literal op && (l.literal && y)) u.literal;
+          ap (λ x. makes_numbers (class_of op) && (x && is_literal r.tree)) t.literal
+          ∙ ap (λ y. makes_numbers (class_of op) && (l.literal && y)) u.literal;
     }
 
 pub right_typed : (o : Outline) (p : Place) (op : Op) (at : ℕ) (x : Sense) (r : Reading) → Holds o p x → IsTyped o r p → IsTyped o (right_reading op at x r) p
@@ -268,9 +269,9 @@ right_typed o p op at x r h t = by (is_in op)
 -- Quantifiers
 
 -- what fits and what holds agree at each class
-pub quantifier_typed : (q : QuantKind) (fits holds : Option ℕ → Bool) (t : Option ExprType) → ((c : ℕ) → fits (Some c) ≡ holds (Some c)) → quantifier_type q (list_class t) (fits (list_class t)) ≡ typed_if (has need.List t && holds (list_class t)) (quant_result q)
-quantifier_typed q fits holds (Some (Objects c)) same = ap (λ b. typed_if b (quant_result q)) (same c)
-quantifier_typed q fits holds (Some (Class c)) same = ap (λ b. typed_if b (quant_result q)) (same c)
+pub quantifier_typed : (q : QuantKind) (fits holds : Option ℕ → Bool) (t : Option ExprType) → ((c : ℕ) → fits (Some c) ≡ holds (Some c)) → quantifier_type q (list_class t) (fits (list_class t)) ≡ some_if (has need.List t && holds (list_class t)) (quant_result q)
+quantifier_typed q fits holds (Some (Objects c)) same = ap (λ b. some_if b (quant_result q)) (same c)
+quantifier_typed q fits holds (Some (Class c)) same = ap (λ b. some_if b (quant_result q)) (same c)
 quantifier_typed q fits holds (Some Int) same = refl
 quantifier_typed q fits holds (Some Truth) same = refl
 quantifier_typed q fits holds (Some (Choice e)) same = refl

@@ -30,9 +30,6 @@ left_by Equality = need.Any
 left_by Member = need.Object
 left_by other = need.Int
 
-abbrev pub left_need : Op → Need
-left_need op = left_by (class_of op)
-
 -- what a class needs of the right side
 abbrev pub right_by : OpClass → Need
 right_by Logic = need.Truth
@@ -40,18 +37,11 @@ right_by Equality = need.Any
 right_by Member = need.List
 right_by other = need.Int
 
-abbrev pub right_need : Op → Need
-right_need op = right_by (class_of op)
-
--- the pairs of types that a class takes
+-- the pairs of types that a class takes; `in` and what compares nothing have their needs alone
 abbrev pub taken_by : OpClass → ExprType → ExprType → Bool
 taken_by Equality a b = is_comparable a b
 taken_by Order a b = is_int a && is_int b
 taken_by other a b = true
-
--- the pairs of types that a comparison takes; `in` and what compares nothing have their needs alone
-abbrev pub takes : Op → ExprType → ExprType → Bool
-takes op a b = taken_by (class_of op) a b
 
 -- the type of what a class makes
 abbrev pub made_by : OpClass → ExprType
@@ -59,18 +49,11 @@ made_by Sum = Int
 made_by Product = Int
 made_by other = Truth
 
-abbrev pub result_of : Op → ExprType
-result_of op = made_by (class_of op)
-
--- the class makes numbers of numbers
+-- the class makes numbers of numbers, and of what is built of literals what is built of literals
 abbrev pub makes_numbers : OpClass → Bool
 makes_numbers Sum = true
 makes_numbers Product = true
 makes_numbers other = false
-
--- what these make of sides that are built of literals is built of literals
-abbrev pub keeps_literal : Op → Bool
-keeps_literal op = makes_numbers (class_of op)
 
 -- one side of `*` is built of literals
 abbrev pub is_linear : Op → Bool → Bool → Bool

@@ -2,7 +2,8 @@
 -- definition for each kind of expression. An expression has a type where each of its parts has one
 -- and what is needed is met; the faults of a kind stand beside those of its parts, whether or not
 -- these have a type.
-use Rattle.std.specs.Prelude.{ℕ, ◌+◌, Bool, true, false, ◌&&◌, cond, List, [], ◌∷◌, ◌++◌, Option, None, Some, position, slice_index_or}
+use Rattle.std.specs.Prelude.{ℕ, ◌+◌, Bool, true, false, not, ◌&&◌, cond, List, [], ◌∷◌, ◌++◌, Option, None, Some, position, slice_index_or}
+use Rattle.std.specs.Option.{option_map, option_map_or}
 use Rattle.class_table.specs.Outline.{Outline}
 use Rattle.class_table.specs.Same.{same_name}
 use Rattle.conf_syntax.specs.declared.token.Ident.{Ident}
@@ -11,6 +12,7 @@ use Rattle.conf_syntax.specs.declared.tree.Node as node
 use Rattle.conf_syntax.specs.declared.tree.Op.{Op}
 use Rattle.conf_syntax.specs.declared.tree.Quant as quant
 use Rattle.conf_syntax.specs.declared.tree.QuantKind.{QuantKind}
+use Rattle.conf_syntax.specs.OnlyIf.{only_if, some_if}
 use Rattle.conf_types.specs.declared.fault.TypeFault.{TypeFault}
 use Rattle.conf_types.specs.declared.fault.TypeFault.TheVariants.{Unknown, WrongType, NonLinear, Shadow}
 use Rattle.conf_types.specs.declared.scope.Found.{Found}
@@ -22,7 +24,7 @@ use Rattle.conf_types.specs.Scopes.{Scope, within, Sense, ALocal, AnOwn, ARoot, 
 use Rattle.conf_types.specs.Trees.{Tree, Filter, Bodies, NoFilter, Where, NoBody, Body}
 use Rattle.conf_types.specs.Trees as tree
 use Rattle.conf_types.specs.Types.{shape_type, meets, body_need, quant_result}
-use Rattle.conf_types.specs.Operators.{left_need, right_need, takes, result_of, keeps_literal, is_linear, is_in}
+use Rattle.conf_types.specs.Operators.{is_linear, is_in, class_of, left_by, right_by, taken_by, made_by, makes_numbers}
 
 -- what is told of an expression where it stands: its type, if it has one; all faults that stand in
 -- it; what it is resolved to; the place of its first token; whether it is built of literals
@@ -37,24 +39,14 @@ pub record Reading : Type 0 where
 
 -- the expression has a type, and it is the one that is needed
 abbrev pub has : Need → Option ExprType → Bool
-has n None = false
-has n (Some t) = meets n t
-
-abbrev pub wrong_unless : Bool → ℕ → List TypeFault
-wrong_unless true at = []
-wrong_unless false at = WrongType at ∷ []
+has n type = option_map_or (meets n) type false
 
 -- an expression that has a type which isn't the needed one is wrong at its first token
 abbrev pub needs : Need → Option ExprType → ℕ → List TypeFault
-needs n None at = []
-needs n (Some t) at = wrong_unless (meets n t) at
+needs n type at = option_map_or (λ t. only_if (not (meets n t)) (WrongType at)) type []
 
 abbrev pub needed : Need → Reading → List TypeFault
 needed n r = r.faults ++ needs n r.type r.first
-
-abbrev pub typed_if : Bool → ExprType → Option ExprType
-typed_if true t = Some t
-typed_if false t = None
 
 -- what has this type where no fault stands in it
 abbrev pub typed : ExprType → Tree → ℕ → Reading
@@ -68,8 +60,7 @@ untyped fs at first =
 -- Leaves
 
 abbrev pub number_reading : ℕ → ℕ → Reading
-number_reading at n =
-    record { type = Some Int; faults = []; tree = tree.Number at n; first = at; literal = true }
+number_reading at n = record (typed Int (tree.Number at n) at) { literal = true }
 
 abbrev pub truth_reading : ℕ → Bool → Reading
 truth_reading at b = typed Truth (tree.Truth at b) at
@@ -83,14 +74,10 @@ abbrev pub this_reading : ℕ → Option ℕ → Reading
 this_reading at (Some c) = typed (Object c) (tree.This at) at
 this_reading at None = unknown_reading at
 
-abbrev pub object_of : Option ℕ → Option ExprType
-object_of None = None
-object_of (Some c) = Some (Object c)
-
 -- a word: a variable or an attribute. An enumeration and a class mean nothing here
 abbrev pub word_reading : ℕ → Sense → Reading
 word_reading at (ALocal k c) =
-    record { type = object_of c; faults = []; tree = tree.Local at k; first = at; literal = false }
+    record (untyped [] at at) { type = option_map Object c; tree = tree.Local at k }
 word_reading at (AnOwn k s) = typed (shape_type s) (tree.Own at k s) at
 word_reading at (ARoot k s) = typed (shape_type s) (tree.Root at k s) at
 word_reading at other = unknown_reading at
@@ -106,17 +93,16 @@ abbrev pub paren_reading : ℕ → Reading → Reading
 paren_reading at r = record r { tree = tree.Paren at r.tree; first = at }
 
 abbrev pub minus_reading : ℕ → Reading → Reading
-minus_reading at r = record {
-  type = typed_if (has need.Int r.type) Int;
+minus_reading at r = record r {
+  type = some_if (has need.Int r.type) Int;
   faults = needed need.Int r;
   tree = tree.Minus at r.tree;
   first = at;
-  literal = r.literal;
 }
 
 abbrev pub not_reading : ℕ → Reading → Reading
 not_reading at r = record {
-  type = typed_if (has need.Truth r.type) Truth;
+  type = some_if (has need.Truth r.type) Truth;
   faults = needed need.Truth r;
   tree = tree.Not at r.tree;
   first = at;
@@ -162,32 +148,27 @@ dot_reading o at other r i = attribute_reading o at r i r.type
 
 -- both sides have a type, and the operator takes the pair
 abbrev pub takes_both : Op → Option ExprType → Option ExprType → Bool
-takes_both o (Some a) (Some b) = takes o a b
-takes_both o (Some a) None = false
-takes_both o None b = false
+takes_both o (Some a) (Some b) = taken_by (class_of o) a b
+takes_both o left right = false
 
 -- a comparison whose sides both have a type and aren't a pair that it takes is wrong at its first
 -- token
 abbrev pub mismatch : Op → Option ExprType → Option ExprType → ℕ → List TypeFault
-mismatch o (Some a) (Some b) at = wrong_unless (takes o a b) at
-mismatch o (Some a) None at = []
-mismatch o None b at = []
-
-abbrev pub nonlinear_unless : Bool → ℕ → List TypeFault
-nonlinear_unless true at = []
-nonlinear_unless false at = NonLinear at ∷ []
+mismatch o (Some a) (Some b) at = only_if (not (taken_by (class_of o) a b)) (WrongType at)
+mismatch o left right at = []
 
 -- `at` is the operator's place
 abbrev pub pair_reading : ℕ → Op → Reading → Reading → Reading
 pair_reading at o l r = record {
-  type = typed_if (has (left_need o) l.type
-      && (has (right_need o) r.type && (takes_both o l.type r.type
-      && is_linear o l.literal r.literal))) (result_of o);
-  faults = needed (left_need o) l ++ (needed (right_need o) r ++ (mismatch o l.type r.type l.first
-      ++ nonlinear_unless (is_linear o l.literal r.literal) at));
+  type = some_if (has (left_by (class_of o)) l.type
+      && (has (right_by (class_of o)) r.type && (takes_both o l.type r.type
+      && is_linear o l.literal r.literal))) (made_by (class_of o));
+  faults = needed (left_by (class_of o)) l ++ (needed (right_by (class_of o)) r
+      ++ (mismatch o l.type r.type l.first
+      ++ only_if (not (is_linear o l.literal r.literal)) (NonLinear at)));
   tree = tree.Pair at o l.tree r.tree;
   first = l.first;
-  literal = keeps_literal o && (l.literal && r.literal);
+  literal = makes_numbers (class_of o) && (l.literal && r.literal);
 }
 
 -- what stands to the right of an operator
@@ -208,16 +189,13 @@ shadow at Nothing = []
 shadow at other = Shadow at ∷ []
 
 abbrev pub filter_faults : Option Reading → List TypeFault
-filter_faults None = []
-filter_faults (Some r) = needed need.Truth r
+filter_faults filter = option_map_or (needed need.Truth) filter []
 
 abbrev pub filter_holds : Option Reading → Bool
-filter_holds None = true
-filter_holds (Some r) = has need.Truth r.type
+filter_holds filter = option_map_or (λ (r : Reading). has need.Truth r.type) filter true
 
 abbrev pub filter_tree : Option Reading → Filter
-filter_tree None = NoFilter
-filter_tree (Some r) = Where r.tree
+filter_tree filter = option_map_or (λ (r : Reading). Where r.tree) filter NoFilter
 
 -- the bodies from number n on
 abbrev pub bodies_faults : QuantKind → List Reading → ℕ → List TypeFault
@@ -236,7 +214,7 @@ bodies_tree (r ∷ rs) = Body r.tree (bodies_tree rs)
 abbrev pub quantifier_reading : ℕ → QuantKind → ℕ → Sense → Reading → Option Reading → List Reading
     → Reading
 quantifier_reading at k name_at outside over filter bodies = record {
-  type = typed_if (has need.List over.type && (filter_holds filter && bodies_hold k bodies 0))
+  type = some_if (has need.List over.type && (filter_holds filter && bodies_hold k bodies 0))
       (quant_result k);
   faults = shadow name_at outside
       ++ (needed need.List over ++ (filter_faults filter ++ bodies_faults k bodies 0));

@@ -1,6 +1,7 @@
 -- What a word at the head of an expression means where it stands: the first of these that fits is a
 -- quantifier's variable, an attribute of `this`, a top-level variable, an enumeration, a class.
 use Rattle.std.specs.Prelude.{ℕ, cond, List, [], ◌∷◌, ◌++◌, Option, None, Some, length, map, position, slice_index_or}
+use Rattle.std.specs.Option.{option_map, option_and_then, option_map_or}
 use Rattle.class_table.specs.declared.names.NameMeaning.{NameMeaning}
 use Rattle.class_table.specs.declared.names.NameMeaning.TheVariants as meaning
 use Rattle.class_table.specs.declared.table.Resolved.{Resolved}
@@ -37,8 +38,7 @@ abbrev pub shape_at : List Variable → ℕ → Resolved
 shape_at vs k = (slice_index_or vs k (record { name = []; shape = shape.Truth })).shape
 
 abbrev pub with_shape : List Variable → Option ℕ → Option Found
-with_shape vs None = None
-with_shape vs (Some k) = Some (record { number = k; shape = shape_at vs k })
+with_shape vs found = option_map (λ k. record { number = k; shape = shape_at vs k }) found
 
 -- the attribute of this name of a class, inherited ones too
 abbrev pub attribute_named : Outline → ℕ → List ℕ → Option Found
@@ -47,8 +47,7 @@ attribute_named o c w =
     (position (same_name w) (map variable_name (attributes o.classes c)))
 
 abbrev pub own_named : Outline → Option ℕ → List ℕ → Option Found
-own_named o None w = None
-own_named o (Some c) w = attribute_named o c w
+own_named o class w = option_and_then (λ c. attribute_named o c w) class
 
 -- the innermost of the variables with this name; its distance is the number of those behind it
 abbrev pub local_or : Sense → List ℕ → List (List ℕ × Option ℕ) → Sense
@@ -56,8 +55,7 @@ local_or other w [] = other
 local_or other w (v ∷ vs) = local_or (cond (same_name w v.0) (ALocal (length vs) v.1) other) w vs
 
 abbrev pub own_or : Sense → Option Found → Sense
-own_or other (Some f) = AnOwn f.number f.shape
-own_or other None = other
+own_or other found = option_map_or (λ (f : Found). AnOwn f.number f.shape) found other
 
 -- what a name of the one space of classes, enumerations and top-level variables means
 abbrev pub declared_sense : Outline → Option NameMeaning → Sense

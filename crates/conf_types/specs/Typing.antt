@@ -1,22 +1,23 @@
 -- The types of resolved expressions: one line for each kind, as in the table of types. What stands
 -- in a typed model has one.
 use Rattle.std.specs.Prelude.{◌≡◌, ℕ, suc, ◌-◌, Bool, true, false, ◌&&◌, cond, List, [], ◌∷◌, ◌++◌, Option, None, Some, int_le, length, nat_eq, nat_lt, slice_get, All}
-use Rattle.std.specs.Option.{option_map_or}
+use Rattle.std.specs.Option.{option_map_or, option_map}
 use Rattle.class_table.specs.declared.table.Enumeration.{Enumeration}
 use Rattle.class_table.specs.declared.table.Resolved.{Resolved}
 use Rattle.class_table.specs.declared.table.Resolved.TheVariants as shape
 use Rattle.class_table.specs.declared.table.Variable.{Variable}
 use Rattle.class_table.specs.Outline.{Outline, attributes}
 use Rattle.conf_syntax.specs.declared.tree.QuantKind.{QuantKind}
+use Rattle.conf_syntax.specs.OnlyIf.{some_if}
 use Rattle.conf_types.specs.declared.types.ExprType.{ExprType}
 use Rattle.conf_types.specs.declared.types.ExprType.TheVariants.{Int, Truth, Choice, Object, Objects, Class}
 use Rattle.conf_types.specs.declared.types.Need.TheVariants as need
 use Rattle.conf_types.specs.Programs.{ResolvedConstraint, ResolvedGoal}
-use Rattle.conf_types.specs.Readings.{has, typed_if, takes_both, list_class, object_of}
+use Rattle.conf_types.specs.Readings.{has, takes_both, list_class}
 use Rattle.conf_types.specs.Trees.{Tree, Filter, NoFilter, Where, Bodies, NoBody, Body}
 use Rattle.conf_types.specs.Trees as tree
 use Rattle.conf_types.specs.Types.{shape_type, body_need, quant_result}
-use Rattle.conf_types.specs.Operators.{left_need, right_need, result_of, keeps_literal, is_linear}
+use Rattle.conf_types.specs.Operators.{is_linear, class_of, left_by, right_by, made_by, makes_numbers}
 
 -- where a resolved expression stands: the class of `this`, if it stands in one, and the classes of
 -- the variables of the quantifiers round it, the outermost first
@@ -48,7 +49,7 @@ shaped vs k s = option_map_or (λ (v : Variable). same_shape s v.shape) (slice_g
 
 -- the type of variable k, where it has this shape
 abbrev pub variable_type : List Variable → ℕ → Resolved → Option ExprType
-variable_type vs k s = typed_if (shaped vs k s) (shape_type s)
+variable_type vs k s = some_if (shaped vs k s) (shape_type s)
 
 abbrev pub attribute_type : Outline → Option ExprType → ℕ → Resolved → Option ExprType
 attribute_type o (Some (Object c)) k s = variable_type (attributes o.classes c) k s
@@ -69,7 +70,7 @@ abbrev pub is_literal : Tree → Bool
 is_literal (tree.Number at n) = true
 is_literal (tree.Paren at e) = is_literal e
 is_literal (tree.Minus at e) = is_literal e
-is_literal (tree.Pair at op l r) = keeps_literal op && (is_literal l && is_literal r)
+is_literal (tree.Pair at op l r) = makes_numbers (class_of op) && (is_literal l && is_literal r)
 is_literal (tree.Truth at b) = false
 is_literal (tree.This at) = false
 is_literal (tree.Not at e) = false
@@ -86,7 +87,7 @@ is_literal (tree.Missing at) = false
 -- whether its bodies are as needed
 abbrev pub quantifier_type : QuantKind → Option ℕ → Bool → Option ExprType
 quantifier_type q None fits = None
-quantifier_type q (Some c) fits = typed_if fits (quant_result q)
+quantifier_type q (Some c) fits = some_if fits (quant_result q)
 
 -- the place inside of a quantifier; without a class the quantifier has no type
 abbrev pub within : Place → Option ℕ → Place
@@ -97,19 +98,19 @@ abbrev mutual
   pub tree_type : Outline → Tree → Place → Option ExprType
   tree_type o (tree.Number at n) p = Some Int
   tree_type o (tree.Truth at b) p = Some Truth
-  tree_type o (tree.This at) p = object_of p.class
+  tree_type o (tree.This at) p = option_map Object p.class
   tree_type o (tree.Paren at e) p = tree_type o e p
-  tree_type o (tree.Minus at e) p = typed_if (has need.Int (tree_type o e p)) Int
-  tree_type o (tree.Not at e) p = typed_if (has need.Truth (tree_type o e p)) Truth
-  tree_type o (tree.Pair at op l r) p = typed_if (has (left_need op) (tree_type o l p)
-      && (has (right_need op) (tree_type o r p)
+  tree_type o (tree.Minus at e) p = some_if (has need.Int (tree_type o e p)) Int
+  tree_type o (tree.Not at e) p = some_if (has need.Truth (tree_type o e p)) Truth
+  tree_type o (tree.Pair at op l r) p = some_if (has (left_by (class_of op)) (tree_type o l p)
+      && (has (right_by (class_of op)) (tree_type o r p)
       && (takes_both op (tree_type o l p) (tree_type o r p) && is_linear op (is_literal l)
-      (is_literal r)))) (result_of op)
-  tree_type o (tree.Local at k) p = object_of (local_class p.locals k)
-  tree_type o (tree.Own at k s) p = attribute_type o (object_of p.class) k s
+      (is_literal r)))) (made_by (class_of op))
+  tree_type o (tree.Local at k) p = option_map Object (local_class p.locals k)
+  tree_type o (tree.Own at k s) p = attribute_type o (option_map Object p.class) k s
   tree_type o (tree.Root at k s) p = variable_type o.roots k s
-  tree_type o (tree.Value at e k) p = typed_if (value_there o e k) (Choice e)
-  tree_type o (tree.Class at c) p = typed_if (nat_lt c (length o.classes)) (Class c)
+  tree_type o (tree.Value at e k) p = some_if (value_there o e k) (Choice e)
+  tree_type o (tree.Class at c) p = some_if (nat_lt c (length o.classes)) (Class c)
   tree_type o (tree.Dot at e k s) p = attribute_type o (tree_type o e p) k s
   tree_type o (tree.Quant at q over f bs) p = quantifier_type q (list_class (tree_type o over p))
       (filter_fits o f (within p (list_class (tree_type o over p)))

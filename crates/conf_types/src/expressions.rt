@@ -10,7 +10,7 @@ ghost use Rattle.conf_types.specs.Checked.{scope_of, told, IsScope, IsRead, IsTy
 ghost use Rattle.conf_types.specs.Programs.{OnFault};
 ghost use Rattle.conf_types.specs.Readings.{read, needed, faults_of, alone, over_reading, right_reading, paren_reading, dot_reading, attribute_reading, minus_reading, not_reading, pair_reading, quant_reading, filter_faults, bodies_faults};
 ghost use Rattle.conf_types.specs.Types.{meets, body_need};
-ghost use Rattle.conf_types.specs.Operators.{left_need, right_need};
+ghost use Rattle.conf_types.specs.Operators.{class_of, right_by};
 
 use crate::operators::{is_in, left_need, right_need};
 use crate::rules::{
@@ -263,9 +263,9 @@ fn check_right<'a>(
         (right_reading op expr.now.at (alone table.now expr.now.node (scope_of scope.now))
         (read table.now (scope_of scope.now) expr.now))) }
     ensures exists { IfOk result (λ x. IsTypeOf table.now x.kind) }
-    ensures met { IfOk result (λ x. meets (right_need op) x.kind ≡ true) }
+    ensures met { IfOk result (λ x. meets (right_by (class_of op)) x.kind ≡ true) }
     ensures fault { IfErr result (λ f. OnFault f
-        (λ g. Contains (needed (right_need op)
+        (λ g. Contains (needed (right_by (class_of op))
         (right_reading op expr.now.at (alone table.now expr.now.node (scope_of scope.now))
         (read table.now (scope_of scope.now) expr.now))) g)) }
 {

@@ -1,7 +1,7 @@
 //! The classes of operators, and what an operator needs of its sides and makes of them, by its
 //! class.
 ghost use Rattle.std.specs.Prelude.{◌≡◌};
-ghost use Rattle.conf_types.specs.Operators.{class_of, left_need, right_need, takes, result_of, keeps_literal, is_linear, is_in};
+ghost use Rattle.conf_types.specs.Operators.{class_of, is_linear, is_in, left_by, right_by, taken_by, made_by, makes_numbers};
 
 use crate::types::{ExprType, Need, is_comparable, is_int};
 use conf_syntax::Op;
@@ -39,7 +39,7 @@ pub fn class_of(op: Op) -> OpClass
 
 /// What an operator needs of its left side.
 pub(crate) fn left_need(op: Op) -> Need
-    ensures { result ≡ left_need op }
+    ensures { result ≡ left_by (class_of op) }
 {
     match class_of(op) {
         OpClass::Logic => Need::Truth,
@@ -51,7 +51,7 @@ pub(crate) fn left_need(op: Op) -> Need
 
 /// What an operator needs of its right side.
 pub(crate) fn right_need(op: Op) -> Need
-    ensures { result ≡ right_need op }
+    ensures { result ≡ right_by (class_of op) }
 {
     match class_of(op) {
         OpClass::Logic => Need::Truth,
@@ -64,7 +64,7 @@ pub(crate) fn right_need(op: Op) -> Need
 /// Whether a comparison takes a pair of such types. What isn't a comparison takes all pairs that
 /// meet its needs.
 pub(crate) fn takes(op: Op, left: ExprType, right: ExprType) -> bool
-    ensures { result ≡ takes op left right }
+    ensures { result ≡ taken_by (class_of op) left right }
 {
     match class_of(op) {
         OpClass::Equality => is_comparable(left, right),
@@ -75,7 +75,7 @@ pub(crate) fn takes(op: Op, left: ExprType, right: ExprType) -> bool
 
 /// The type of what an operator makes.
 pub(crate) fn result_of(op: Op) -> ExprType
-    ensures { result ≡ result_of op }
+    ensures { result ≡ made_by (class_of op) }
 {
     match class_of(op) {
         OpClass::Sum | OpClass::Product => ExprType::Int,
@@ -85,7 +85,7 @@ pub(crate) fn result_of(op: Op) -> ExprType
 
 /// Whether what the operator makes of two sides that are built of literals is so too.
 pub(crate) fn keeps_literal(op: Op) -> bool
-    ensures { result ≡ keeps_literal op }
+    ensures { result ≡ makes_numbers (class_of op) }
 {
     match class_of(op) {
         OpClass::Sum | OpClass::Product => true,

@@ -7,8 +7,8 @@ ghost use Rattle.conf_types.specs.Checked.{told, scope_of, IsRead, IsFilter, Are
 ghost use Rattle.conf_types.specs.Programs.{OnFault};
 ghost use Rattle.conf_types.specs.Readings.{Reading, number_reading, truth_reading, this_reading, word_reading, over_reading, paren_reading, minus_reading, not_reading, value_reading, values_of, found_reading, attribute_reading, pair_reading, list_class, shadow, quantifier_reading};
 ghost use Rattle.conf_types.specs.Types.{meets, shape_type, quant_result};
-ghost use Rattle.conf_types.specs.Operators.{left_need, right_need, result_of};
 ghost use Rattle.conf_types.specs.Scopes.{AClass, Nothing, within};
+ghost use Rattle.conf_types.specs.Operators.{class_of, left_by, right_by, made_by};
 
 use crate::operators::{is_linear, keeps_literal, result_of, takes};
 use crate::scope::{Found, Scope, Sense, attribute_of, scope_within};
@@ -245,11 +245,11 @@ pub(crate) fn pair(
     left: Checked,
     right: Checked,
 ) -> Result<Checked, TypeFault>
-    requires left { meets (left_need op) left.kind ≡ true }
-    requires right { meets (right_need op) right.kind ≡ true }
+    requires left { meets (left_by (class_of op)) left.kind ≡ true }
+    requires right { meets (right_by (class_of op)) right.kind ≡ true }
     ensures read { (l r : Reading) → IsRead left l → IsRead right r
         → IfOk result (λ y. IsRead y (pair_reading at op l r)) }
-    ensures kind { IfOk result (λ y. y.kind ≡ result_of op) }
+    ensures kind { IfOk result (λ y. y.kind ≡ made_by (class_of op)) }
     ensures fault { IfErr result (λ f. OnFault f (λ g. (l r : Reading) → IsRead left l
         → IsRead right r → Contains (pair_reading at op l r).faults g)) }
 {

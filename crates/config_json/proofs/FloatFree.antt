@@ -15,8 +15,8 @@ use Rattle.serde_json.specs.Data.{Data, Members, no_members, member, put}
 use Rattle.serde_json.specs.Find.{of_integer, is_float}
 use Rattle.serde_json.specs.Written.{has_float, items_have_float, members_have_float}
 use Rattle.config_json.specs.Keys.{text_of}
-use Rattle.object_alloc.specs.Members.{member_at}
-use Rattle.config_json.specs.Tree.{all_data, attribute_data, class_member, config_data, first_data, leaf_data, object_data, object_within, path_data, with_variables, only_value}
+use Rattle.object_alloc.specs.Members.{member_at, first_value}
+use Rattle.config_json.specs.Tree.{all_data, attribute_data, class_member, config_data, first_data, leaf_data, object_data, object_within, path_data, with_variables}
 
 whole : (v : ℤ) → is_float (of_integer v) ≡ false
 whole (pos n) = refl
@@ -58,7 +58,7 @@ first_free of each (n ∷ ns) = each n
 
 module _ (o : Outline) (values : List ℤ) where
   leaf_free : (is : List ℕ) (s : Resolved) → has_float (leaf_data o values is s) ≡ false
-  leaf_free is (Span low high) = whole (only_value values is)
+  leaf_free is (Span low high) = whole (first_value values is)
   leaf_free is Truth = refl
   leaf_free is (Choice e) = refl
   leaf_free is (Ref c) = refl

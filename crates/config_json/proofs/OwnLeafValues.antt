@@ -8,15 +8,14 @@ use Rattle.class_table.specs.declared.table.Enumeration.{Enumeration}
 use Rattle.class_table.specs.Outline.{Outline}
 use Rattle.class_table.specs.Same.{same_name}
 use Rattle.object_alloc.specs.Cells.{value_count}
-use Rattle.object_alloc.specs.Members.{is_one, value_at}
+use Rattle.object_alloc.specs.Members.{is_one, value_at, first_value}
 use Rattle.serde_json.specs.Data.{number}
 use Rattle.serde_json.specs.Find.{as_integer, of_integer}
 use Rattle.config_json.specs.Former.{truth_number, value_number, whole_in}
 use Rattle.config_json.specs.Keys.{text_of, value_name}
 use Rattle.config_json.proofs.Texts.{HasTexts}
-use Rattle.config_json.specs.Tree.{only_value}
 
-pub only_is : (t : List ℤ) (is : List ℕ) (v : ℤ) → map (value_at t) is ≡ v ∷ [] → only_value t is ≡ v
+pub only_is : (t : List ℤ) (is : List ℕ) (v : ℤ) → map (value_at t) is ≡ v ∷ [] → first_value t is ≡ v
 only_is t [] v e = cc
 only_is t (i ∷ is) v e = cc
 

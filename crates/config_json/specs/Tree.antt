@@ -8,7 +8,7 @@ use Rattle.class_table.specs.Outline.{Outline}
 use Rattle.object_alloc.specs.Cells.{cells}
 use Rattle.object_alloc.specs.Groups.{parts_of, own_cells}
 use Rattle.object_alloc.specs.Variables.{variables_of}
-use Rattle.object_alloc.specs.Members.{is_one, member_at, value_at}
+use Rattle.object_alloc.specs.Members.{is_one, member_at, first_value}
 use Rattle.object_alloc.specs.Paths.{path}
 use Rattle.object_alloc.specs.Walk.{objects}
 use Rattle.serde_json.specs.Data.{Data, null, boolean, number, string, array, object, Items, no_items, item, Members, no_members, put}
@@ -17,11 +17,6 @@ use Rattle.serde_json.specs.Written.{compact_text}
 use Rattle.config_json.specs.Keys.{text_of, value_name, class_name}
 
 -- Leaves, by the numbers of their cells
-
--- the value of a leaf that has one cell
-abbrev pub only_value : List ℤ → List ℕ → ℤ
-only_value values [] = pos 0
-only_value values (i ∷ is) = value_at values i
 
 -- the values of these numbers, in order
 abbrev pub all_data : (ℕ → Data) → List ℕ → Items
@@ -37,11 +32,11 @@ paths_data o ns = all_data (path_data o) ns
 -- a leaf of this shape with these cells: a number, a truth value, the name of a value, the path of
 -- an object, or the paths of the members in order of allocation
 abbrev pub leaf_data : Outline → List ℤ → List ℕ → Resolved → Data
-leaf_data o values is (Span low high) = number (of_integer (only_value values is))
-leaf_data o values is Truth = boolean (is_one (only_value values is))
+leaf_data o values is (Span low high) = number (of_integer (first_value values is))
+leaf_data o values is Truth = boolean (is_one (first_value values is))
 leaf_data o values is (Choice e) =
-    string (text_of (value_name o e (nat_abs (only_value values is))))
-leaf_data o values is (Ref c) = path_data o (nat_abs (only_value values is))
+    string (text_of (value_name o e (nat_abs (first_value values is))))
+leaf_data o values is (Ref c) = path_data o (nat_abs (first_value values is))
 leaf_data o values is (RefSet c n) =
     array (paths_data o (filter_map (member_at (cells o) values) is))
 leaf_data o values is other = null

@@ -11,8 +11,8 @@ ghost use Rattle.serde_json.specs.View.{view, items_view, members_view};
 ghost use Rattle.config_json.specs.Contained.{AreContained};
 ghost use Rattle.config_json.specs.Keys.{text_of, value_name, class_name};
 ghost use Rattle.config_json.specs.Reading.{value_read};
-ghost use Rattle.object_alloc.specs.Members.{member_at, value_at};
-ghost use Rattle.config_json.specs.Tree.{all_data, attribute_data, first_data, class_member, config_bytes, config_data, leaf_data, object_data, only_value, path_data, paths_data, with_variables};
+ghost use Rattle.object_alloc.specs.Members.{member_at, value_at, first_value};
+ghost use Rattle.config_json.specs.Tree.{all_data, attribute_data, first_data, class_member, config_bytes, config_data, leaf_data, object_data, path_data, paths_data, with_variables};
 
 use crate::leaves::element_at;
 use crate::positions::variable_of;
@@ -71,7 +71,7 @@ fn value_at(values: &[i64], i: u32) -> i64
 
 /// The value of a leaf that has one cell.
 pub(crate) fn only_value(values: &[i64], own: &[u32]) -> i64
-    ensures value { result ≡ only_value values.now own.now }
+    ensures value { result ≡ first_value values.now own.now }
 {
     match own.first() {
         Some(i) => value_at(values, *i),

@@ -15,8 +15,8 @@ use Rattle.conf_types.specs.Readings.{has}
 use Rattle.conf_types.specs.Readings as reading
 use Rattle.conf_types.specs.Trees.{Tree}
 use Rattle.conf_types.specs.Trees as tree
-use Rattle.conf_types.specs.Operators.{left_need, right_need}
 use Rattle.conf_types.specs.Typing.{Place, local_class, attribute_type, tree_type}
+use Rattle.conf_types.specs.Operators.{class_of, left_by, right_by}
 use Rattle.object_alloc.specs.Cells.{extent}
 use Rattle.object_alloc.specs.Variables.{variables_of}
 use Rattle.object_alloc.specs.Own.{IsOwner}
@@ -46,17 +46,17 @@ module _ (o : Outline) (this : Option ℕ) (vars : List ℕ) where
   pub in_left : (i : ℕ) (q : Op) (l r : Tree) → IsStanding o (tree.Pair i q l r) this vars → IsStanding o l this vars
   in_left i q l r e =
       let f = if_typed _ _ e.type e.typed in
-      let m = and_parts (has (left_need q) (tree_type o l e.place)) _ f.test in
-      let g = typed_of_has (left_need q) (tree_type o l e.place) m.0 in
+      let m = and_parts (has (left_by (class_of q)) (tree_type o l e.place)) _ f.test in
+      let g = typed_of_has (left_by (class_of q)) (tree_type o l e.place) m.0 in
       let n = and_parts (narrow o l && narrow o r) _ e.numbers in
       record { place = e.place; type = g.type_is; setting = e.setting; typed = g.there; numbers = (and_parts (narrow o l) (narrow o r) n.0).0 }
 
   pub in_right : (i : ℕ) (q : Op) (l r : Tree) → IsStanding o (tree.Pair i q l r) this vars → IsStanding o r this vars
   in_right i q l r e =
       let f = if_typed _ _ e.type e.typed in
-      let m = and_parts (has (left_need q) (tree_type o l e.place)) _ f.test in
-      let k = and_parts (has (right_need q) (tree_type o r e.place)) _ m.1 in
-      let g = typed_of_has (right_need q) (tree_type o r e.place) k.0 in
+      let m = and_parts (has (left_by (class_of q)) (tree_type o l e.place)) _ f.test in
+      let k = and_parts (has (right_by (class_of q)) (tree_type o r e.place)) _ m.1 in
+      let g = typed_of_has (right_by (class_of q)) (tree_type o r e.place) k.0 in
       let n = and_parts (narrow o l && narrow o r) _ e.numbers in
       record { place = e.place; type = g.type_is; setting = e.setting; typed = g.there; numbers = (and_parts (narrow o l) (narrow o r) n.0).1 }
 

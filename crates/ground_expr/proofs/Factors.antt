@@ -11,7 +11,7 @@ use Rattle.conf_types.specs.declared.types.ExprType.{ExprType}
 use Rattle.conf_types.specs.Readings.{has}
 use Rattle.conf_types.specs.Trees.{Tree}
 use Rattle.conf_types.specs.Trees as tree
-use Rattle.conf_types.specs.Operators.{left_need, right_need, keeps_literal, is_linear}
+use Rattle.conf_types.specs.Operators.{is_linear, class_of, left_by, right_by, makes_numbers}
 use Rattle.conf_types.specs.Typing.{Place, tree_type, is_literal}
 use Rattle.conf_limits.specs.declared.interval.Interval.{Interval}
 use Rattle.conf_limits.specs.Measures.{interval, operator_interval, times}
@@ -34,7 +34,7 @@ times_point i j e f = by i.low j.low i.high j.high e f
         subst (λ (x : ℤ). int_min (int_min (a *ℤ c) (a *ℤ d)) (int_min (x *ℤ c) (x *ℤ d)) ≡ int_max (int_max (a *ℤ c) (a *ℤ d)) (int_max (x *ℤ c) (x *ℤ d))) e
         (subst (λ (y : ℤ). int_min (int_min (a *ℤ c) (a *ℤ y)) (int_min (a *ℤ c) (a *ℤ y)) ≡ int_max (int_max (a *ℤ c) (a *ℤ y)) (int_max (a *ℤ c) (a *ℤ y))) f (same (a *ℤ c)))
 
-pair_point : (q : Op) (i j : Interval) → keeps_literal q ≡ true → IsPoint i → IsPoint j → IsPoint (operator_interval q i j)
+pair_point : (q : Op) (i j : Interval) → makes_numbers (class_of q) ≡ true → IsPoint i → IsPoint j → IsPoint (operator_interval q i j)
 pair_point op.Add i j k e f = ap (λ (v : ℤ). v +ℤ j.low) e ∙ ap (λ (v : ℤ). i.high +ℤ v) f
 pair_point op.Sub i j k e f = ap (λ (v : ℤ). v -ℤ j.high) e ∙ ap (λ (v : ℤ). i.high -ℤ v) (sym f)
 pair_point op.Mul i j k e f = times_point i j e f
@@ -55,7 +55,7 @@ literal_point o (tree.Number i n) h = refl
 literal_point o (tree.Paren i t) h = literal_point o t h
 literal_point o (tree.Minus i t) h = sym (ap neg_ℤ (literal_point o t h))
 literal_point o (tree.Pair i q l r) h =
-    let k = and_parts (keeps_literal q) (is_literal l && is_literal r) h in
+    let k = and_parts (makes_numbers (class_of q)) (is_literal l && is_literal r) h in
     let b = and_parts (is_literal l) (is_literal r) k.1 in
     pair_point q (interval o l) (interval o r) k.0 (literal_point o l b.0) (literal_point o r b.1)
 literal_point o (tree.Truth i b) h = refl
@@ -103,6 +103,6 @@ factor_of o op.In l r h = refl
 pub pair_factor : (o : Outline) (i : ℕ) (q : Op) (l r : Tree) (p : Place) (ty : ExprType) → tree_type o (tree.Pair i q l r) p ≡ Some ty → has_factor q (interval o l) (interval o r) ≡ true
 pair_factor o i q l r p ty e =
     let f = if_typed _ _ ty e in
-    let m = and_parts (has (left_need q) (tree_type o l p)) _ f.test in
-    let k = and_parts (has (right_need q) (tree_type o r p)) _ m.1 in
+    let m = and_parts (has (left_by (class_of q)) (tree_type o l p)) _ f.test in
+    let k = and_parts (has (right_by (class_of q)) (tree_type o r p)) _ m.1 in
     factor_of o q l r (and_parts _ (is_linear q (is_literal l) (is_literal r)) k.1).1

@@ -12,12 +12,12 @@ use Rattle.conf_syntax.specs.declared.tree.QuantKind.TheVariants as kind
 use Rattle.conf_types.specs.declared.types.ExprType.{ExprType}
 use Rattle.conf_types.specs.Readings.{list_class}
 use Rattle.conf_types.specs.Types.{quant_result}
-use Rattle.conf_types.specs.Operators.{result_of}
 use Rattle.conf_types.specs.Typing.{tree_type}
 use Rattle.object_alloc.specs.Cells.{extent}
 use Rattle.conf_types.specs.declared.types.ExprType.TheVariants as type
 use Rattle.conf_types.specs.Trees.{Tree, Filter, Bodies}
 use Rattle.conf_types.specs.Trees as tree
+use Rattle.conf_types.specs.Operators.{class_of, made_by}
 use Rattle.conf_eval.specs.declared.value.Value.{Value}
 use Rattle.conf_eval.specs.declared.value.Value.TheVariants.{Int, Truth}
 use Rattle.conf_eval.specs.Fitting.{HasShape}
@@ -75,7 +75,7 @@ no_target o (type.Objects k) boxes (form.List l) h (inr e) = cc
 no_target o (type.Class k) boxes (form.List l) h (inl e) = cc
 no_target o (type.Class k) boxes (form.List l) h (inr e) = cc
 
-plain_result : (q : Op) → (result_of q ≡ type.Int) ⊎ (result_of q ≡ type.Truth)
+plain_result : (q : Op) → (made_by (class_of q) ≡ type.Int) ⊎ (made_by (class_of q) ≡ type.Truth)
 plain_result op.Add = inl refl
 plain_result op.Sub = inl refl
 plain_result op.Mul = inl refl
@@ -167,8 +167,8 @@ module _ (o : Outline) (g : Ground) (known : List (ℕ × ℤ)) (this : Option �
     form = record {
       number = is.number;
       truth = is.truth;
-      typed = λ p ty fits e. subst (λ (z : ExprType). IsFormOf o g.domains z m) (if_typed _ (result_of q) ty e).is is.typed;
-      reached = let none = no_target o (result_of q) g.domains m is.typed (plain_result q) in omega (arith, none);
+      typed = λ p ty fits e. subst (λ (z : ExprType). IsFormOf o g.domains z m) (if_typed _ (made_by (class_of q)) ty e).is is.typed;
+      reached = let none = no_target o (made_by (class_of q)) g.domains m is.typed (plain_result q) in omega (arith, none);
     };
   }
 

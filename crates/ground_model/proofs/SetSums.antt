@@ -17,8 +17,9 @@ use Rattle.object_alloc.specs.Cells.{cells, extent}
 use Rattle.object_alloc.specs.Groups.{own_cells}
 use Rattle.object_alloc.specs.Own.{member_cell}
 use Rattle.object_alloc.specs.Walk.{walk, leaves_in}
+use Rattle.object_alloc.specs.Members.{member_at}
 use Rattle.std.specs.Prelude.{Contains}
-use Rattle.conf_eval.specs.Meaning.{int_same, chosen, objects_of, attribute_value}
+use Rattle.conf_eval.specs.Meaning.{int_same, objects_of, attribute_value}
 use Rattle.signed_clause.specs.Ranges.{Ranges, has}
 use Rattle.signed_clause.specs.Clauses.{Boxes, box_of}
 use Rattle.ground_form.specs.declared.ground.Ground.{Ground}
@@ -96,19 +97,19 @@ rest_same : {X : Type 0} {a b : X} {rest more : List X} → a ∷ rest ≡ b ∷
 rest_same g = cc
 
 module _ (cs : List Cell) (values a : List ℤ) (owner : Option ℕ) (k : ℕ) where
-  chosen_is : (x n : ℕ) → slice_index_or values x (pos 0) ≡ value_of a x → slice_get cs x ≡ Some (member_cell owner k n) → chosen cs values x ≡ cond (int_same (value_of a x) (pos 1)) (Some n) None
+  chosen_is : (x n : ℕ) → slice_index_or values x (pos 0) ≡ value_of a x → slice_get cs x ≡ Some (member_cell owner k n) → member_at cs values x ≡ cond (int_same (value_of a x) (pos 1)) (Some n) None
   chosen_is x n same e =
       ap (λ (r : Option Cell). cond (int_same (slice_index_or values x (pos 0)) (pos 1)) (option_and_then (λ (c : Cell). c.element) r) None) e
       ∙ ap (λ (v : ℤ). cond (int_same v (pos 1)) (Some n) None) same
 
-  pub sum_is : (xs ns : List ℕ) → map (λ i. slice_get cs i) xs ≡ map Some (map (member_cell owner k) ns) → All (IsBitAt values a) xs → sum_at (each_once xs) a ≡ pos (length (filter_map (chosen cs values) xs))
+  pub sum_is : (xs ns : List ℕ) → map (λ i. slice_get cs i) xs ≡ map Some (map (member_cell owner k) ns) → All (IsBitAt values a) xs → sum_at (each_once xs) a ≡ pos (length (filter_map (member_at cs values) xs))
   sum_is [] ns e all = refl
   sum_is (x ∷ xs) [] e all = cc
   sum_is (x ∷ xs) (n ∷ ns) e all =
       let m = All-head (IsBitAt values a) x xs all in
       let rest = sum_is xs ns (rest_same e) (All-tail (IsBitAt values a) x xs all) in
-      counted (value_of a x) (sum_at (each_once xs) a) n (int_same (value_of a x) (pos 1)) (filter_map (chosen cs values) xs) refl m.low m.high rest
-      ∙ ap (λ (r : Option ℕ). pos (length (cons_option r (filter_map (chosen cs values) xs)))) (sym (chosen_is x n m.same (first_same e)))
+      counted (value_of a x) (sum_at (each_once xs) a) n (int_same (value_of a x) (pos 1)) (filter_map (member_at cs values) xs) refl m.low m.high rest
+      ∙ ap (λ (r : Option ℕ). pos (length (cons_option r (filter_map (member_at cs values) xs)))) (sym (chosen_is x n m.same (first_same e)))
 
 bit_low : (box : Ranges) (v : ℤ) → box ≡ (pos 0, pos 1) ∷ [] → has box v ≡ true → pos 0 ≤ℤ v
 bit_low box v e h = let g = subst (λ (z : Ranges). has z v ≡ true) e h in grind (arith, ints)
@@ -145,7 +146,7 @@ module _ (o : Outline) (sound : IsSound o) (l : Leaf) (c n : ℕ) (has_leaf : Co
       let values = take g.search a in
       let xs = own_cells o l.owner l.attribute in
       let sum = ap (λ (ts : List (ℤ × ℕ)). sum_at ts a) e ∙ sum_is (cells o) values a l.owner l.attribute xs (extent o c) (leaf_cells_are o sound l c n has_leaf is) (bits_at g a xs w (own_members g there)) in
-      compared (length (filter_map (chosen (cells o) values) xs)) n (sum_at f.terms a) f.offset sum h
+      compared (length (filter_map (member_at (cells o) values) xs)) n (sum_at f.terms a) f.offset sum h
       ∙ ap (λ (s : Resolved). has_count s (length (objects_of (attribute_value o values l.owner l.attribute s)))) (sym is)
 
 -- ---- a set that is to have members has cells
@@ -153,7 +154,7 @@ module _ (o : Outline) (sound : IsSound o) (l : Leaf) (c n : ℕ) (has_leaf : Co
 pub never_full : (o : Outline) (values : List ℤ) (l : Leaf) (c n : ℕ) → l.shape ≡ RefSet c n → own_cells o l.owner l.attribute ≡ [] → 0 < n → is_full o values l ≡ false
 never_full o values l c n is none some =
     ap (λ (s : Resolved). has_count s (length (objects_of (attribute_value o values l.owner l.attribute s)))) is
-    ∙ ap (λ (xs : List ℕ). nat_eq (length (filter_map (chosen (cells o) values) xs)) n) none
+    ∙ ap (λ (xs : List ℕ). nat_eq (length (filter_map (member_at (cells o) values) xs)) n) none
     ∙ other n some
   where
     other : (n : ℕ) → 0 < n → nat_eq 0 n ≡ false

@@ -6,6 +6,7 @@
 -- or be contained, at any depth, in one.
 use Rattle.std.specs.Prelude.{ℕ, suc, Bool, false, not, ◌&&◌, ◌||◌, cond, List, [], ◌∷◌, ◌++◌, Option, None, Some, ℤ, int_le, nat_abs, length, take, drop}
 use Rattle.std.specs.List.{list_all, list_any}
+use Rattle.std.specs.Option.{option_map_or}
 use Rattle.class_table.specs.Outline.{Outline}
 use Rattle.object_alloc.specs.declared.object.Cell.{Cell}
 use Rattle.object_alloc.specs.declared.object.Domain.{Domain}
@@ -20,14 +21,12 @@ use Rattle.object_alloc.specs.Walk.{leaves_in, walk}
 
 -- a cell that has a hint has another value
 abbrev pub differs : Option ℤ → ℤ → Bool
-differs None v = false
-differs (Some w) v = not (int_le w v && int_le v w)
+differs hint v = option_map_or (λ w. not (int_le w v && int_le v w)) hint false
 
 -- one of these cells has another value; the hints and the values of one leaf
 abbrev pub is_changed : List (Option ℤ) → List ℤ → Bool
-is_changed [] vs = false
-is_changed (h ∷ hs) [] = false
 is_changed (h ∷ hs) (v ∷ vs) = differs h v || is_changed hs vs
+is_changed hs vs = false
 
 -- how many of these leaves are changed, the hints and the values standing leaf by leaf
 abbrev pub changes_of : Outline → List Leaf → List (Option ℤ) → List ℤ → ℕ
@@ -58,9 +57,8 @@ named_by c v = named_at c.element c.domain v
 
 -- the objects that these cells name
 abbrev pub named : List Cell → List ℤ → List ℕ
-named [] vs = []
-named (c ∷ cs) [] = []
 named (c ∷ cs) (v ∷ vs) = named_by c v ++ named cs vs
+named cs vs = []
 
 -- the object is none of those that failed, nor in one
 abbrev pub is_sound : Outline → List ℕ → ℕ → Bool

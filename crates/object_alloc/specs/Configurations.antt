@@ -19,9 +19,8 @@ IsInDomain o (Extent c) v = IsOfExtent o c v
 -- one value for each of these cells, in order
 abbrev pub AreValues : Outline → List Cell → List ℤ → Type 0
 AreValues o [] [] = Unit {0}
-AreValues o [] (v ∷ vs) = ⊥
-AreValues o (c ∷ cs) [] = ⊥
 AreValues o (c ∷ cs) (v ∷ vs) = IsInDomain o c.domain v × AreValues o cs vs
+AreValues o cs vs = ⊥
 
 abbrev pub IsConfiguration : Outline → List ℤ → Type 0
 IsConfiguration o values = AreValues o (cells o) values

@@ -15,9 +15,8 @@ numbers_from test n (x ∷ xs) =
 
 abbrev pub same_owner : Option ℕ → Option ℕ → Bool
 same_owner None None = true
-same_owner None (Some n) = false
-same_owner (Some m) None = false
 same_owner (Some m) (Some n) = nat_eq m n
+same_owner one other = false
 
 -- attribute k of the owner is attribute j of the other one
 abbrev pub is_at_place : Option ℕ → ℕ → Option ℕ → ℕ → Bool

@@ -10,7 +10,7 @@ use Rattle.conf_types.specs.declared.types.ExprType.{ExprType}
 use Rattle.conf_types.specs.Readings.{has, takes_both}
 use Rattle.conf_types.specs.Trees.{Tree}
 use Rattle.conf_types.specs.Trees as tree
-use Rattle.conf_types.specs.Operators.{left_need, right_need, result_of, keeps_literal, is_linear}
+use Rattle.conf_types.specs.Operators.{is_linear, class_of, left_by, right_by, made_by, makes_numbers}
 use Rattle.conf_types.specs.Typing.{Place, is_literal, tree_type}
 use Rattle.conf_limits.specs.declared.interval.Interval.{Interval}
 use Rattle.conf_limits.specs.Measures.{interval, operator_interval, narrow}
@@ -23,7 +23,7 @@ use Rattle.operator_forms.specs.Operating.{IsSide, has_factor, AreOperands}
 
 -- ---- what is built of literals is a single number
 
-point_between : (q : Op) (i j : Interval) → keeps_literal q ≡ true → i.low ≡ i.high → j.low ≡ j.high → (operator_interval q i j).low ≡ (operator_interval q i j).high
+point_between : (q : Op) (i j : Interval) → makes_numbers (class_of q) ≡ true → i.low ≡ i.high → j.low ≡ j.high → (operator_interval q i j).low ≡ (operator_interval q i j).high
 point_between op.Add i j h e f = omega (arith, ints, e, f)
 point_between op.Sub i j h e f = omega (arith, ints, e, f)
 point_between op.Mul i j h e f =
@@ -38,7 +38,7 @@ literal_point o (tree.Number at n) h = omega (arith, ints)
 literal_point o (tree.Paren at e) h = literal_point o e h
 literal_point o (tree.Minus at e) h = ap neg_ℤ (sym (literal_point o e h))
 literal_point o (tree.Pair at q l r) h =
-    let p = and_parts (keeps_literal q) (is_literal l && is_literal r) h in
+    let p = and_parts (makes_numbers (class_of q)) (is_literal l && is_literal r) h in
     let b = and_parts (is_literal l) (is_literal r) p.1 in
     point_between q (interval o l) (interval o r) p.0 (literal_point o l b.0) (literal_point o r b.1)
 literal_point o t h = absurd cc
@@ -64,9 +64,9 @@ side_is o boxes t this vars f h = record { number = h.number; truth = h.truth }
 pub operands_are : (o : Outline) (boxes : Boxes) (at : ℕ) (q : Op) (l r : Tree) (this : Option ℕ) (vars : List ℕ) (f h : Form) (p : Place) (ty : ExprType) →
     narrow o (tree.Pair at q l r) ≡ true → tree_type o (tree.Pair at q l r) p ≡ Some ty → IsForm o boxes l this vars f → IsForm o boxes r this vars h → AreOperands boxes q f h
 operands_are o boxes at q l r this vars f h p ty n e left right =
-    let typed = if_typed _ (result_of q) ty e in
-    let one = and_parts (has (left_need q) (tree_type o l p)) _ typed.test in
-    let two = and_parts (has (right_need q) (tree_type o r p)) _ one.1 in
+    let typed = if_typed _ (made_by (class_of q)) ty e in
+    let one = and_parts (has (left_by (class_of q)) (tree_type o l p)) _ typed.test in
+    let two = and_parts (has (right_by (class_of q)) (tree_type o r p)) _ one.1 in
     let three = and_parts (takes_both q (tree_type o l p) (tree_type o r p)) _ two.1 in
     record {
       left = interval o l;

@@ -8,7 +8,7 @@ use Rattle.conf_syntax.specs.declared.tree.Op.{Op}
 use Rattle.conf_syntax.specs.declared.tree.Op.TheVariants as op
 use Rattle.conf_types.specs.declared.operators.OpClass.{OpClass}
 use Rattle.conf_types.specs.declared.operators.OpClass.TheVariants.{Logic, Equality, Order, Member}
-use Rattle.conf_types.specs.Operators.{class_of, makes_numbers, result_of}
+use Rattle.conf_types.specs.Operators.{class_of, makes_numbers, made_by}
 use Rattle.conf_limits.specs.declared.interval.Interval.{Interval}
 use Rattle.conf_limits.specs.Measures.{operator_interval, is_narrow}
 use Rattle.conf_eval.specs.declared.value.Value.{Value}
@@ -158,7 +158,7 @@ pub record IsOperated (o : Outline) (g : Ground) (op : Op) (i j : Interval) (l r
   pub number : IsSum g.domains (operator_interval op i j).low (operator_interval op i j).high
       (number_part f)
   pub truth : HasVariable (length g.domains) (truth_part f)
-  pub typed : IsFormOf o g.domains (result_of op) f
+  pub typed : IsFormOf o g.domains (made_by (class_of op)) f
 
 -- ---- which truths of the sides make a truth of the whole
 

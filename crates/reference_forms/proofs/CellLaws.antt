@@ -14,8 +14,9 @@ use Rattle.object_alloc.specs.Groups.{own_cells}
 use Rattle.object_alloc.specs.Variables.{class_in, variables}
 use Rattle.object_alloc.specs.Walk.{objects}
 use Rattle.object_alloc.proofs.OwnParts.{one_cell}
+use Rattle.object_alloc.specs.Members.{first_value}
 use Rattle.conf_eval.specs.Fitting.{HasShape}
-use Rattle.conf_eval.specs.Meaning.{first_value, first_object}
+use Rattle.conf_eval.specs.Meaning.{first_object}
 use Rattle.signed_clause.specs.Clauses.{box_of}
 use Rattle.ground_form.specs.declared.ground.Ground.{Ground}
 use Rattle.ground_form.specs.Meaning.{value_of}

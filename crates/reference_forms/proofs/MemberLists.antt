@@ -7,6 +7,7 @@ use Rattle.std.proofs.lemmas.List.Elements.{All-contains_itself}
 use Rattle.class_table.specs.Outline.{Outline}
 use Rattle.object_alloc.specs.declared.object.Cell.{Cell}
 use Rattle.object_alloc.specs.Cells.{extent}
+use Rattle.object_alloc.specs.Members.{member_at}
 use Rattle.signed_clause.specs.Clauses.{Boxes}
 use Rattle.form_build.specs.Forms.{truth_at, HasVariable}
 use Rattle.expr_forms.specs.declared.form.Member.{Member}
@@ -14,7 +15,7 @@ use Rattle.ground_form.specs.Meaning.{value_of}
 use Rattle.expr_forms.proofs.Configured.{front_value}
 use Rattle.expr_forms.specs.FormBounds.{IsMember}
 use Rattle.expr_forms.specs.FormValues.{members_at}
-use Rattle.conf_eval.specs.Meaning.{chosen, int_same}
+use Rattle.conf_eval.specs.Meaning.{int_same}
 use Rattle.reference_forms.specs.Attributes.{element_at}
 
 pub members_push : (ms : List Member) (m : Member) (a : List ℤ) → members_at (ms ++ m ∷ []) a ≡ members_at ms a ++ cond (truth_at m.is a) (m.object ∷ []) []
@@ -63,12 +64,12 @@ element_low (c ∷ cs) zero x e = omega arith
 element_low (c ∷ cs) (suc i) x e = let h = element_low cs i x e in omega (arith, h)
 
 -- one more object that may be a member
-pub member_pushed : (cs : List Cell) (values a : List ℤ) (i : ℕ) (old new : List Member) (m : Member) → new ≡ old ++ m ∷ [] → element_at cs i ≡ Some m.object → truth_at m.is a ≡ int_same (slice_index_or values i (pos 0)) (pos 1) → members_at new a ≡ members_at old a ++ cons_option (chosen cs values i) []
+pub member_pushed : (cs : List Cell) (values a : List ℤ) (i : ℕ) (old new : List Member) (m : Member) → new ≡ old ++ m ∷ [] → element_at cs i ≡ Some m.object → truth_at m.is a ≡ int_same (slice_index_or values i (pos 0)) (pos 1) → members_at new a ≡ members_at old a ++ cons_option (member_at cs values i) []
 member_pushed cs values a i old new m e is value =
     ap (λ (ms : List Member). members_at ms a) e ∙ members_push old m a
     ∙ ap (λ (z : List ℕ). members_at old a ++ z) (chosen_push (int_same (slice_index_or values i (pos 0)) (pos 1)) (truth_at m.is a) (element_at cs i) m.object value is)
 
-pub nobody_pushed : (cs : List Cell) (values a : List ℤ) (i : ℕ) (old : List Member) → element_at cs i ≡ None → members_at old a ≡ members_at old a ++ cons_option (chosen cs values i) []
+pub nobody_pushed : (cs : List Cell) (values a : List ℤ) (i : ℕ) (old : List Member) → element_at cs i ≡ None → members_at old a ≡ members_at old a ++ cons_option (member_at cs values i) []
 nobody_pushed cs values a i old e =
     sym (append-nil (members_at old a)) ∙ ap (λ (z : List ℕ). members_at old a ++ z) (sym (nobody (int_same (slice_index_or values i (pos 0)) (pos 1)) (element_at cs i) e))
 

@@ -10,6 +10,7 @@ use Rattle.class_table.specs.Sound.{IsSound}
 use Rattle.object_alloc.specs.declared.object.Domain.{Domain}
 use Rattle.object_alloc.specs.Cells.{domain_of}
 use Rattle.object_alloc.specs.Groups.{own_cells}
+use Rattle.object_alloc.specs.Members.{first_value}
 use Rattle.signed_clause.specs.Ranges.{Ranges, has, IsValid}
 use Rattle.signed_clause.specs.Clauses.{Boxes, box_of}
 use Rattle.ground_form.specs.declared.ground.Ground.{Ground}
@@ -23,7 +24,7 @@ use Rattle.form_build.proofs.Growth.{world_before}
 use Rattle.form_build.proofs.Picked.{picked_all}
 use Rattle.form_build.proofs.Singles.{fixed_value}
 use Rattle.conf_eval.specs.Fitting.{HasShape}
-use Rattle.conf_eval.specs.Meaning.{first_value, first_object}
+use Rattle.conf_eval.specs.Meaning.{first_object}
 use Rattle.ground_cells.specs.CellBoxes.{domain_box}
 use Rattle.expr_forms.specs.FormBounds.{IsMap}
 use Rattle.expr_forms.specs.FormValues.{number_for}

@@ -13,9 +13,10 @@ use Rattle.object_alloc.specs.Cells.{cells, extent, value_count}
 use Rattle.object_alloc.specs.Groups.{parts_of, own_cells}
 use Rattle.object_alloc.specs.Own.{held_count}
 use Rattle.object_alloc.proofs.OwnParts.{parts_count, part_is, members_are}
+use Rattle.object_alloc.specs.Members.{member_at}
 use Rattle.conf_eval.specs.declared.value.Value.TheVariants.{Int, Truth, Choice, Object, Objects}
 use Rattle.conf_eval.specs.Fitting.{HasShape}
-use Rattle.conf_eval.specs.Meaning.{first_object, chosen, int_same}
+use Rattle.conf_eval.specs.Meaning.{first_object, int_same}
 use Rattle.conf_limits.specs.Measures.{is_narrow, between}
 use Rattle.conf_eval.proofs.LawsClasses.{in_own_extent}
 use Rattle.signed_clause.specs.Ranges.{Ranges, has, is_nil, IsValid}
@@ -183,7 +184,7 @@ module _ (o : Outline) (g : Ground) (owner : Option ℕ) (k : ℕ) where
   }
 
   pub set_form : (c m : ℕ) (ms : Vec Member Global) → IsSound o → HasShape o owner k (shape.RefSet c m) →
-      ((a : List ℤ) → IsWorld g a → members_at ms.items a ≡ filter_map (chosen (cells o) (take g.search a)) (own_cells o owner k)) →
+      ((a : List ℤ) → IsWorld g a → members_at ms.items a ≡ filter_map (member_at (cells o) (take g.search a)) (own_cells o owner k)) →
       map (λ (x : Member). x.object) ms.items ≡ filter_map (element_at (cells o)) (own_cells o owner k) →
       All (λ (x : Member). HasVariable (length g.domains) x.is) ms.items →
       IsAttributeForm o g owner k (shape.RefSet c m) (form.List (listing.Some ms))

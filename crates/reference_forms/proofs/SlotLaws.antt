@@ -15,12 +15,13 @@ use Rattle.object_alloc.specs.Cells.{cells, extent}
 use Rattle.object_alloc.specs.Groups.{own_cells}
 use Rattle.object_alloc.specs.Own.{member_cell}
 use Rattle.object_alloc.proofs.OwnParts.{member_cells_are}
+use Rattle.object_alloc.specs.Members.{member_at}
 use Rattle.signed_clause.specs.Clauses.{Boxes}
 use Rattle.ground_form.specs.declared.ground.Ground.{Ground}
 use Rattle.ground_form.specs.Meaning.{value_of}
 use Rattle.ground_form.specs.WellMade.{lacks_value}
 use Rattle.conf_eval.specs.declared.value.Value.TheVariants.{Objects}
-use Rattle.conf_eval.specs.Meaning.{chosen, int_same}
+use Rattle.conf_eval.specs.Meaning.{int_same}
 use Rattle.expr_forms.specs.declared.form.Form.TheVariants as form
 use Rattle.expr_forms.specs.declared.form.Listing.TheVariants as listing
 use Rattle.expr_forms.specs.declared.form.Slot.{Slot}
@@ -105,7 +106,7 @@ rest_same : {X : Type 0} {p q : X} {rest more : List X} → p ∷ rest ≡ q ∷
 rest_same g = cc
 
 module _ (o : Outline) (g : Ground) (k : ℕ) (cs : HasCells o g) where
-  chosen_is : (owner : Option ℕ) (a : List ℤ) (j n : ℕ) → slice_get (cells o) j ≡ Some (member_cell owner k n) → chosen (cells o) (take g.search a) j ≡ cond (int_eq (value_of a j) (pos 1)) (Some n) None
+  chosen_is : (owner : Option ℕ) (a : List ℤ) (j n : ℕ) → slice_get (cells o) j ≡ Some (member_cell owner k n) → member_at (cells o) (take g.search a) j ≡ cond (int_eq (value_of a j) (pos 1)) (Some n) None
   chosen_is owner a j n e =
       let low = cell_searched o g j cs (get_low (cells o) j _ e) in
       ap (λ r. cond (int_same (slice_index_or (take g.search a) j (pos 0)) (pos 1)) (option_and_then (λ (c : Cell). c.element) r) None) e
@@ -114,14 +115,14 @@ module _ (o : Outline) (g : Ground) (k : ℕ) (cs : HasCells o g) where
 
   set_value : (owner : ℕ) (pairs : List (ℤ × ℕ)) (a : List ℤ) → Names owner pairs → (i : ℕ) (is xs : List ℕ) → map (λ j. slice_get (cells o) j) is ≡ map Some (map (member_cell (Some owner) k) xs) →
       ((j : ℕ) → slice_index_or (own_cells o (Some owner) k) (i + j) 0 ≡ slice_index_or is j 0) →
-      filter_map (chosen (cells o) (take g.search a)) is ≡ owned_view owner (slots_from o k pairs i xs) a
+      filter_map (member_at (cells o) (take g.search a)) is ≡ owned_view owner (slots_from o k pairs i xs) a
   set_value owner pairs a names i [] [] e at = refl
   set_value owner pairs a names i [] (x ∷ xs) e at = cc
   set_value owner pairs a names i (j ∷ is) [] e at = cc
   set_value owner pairs a names i (j ∷ is) (x ∷ xs) e at =
       let here : slice_index_or (own_cells o (Some owner) k) i 0 ≡ j = ap (λ (m : ℕ). slice_index_or (own_cells o (Some owner) k) m 0) (none_more i) ∙ at 0 in
       let cell = owner_cell o k i owner pairs a names ∙ ap (value_of a) here in
-      ap (λ r. cons_option r (filter_map (chosen (cells o) (take g.search a)) is)) (chosen_is (Some owner) a j x (first_same e))
+      ap (λ r. cons_option r (filter_map (member_at (cells o) (take g.search a)) is)) (chosen_is (Some owner) a j x (first_same e))
       ∙ by (int_eq (value_of a j) (pos 1)) (set_value owner pairs a names (suc i) is xs (rest_same e) (λ m. ap (λ (q : ℕ). slice_index_or (own_cells o (Some owner) k) q 0) (next i m) ∙ at (suc m)))
       ∙ ap (λ (v : ℤ). cond (int_eq v (pos 1)) (x ∷ owned_view owner (slots_from o k pairs (suc i) xs) a) (owned_view owner (slots_from o k pairs (suc i) xs) a)) (sym cell)
     where
@@ -131,8 +132,8 @@ module _ (o : Outline) (g : Ground) (k : ℕ) (cs : HasCells o g) where
       next : (m n : ℕ) → suc m + n ≡ m + suc n
       next m n = omega arith
 
-      by : (b : Bool) → filter_map (chosen (cells o) (take g.search a)) is ≡ owned_view owner (slots_from o k pairs (suc i) xs) a →
-          cons_option (cond b (Some x) None) (filter_map (chosen (cells o) (take g.search a)) is) ≡ cond b (x ∷ owned_view owner (slots_from o k pairs (suc i) xs) a) (owned_view owner (slots_from o k pairs (suc i) xs) a)
+      by : (b : Bool) → filter_map (member_at (cells o) (take g.search a)) is ≡ owned_view owner (slots_from o k pairs (suc i) xs) a →
+          cons_option (cond b (Some x) None) (filter_map (member_at (cells o) (take g.search a)) is) ≡ cond b (x ∷ owned_view owner (slots_from o k pairs (suc i) xs) a) (owned_view owner (slots_from o k pairs (suc i) xs) a)
       by true h = ap (λ (ns : List ℕ). x ∷ ns) h
       by false h = h
 
@@ -186,7 +187,7 @@ module _ (o : Outline) (g : Ground) (k : ℕ) (cs : HasCells o g) where
           reached = λ r lt. let count = are.1 in omega (arith, count);
         }
       where
-        members : (a : List ℤ) (v : ℤ) → lacks_value v pairs ≡ false → filter_map (chosen (cells o) (take g.search a)) (own_cells o (Some (number_for v pairs)) k) ≡ owned_view (number_for v ps.items) (slots_from o k pairs 0 (extent o c)) a
+        members : (a : List ℤ) (v : ℤ) → lacks_value v pairs ≡ false → filter_map (member_at (cells o) (take g.search a)) (own_cells o (Some (number_for v pairs)) k) ≡ owned_view (number_for v ps.items) (slots_from o k pairs 0 (extent o c)) a
         members a v lacks =
             let owner = number_for v pairs in
             let s = number_all (HaveShape o k (shape.RefSet c m)) v pairs h.may lacks in

@@ -7,13 +7,14 @@ use Rattle.class_table.specs.Outline.{Outline}
 use Rattle.object_alloc.specs.declared.object.Domain.{Domain}
 use Rattle.object_alloc.specs.Cells.{domain_of}
 use Rattle.object_alloc.specs.Groups.{own_cells}
+use Rattle.object_alloc.specs.Members.{first_value}
 use Rattle.signed_clause.specs.Ranges.{Ranges, has}
 use Rattle.signed_clause.specs.Clauses.{Boxes, box_of}
 use Rattle.ground_form.specs.declared.ground.Ground.{Ground}
 use Rattle.ground_form.specs.Bounds.{low_of, high_of}
 use Rattle.ground_form.specs.Meaning.{value_of}
 use Rattle.form_build.specs.Worlds.{IsInBoxes, IsWorld}
-use Rattle.conf_eval.specs.Meaning.{first_value, first_object}
+use Rattle.conf_eval.specs.Meaning.{first_object}
 use Rattle.ground_cells.specs.CellBoxes.{domain_box}
 use Rattle.expr_forms.specs.FormValues.{number_for}
 

@@ -2,9 +2,9 @@
 ghost use Rattle.std.specs.Prelude.{◌≡◌, ◌++◌, ◌<◌, ℤ, List, [], length, filter_map, map, take, IfOk, OnOk};
 ghost use Rattle.std.specs.List.{All, cons_option};
 ghost use Rattle.object_alloc.specs.Cells.{cells};
+ghost use Rattle.object_alloc.specs.Members.{member_at};
 ghost use Rattle.form_build.specs.Forms.{HasVariable};
 ghost use Rattle.form_build.specs.Worlds.{IsWorld};
-ghost use Rattle.conf_eval.specs.Meaning.{chosen};
 ghost use Rattle.expr_forms.specs.declared.form.Member.{Member as AMember};
 ghost use Rattle.expr_forms.specs.FormValues.{members_at};
 ghost use Rattle.expr_forms.specs.Standing.{HasCells};
@@ -36,7 +36,7 @@ fn push_member(
     ensures members { OnOk result ((a : List ℤ) → IsWorld maker.now a
         → members_at members.new.items a
         ≡ members_at members.old.items a
-        ++ cons_option (chosen (cells objects.now) (take maker.now.search a) cell) []) }
+        ++ cons_option (member_at (cells objects.now) (take maker.now.search a) cell) []) }
     ensures objects { OnOk result (map (λ (m : AMember). m.object) members.new.items
         ≡ map (λ (m : AMember). m.object) members.old.items
         ++ cons_option (element_at (cells objects.now) cell) []) }
@@ -59,7 +59,7 @@ pub(crate) fn set_members(
 ) -> Result<Vec<Member>, AllocError>
     requires cells { HasCells objects.now maker.now }
     ensures members { IfOk result (λ ms. (a : List ℤ) → IsWorld maker.now a → members_at ms.items a
-        ≡ filter_map (chosen (cells objects.now) (take maker.now.search a)) owned.now) }
+        ≡ filter_map (member_at (cells objects.now) (take maker.now.search a)) owned.now) }
     ensures objects { IfOk result (λ ms. map (λ (m : AMember). m.object) ms.items
         ≡ filter_map (element_at (cells objects.now)) owned.now) }
     ensures variables { IfOk result

@@ -61,8 +61,7 @@ acts boxes c = false_in boxes c || is_some (unit_of boxes c)
 
 -- no clause of the list is
 abbrev pub none_acts : Boxes → List Literals → Bool
-none_acts boxes [] = true
-none_acts boxes (c ∷ cs) = not (acts boxes c) && none_acts boxes cs
+none_acts boxes cs = list_all (λ c. not (acts boxes c)) cs
 
 -- no learnt clause and no bound has anything to say
 abbrev pub is_settled : State → Bool
@@ -70,12 +69,10 @@ is_settled s = none_acts (top_boxes s) s.learnt && none_acts (top_boxes s) s.bou
 
 -- no constraint has
 abbrev pub are_quiet : List Con → Boxes → Bool
-are_quiet [] boxes = true
-are_quiet (con ∷ cons) boxes = quiet con boxes && are_quiet cons boxes
+are_quiet cons boxes = list_all (λ con. quiet con boxes) cons
 
 abbrev pub none_empty : Boxes → Bool
-none_empty [] = true
-none_empty (b ∷ bs) = not (is_nil b) && none_empty bs
+none_empty boxes = list_all (λ (b : Ranges). not (is_nil b)) boxes
 
 -- the first n boxes are these values alone
 abbrev pub are_fixed : ℕ → Boxes → List ℤ → Bool
@@ -86,8 +83,7 @@ are_fixed (suc n) (b ∷ bs) (v ∷ vs) = same_set b ((v, v) ∷ []) && are_fixe
 
 -- each set of the clause lies within its variable's domain
 abbrev pub are_sets_within : Boxes → Literals → Bool
-are_sets_within domains [] = true
-are_sets_within domains (l ∷ ls) = is_within l.1 (box_of domains l.0) && are_sets_within domains ls
+are_sets_within domains ls = list_all (λ (l : Literal). is_within l.1 (box_of domains l.0)) ls
 
 -- ---- chains
 
@@ -96,8 +92,8 @@ are_same_steps a b = all_same (λ s t. s.0 == t.0 && s.1 == t.1) a b
 
 -- the walk back has these steps and ends with this clause
 abbrev pub is_walk : Option Walk → List (ℕ × ℕ) → Literals → Bool
-is_walk None steps c = false
-is_walk (Some w) steps c = are_same_steps w.steps steps && same_clause w.clause c
+is_walk walk steps c =
+    option_map_or (λ (w : Walk). are_same_steps w.steps steps && same_clause w.clause c) walk false
 
 -- the clause that explains a conflict is empty, or there is a level in whose first boxes it is
 -- false and below which it isn't
@@ -135,7 +131,7 @@ back_or (Some lower) levels = lower
 
 -- the levels that a learnt clause leads back to
 abbrev pub led_back : Literals → State → State
-led_back c s = record s { levels = back_or (back_to c s.levels) s.levels; learnt = c ∷ s.learnt }
+led_back c s = record s { levels = unwrap_or (back_to c s.levels) s.levels; learnt = c ∷ s.learnt }
 
 -- a learnt clause drops levels and prunes; the empty one closes
 abbrev pub learned : ℕ → Literals → State → State

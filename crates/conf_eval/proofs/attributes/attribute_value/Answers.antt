@@ -1,8 +1,8 @@
 use Rattle.std.proofs.Common.{◌<◌, ◌^◌, sym, subst}
 use Rattle.std.specs.Prelude.{nat_abs}
-use Rattle.conf_eval.specs.Meaning.{first_value}
 use Rattle.conf_eval.proofs.NumberLaws.{choice_small, ref_small}
 use Rattle.conf_eval.proofs.attributes.attribute_value.Goals as goal
+use Rattle.object_alloc.specs.Members.{first_value}
 
 pub first_number-number-requires : goal.first_number-number-requires
 first_number-number-requires c =

@@ -2,8 +2,9 @@ use Rattle.std.proofs.Common.{◌∙◌, ap, refl, sym, subst, take}
 use Rattle.class_table.specs.declared.table.Resolved.{Resolved}
 use Rattle.std.specs.Prelude.{filter_map}
 use Rattle.object_alloc.specs.Cells.{domain_of, cells}
+use Rattle.object_alloc.specs.Members.{member_at}
 use Rattle.conf_eval.specs.Fitting.{HasShape}
-use Rattle.conf_eval.specs.Meaning.{first_object, chosen}
+use Rattle.conf_eval.specs.Meaning.{first_object}
 use Rattle.conf_limits.specs.Measures.{shape_interval, is_narrow}
 use Rattle.reference_forms.specs.Attributes.{element_at}
 use Rattle.reference_forms.proofs.CellLaws.{shape_there}
@@ -67,5 +68,5 @@ returns-in_ok-members-in-RefSet-clause-form c =
     at_shape c.args.objects.now c.args.maker.now c.args.owner c.args.k _ c.args.shape _ c.in-RefSet.is
     (set_form c.args.objects.now c.args.maker.now c.args.owner c.args.k c.in-RefSet.field-0 c.in-RefSet.field-1 c.in_ok-members-in-RefSet.members c.count-count.ensures.sound
     (subst (λ (z : Resolved). HasShape c.args.objects.now c.args.owner c.args.k z) c.in-RefSet.is c.requires.shape)
-    (λ a w. ms.members a w ∙ ap (filter_map (chosen (cells c.args.objects.now) (take c.args.maker.now.search a))) own)
+    (λ a w. ms.members a w ∙ ap (filter_map (member_at (cells c.args.objects.now) (take c.args.maker.now.search a))) own)
     (ms.objects ∙ ap (filter_map (element_at (cells c.args.objects.now))) own) ms.variables)
