@@ -1,5 +1,6 @@
 -- Where a search stands behind a learnt clause.
 use Rattle.std.proofs.Common.{◌≡◌, ◌⊎◌, inl, inr, ℕ, ◌-◌, Bool, true, false, ◌||◌, cond, List, [], ◌∷◌, ◌++◌, length, refl, sym, ap, ◌∙◌, arith, subst, All, Option, Some, is_some}
+use Rattle.std.specs.Prelude.{unwrap_or}
 use Rattle.std.specs.List.{Contains}
 use Rattle.std.proofs.lemmas.List.{get_or_push, length_push}
 use Rattle.std.proofs.lemmas.List.Elements.{Contains-push, Contains-append_left, All-cons, All-push}
@@ -15,7 +16,7 @@ use Rattle.log_form.specs.declared.line.Line.{Line}
 use Rattle.log_form.specs.declared.line.Line.TheVariants.{Chain}
 use Rattle.log_form.specs.Acceptance.{Made, clause_at, has_empty, after, made}
 use Rattle.log_form.specs.Acceptance as acceptance
-use Rattle.run_law.specs.Replay.{State, Mode, Going, Conflict, Closed, top_boxes, leads_back, mode_by, react, learned, led_back, back_or, changed, next, is_run, state_of}
+use Rattle.run_law.specs.Replay.{State, Mode, Going, Conflict, Closed, top_boxes, leads_back, mode_by, react, learned, led_back, changed, next, is_run, state_of}
 use Rattle.run_law.specs.Replay as replay
 use Rattle.run_law.proofs.Fronts.{made_more}
 use Rattle.run_law.proofs.LineSets.{one_more}
@@ -170,7 +171,7 @@ learned_is k c s lower nil back =
     ap (λ (b : Bool). cond b (record s { mode = Closed; learnt = c ∷ s.learnt })
     (react k c (led_back c s))) nil
     ∙ ap (λ (o : Option Stack). react k c (record s {
-      levels = back_or o s.levels;
+      levels = unwrap_or o s.levels;
       learnt = c ∷ s.learnt;
     })) back
 

@@ -143,8 +143,7 @@ number_within digits least most word =
 
 -- how many decisions a search may take
 abbrev pub budget_of : Option (List ℕ) → Option ℕ
-budget_of None = Some usual_budget
-budget_of (Some word) = number_within 7 0 most_budget word
+budget_of word = option_map_or (number_within 7 0 most_budget) word (Some usual_budget)
 
 -- an order by its name
 abbrev pub order_named : List ℕ → Option OrderName
@@ -155,8 +154,7 @@ order_named word =
     else None
 
 abbrev pub order_of : OrderName → Option (List ℕ) → Option OrderName
-order_of usual None = Some usual
-order_of usual (Some word) = order_named word
+order_of usual word = option_map_or order_named word (Some usual)
 
 -- ---- what a command asks for, of its plain words and options
 

@@ -1,6 +1,7 @@
 -- Boxes in levels, as decisions open them. What a reader believes after this file: which levels a
 -- decision, a pruning and a clause make of those that stand.
 use Rattle.std.specs.Prelude.{ℕ, cond, List, ◌∷◌, Option, Some, None, slice_set, []}
+use Rattle.std.specs.Option.{option_map_or}
 use Rattle.signed_clause.specs.Ranges.{Ranges}
 use Rattle.signed_clause.specs.Clauses.{Boxes, Literals, box_of, false_in, unit_of}
 
@@ -45,8 +46,7 @@ moved from x set s =
 
 -- the levels behind it, where n is the clause's number
 abbrev pub pruned_by : ℕ → Option (ℕ × Ranges) → Stack → Stack
-pruned_by n None s = s
-pruned_by n (Some u) s = moved (Some n) u.0 u.1 s
+pruned_by n made s = option_map_or (λ u. moved (Some n) u.0 u.1 s) made s
 
 abbrev pub reacted : ℕ → Literals → Stack → Stack
 reacted n c s = cond (false_in s.top.now c) s (pruned_by n (unit_of s.top.now c) s)

@@ -1,6 +1,7 @@
 -- The walk back along the trail from a conflict. What a reader believes after this file: which
 -- clause the walk ends with and by which chain, and to which level a clause leads back.
 use Rattle.std.specs.Prelude.{ℕ, not, ◌&&◌, cond, List, ◌∷◌, ◌++◌, Option, Some, None, slice_set, []}
+use Rattle.std.specs.Option.{option_map}
 use Rattle.signed_clause.specs.Clauses.{Boxes, Literals, has_var, false_in, resolvent}
 pub use Rattle.numbered_clauses.specs.Numbered.{clause_at}
 use Rattle.fd_store.specs.Levels.{Entry, Level, Stack}
@@ -26,8 +27,7 @@ pub record Walk : Type 0 where
 
 -- with one step before the others
 abbrev pub with_step : ℕ × ℕ → Option Walk → Option Walk
-with_step s None = None
-with_step s (Some w) = Some (record { steps = s ∷ w.steps; clause = w.clause })
+with_step s walked = option_map (λ (w : Walk). record w { steps = s ∷ w.steps }) walked
 
 -- the walk from an entry of x before which c isn't false, where `rest` walks on from there: it ends
 -- at a decision, and at a pruning by clause j it goes on with the resolvent on x of c and clause j,

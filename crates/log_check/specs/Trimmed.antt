@@ -1,6 +1,7 @@
 -- Which lines of an accepted log are needed. What a reader believes after this file: what is left
 -- out is neither named by what stays nor needed for the verdict.
 use Rattle.std.specs.Prelude.{ℕ, zero, suc, ◌+◌, Bool, true, false, ◌&&◌, ◌||◌, cond, List, [], ◌∷◌, ◌++◌, ◌==◌, length, map, slice_index_or}
+use Rattle.std.specs.List.{list_any}
 use Rattle.signed_clause.specs.Ranges.{is_nil}
 use Rattle.ground_form.specs.declared.ground.Ground.{Ground}
 use Rattle.ground_form.specs.declared.ground.GroundGoal.{GroundGoal}
@@ -26,8 +27,7 @@ clauses_of g other = 1
 
 -- a step resolves with the clause of number j
 abbrev pub steps_name : List (ℕ × ℕ) → ℕ → Bool
-steps_name [] j = false
-steps_name (s ∷ ss) j = s.1 == j || steps_name ss j
+steps_name steps j = list_any (λ s. s.1 == j) steps
 
 -- the line is a Chain that begins with the clause of number j or resolves with it
 abbrev pub names : Line → ℕ → Bool

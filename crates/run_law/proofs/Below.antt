@@ -1,5 +1,6 @@
 -- The levels below the last one stand at fixpoints, where decisions stood.
 use Rattle.std.proofs.Common.{◌≡◌, ℕ, zero, suc, true, false, not, ◌&&◌, cond, List, [], ◌∷◌, length, refl, sym, arith, subst, nat_lt, slice_get, All, Some, None}
+use Rattle.std.specs.Prelude.{unwrap_or}
 use Rattle.std.proofs.lemmas.List.Elements.{All-cons}
 use Rattle.std.proofs.lemmas.Bool.{and_parts}
 use Rattle.signed_clause.specs.Ranges.{Ranges, is_nil}
@@ -13,7 +14,7 @@ use Rattle.log_form.specs.Acceptance.{Made, clause_at, after, made_from}
 use Rattle.log_form.specs.Acceptance as acceptance
 use Rattle.fd_store.specs.Levels.{Level, Stack, reacted, pruned_by}
 use Rattle.learn_clauses.specs.Walk.{back_from, back_to}
-use Rattle.run_law.specs.Replay.{State, Closed, start, top_boxes, is_going, is_settled, are_quiet, none_empty, led_back, back_or, react, learned, is_split, may_stand, changed, next, run_from, is_run, state_from, state_of}
+use Rattle.run_law.specs.Replay.{State, Closed, start, top_boxes, is_going, is_settled, are_quiet, none_empty, led_back, react, learned, is_split, may_stand, changed, next, run_from, is_run, state_from, state_of}
 use Rattle.run_law.specs.Fixpoints.{IsFixpoint}
 use Rattle.run_law.proofs.Units.{some_same, none_some}
 use Rattle.run_law.proofs.FewDecisions.{run_line}
@@ -70,7 +71,7 @@ learned_fixpoints g k c s a =
     (react k c (led_back c s))).levels.below) [
       | true ↦ a
       | false ↦ (elim (back_to c s.levels) as (λ o. back_to c s.levels ≡ o →
-          AreFixpoints g (reacted k c (back_or o s.levels)).below) [
+          AreFixpoints g (reacted k c (unwrap_or o s.levels)).below) [
             | None ↦ λ e. reacted_fixpoints g k c s.levels a
             | Some lower ↦ λ e.
                 let both = back_fixpoints g c s.levels.top s.levels.below lower e a in

@@ -1,5 +1,6 @@
 -- What a new clause leaves of a run's levels, modes and clauses.
 use Rattle.std.proofs.Common.{◌≡◌, ℕ, ◌<◌, true, false, ◌&&◌, ◌||◌, cond, List, [], ◌∷◌, ◌++◌, length, refl, ◌∙◌, arith, ◌==◌, Some, None, is_some}
+use Rattle.std.specs.Prelude.{unwrap_or}
 use Rattle.std.specs.List.{Contains}
 use Rattle.std.proofs.lemmas.List.{get_or_push, length_push}
 use Rattle.std.proofs.lemmas.List.Elements.{Contains-push, All-cons}
@@ -10,7 +11,7 @@ use Rattle.ground_form.specs.declared.ground.Ground.{Ground}
 use Rattle.log_form.specs.Acceptance.{Made, clause_at, has_empty, bounds}
 use Rattle.learn_clauses.specs.Walk.{walk_from, back_to}
 use Rattle.learn_clauses.specs.Learnt.{IsWithinDomains}
-use Rattle.run_law.specs.Replay.{State, Mode, Going, Conflict, AtFound, Closed, top_boxes, is_walk, leads_back, may_explain, led_back, back_or, react, learned}
+use Rattle.run_law.specs.Replay.{State, Mode, Going, Conflict, AtFound, Closed, top_boxes, is_walk, leads_back, may_explain, led_back, react, learned}
 use Rattle.run_law.proofs.LevelFacts.{IsStack, stack_more}
 use Rattle.run_law.proofs.LevelSteps.{reacted_stack, stack_back}
 use Rattle.run_law.proofs.StateSteps.{at_append, empty_one, AreMade, made_more, HoldsIn, reacted_mode}
@@ -104,7 +105,7 @@ learned_state g m s c new h old =
       }
       | false ↦ λ e h. (elim (back_to c s.levels) as (λ o. back_to c s.levels ≡ o →
           is_some o ≡ true →
-          P (react k c (record s { levels = back_or o s.levels; learnt = c ∷ s.learnt }))) [
+          P (react k c (record s { levels = unwrap_or o s.levels; learnt = c ∷ s.learnt }))) [
             | None ↦ λ e h. absurd cc
             | Some lower ↦ λ e h.
                 let below = stack_back m.clauses g.domains c s.levels lower e old.stack in

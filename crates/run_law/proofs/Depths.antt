@@ -1,5 +1,6 @@
 -- A run has at most as many levels above level 0 as it has decided.
 use Rattle.std.proofs.Common.{◌≡◌, ℕ, suc, ◌+◌, ◌≤◌, true, false, not, ◌&&◌, cond, List, [], ◌∷◌, length, refl, arith, subst, Some, None}
+use Rattle.std.specs.Prelude.{unwrap_or}
 use Rattle.signed_clause.specs.Ranges.{is_nil}
 use Rattle.signed_clause.specs.Clauses.{Literals, false_in, unit_of}
 use Rattle.ground_form.specs.declared.ground.Ground.{Ground}
@@ -9,7 +10,7 @@ use Rattle.log_form.specs.Acceptance.{Made, clause_at, after}
 use Rattle.log_form.specs.Acceptance as acceptance
 use Rattle.fd_store.specs.Levels.{Level, Stack, reacted, pruned_by}
 use Rattle.learn_clauses.specs.Walk.{back_from, back_to}
-use Rattle.run_law.specs.Replay.{State, Closed, start, led_back, back_or, react, learned, changed, next, state_from, state_of}
+use Rattle.run_law.specs.Replay.{State, Closed, start, led_back, react, learned, changed, next, state_from, state_of}
 use Rattle.run_law.specs.Decisions.{decisions}
 use Rattle.run_law.proofs.Units.{some_same, none_some}
 use Rattle.run_law.proofs.FewDecisions.{decisions-cons}
@@ -51,7 +52,7 @@ learned-depth k c s =
     ≤ n) [
       | true ↦ omega arith
       | false ↦ (elim (back_to c s.levels) as (λ o. back_to c s.levels ≡ o →
-          depth_of (reacted k c (back_or o s.levels)) ≤ n) [
+          depth_of (reacted k c (unwrap_or o s.levels)) ≤ n) [
             | None ↦ λ e. let same = reacted-depth k c s.levels in omega (arith, same)
             | Some lower ↦ λ e.
                 let same = reacted-depth k c lower in

@@ -1,5 +1,6 @@
 -- Each line of a run keeps the bound on its decisions.
 use Rattle.std.proofs.Common.{◌≡◌, ℕ, zero, suc, ◌+◌, ◌<◌, ◌≤◌, true, false, not, ◌&&◌, ◌||◌, cond, List, [], ◌∷◌, length, refl, sym, arith, subst, slice_set, nat_lt, ◌==◌, add-zero, Some, None, is_some}
+use Rattle.std.specs.Prelude.{unwrap_or}
 use Rattle.std.proofs.lemmas.Int.{ints}
 use Rattle.std.proofs.lemmas.Bool.{and_parts, ltb-true, not-true}
 use Rattle.signed_clause.specs.Ranges.{Ranges, has, IsValid, is_nil}
@@ -13,7 +14,7 @@ use Rattle.log_form.specs.declared.line.Line.TheVariants.{Axiom, Chain, Bound, U
 use Rattle.log_form.specs.Acceptance.{Made, clause_at, bounds}
 use Rattle.fd_store.specs.Levels.{Stack, moved}
 use Rattle.learn_clauses.specs.Walk.{walk_from, back_to}
-use Rattle.run_law.specs.Replay.{State, Mode, Going, Conflict, AtFound, Closed, is_going, is_found, top_boxes, acts, is_settled, are_quiet, none_empty, are_fixed, are_sets_within, is_walk, leads_back, may_explain, mode_by, mode_by_bounds, led_back, back_or, react, learned, is_split, may_stand, changed, next}
+use Rattle.run_law.specs.Replay.{State, Mode, Going, Conflict, AtFound, Closed, is_going, is_found, top_boxes, acts, is_settled, are_quiet, none_empty, are_fixed, are_sets_within, is_walk, leads_back, may_explain, mode_by, mode_by_bounds, led_back, react, learned, is_split, may_stand, changed, next}
 use Rattle.run_law.specs.Decisions.{decisions}
 use Rattle.run_law.specs.Lines.{HasSets}
 use Rattle.run_law.proofs.Volumes.{IsCut}
@@ -143,7 +144,7 @@ chain_step g d k s c f h st sets within =
     P (cond b (record s { mode = Closed; learnt = c ∷ s.learnt }) (react k c (led_back c s)))) [
       | true ↦ λ h. closed
       | false ↦ λ h. (elim (back_to c s.levels) as (λ o. back_to c s.levels ≡ o → is_some o ≡ true →
-          P (react k c (record s { levels = back_or o s.levels; learnt = c ∷ s.learnt }))) [
+          P (react k c (record s { levels = unwrap_or o s.levels; learnt = c ∷ s.learnt }))) [
             | None ↦ λ e h. absurd cc
             | Some lower ↦ λ e h.
                 in_mode g d _ (mode_by lower.top.now k c)

@@ -2,10 +2,12 @@
 -- it is known which boxes the lines so far leave, level by level, and each line is one that a
 -- search with learning may write there: a decision stands only where no constraint, no learnt
 -- clause and no bound has anything left to say.
-use Rattle.std.specs.Prelude.{ℕ, zero, suc, Bool, true, false, not, ◌&&◌, ◌||◌, cond, List, [], ◌∷◌, ℤ, Option, Some, None, is_some, length, nat_lt, ◌==◌}
+use Rattle.std.specs.Prelude.{ℕ, zero, suc, Bool, true, false, not, ◌&&◌, ◌||◌, cond, List, [], ◌∷◌, ℤ, Option, None, is_some, unwrap_or, length, nat_lt, ◌==◌}
+use Rattle.std.specs.List.{list_all}
+use Rattle.std.specs.Option.{option_map_or}
 use Rattle.signed_clause.specs.Ranges.{Ranges, is_nil}
 use Rattle.signed_clause.specs.SetAlgebra.{is_within}
-use Rattle.signed_clause.specs.Clauses.{Boxes, Literals, box_of, false_in, unit_of}
+use Rattle.signed_clause.specs.Clauses.{Boxes, Literal, Literals, box_of, false_in, unit_of}
 use Rattle.ground_form.specs.declared.con.Con.{Con}
 use Rattle.ground_form.specs.declared.ground.Ground.{Ground}
 use Rattle.box_rules.specs.Quiet.{quiet}
@@ -123,11 +125,6 @@ first_false boxes n (c ∷ cs) = cond (false_in boxes c) (Conflict n) (first_fal
 
 abbrev pub mode_by_bounds : Boxes → ℕ → List Literals → Mode
 mode_by_bounds boxes n cs = cond (has_empty cs) Closed (first_false boxes n cs)
-
--- the levels that are led back to, or else those that stand
-abbrev pub back_or : Option Stack → Stack → Stack
-back_or None levels = levels
-back_or (Some lower) levels = lower
 
 -- the levels that a learnt clause leads back to
 abbrev pub led_back : Literals → State → State
