@@ -62,7 +62,8 @@ pub(crate) fn slot_count(scene: &Scene<'_, '_>, list: &Members<'_>) -> usize
 
 /// The object of a reference set's cell, where it is in.
 pub(crate) fn chosen_at(scene: &Scene<'_, '_>, cell: u32) -> Option<u32>
-    ensures chosen { result ≡ member_at (all_cells scene.now.objects.now) scene.now.values.now cell }
+    ensures chosen { result
+        ≡ member_at (all_cells scene.now.objects.now) scene.now.values.now cell }
 {
     let value = scene.values.get(cell as usize).copied().unwrap_or(0);
     if value != 1 {

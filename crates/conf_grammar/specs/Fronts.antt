@@ -84,7 +84,8 @@ line_front (ValueLine p w vs) =
 line_front (AbstractLine p) = program_tokens p ++ (Key key.Abstract ∷ [])
 line_front (ClassLine p) = program_tokens p ++ (Key key.Class ∷ [])
 line_front (ParentLine p a w) =
-    program_tokens p ++ (only_if a (Key key.Abstract) ++ (Key key.Class ∷ Word w ∷ Key key.Extends ∷ []))
+    program_tokens p ++ (only_if a (Key key.Abstract)
+    ++ (Key key.Class ∷ Word w ∷ Key key.Extends ∷ []))
 line_front (VarLine h) = home_front h ++ (Key key.Var ∷ [])
 line_front (LowLine h w) =
     home_front h ++ (Key key.Var ∷ Word w ∷ Key key.As ∷ Mark mark.Minus ∷ [])

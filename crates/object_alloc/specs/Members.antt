@@ -1,5 +1,5 @@
--- What a configuration says at some cells: the value of the first; at those of a reference set which
--- objects are its members, and whether they are as many as its shape says.
+-- What a configuration says at some cells: the value of the first; at those of a reference set
+-- which objects are its members, and whether they are as many as its shape says.
 use Rattle.std.specs.Prelude.{◌≡◌, ℕ, Bool, ◌&&◌, cond, List, [], ◌∷◌, Option, None, ℤ, pos, int_le, filter_map, length, slice_get, slice_index_or, option_and_then}
 use Rattle.class_table.specs.declared.table.Resolved.TheVariants.{RefSet}
 use Rattle.class_table.specs.Outline.{Outline}

@@ -265,7 +265,8 @@ fn take_literal(
 ) -> Result<(), AllocError>
     requires { m.now.0 < length sets.old.items }
     ensures list { OnOk result (sets.new.items
-        ≡ slice_set sets.old.items m.now.0 (both_sets x m.now.0 (box_of sets.old.items m.now.0) m.now.1)) }
+        ≡ slice_set sets.old.items m.now.0
+        (both_sets x m.now.0 (box_of sets.old.items m.now.0) m.now.1)) }
     ensures err { OnErr result (sets.new.items ≡ sets.old.items) }
     ensures table { IsTable sets.old.items used.old.items → IsTable sets.new.items used.new.items }
 {
