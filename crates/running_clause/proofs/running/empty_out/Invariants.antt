@@ -1,6 +1,6 @@
 use Rattle.std.proofs.Common.{◌≡◌, drop, length}
 use Rattle.running_clause.specs.Running.{AreNoted}
-use Rattle.signed_clause.proofs.running.empty_out.Given as goal
+use Rattle.running_clause.proofs.running.empty_out.Given as goal
 
 abbrev pub invariant-loop-x : goal.invariant-loop-x
 invariant-loop-x l = record {

@@ -1,6 +1,6 @@
 use Rattle.std.proofs.Common.{◌≡◌, length}
 use Rattle.running_clause.specs.Running.{AreEmpty}
-use Rattle.signed_clause.proofs.running.empty_sets.Given as goal
+use Rattle.running_clause.proofs.running.empty_sets.Given as goal
 
 abbrev pub invariant-loop : goal.invariant-loop
 invariant-loop l = record {

@@ -4,7 +4,7 @@ use Rattle.signed_clause.specs.Clauses.{Literals}
 use Rattle.running_clause.specs.Running.{AreNoted}
 use Rattle.signed_clause.proofs.RangeSteps.{left_none}
 use Rattle.running_clause.proofs.RunningLaws.{move_step, noted_step, noted_none, listed_none}
-use Rattle.signed_clause.proofs.running.move_literals.Goals as goal
+use Rattle.running_clause.proofs.running.move_literals.Goals as goal
 
 pub loop-x-preserved : goal.loop-x-preserved
 loop-x-preserved c =

@@ -1,7 +1,7 @@
 use Rattle.std.proofs.Common.{◌≡◌, ◌≤◌, ◌++◌, drop, length}
 use Rattle.std.specs.Vec.{vec_capacity, vec_len}
 use Rattle.running_clause.specs.Running.{listed, AreNoted}
-use Rattle.signed_clause.proofs.running.move_literals.Given as goal
+use Rattle.running_clause.proofs.running.move_literals.Given as goal
 
 abbrev pub invariant-loop-x : goal.invariant-loop-x
 invariant-loop-x l = record {

@@ -1,6 +1,6 @@
 use Rattle.std.proofs.Common.{◌≡◌, drop, length}
 use Rattle.running_clause.specs.Running.{taken_in, IsTable}
-use Rattle.signed_clause.proofs.running.take_literals.Given as goal
+use Rattle.running_clause.proofs.running.take_literals.Given as goal
 
 abbrev pub invariant-loop-m : goal.invariant-loop-m
 invariant-loop-m l = record {

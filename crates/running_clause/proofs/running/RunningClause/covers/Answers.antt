@@ -1,7 +1,7 @@
 use Rattle.std.proofs.Common.{◌≡◌, ◌-◌, ◌<◌, ◌∙◌, ap, arith, get_or, length, subst, sym}
 use Rattle.signed_clause.specs.Clauses.{Literal, Literals}
 use Rattle.running_clause.proofs.RunningLaws.{last_decides}
-use Rattle.signed_clause.proofs.running.RunningClause.covers.Goals as goal
+use Rattle.running_clause.proofs.running.RunningClause.covers.Goals as goal
 
 pub returns-in-Some : goal.returns-in-Some
 returns-in-Some c =

@@ -2,7 +2,7 @@ use Rattle.std.proofs.Common.{◌≡◌, ◌∙◌, ap, length}
 use Rattle.std.proofs.lemmas.Result.{on_ok_weaker}
 use Rattle.running_clause.specs.Running.{IsTable, loaded}
 use Rattle.running_clause.proofs.RunningLaws.{listed_loaded, empty_table, within_same}
-use Rattle.signed_clause.proofs.running.RunningClause.load.Goals as goal
+use Rattle.running_clause.proofs.running.RunningClause.load.Goals as goal
 
 pub returns-clause-list : goal.returns-clause-list
 returns-clause-list c =

@@ -2,7 +2,7 @@ use Rattle.std.proofs.Common.{subst, sym}
 use Rattle.std.proofs.lemmas.List.Sorted.{IsNonDecreasingBy-from_sort}
 use Rattle.signed_clause.specs.Clauses.{IsClause}
 use Rattle.running_clause.proofs.RunningLaws.{listed_none, listed_form, within_sorted, noted_sorted}
-use Rattle.signed_clause.proofs.running.RunningClause.take.Goals as goal
+use Rattle.running_clause.proofs.running.RunningClause.take.Goals as goal
 
 pub move_literals-literals-requires-clause-within : goal.move_literals-literals-requires-clause-within
 move_literals-literals-requires-clause-within c = rw c.as_slice.ensures.value (within_sorted _ _ _ c.sort_unstable.ensures.permutation c.self.invariant.within)
