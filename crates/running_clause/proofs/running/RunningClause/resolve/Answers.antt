@@ -3,6 +3,7 @@ use Rattle.std.proofs.lemmas.Result.{on_ok_weaker}
 use Rattle.running_clause.specs.Running.{taken_in}
 use Rattle.running_clause.proofs.RunningLaws.{listed_resolvent, resolvent_law_of}
 use Rattle.running_clause.proofs.running.RunningClause.resolve.Goals as goal
+use Rattle.signed_clause.specs.Clauses.{AreValid}
 
 pub returns-clause-list : goal.returns-clause-list
 returns-clause-list c =
