@@ -19,9 +19,6 @@ use Rattle.reconfigure.specs.declared.repair.Repair.{Repair}
 abbrev pub objective_line : ℤ → List ℕ
 objective_line v = codes "objective " ++ (signed_decimal v ++ 10 ∷ [])
 
-abbrev pub objective_lines : List ℤ → List ℕ
-objective_lines vs = flat_map objective_line vs
-
 -- a number with its name
 abbrev pub number_line : List ℕ → ℕ → List ℕ
 number_line name n = name ++ (decimal n ++ 10 ∷ [])
@@ -34,7 +31,7 @@ change_lines o (Some r) t = number_line (codes "changes ") (changes o r.former t
 -- the configuration's line, and then its changes and its objectives
 abbrev pub best_text : Outline → List ResolvedGoal → Option Repair → List ℤ → List ℕ
 best_text o gs r t =
-    config_bytes o t ++ 10 ∷ (change_lines o r t ++ objective_lines (objectives o gs t))
+    config_bytes o t ++ 10 ∷ (change_lines o r t ++ flat_map objective_line (objectives o gs t))
 
 abbrev pub none_text : List ℕ
 none_text = codes "none exists\n"
@@ -64,7 +61,7 @@ number_lines o bytes =
 
 -- `gen`: what stands behind the numbers
 abbrev pub shown_text : Outline → List ResolvedGoal → Finding → List ℕ
-shown_text o gs (findings.Best t) = objective_lines (objectives o gs t)
+shown_text o gs (findings.Best t) = flat_map objective_line (objectives o gs t)
 shown_text o gs findings.NoneExists = none_text
 shown_text o gs (findings.Open last) = undecided_line generated_budget
 
@@ -73,4 +70,4 @@ gen_text o gs n told = number_lines o (length (generated n)) ++ shown_text o gs 
 
 -- `verify`
 abbrev pub satisfied_text : Outline → List ResolvedGoal → List ℤ → List ℕ
-satisfied_text o gs t = codes "satisfied\n" ++ objective_lines (objectives o gs t)
+satisfied_text o gs t = codes "satisfied\n" ++ flat_map objective_line (objectives o gs t)

@@ -1,8 +1,9 @@
 //! The lines of a configuration.
 ghost use Rattle.std.specs.Prelude.{◌≡◌, ◌++◌, OnOk, IfSome, option_copied};
+ghost use Rattle.std.specs.List.{flat_map};
 ghost use Rattle.conf_eval.specs.Satisfying.{objectives};
 ghost use Rattle.object_alloc.specs.Configurations.{IsConfiguration};
-ghost use Rattle.answer_text.specs.Texts.{best_text, change_lines, objective_lines};
+ghost use Rattle.answer_text.specs.Texts.{best_text, change_lines, objective_line};
 ghost use Rattle.model_reader.specs.Ready.{IsReady};
 ghost use Rattle.model_search.specs.Wanted.{IsUnderstood};
 
@@ -25,7 +26,7 @@ pub(crate) fn push_values(
         built.model.now.goals }
     requires config { IsConfiguration built.objects.now config.now }
     ensures text { OnOk result (text.new.items ≡ text.old.items
-        ++ objective_lines (objectives built.entry.objects.now built.entry.model.now.goals
+        ++ flat_map objective_line (objectives built.entry.objects.now built.entry.model.now.goals
         config.now)) }
 {
     let values = objectives(alloc, built.model, built.objects, config)?;

@@ -1,6 +1,7 @@
 //! Single lines: an objective, a number with its name, that so many decisions didn't do.
 ghost use Rattle.std.specs.Prelude.{◌≡◌, ◌++◌, OnOk};
-ghost use Rattle.answer_text.specs.Texts.{objective_line, objective_lines, number_line, undecided_line};
+ghost use Rattle.std.specs.List.{flat_map};
+ghost use Rattle.answer_text.specs.Texts.{objective_line, number_line, undecided_line};
 
 use std::alloc::{AllocError, Global};
 
@@ -18,7 +19,8 @@ pub(crate) fn push_objectives(
     text: &mut Vec<u8>,
     values: &[i64],
 ) -> Result<(), AllocError>
-    ensures text { OnOk result (text.new.items ≡ text.old.items ++ objective_lines values.now) }
+    ensures text { OnOk result (text.new.items
+        ≡ text.old.items ++ flat_map objective_line values.now) }
 {
     for value in values {
         push_objective(alloc, text, *value)?;

@@ -31,9 +31,8 @@ pub record IsAsked (boxes : Boxes) (hints : Hints) (search : ℕ) : Type 0 where
 
 -- the set is a single value
 abbrev pub is_single : Ranges → Bool
-is_single [] = false
 is_single (r ∷ []) = int_eq r.0 r.1
-is_single (r ∷ s ∷ rs) = false
+is_single set = false
 
 -- x is searched, and its box isn't a single value
 pub record IsUndecided (boxes : Boxes) (search x : ℕ) : Type 0 where

@@ -145,12 +145,13 @@ all_true vs = list_all truth_of vs
 -- a quantifier over these members, by its filter and the values of its bodies at each
 abbrev pub quantified : QuantKind → List ℕ → (ℕ → Bool) → (ℕ → List Value) → Value
 quantified kind.Forall xs keeps bodies =
-    Truth (list_all (λ x. not (keeps x) || all_true (bodies x)) xs)
-quantified kind.Exists xs keeps bodies = Truth (list_any (λ x. keeps x && all_true (bodies x)) xs)
+    Truth (list_all (λ x. not (keeps x) || list_all truth_of (bodies x)) xs)
+quantified kind.Exists xs keeps bodies =
+    Truth (list_any (λ x. keeps x && list_all truth_of (bodies x)) xs)
 quantified kind.Sum xs keeps bodies =
     Int (total (map (λ x. cond (keeps x) (int_of (first_of (bodies x))) (pos 0)) xs))
 quantified kind.Count xs keeps bodies =
-    Int (pos (count_by (λ x. keeps x && all_true (bodies x)) xs))
+    Int (pos (count_by (λ x. keeps x && list_all truth_of (bodies x)) xs))
 quantified kind.AllDifferent xs keeps bodies =
     Truth (all_differ (map (λ x. first_of (bodies x)) xs))
 quantified kind.Pack xs keeps bodies =

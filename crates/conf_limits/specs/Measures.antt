@@ -77,6 +77,13 @@ quantifier_weight other r over filter bodies = 1 + r * (1 + over + filter + bodi
 
 abbrev mutual
   pub weight : Outline → Tree → ℕ
+  weight o (tree.Number at n) = 1
+  weight o (tree.Truth at b) = 1
+  weight o (tree.This at) = 1
+  weight o (tree.Local at k) = 1
+  weight o (tree.Root at k s) = 1
+  weight o (tree.Value at e k) = 1
+  weight o (tree.Class at c) = 1
   weight o (tree.Own at k s) = 3
   weight o (tree.Dot at e k s) = weight o e + reach o e + 1
   weight o (tree.Paren at e) = weight o e + 1
@@ -87,7 +94,6 @@ abbrev mutual
   weight o (tree.Quant at q over f bs) = quantifier_weight q (reach o over) (weight o over)
       (filter_weight o f) (bodies_weight o bs)
   weight o (tree.Missing at) = 0
-  weight o other = 1
 
   pub filter_weight : Outline → Filter → ℕ
   filter_weight o NoFilter = 0
@@ -161,7 +167,13 @@ abbrev mutual
   interval o (tree.Pair at op l r) = operator_interval op (interval o l) (interval o r)
   interval o (tree.Quant at q over f bs) = quantifier_interval q (reach o over)
       (body_interval o bs 0) (body_interval o bs 1)
-  interval o other = none
+  interval o (tree.Truth at b) = none
+  interval o (tree.This at) = none
+  interval o (tree.Not at e) = none
+  interval o (tree.Local at k) = none
+  interval o (tree.Value at e k) = none
+  interval o (tree.Class at c) = none
+  interval o (tree.Missing at) = none
 
   -- that of body number k
   pub body_interval : Outline → Bodies → ℕ → Interval
@@ -192,7 +204,12 @@ abbrev mutual
   narrow o (tree.Quant at q over f bs) = (narrow o over
       && (filter_narrow o f && bodies_narrow o bs))
       && is_narrow (interval o (tree.Quant at q over f bs))
-  narrow o other = true
+  narrow o (tree.Truth at b) = true
+  narrow o (tree.This at) = true
+  narrow o (tree.Local at k) = true
+  narrow o (tree.Value at e k) = true
+  narrow o (tree.Class at c) = true
+  narrow o (tree.Missing at) = true
 
   pub filter_narrow : Outline → Filter → Bool
   filter_narrow o NoFilter = true

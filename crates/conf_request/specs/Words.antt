@@ -1,15 +1,16 @@
 -- What words ask for. A reader believes after it: which lists of words are a request, and which
 -- request each of them is.
 use Rattle.std.specs.Prelude.{ℕ, ◌≡◌, ◌≤◌, Bool, false, not, ◌&&◌, ◌||◌, if◌then◌else◌}
-use Rattle.std.specs.Prelude.{nat_eq, nat_le, nat_lt, List, [], ◌∷◌, ◌++◌, length, map, String}
+use Rattle.std.specs.Prelude.{nat_eq, nat_le, nat_lt, List, [], ◌∷◌, ◌++◌, length, map, take, String}
 use Rattle.std.specs.Prelude.{string_bytes, codes, bytes_eq, Option, Some, None, is_none, IfNone}
 use Rattle.std.specs.Prelude.{option_map}
 use Rattle.std.specs.Option.{option_and_then, option_map_or}
-use Rattle.std.specs.List.{find, starts_with, position_or_len, before_first, after_first}
+use Rattle.std.specs.List.{find, list_any, starts_with, position_or_len, before_first, after_first}
 use Rattle.std.specs.Str.{byte}
 use Rattle.std.specs.declared.alloc.Global.{Global}
 use Rattle.command_limits.specs.Limits.{usual_budget, most_budget}
 use Rattle.conf_syntax.specs.Spelling.{is_digits, number_of}
+use Rattle.conf_syntax.specs.OnlyIf.{some_if}
 use Rattle.conf_request.specs.declared.command.Command.{Command}
 use Rattle.conf_request.specs.declared.command.Command.TheVariants as command
 use Rattle.conf_request.specs.declared.options.OptionName.{OptionName}
@@ -39,8 +40,7 @@ name_part word = before_first is_equals word
 -- what stands behind a word's first `=`
 abbrev pub value_part : List ℕ → Option (List ℕ)
 value_part word =
-    if nat_lt (position_or_len is_equals word) (length word)
-    then Some (after_first is_equals word) else None
+    some_if (nat_lt (position_or_len is_equals word) (length word)) (after_first is_equals word)
 
 -- how an option is spelled; none is shortened
 abbrev pub option_text : OptionName → List ℕ
@@ -105,8 +105,7 @@ nothing = record { budget = None; log = None; order = None }
 
 -- an option's value, if it has none before
 abbrev pub first_value : Option (List ℕ) → List ℕ → Option (Option (List ℕ))
-first_value None value = Some (Some value)
-first_value (Some before) value = None
+first_value before value = some_if (is_none before) (Some value)
 
 -- the values with one more, if its option has none before
 abbrev pub with_value : OptionName → List ℕ → Given → Option Given
@@ -137,9 +136,8 @@ scan e given (word ∷ words) =
 -- the value of a word of at most so many digits, if it lies between the bounds
 abbrev pub number_within : ℕ → ℕ → ℕ → List ℕ → Option ℕ
 number_within digits least most word =
-    if is_digits word && nat_le (length word) digits
-    && nat_le least (number_of word) && nat_le (number_of word) most
-    then Some (number_of word) else None
+    some_if (is_digits word && nat_le (length word) digits
+    && nat_le least (number_of word) && nat_le (number_of word) most) (number_of word)
 
 -- how many decisions a search may take
 abbrev pub budget_of : Option (List ℕ) → Option ℕ
@@ -163,10 +161,7 @@ has_none given = is_none given.budget && is_none given.log && is_none given.orde
 
 -- the log's file is one of the first two words, which are the files that are read
 abbrev pub is_read : Option (List ℕ) → List (List ℕ) → Bool
-is_read None plain = false
-is_read (Some log) [] = false
-is_read (Some log) (first ∷ []) = bytes_eq log first
-is_read (Some log) (first ∷ second ∷ more) = bytes_eq log first || bytes_eq log second
+is_read log plain = option_map_or (λ l. list_any (bytes_eq l) (take 2 plain)) log false
 
 -- a search, where its budget and its order are known
 abbrev pub searched : (ℕ → OrderName → Request) → Option ℕ → Option OrderName → Option Request

@@ -36,9 +36,6 @@ IsNestingAt text place =
 abbrev pub IsAllocated : Program → Type 0
 IsAllocated p = IsTyped p × IsWithinLimits (outline_of p)
 
-abbrev pub IsHeavy : Program → Type 0
-IsHeavy p = most_weight < model_weight (outline_of p) (constraints_of p) (goals_of p)
-
 abbrev pub IsRefusedFor : Status → Program → Type 0
 IsRefusedFor (status.Meaning fault place) p = IsFaultOf p fault place
 IsRefusedFor (status.Limit kind.Objects None) p =
@@ -47,7 +44,8 @@ IsRefusedFor (status.Limit kind.Depth None) p =
     IsTyped p × objects.IsRefused (outline_of p) fault.TooDeep
 IsRefusedFor (status.Limit kind.Cells None) p =
     IsTyped p × objects.IsRefused (outline_of p) fault.TooManyCells
-IsRefusedFor (status.Limit kind.Weight None) p = IsAllocated p × IsHeavy p
+IsRefusedFor (status.Limit kind.Weight None) p =
+    IsAllocated p × (most_weight < model_weight (outline_of p) (constraints_of p) (goals_of p))
 IsRefusedFor (status.Limit kind.Width None) p =
     IsAllocated p × (model_weight (outline_of p) (constraints_of p) (goals_of p) ≤ most_weight)
     × (model_narrow (outline_of p) (constraints_of p) (goals_of p) ≡ false)

@@ -12,7 +12,7 @@ use Rattle.log_check.proofs.Steps.{all_same-self, same_clause-self}
 use Rattle.fd_store.specs.Levels.{Entry}
 use Rattle.learn_clauses.specs.Walk.{Walk, with_step, walk_at, walk, walk_from, trail_of}
 use Rattle.learn_clauses.specs.Learnt.{IsFrom, AreFrom}
-use Rattle.run_law.specs.Replay.{State, Mode, Going, Conflict, AtFound, Closed, are_same_steps, is_walk, leads_back, may_explain, may_stand, is_run, state_of}
+use Rattle.run_law.specs.Replay.{State, Mode, Going, Conflict, AtFound, Closed, is_walk, leads_back, may_explain, may_stand, is_run, state_of}
 use Rattle.run_law.specs.Replay as replay
 use Rattle.run_law.proofs.Units.{some_same, none_some}
 use Rattle.run_law.proofs.StateSteps.{HoldsIn}
@@ -86,6 +86,9 @@ walk_derived (e ∷ es) boxes cs c w came h =
 
 same_step : (s : ℕ × ℕ) → (s.0 == s.0 && s.1 == s.1) ≡ true
 same_step s = rw (eq-eqb s.0 s.0 refl, eq-eqb s.1 s.1 refl) refl
+
+abbrev are_same_steps : List (ℕ × ℕ) → List (ℕ × ℕ) → Bool
+are_same_steps a b = all_same (λ s t. s.0 == t.0 && s.1 == t.1) a b
 
 same_steps : (steps : List (ℕ × ℕ)) → are_same_steps steps steps ≡ true
 same_steps steps = all_same-self _ steps same_step

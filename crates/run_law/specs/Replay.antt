@@ -79,9 +79,8 @@ none_empty boxes = list_all (λ (b : Ranges). not (is_nil b)) boxes
 -- the first n boxes are these values alone
 abbrev pub are_fixed : ℕ → Boxes → List ℤ → Bool
 are_fixed zero boxes a = true
-are_fixed (suc n) [] a = false
-are_fixed (suc n) (b ∷ bs) [] = false
 are_fixed (suc n) (b ∷ bs) (v ∷ vs) = same_set b ((v, v) ∷ []) && are_fixed n bs vs
+are_fixed (suc n) boxes a = false
 
 -- each set of the clause lies within its variable's domain
 abbrev pub are_sets_within : Boxes → Literals → Bool
@@ -89,13 +88,11 @@ are_sets_within domains ls = list_all (λ (l : Literal). is_within l.1 (box_of d
 
 -- ---- chains
 
-abbrev pub are_same_steps : List (ℕ × ℕ) → List (ℕ × ℕ) → Bool
-are_same_steps a b = all_same (λ s t. s.0 == t.0 && s.1 == t.1) a b
-
 -- the walk back has these steps and ends with this clause
 abbrev pub is_walk : Option Walk → List (ℕ × ℕ) → Literals → Bool
-is_walk walk steps c =
-    option_map_or (λ (w : Walk). are_same_steps w.steps steps && same_clause w.clause c) walk false
+is_walk walk steps c = option_map_or
+    (λ (w : Walk). all_same (λ s t. s.0 == t.0 && s.1 == t.1) w.steps steps
+    && same_clause w.clause c) walk false
 
 -- the clause that explains a conflict is empty, or there is a level in whose first boxes it is
 -- false and below which it isn't

@@ -1,6 +1,6 @@
 -- The text that tells what to blame. What a reader believes after this file: what is printed, and
 -- with which status.
-use Rattle.std.specs.Prelude.{◌++◌, ◌∷◌, [], Bool, true, false, List, codes, decimal, length, nat_eq, ℕ}
+use Rattle.std.specs.Prelude.{◌++◌, ◌∷◌, [], Bool, cond, List, codes, decimal, length, nat_eq, ℕ}
 use Rattle.std.specs.List.{flat_map, list_any}
 use Rattle.answer_text.specs.Texts.{number_line, undecided_line}
 use Rattle.conf_core.specs.declared.answer.CoreAnswer.{CoreAnswer}
@@ -9,14 +9,10 @@ use Rattle.conf_types.specs.Programs.{ResolvedConstraint, constraint_at}
 use Rattle.run_status.specs.declared.status.Status.{Status}
 use Rattle.run_status.specs.declared.status.Status.TheVariants as status
 
--- what stands behind a place, where it wasn't decided whether the constraint is needed
-abbrev pub unsure_text : Bool → List ℕ
-unsure_text false = []
-unsure_text true = codes " undecided"
-
--- a constraint by its place
+-- a constraint by its place, and that it wasn't decided whether it is needed
 abbrev pub place_line : ℕ → Bool → List ℕ
-place_line place unsure = codes "at " ++ (decimal place ++ (unsure_text unsure ++ 10 ∷ []))
+place_line place unsure =
+    codes "at " ++ (decimal place ++ (cond unsure (codes " undecided") [] ++ 10 ∷ []))
 
 -- constraint number c, and whether it is among the unsure ones
 abbrev pub blamed_line : List ResolvedConstraint → List ℕ → ℕ → List ℕ

@@ -1,6 +1,7 @@
 -- Why what is asked of a model is refused, and why a request is. What a reader believes after this
 -- file: what each refusal says of the texts that it refuses.
 use Rattle.std.specs.Prelude.{◌≡◌, ◌⊎◌, ◌+◌, ◌<◌, ◌≤◌, List, [], Option, None, Some, IsSome, length, take, ℕ, ℤ}
+use Rattle.std.specs.Option.{option_map_or}
 use Rattle.class_table.specs.Outline.{Outline}
 use Rattle.conf_eval.specs.Breaking.{IsWrongConstraint}
 use Rattle.command_limits.specs.Limits.{events_bytes, log_bytes}
@@ -34,8 +35,7 @@ use Rattle.model_reader.specs.Models.{IsWithin, outline_of, constraints_of, goal
 
 -- the path of the object for which a constraint is stated; empty at the top level
 abbrev pub stated_path : Outline → Option ℕ → List ℕ
-stated_path o None = []
-stated_path o (Some n) = path o n
+stated_path o object = option_map_or (path o) object []
 
 -- the first constraint that is broken, for the first object, by its place and the object's path
 pub record IsBrokenAt (o : Outline) (ks : List ResolvedConstraint) (t : List ℤ) (place : ℕ)
