@@ -1,5 +1,6 @@
 -- The value of a typed expression lies in the expression's interval.
 use Rattle.std.proofs.Common.{◌≡◌, ℕ, zero, suc, ◌≤◌, Bool, true, ◌&&◌, cond, List, [], ◌∷◌, ◌++◌, Option, None, Some, length, map, ℤ, pos, neg_ℤ, refl, sym, subst, arith}
+use Rattle.std.specs.Option.{option_map}
 use Rattle.std.specs.Prelude.{All, Contains, slice_get, slice_index_or}
 use Rattle.std.proofs.lemmas.Bool.{and_parts}
 use Rattle.std.proofs.lemmas.Int.{ints}
@@ -19,7 +20,6 @@ use Rattle.conf_types.specs.declared.types.ExprType.TheVariants as type
 use Rattle.conf_types.specs.declared.types.Need.{Need}
 use Rattle.conf_types.specs.declared.types.Need.TheVariants as need
 use Rattle.conf_types.specs.Readings.{has, list_class, takes_both}
-use Rattle.conf_types.specs.Readings as reading
 use Rattle.conf_types.specs.Trees.{Tree, Filter, Bodies, NoBody, Body}
 use Rattle.conf_types.specs.Trees as tree
 use Rattle.conf_types.specs.Types.{body_need}
@@ -113,7 +113,7 @@ module _ (o : Outline) (sound : IsSound o) (vs : List ℤ) (conf : IsConfigurati
   object_within : (c x k : ℕ) (s : Resolved) (ty : ExprType) → IsVariable (attributes o.classes c) k s ty → Contains (extent o c) x → IsWithin (shape_interval s) (int_of (attribute_value o vs (Some x) k s))
   object_within c x k s ty i h = variable_within (Some x) (attributes o.classes c) k s ty i (λ v e. has_attribute o sound c x k v h e) (object_low o c x h)
 
-  own_within : (class this : Option ℕ) (k : ℕ) (s : Resolved) (ty : ExprType) → IsThis o class this → attribute_type o (reading.object_of class) k s ≡ Some ty → IsWithin (shape_interval s) (int_of (attribute_value o vs this k s))
+  own_within : (class this : Option ℕ) (k : ℕ) (s : Resolved) (ty : ExprType) → IsThis o class this → attribute_type o (option_map type.Object class) k s ≡ Some ty → IsWithin (shape_interval s) (int_of (attribute_value o vs this k s))
   own_within None this k s ty h e = cc
   own_within (Some c) None k s ty h e = absurd h
   own_within (Some c) (Some x) k s ty h e = object_within c x k s ty (variable_typed (attributes o.classes c) k s ty e) h

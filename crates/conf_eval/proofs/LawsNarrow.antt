@@ -1,6 +1,7 @@
 -- The numbers of an expression that may be evaluated stay within the limit on width, partial sums and loads included; and what stands
 -- in such an expression may be evaluated.
 use Rattle.std.proofs.Common.{◌≡◌, ℕ, zero, suc, ◌+◌, ◌<◌, ◌≤◌, true, ◌&&◌, List, [], ◌∷◌, Option, None, Some, length, map, take, drop, ℤ, pos, neg_ℤ, ◌≤ℤ◌, refl, ap, sym, ◌∙◌, subst, arith, ◌+ℤ◌, length-take, length-drop}
+use Rattle.std.specs.Option.{option_map}
 use Rattle.std.specs.Prelude.{All, Contains, slice_get, slice_index_or, int_le}
 use Rattle.std.proofs.lemmas.Bool.{and_parts}
 use Rattle.std.proofs.lemmas.Int.{ints}
@@ -18,7 +19,6 @@ use Rattle.conf_types.specs.declared.types.ExprType.{ExprType}
 use Rattle.conf_types.specs.declared.types.ExprType.TheVariants as type
 use Rattle.conf_types.specs.declared.types.Need.TheVariants as need
 use Rattle.conf_types.specs.Readings.{has, list_class}
-use Rattle.conf_types.specs.Readings as reading
 use Rattle.conf_types.specs.Trees.{Tree, Filter, NoFilter, Where, Bodies, NoBody, Body}
 use Rattle.conf_types.specs.Trees as tree
 use Rattle.conf_types.specs.Types.{body_need}
@@ -155,7 +155,7 @@ module _ (o : Outline) (vs : List ℤ) where
     pub local_there : (i k : ℕ) (s : Setting) → IsEvaluable o vs (tree.Local i k) s → k < length s.vars
     local_there i k s e = by (local_class e.place.locals k) refl e.typed
       where
-        by : (c : Option ℕ) → local_class e.place.locals k ≡ c → reading.object_of c ≡ Some e.type → k < length s.vars
+        by : (c : Option ℕ) → local_class e.place.locals k ≡ c → option_map type.Object c ≡ Some e.type → k < length s.vars
         by None f g = cc
         by (Some c) f g = local_low o e.place.locals s.vars k c e.setting.vars f
 
@@ -168,7 +168,7 @@ module _ (o : Outline) (vs : List ℤ) where
     pub own_shape : (i k : ℕ) (sh : Resolved) (s : Setting) → IsEvaluable o vs (tree.Own i k sh) s → HasShape o s.this k sh
     own_shape i k sh s e = by e.place.class s.this e.setting.this e.typed
       where
-        by : (class this : Option ℕ) → IsThis o class this → attribute_type o (reading.object_of class) k sh ≡ Some e.type → HasShape o this k sh
+        by : (class this : Option ℕ) → IsThis o class this → attribute_type o (option_map type.Object class) k sh ≡ Some e.type → HasShape o this k sh
         by None this h g = cc
         by (Some c) None h g = absurd h
         by (Some c) (Some x) h g = shape_of (Some x) (attributes o.classes c) k sh e.type (variable_typed (attributes o.classes c) k sh e.type g) (λ v f. has_attribute o sound c x k v h f) (object_low o c x h)

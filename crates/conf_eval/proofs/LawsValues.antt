@@ -1,7 +1,7 @@
 -- The value of a typed expression is of its type, and lists no more objects than the expression reaches.
 use Rattle.std.proofs.Common.{◌≡◌, ℕ, zero, suc, ◌-◌, ◌<◌, ◌≤◌, nat_lt, nat_eq, Bool, true, false, ◌&&◌, cond, List, [], ◌∷◌, ◌++◌, Option, None, Some, length, ℤ, pos, refl, ap, sym, ◌∙◌, subst, arith}
 use Rattle.std.specs.Prelude.{All, Contains, slice_get, slice_index_or, unwrap_or, int_le, ◌≤ℤ◌}
-use Rattle.std.specs.Option.{option_map_or}
+use Rattle.std.specs.Option.{option_map_or, option_map}
 use Rattle.std.proofs.lemmas.Bool.{eqb-true, ltb-true, and_parts}
 use Rattle.std.proofs.lemmas.Int.{ints}
 use Rattle.std.proofs.lemmas.List.Elements.{All-contains_itself}
@@ -19,7 +19,6 @@ use Rattle.conf_syntax.specs.OnlyIf.{some_if}
 use Rattle.conf_types.specs.declared.types.ExprType.{ExprType}
 use Rattle.conf_types.specs.declared.types.ExprType.TheVariants as type
 use Rattle.conf_types.specs.Readings.{has, list_class}
-use Rattle.conf_types.specs.Readings as reading
 use Rattle.conf_types.specs.Trees.{Tree}
 use Rattle.conf_types.specs.Trees as tree
 use Rattle.conf_types.specs.Types.{shape_type, quant_result}
@@ -269,20 +268,20 @@ module _ (o : Outline) (sound : IsSound o) (vs : List ℤ) (conf : IsConfigurati
   object_right : (c x k : ℕ) (s : Resolved) (ty : ExprType) (r : ℕ) → IsVariable (attributes o.classes c) k s ty → Contains (extent o c) x → 1 ≤ r → IsRight (shape_reach o r s) ty (attribute_value o vs (Some x) k s)
   object_right c x k s ty r i h le = variable_right (Some x) (attributes o.classes c) k s ty r i (λ v e. has_attribute o sound c x k v h e) (object_low o c x h) le
 
-  this_right : (class this : Option ℕ) (ty : ExprType) → IsThis o class this → reading.object_of class ≡ Some ty → IsRight 1 ty (value.Object (unwrap_or this 0))
+  this_right : (class this : Option ℕ) (ty : ExprType) → IsThis o class this → option_map type.Object class ≡ Some ty → IsRight 1 ty (value.Object (unwrap_or this 0))
   this_right None this ty h e = cc
   this_right (Some c) None ty h e = absurd h
   this_right (Some c) (Some x) ty h e = subst (λ t. IsRight 1 t (value.Object x)) (some_is e) (record { typed = h; reached = omega arith })
 
-  own_right : (class this : Option ℕ) (k : ℕ) (s : Resolved) (ty : ExprType) → IsThis o class this → attribute_type o (reading.object_of class) k s ≡ Some ty → IsRight (shape_reach o 1 s) ty (attribute_value o vs this k s)
+  own_right : (class this : Option ℕ) (k : ℕ) (s : Resolved) (ty : ExprType) → IsThis o class this → attribute_type o (option_map type.Object class) k s ≡ Some ty → IsRight (shape_reach o 1 s) ty (attribute_value o vs this k s)
   own_right None this k s ty h e = cc
   own_right (Some c) None k s ty h e = absurd h
   own_right (Some c) (Some x) k s ty h e = object_right c x k s ty 1 (variable_typed (attributes o.classes c) k s ty e) h (omega arith)
 
-  local_right : (cs xs : List ℕ) (k : ℕ) (ty : ExprType) → AreVars o cs xs → reading.object_of (local_class cs k) ≡ Some ty → IsRight 1 ty (value.Object (local_object xs k))
+  local_right : (cs xs : List ℕ) (k : ℕ) (ty : ExprType) → AreVars o cs xs → option_map type.Object (local_class cs k) ≡ Some ty → IsRight 1 ty (value.Object (local_object xs k))
   local_right cs xs k ty a e = by (local_class cs k) refl e
     where
-      by : (r : Option ℕ) → local_class cs k ≡ r → reading.object_of r ≡ Some ty → IsRight 1 ty (value.Object (local_object xs k))
+      by : (r : Option ℕ) → local_class cs k ≡ r → option_map type.Object r ≡ Some ty → IsRight 1 ty (value.Object (local_object xs k))
       by None f g = cc
       by (Some c) f g = subst (λ t. IsRight 1 t (value.Object (local_object xs k))) (some_is g) (record { typed = local_there o cs xs k c a f; reached = omega arith })
 

@@ -1,6 +1,7 @@
 -- What stands in an expression that stands somewhere: it is typed and narrow too, and what it names
 -- is there.
 use Rattle.std.proofs.Common.{◌≡◌, ℕ, ◌<◌, ◌&&◌, List, Option, None, Some, length, refl, sym, ◌∙◌, subst}
+use Rattle.std.specs.Option.{option_map}
 use Rattle.std.specs.Prelude.{Contains, slice_get}
 use Rattle.std.proofs.lemmas.Bool.{and_parts}
 use Rattle.class_table.specs.declared.table.Resolved.{Resolved}
@@ -12,7 +13,6 @@ use Rattle.conf_types.specs.declared.types.ExprType.{ExprType}
 use Rattle.conf_types.specs.declared.types.ExprType.TheVariants as type
 use Rattle.conf_types.specs.declared.types.Need.TheVariants as need
 use Rattle.conf_types.specs.Readings.{has}
-use Rattle.conf_types.specs.Readings as reading
 use Rattle.conf_types.specs.Trees.{Tree}
 use Rattle.conf_types.specs.Trees as tree
 use Rattle.conf_types.specs.Typing.{Place, local_class, attribute_type, tree_type}
@@ -70,7 +70,7 @@ module _ (o : Outline) (this : Option ℕ) (vars : List ℕ) where
   pub local_there : (i k : ℕ) → IsStanding o (tree.Local i k) this vars → k < length vars
   local_there i k e = by (local_class e.place.locals k) refl e.typed
     where
-      by : (c : Option ℕ) → local_class e.place.locals k ≡ c → reading.object_of c ≡ Some e.type → k < length vars
+      by : (c : Option ℕ) → local_class e.place.locals k ≡ c → option_map type.Object c ≡ Some e.type → k < length vars
       by None f g = cc
       by (Some c) f g = local_low o e.place.locals vars k c e.setting.vars f
 
@@ -83,7 +83,7 @@ module _ (o : Outline) (this : Option ℕ) (vars : List ℕ) where
   pub own_shape : IsSound o → (i k : ℕ) (sh : Resolved) → IsStanding o (tree.Own i k sh) this vars → HasShape o this k sh
   own_shape sound i k sh e = by e.place.class this e.setting.this e.typed
     where
-      by : (class here : Option ℕ) → IsThis o class here → attribute_type o (reading.object_of class) k sh ≡ Some e.type → HasShape o here k sh
+      by : (class here : Option ℕ) → IsThis o class here → attribute_type o (option_map type.Object class) k sh ≡ Some e.type → HasShape o here k sh
       by None here h g = cc
       by (Some c) None h g = absurd h
       by (Some c) (Some x) h g = shape_of (Some x) (attributes o.classes c) k sh e.type (variable_typed (attributes o.classes c) k sh e.type g) (λ v f. has_attribute o sound c x k v h f) (object_low o c x h)

@@ -2,7 +2,7 @@
 -- of an object that is known.
 use Rattle.std.proofs.Common.{◌≡◌, ℕ, zero, suc, ◌-◌, ◌<◌, Bool, true, false, cond, List, [], ◌∷◌, ℤ, Option, None, Some, length, Global, refl, sym, ap, subst, arith}
 use Rattle.std.specs.Prelude.{Contains, slice_get, slice_index_or, nat_lt, unwrap_or}
-use Rattle.std.specs.Option.{option_map_or}
+use Rattle.std.specs.Option.{option_map_or, option_map}
 use Rattle.std.specs.declared.vec.Vec.{Vec}
 use Rattle.std.specs.List.{All}
 use Rattle.std.proofs.lemmas.List.Elements.{All-contains_itself}
@@ -12,7 +12,6 @@ use Rattle.class_table.specs.declared.table.Resolved.{Resolved}
 use Rattle.class_table.specs.Outline.{Outline}
 use Rattle.conf_types.specs.declared.types.ExprType.{ExprType}
 use Rattle.conf_types.specs.declared.types.ExprType.TheVariants as type
-use Rattle.conf_types.specs.Readings as reading
 use Rattle.conf_types.specs.Trees as tree
 use Rattle.conf_types.specs.Typing.{Place, local_class, tree_type, value_there}
 use Rattle.object_alloc.specs.Cells.{extent, value_count}
@@ -58,7 +57,7 @@ module _ (o : Outline) (this : Option ℕ) (vars : List ℕ) where
   pub this_typed : (i x : ℕ) (p : Place) (ty : ExprType) → this ≡ Some x → Fits o [] p (bare_setting o this vars) → tree_type o (tree.This i) p ≡ Some ty → (c : ℕ) × (type.Object c ≡ ty) × Contains (extent o c) x
   this_typed i x p ty e f is = by p.class (subst (λ (z : Option ℕ). IsThis o p.class z) e f.this) is
     where
-      by : (class : Option ℕ) → IsThis o class (Some x) → reading.object_of class ≡ Some ty → (c : ℕ) × (type.Object c ≡ ty) × Contains (extent o c) x
+      by : (class : Option ℕ) → IsThis o class (Some x) → option_map type.Object class ≡ Some ty → (c : ℕ) × (type.Object c ≡ ty) × Contains (extent o c) x
       by None h g = cc
       by (Some c) h g = (c, some_is g, h)
 
@@ -70,14 +69,14 @@ module _ (o : Outline) (this : Option ℕ) (vars : List ℕ) where
   pub no_this : (i : ℕ) → this ≡ None → IsStanding o (tree.This i) this vars → ⊥
   no_this i e s = by s.place.class (subst (λ (z : Option ℕ). IsThis o s.place.class z) e s.setting.this) s.typed
     where
-      by : (class : Option ℕ) → IsThis o class None → reading.object_of class ≡ Some s.type → ⊥
+      by : (class : Option ℕ) → IsThis o class None → option_map type.Object class ≡ Some s.type → ⊥
       by None h g = cc
       by (Some c) h g = h
 
   pub local_typed : (i k : ℕ) (p : Place) (ty : ExprType) → Fits o [] p (bare_setting o this vars) → tree_type o (tree.Local i k) p ≡ Some ty → (c : ℕ) × (type.Object c ≡ ty) × Contains (extent o c) (local_object vars k)
   local_typed i k p ty f is = by (local_class p.locals k) refl is
     where
-      by : (class : Option ℕ) → local_class p.locals k ≡ class → reading.object_of class ≡ Some ty → (c : ℕ) × (type.Object c ≡ ty) × Contains (extent o c) (local_object vars k)
+      by : (class : Option ℕ) → local_class p.locals k ≡ class → option_map type.Object class ≡ Some ty → (c : ℕ) × (type.Object c ≡ ty) × Contains (extent o c) (local_object vars k)
       by None h g = cc
       by (Some c) h g = (c, some_is g, local_in o p.locals vars k c f.vars h)
 
@@ -152,7 +151,7 @@ module _ (o : Outline) (g : Ground) (known : List (ℕ × ℤ)) (this : Option �
     form = record {
       number = h.number;
       truth = h.truth;
-      typed = λ p ty fits is. subst (λ (z : ExprType). IsFormOf o g.domains z f) (dotted o (reading.object_of p.class) k s ty is).variable.type_is h.typed;
+      typed = λ p ty fits is. subst (λ (z : ExprType). IsFormOf o g.domains z f) (dotted o (option_map type.Object p.class) k s ty is).variable.type_is h.typed;
       reached = h.reached 1 (omega arith);
     };
   }
