@@ -1,5 +1,5 @@
 -- The walk back from a conflict is a line that may follow.
-use Rattle.std.proofs.Common.{◌≡◌, ℕ, ◌<◌, true, false, ◌&&◌, cond, List, [], ◌∷◌, ◌++◌, ℤ, length, refl, ap, ◌∙◌, subst, slice_set, nat_lt, ◌==◌, Option, Some, None}
+use Rattle.std.proofs.Common.{◌≡◌, ℕ, ◌<◌, Bool, true, false, ◌&&◌, cond, List, [], ◌∷◌, ◌++◌, ℤ, length, refl, ap, ◌∙◌, subst, slice_set, nat_lt, ◌==◌, Option, Some, None}
 use Rattle.std.proofs.lemmas.Bool.{and_parts, and_from, lt-ltb, eq-eqb}
 use Rattle.signed_clause.specs.Clauses.{Boxes, Literals, box_of, has_var, false_in, resolvent}
 use Rattle.ground_form.specs.declared.ground.Ground.{Ground}
